@@ -102,7 +102,7 @@ fn joins_last<K: PartialEnum, V: Eq + Drop>(
 
 /// Lets the last of the items end elsewhere.
 #[inline(always)]
-fn end_last_at<K: Drop, V>(items: &mut Vec<Item<AnyRange<K>, V>>, end: Bound<K>)
+pub fn end_last_at<K: Drop, V>(items: &mut Vec<Item<AnyRange<K>, V>>, end: Bound<K>)
     requires { 0 < length items.old.items }
     ensures { IsEditedAt items.old.items items.new.items (length items.old.items - 1)
         (λ i. with_end i end) }

@@ -1,5 +1,5 @@
 -- One stored list after another: its form, and what it binds.
-use Rattle.std.proofs.Common.{◌≡◌, refl, sym, ap, ◌∙◌, ◌↔◌, ◌+◌, ◌≤◌, ℕ, zero, suc, Bool, true, false, IsTrue, List, [], ◌∷◌, ◌++◌, length, get_or, inl, inr, Option, arith}
+use Rattle.std.proofs.Common.{◌≡◌, refl, sym, ap, ◌∙◌, ◌↔◌, ◌+◌, ◌-◌, ◌≤◌, ℕ, zero, suc, Bool, true, false, IsTrue, List, [], ◌∷◌, ◌++◌, length, get_or, inl, inr, Option, arith}
 use Rattle.std.specs.Prelude.{◌&&◌, if◌then◌else◌, slice_set}
 use Rattle.std.specs.Cmp.{IsEquivalence}
 use Rattle.range_keys.specs.Order.{KeyOrder, IsLawful}
@@ -12,7 +12,7 @@ use Rattle.range_algebra.specs.Relations.{LiesBefore}
 use Rattle.range_algebra.specs.declared.any.AnyRange.{AnyRange}
 use Rattle.range_algebra.proofs.Lists.{every_append, every_right, every_weaker}
 use Rattle.range_store.specs.declared.storage.Item.{Item}
-use Rattle.range_map.specs.Appending.{LieBefore, appended, are_one, as_one, joined}
+use Rattle.range_map.specs.Appending.{IsApartFromLast, LieBefore, appended, are_one, as_one, joined}
 use Rattle.range_change.specs.Bindings.{BindAlike}
 use Rattle.range_change.specs.Chains.{line_of, Leads, Follows, Has, Respects}
 use Rattle.range_change.specs.Stored.{IsStored, item_lower, item_upper}
@@ -72,6 +72,13 @@ module _ {K : Type 0} (order : KeyOrder K) {V : Type 0} where
     parted_last (i ∷ l ∷ items) zero d j size apart = absurd (omega (arith, size))
     parted_last (i ∷ l ∷ items) (suc k) d j size apart =
         ap (λ xs. i ∷ xs) (parted_last (l ∷ items) k d j (omega (arith, size)) apart)
+
+    -- one more where none is to be one with it
+    pub pushed_apart : (items : List (Item (AnyRange K) V)) (j : Item (AnyRange K) V)
+        → IsApartFromLast order same items j → items ++ j ∷ [] ≡ appended order same items (j ∷ [])
+    pushed_apart [] j apart = refl
+    pushed_apart (i ∷ items) j apart =
+        parted_last (i ∷ items) (length (i ∷ items) - 1) j j (omega arith) (apart j (omega arith))
 
     one_fewer : (b : Bool) (i j : Item (AnyRange K) V) (rest : List (Item (AnyRange K) V))
         → length ((if b then joined i j ∷ [] else i ∷ j ∷ []) ++ rest) ≤ length rest + 2

@@ -1,5 +1,5 @@
 -- One stored list after another, and the last range of the one joined with the first of the other.
-use Rattle.std.specs.Prelude.{◌≡◌, Bool, ◌&&◌, List, [], ◌∷◌, ◌++◌, ⊤, if◌then◌else◌}
+use Rattle.std.specs.Prelude.{◌≡◌, ◌-◌, ◌<◌, Bool, true, false, ◌&&◌, List, [], ◌∷◌, ◌++◌, length, slice_index_or, ⊤, if◌then◌else◌}
 use Rattle.range_keys.specs.Order.{KeyOrder}
 use Rattle.range_keys.specs.Position.{start_position}
 use Rattle.range_algebra.specs.Compared.{starts_at_end}
@@ -34,6 +34,18 @@ module _ {K : Type 0} (order : KeyOrder K) {V : Type 0} where
     are_one i j =
         starts_at_end order i.key.end (start_position order j.key.start)
         && same_value i.value j.value
+
+    -- the list has a last item, which is one with this
+    abbrev pub IsOneWithLast : List (Item (AnyRange K) V) → Item (AnyRange K) V → Type 0
+    IsOneWithLast items j =
+        (0 < length items)
+        × ((d : Item (AnyRange K) V)
+        → are_one (slice_index_or items (length items - 1) d) j ≡ true)
+
+    -- the list is empty, or its last item is not one with this
+    abbrev pub IsApartFromLast : List (Item (AnyRange K) V) → Item (AnyRange K) V → Type 0
+    IsApartFromLast items j = (d : Item (AnyRange K) V) → 0 < length items
+        → are_one (slice_index_or items (length items - 1) d) j ≡ false
 
     -- the two items, or one in their place where they are joined
     abbrev pub as_one : Item (AnyRange K) V → Item (AnyRange K) V → List (Item (AnyRange K) V)

@@ -2,7 +2,7 @@
 ghost use Rattle.std.specs.Prelude.{◌≡◌, ◌↔◌, ◌+◌, ◌≤◌, ◌++◌, ◌∷◌, [], length, IsTrue, IsErrAnd, OnOk, OnErr};
 ghost use Rattle.range_algebra.specs.Relations.{LiesBefore};
 ghost use Rattle.range_keys.specs.Order.{IsComplete};
-ghost use Rattle.range_map.specs.Appending.{IsOutOfOrder, LieBefore, appended, are_one, as_one, joined};
+ghost use Rattle.range_map.specs.Appending.{IsApartFromLast, IsOneWithLast, IsOutOfOrder, LieBefore, appended, are_one, as_one, joined};
 ghost use Rattle.range_change.specs.Bindings.{BindAlike, IsCoarse, IsOnlyCoarse};
 ghost use Rattle.range_change.specs.Stored.{IsStored};
 
@@ -10,10 +10,11 @@ use crate::map::RangeMap;
 use range_algebra::any::AnyRange;
 use range_algebra::inner::starts_at_end;
 use range_change::error::NotAppended;
-use range_change::splice::replace_end;
+use range_change::pieces::end_last_at;
 use range_keys::bound::Directed;
 use range_keys::traits::PartialEnum;
 use range_store::storage::{Item, Storage};
+use std::alloc::AllocError;
 use std::ops::RangeBounds;
 
 /// Whether the first range ends before the second starts.
@@ -104,25 +105,36 @@ pub(crate) fn move_all<T, C: Storage<T>, D: Storage<T>>(stored: &mut C, others: 
     }
 }
 
-/// Puts an item after all others, or makes it one with the last of them where they are to be one.
-pub(crate) fn push<K: PartialEnum, V: Eq + Drop, C: Storage<Item<AnyRange<K>, V>>>(
-    stored: &mut C,
-    item: Item<AnyRange<K>, V>,
-)
-    requires { 1 ≤ C.room stored.old }
-    ensures list { C.items stored.new ≡ appended K.order V.eq (C.items stored.old) (item ∷ []) }
-    ensures room { C.room stored.old ≤ C.room stored.new + 1 }
+/// Whether an item is stored as one with the last of a list.
+fn is_one_with_last<K: PartialEnum, V: Eq + Drop>(
+    items: &Vec<Item<AnyRange<K>, V>>,
+    item: &Item<AnyRange<K>, V>,
+) -> bool
+    ensures one { IsTrue result → IsOneWithLast K.order V.eq items.now.items item.now }
+    ensures apart { result ≡ false → IsApartFromLast K.order V.eq items.now.items item.now }
 {
-    let Some(last) = stored.last() else {
-        let _first = stored.insert_at(None, item);
-        return;
-    };
-    if are_one(stored.get(last), &item) {
-        let (range, _value) = item.into_pair();
-        let _end = replace_end::<K, V, C>(stored, last, range.end);
-    } else {
-        let _next = stored.insert_at(None, item);
+    match items.last() {
+        Some(last) => are_one(last, item),
+        None => false,
     }
+}
+
+/// Puts an item after the others of a list, or makes it one with the last of them where they are to
+/// be one.
+pub(crate) fn push<K: PartialEnum, V: Eq + Drop>(
+    items: &mut Vec<Item<AnyRange<K>, V>>,
+    item: Item<AnyRange<K>, V>,
+) -> Result<(), AllocError>
+    ensures { OnOk result
+        (items.new.items ≡ appended K.order V.eq items.old.items (item ∷ [])) }
+{
+    if is_one_with_last(items, &item) {
+        let (range, _value) = item.into_pair();
+        end_last_at(items, range.end);
+        return Ok(());
+    }
+    items.push(item)?;
+    Ok(())
 }
 
 impl<K: PartialEnum, V: Eq + Drop, C: Storage<Item<AnyRange<K>, V>>> RangeMap<K, V, C> {

@@ -98,7 +98,7 @@ fn gather_both<
 }
 
 /// A map of just these items.
-fn map_of<K: PartialEnum, X: Eq + Drop, C: Storage<Item<AnyRange<K>, X>>>(
+pub(crate) fn map_of<K: PartialEnum, X: Eq + Drop, C: Storage<Item<AnyRange<K>, X>>>(
     alloc: Global,
     items: Vec<Item<AnyRange<K>, X>>,
 ) -> Result<RangeMap<K, X, C>, AllocError>

@@ -13,6 +13,7 @@ ghost use Rattle.range_map.specs.declared.map.from_sorted.NotSorted.TheVariants.
 
 use crate::map::RangeMap;
 use crate::map::append::push;
+use crate::map::combine::map_of;
 use range_algebra::any::AnyRange;
 use range_algebra::inner;
 use range_algebra::range::{AsRange, IntoRange};
@@ -20,7 +21,6 @@ use range_keys::bound::Directed;
 use range_keys::traits::Measure;
 use range_store::storage::{Item, Storage};
 use std::alloc::{AllocError, Global};
-use std::marker::PhantomData;
 use thiserror::Error;
 
 /// Why a map was not built of a list of ranges.
@@ -89,20 +89,15 @@ fn build<K: Measure, V: Eq + Drop, C: Storage<Item<AnyRange<K>, V>>, R: IntoRang
         (λ new. BindAlike K.order V.eq (C.items new) (map (item_of R.range) pairs.items)) }
     ensures form { IfOk result (λ new. IsStored K.order V.eq (C.items new)) }
 {
-    let mut stored = C::new(alloc);
-    stored.reserve(pairs.len())?;
+    let mut items = Vec::with_capacity(alloc, pairs.len())?;
     for (range, value) in pairs {
         let item = Item {
             key: range.into_range(),
             value,
         };
-        push::<K, V, C>(&mut stored, item);
+        push(&mut items, item)?;
     }
-    Ok(RangeMap {
-        stored,
-        alloc,
-        item: PhantomData,
-    })
+    map_of(alloc, items)
 }
 
 impl<K: Measure, V: Eq + Drop, C: Storage<Item<AnyRange<K>, V>>> RangeMap<K, V, C> {
@@ -112,8 +107,8 @@ impl<K: Measure, V: Eq + Drop, C: Storage<Item<AnyRange<K>, V>>> RangeMap<K, V, 
     /// No range may be empty, and each has to lie before the next, as in a table that was saved;
     /// ranges that touch with equal values are kept as one. The error names the position of the
     /// first range that does not come so, and then nothing was allocated. Clones nothing;
-    /// allocates capacity for all ranges at once, and fails where that does. Costs two steps for
-    /// each range, and no search.
+    /// allocates a list of all ranges and capacity for them, each at once, and fails where that
+    /// does. Costs two steps for each range, and no search.
     ///
     /// ```
     /// let pairs = vec![in alloc; (0..4, 1), (4..6, 1), (8..9, 2)]?;

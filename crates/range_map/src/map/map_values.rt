@@ -13,13 +13,13 @@ ghost use Rattle.range_change.specs.declared.error.UpdateError.TheVariants.{Clos
 
 use crate::map::RangeMap;
 use crate::map::append::push;
+use crate::map::combine::map_of;
 use crate::map::merged::{Part, next_part};
 use range_algebra::any::AnyRange;
 use range_algebra::inner;
 use range_change::error::UpdateError;
 use range_keys::traits::PartialEnum;
 use range_store::storage::{Item, Storage};
-use std::marker::PhantomData;
 
 /// A clone of the range, with what the closure answers to the value.
 fn answered<'a, K: PartialEnum + Clone, V, W: Drop, E: Drop, F: Fn(&V) -> Result<W, E>>(
@@ -64,17 +64,12 @@ fn answers_to<
         → Any (λ i. FnReturnsAt F.Fn f.now i.value (Err e)) (C.items map.now) }
 {
     map.in_form();
-    let mut stored = D::new(map.alloc);
-    stored.reserve(map.range_count())?;
+    let mut answers = Vec::with_capacity(map.alloc, map.range_count())?;
     let mut items = map.iter();
     while let Some(part) = next_part(&mut items) {
-        push::<K, W, D>(&mut stored, answered(part, f)?);
+        push(&mut answers, answered(part, f)?)?;
     }
-    Ok(RangeMap {
-        stored,
-        alloc: map.alloc,
-        item: PhantomData,
-    })
+    Ok(map_of(map.alloc, answers)?)
 }
 
 impl<K: PartialEnum + Clone, V: Eq + Drop, C: Storage<Item<AnyRange<K>, V>>> RangeMap<K, V, C> {
@@ -84,8 +79,9 @@ impl<K: PartialEnum + Clone, V: Eq + Drop, C: Storage<Item<AnyRange<K>, V>>> Ran
     /// answers ends the call. Ranges that touch and get equal values are kept as one. The two maps
     /// may be kept in two kinds of containers.
     ///
-    /// Allocates capacity for as many ranges as this map has, all at once, and a clone of each
-    /// bound; fails where an allocation does. Costs a step for each stored range, and no search.
+    /// Allocates a list of as many ranges as this map has and capacity for those that come of it,
+    /// each at once, and a clone of each bound; fails where an allocation does. Costs a step for
+    /// each stored range, and no search.
     ///
     /// ```
     /// // of a map that binds 0..=5 to 1, and 6..=8 to 2

@@ -1,4 +1,4 @@
-use Rattle.std.proofs.Common.{◌∙◌, sym, ap, ◌∷◌, ◌++◌, [], length, map, arith, append_assoc}
+use Rattle.std.proofs.Common.{◌∙◌, sym, ap, ◌∷◌, ◌++◌, [], map, append_assoc}
 use Rattle.std.proofs.lemmas.List.{map-append}
 use Rattle.range_algebra.specs.Cuts.{lower}
 use Rattle.range_algebra.specs.Orders.{le_refl}
@@ -20,14 +20,11 @@ loop-range-init g c =
       parted = whole;
       built = (
         from,
-        rw (c.reserve.ensures.list, c.new-stored.ensures)
-            (built_none order g.V.PartialEq.eq from),
+        rw c.in_ok-items.ensures.items (built_none order g.V.PartialEq.eq from),
         rw whole (sorted_rises order g.met.K.PartialEnum.lawful
             (map (item_of g.R.AsRange.range) c.args.pairs.items) c.requires.known
             c.requires.sorted),
       );
-      space =
-          rw whole (omega (arith, c.in_ok-reserve.ensures.ok, c.len.ensures, c.args.pairs.ok.0));
     }
 
 pub loop-range-preserved : goal.loop-range-preserved
@@ -37,7 +34,6 @@ loop-range-preserved g c =
     let item = item_of g.R.AsRange.range in
     let was = c.loop-range.invariant in
     let next = c.in-Some.ensures.steps.0 in
-    let more = ap length next in
     let done = c.loop-range.yielded in
     let pair : g.row.R.Denot × g.row.V.Denot = (c.in-Some.range, c.in-Some.value) in
     let rises = rw next at was.built.2 in
@@ -48,13 +44,15 @@ loop-range-preserved g c =
           ∙ (ap (λ rest. done ++ rest) (sym next) ∙ was.parted);
       built = (
         end,
-        rw (c.push.ensures.list, c.into_range.ensures, map-append item done (pair ∷ []))
+        rw (c.in_ok-push.ensures, c.into_range.ensures, map-append item done (pair ∷ []))
             (built_more order lawful g.V.PartialEq.eq g.met.V.Eq.laws was.built.0 end
-            (map item done) (g.C.Storage.items c.loop-range.stored) (item pair) rises.0 rises.1
+            (map item done) c.loop-range.items.items (item pair) rises.0 rises.1
             rises.2
             (le_refl (position_cmp order.cmp) (position_total order.cmp lawful.total) end)
             was.built.1),
         rises.3,
       );
-      space = omega (arith, was.space, more, c.push.ensures.room);
     }
+
+pub map_of-requires : goal.map_of-requires
+map_of-requires g c = c.loop-range.invariant.built.1.stored

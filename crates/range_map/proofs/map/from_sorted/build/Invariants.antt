@@ -1,4 +1,4 @@
-use Rattle.std.proofs.Common.{◌≡◌, ◌≤◌, ◌++◌, length, map}
+use Rattle.std.proofs.Common.{◌≡◌, ◌++◌, map}
 use Rattle.range_keys.specs.declared.inner.position.Position.{Position}
 use Rattle.range_map.specs.Extending.{item_of}
 use Rattle.range_map.proofs.Joining.{IsBuilt, RisesFrom}
@@ -11,7 +11,6 @@ invariant-loop-range g l =
     record {
       parted : l.yielded ++ l.range-iterator.rest.items ≡ l.fn.pairs.items;
       built : (m : Position g.row.K.Denot)
-          × IsBuilt order g.V.PartialEq.eq m (map item l.yielded) (g.C.Storage.items l.stored)
+          × IsBuilt order g.V.PartialEq.eq m (map item l.yielded) l.items.items
           × RisesFrom order m (map item l.range-iterator.rest.items);
-      space : length l.range-iterator.rest.items ≤ g.C.Storage.room l.stored;
     }

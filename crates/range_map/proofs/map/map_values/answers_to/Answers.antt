@@ -1,4 +1,4 @@
-use Rattle.std.proofs.Common.{◌≡◌, ◌∙◌, sym, ap, [], length, arith, rules, Err}
+use Rattle.std.proofs.Common.{◌≡◌, ◌∙◌, sym, [], rules, Err}
 use Rattle.std.specs.Cmp.{Equal-is}
 use Rattle.std.specs.Fn.{FnReturnsAt}
 use Rattle.range_algebra.specs.Cuts.{lower}
@@ -19,16 +19,13 @@ loop-part-init g c =
         parted = c.iter-items.ensures.items;
         given = tt;
         form =
-            rw (c.reserve.ensures.list, c.new-stored.ensures)
+            rw c.in_ok-answers.ensures.items
             (built_none order g.W.PartialEq.eq (lower order full_range));
         rises =
             rw c.iter-items.ensures.items (stored_rises order g.met.K.PartialEnum.lawful
             g.V.PartialEq.eq g.met.V.Eq.laws (g.C.Storage.items c.args.map.now)
             c.in_form.ensures);
       };
-      room =
-          rw c.iter-items.ensures.items
-          (omega (arith, c.in_ok-reserve.ensures.ok, c.range_count.ensures.value));
     }
 
 pub answered-requires : goal.answered-requires
@@ -55,14 +52,15 @@ loop-part-preserved g c =
     sym (g.met.K.MaybeBounded.order_is_cmp a b)
     ∙ (Equal-is (g.K.Ord.cmp a b)).0
     (sym (g.met.K.Ord.matches_eq a b) ∙ c.requires.keys a b h) in
-    let fewer = ap length c.in-Some.ensures.items in
     record {
       mapped =
-          rw c.push.ensures.list (mapped_more order g.F.Fn c.args.f.now g.W.PartialEq.eq
+          rw c.in_ok-push.ensures (mapped_more order g.F.Fn c.args.f.now g.W.PartialEq.eq
           (g.C.Storage.items c.args.map.now) g.met.K.PartialEnum.lawful g.met.W.Eq.laws
           (part_item c.in-Some.part) c.next_part.new.items
-          (g.D.Storage.items c.loop-part.stored) c.in_ok-answered.field-0 g.K.Clone.is_clone
+          c.loop-part.answers.items c.in_ok-answered.field-0 g.K.Clone.is_clone
           equal_keys c.in_ok-answered.ensures.range c.in_ok-answered.ensures.known
           c.in_ok-answered.ensures.value (rw (← c.in-Some.ensures.items) at was.mapped));
-      room = omega (arith, was.room, fewer, c.push.ensures.room);
     }
+
+pub map_of-requires : goal.map_of-requires
+map_of-requires g c = c.loop-part.invariant.mapped.form.stored

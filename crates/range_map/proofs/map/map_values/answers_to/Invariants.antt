@@ -1,12 +1,11 @@
-use Rattle.std.proofs.Common.{◌≤◌, length}
+use Rattle.std.proofs.Common.{length}
 use Rattle.range_map.proofs.MappedValues.{IsMappedUpTo}
 use Rattle.range_map.proofs.map.map_values.answers_to.Given as goal
 
 abbrev pub invariant-loop-part : goal.invariant-loop-part
 invariant-loop-part g l = record {
   mapped : IsMappedUpTo g.K.MaybeBounded.order g.F.Fn l.f g.W.PartialEq.eq
-      (g.C.Storage.items l.map) l.items (g.D.Storage.items l.stored);
-  room : length l.items ≤ g.D.Storage.room l.stored;
+      (g.C.Storage.items l.map) l.items l.answers.items;
 }
 
 abbrev pub decreases-loop-part : goal.decreases-loop-part
