@@ -260,19 +260,23 @@ pub fn find_home<T: Drop>(nodes: &Nodes<T>, below: usize, number: usize, edge: E
     requires some { 0 < place nodes.now below number edge }
     ensures { result ≡ home_of nodes.now below number edge }
 {
-    if below == 0 {
-        return Home {
-            node: number,
-            index: edge.index - 1,
-        };
+    let mut at = number;
+    let mut left = below;
+    let mut inner = edge;
+    'down: while left > 0 {
+        let index = first_turn(inner);
+        inner = seen_inside(inner);
+        if stands_first(inner) {
+            return Home {
+                node: at,
+                index: index - 1,
+            };
+        }
+        at = nodes.child_at(at, index);
+        left -= 1;
     }
-    let index = first_turn(edge);
-    let inner = seen_inside(edge);
-    if stands_first(inner) {
-        return Home {
-            node: number,
-            index: index - 1,
-        };
+    Home {
+        node: at,
+        index: inner.index - 1,
     }
-    find_home(nodes, below - 1, nodes.child_at(number, index), inner)
 }
