@@ -1,5 +1,5 @@
 //! A map's ranges moved to the end of another.
-ghost use Rattle.std.specs.Prelude.{◌≡◌, ◌↔◌, ◌+◌, ◌≤◌, ◌++◌, ◌∷◌, [], length, IsTrue, IsErrAnd, OnOk, OnErr};
+ghost use Rattle.std.specs.Prelude.{◌≡◌, ◌↔◌, ◌+◌, ◌≤◌, ◌++◌, ◌∷◌, [], length, false, IsTrue, IsErrAnd, OnOk, OnErr};
 ghost use Rattle.range_algebra.specs.Relations.{LiesBefore};
 ghost use Rattle.range_keys.specs.Order.{IsComplete};
 ghost use Rattle.range_map.specs.Appending.{IsApartFromLast, IsOneWithLast, IsOutOfOrder, LieBefore, appended, are_one, as_one, joined};

@@ -1,10 +1,13 @@
-use Rattle.std.proofs.Common.{◌∙◌, sym, ap, ◌∷◌, ◌++◌, [], map, append_assoc}
+use Rattle.std.proofs.Common.{◌≡◌, ◌∙◌, sym, ap, ◌∷◌, ◌++◌, [], length, map, subst, arith, append_assoc}
 use Rattle.std.proofs.lemmas.List.{map-append}
+use Rattle.std.proofs.lemmas.Result.{IfOk-weaker}
 use Rattle.range_algebra.specs.Cuts.{lower}
 use Rattle.range_algebra.specs.Orders.{le_refl}
 use Rattle.range_keys.specs.Position.{position_cmp}
 use Rattle.range_keys.specs.PositionOrder.{position_total}
+use Rattle.range_change.specs.Bindings.{BindAlike}
 use Rattle.range_change.specs.Stored.{item_upper}
+use Rattle.range_change.proofs.OuterBounds.{prefix_is_all}
 use Rattle.range_map.specs.Extending.{item_of}
 use Rattle.range_map.specs.FreeRanges.{full_range}
 use Rattle.range_map.proofs.Joining.{built_more, built_none}
@@ -56,3 +59,16 @@ loop-range-preserved g c =
 
 pub map_of-requires : goal.map_of-requires
 map_of-requires g c = c.loop-range.invariant.built.1.stored
+
+pub returns-clause-bound : goal.returns-clause-bound
+returns-clause-bound g c =
+    let was = c.loop-range.invariant in
+    let rest = c.loop-range.range-iterator.rest in
+    let none : length rest.items ≡ 0 = omega (arith, rest.ok.0, c.in-None.ensures.steps.0) in
+    let all = prefix_is_all c.loop-range.yielded rest.items c.args.pairs.items was.parted none in
+    let alike =
+    λ (list : _). BindAlike g.K.MaybeBounded.order g.V.PartialEq.eq list
+    (map (item_of g.R.AsRange.range) c.args.pairs.items) in
+    let bound : alike c.loop-range.items.items = rw all at was.built.1.bound in
+    IfOk-weaker c.map_of.result _ (λ new. alike (g.C.Storage.items new))
+    (λ new is. subst alike (sym is) bound) c.map_of.ensures
