@@ -1,5 +1,5 @@
 -- Whether each key of a range is bound, and that an empty range has no piece.
-use Rattle.std.proofs.Common.{◌≡◌, ◌↔◌, List, [], ◌∷◌, ◌⊎◌, inl, inr, Option, Some, None, Bool}
+use Rattle.std.proofs.Common.{◌≡◌, List, [], ◌∷◌, ◌⊎◌, inl, inr, Option, Some, None}
 use Rattle.std.specs.declared.ops.Bound.TheVariants.{Included}
 use Rattle.range_keys.specs.Order.{KeyOrder, IsLawful, IsComplete}
 use Rattle.range_keys.specs.Position.{start_position, end_position, position_cmp}
@@ -8,9 +8,9 @@ use Rattle.range_keys.specs.declared.inner.position.Position.TheVariants.{Beside
 use Rattle.range_keys.specs.declared.inner.position.Side.TheVariants.{At}
 use Rattle.range_keys.proofs.Orderings.{not_greater, not_both_greater_and_not}
 use Rattle.range_algebra.specs.declared.any.AnyRange.{AnyRange}
-use Rattle.range_algebra.specs.Intervals.{Le, Any, Every}
+use Rattle.range_algebra.specs.Intervals.{Every}
 use Rattle.range_algebra.specs.Orders.{le_refl, eq_le, eq_ge, le_trans, not_lt}
-use Rattle.range_algebra.specs.Range.{Holds, IsEmptyRange, IsKnownRange}
+use Rattle.range_algebra.specs.Range.{Holds, IsEmptyRange}
 use Rattle.range_algebra.proofs.Completeness.{nonempty_holds}
 use Rattle.range_algebra.proofs.Holding.{holds_by_position}
 use Rattle.range_algebra.proofs.Lists.{any_none, every_weaker}

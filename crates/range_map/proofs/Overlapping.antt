@@ -4,7 +4,7 @@ use Rattle.std.specs.Prelude.{MatchOption}
 use Rattle.std.specs.List.{AllByRecursion}
 use Rattle.std.specs.Ordering.{is_gt}
 use Rattle.std.specs.declared.ops.Bound.TheVariants.{Included, Unbounded}
-use Rattle.std.proofs.lemmas.List.{drop_more, take_more, get_or-take, get_or-drop, drop-drop, length-take-le}
+use Rattle.std.proofs.lemmas.List.{drop_more, get_or-take, get_or-drop, drop-drop, length-take-le}
 use Rattle.std.proofs.Math.Seq.{take-add}
 use Rattle.range_keys.specs.Order.{KeyOrder, IsLawful}
 use Rattle.range_keys.specs.Position.{start_position, end_position, position_cmp}
@@ -13,7 +13,7 @@ use Rattle.range_keys.specs.declared.inner.position.Position.{Position}
 use Rattle.range_keys.proofs.Orderings.{not_greater, not_both_greater_and_not}
 use Rattle.range_algebra.specs.declared.any.AnyRange.{AnyRange}
 use Rattle.range_algebra.specs.Intervals.{Le, Lt, Any, Every}
-use Rattle.range_algebra.specs.Orders.{le_refl, lt_le, le_trans, lt_not_le, not_le, lt_le_trans, le_lt_trans, lt_trans}
+use Rattle.range_algebra.specs.Orders.{le_refl, lt_le, le_trans, lt_not_le, not_le, le_lt_trans, lt_trans}
 use Rattle.range_algebra.specs.Range.{IsEmptyRange, IsKnownRange, with_bounds}
 use Rattle.range_algebra.proofs.Lists.{any_none, any_left, any_right, any_split, every_at, every_append, every_left, every_right, every_weaker, list_is_take_and_drop, drop_all}
 use Rattle.range_store.specs.declared.storage.Item.{Item}

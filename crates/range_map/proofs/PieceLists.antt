@@ -12,7 +12,7 @@ use Rattle.range_keys.specs.declared.inner.position.Position.{Position}
 use Rattle.range_algebra.specs.declared.any.AnyRange.{AnyRange}
 use Rattle.range_algebra.specs.Combined.{common}
 use Rattle.range_algebra.specs.Compared.{flipped, starts_past_end}
-use Rattle.range_algebra.specs.Cuts.{past, lower}
+use Rattle.range_algebra.specs.Cuts.{past}
 use Rattle.range_algebra.specs.Intervals.{Any, Every}
 use Rattle.range_algebra.specs.Orders.{le_refl, lt_le, eq_le, eq_ge, le_trans, cases, not_le, not_lt, lt_le_trans}
 use Rattle.range_algebra.specs.Range.{IsEmptyRange, IsKnownBound, IsKnownRange}
@@ -23,7 +23,6 @@ use Rattle.range_algebra.proofs.Places.{reaching_is_before_past, flipped_bound_i
 use Rattle.range_store.specs.declared.storage.Item.{Item}
 use Rattle.range_change.specs.Answers.{Answered, piece_of}
 use Rattle.range_change.specs.Chains.{line_of, Leads}
-use Rattle.range_map.specs.FreeRanges.{between}
 use Rattle.range_change.specs.Lookups.{Overlap}
 use Rattle.range_map.specs.PieceLists.{free_piece, bound_piece, free_between, pieces_from}
 use Rattle.range_map.specs.Overlapping.{AreOverlapping}

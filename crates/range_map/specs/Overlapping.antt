@@ -1,7 +1,7 @@
 -- The items that a range meets, as they stand in a list, and the run of items between two of them.
 use Rattle.std.specs.Prelude.{◌≡◌, ℕ, ◌+◌, ◌-◌, ◌≤◌, List, [], ◌∷◌, ◌++◌, take, drop, Option, Some, None, ⊤}
 use Rattle.range_keys.specs.Order.{KeyOrder}
-use Rattle.range_keys.specs.Position.{start_position, end_position, position_cmp}
+use Rattle.range_keys.specs.Position.{start_position, position_cmp}
 use Rattle.range_keys.specs.declared.inner.position.Position.{Position}
 use Rattle.range_algebra.specs.Intervals.{Le, Lt, Every}
 use Rattle.range_algebra.specs.Relations.{LiesBefore}

@@ -1,6 +1,5 @@
-use Rattle.std.proofs.Common.{◌≡◌, ◌∙◌, ap, ◌+◌, ◌≤◌, length, rules}
+use Rattle.std.proofs.Common.{◌≡◌, ◌∙◌, ap, rules}
 use Rattle.range_map.specs.Appending.{LieBefore, appended}
-use Rattle.range_change.specs.Bindings.{BindAlike}
 use Rattle.range_map.proofs.Appending.{appended_binds, appended_length, appended_stored}
 use Rattle.range_map.proofs.StoredLists.{stored_coarse, stored_only}
 use Rattle.range_map.proofs.map.RangeMap.append.Goals as goal

@@ -1,4 +1,4 @@
-use Rattle.std.proofs.Common.{◌≡◌, refl, List, ◌++◌, ◌∷◌, []}
+use Rattle.std.proofs.Common.{◌≡◌, refl, List, ◌∷◌, []}
 use Rattle.range_algebra.specs.Intervals.{Every}
 use Rattle.range_algebra.specs.Relations.{LiesBefore}
 use Rattle.range_map.specs.Iteration.{shown_item}

@@ -1,7 +1,5 @@
-use Rattle.std.proofs.Common.{◌≡◌, List, Option, None}
+use Rattle.std.proofs.Common.{◌≡◌, None}
 use Rattle.range_algebra.specs.Intervals.{Any}
-use Rattle.range_algebra.specs.declared.any.AnyRange.{AnyRange}
-use Rattle.range_store.specs.declared.storage.Item.{Item}
 use Rattle.range_change.specs.Pieces.{ArePieces}
 use Rattle.range_map.proofs.PieceSteps.{range_by, pieces_shown, all_pieces, all_free}
 use Rattle.range_map.proofs.map.RangeMap.pieces.Goals as goal

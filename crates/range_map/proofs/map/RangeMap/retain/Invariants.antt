@@ -1,4 +1,4 @@
-use Rattle.std.proofs.Common.{◌-◌, ◌≤◌, length}
+use Rattle.std.proofs.Common.{◌-◌, length}
 use Rattle.range_store.specs.Places.{place_before, IsAt}
 use Rattle.range_map.specs.Retaining.{CalledAtItem}
 use Rattle.range_map.proofs.Retaining.{IsRetaining}

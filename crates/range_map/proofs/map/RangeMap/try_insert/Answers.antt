@@ -1,5 +1,5 @@
 use Rattle.std.proofs.lemmas.Grind.{common_steps}
-use Rattle.std.proofs.Common.{OnOk, OnErr, ◌≡◌, refl, arith, subst}
+use Rattle.std.proofs.Common.{OnOk, refl, arith, subst}
 use Rattle.range_algebra.specs.Range.{IsEmptyRange}
 use Rattle.range_change.specs.Bindings.{IsBoundAfter}
 use Rattle.range_change.specs.Changes.{IsInserted}

@@ -1,4 +1,4 @@
-use Rattle.std.proofs.Common.{◌≡◌, ◌-◌, length, ◌∙◌, refl, arith}
+use Rattle.std.proofs.Common.{◌-◌, length, ◌∙◌, refl, arith}
 use Rattle.range_map.proofs.Appending.{joined_last, pushed_apart}
 use Rattle.range_map.proofs.map.append.push.Goals as goal
 

@@ -1,4 +1,4 @@
-use Rattle.std.proofs.Common.{◌≡◌, ◌+◌, ◌-◌, ◌<◌, ◌≤◌, ap, arith, drop, length, sym, take}
+use Rattle.std.proofs.Common.{◌≡◌, ◌+◌, ◌-◌, ◌<◌, ap, arith, drop, sym, take}
 use Rattle.range_map.proofs.Overlapping.{stored_order}
 use Rattle.range_map.proofs.map.overlapping.run_between.Goals as goal
 

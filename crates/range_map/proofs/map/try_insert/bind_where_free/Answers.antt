@@ -1,5 +1,4 @@
-use Rattle.std.proofs.Common.{◌≡◌, refl, arith, rules}
-use Rattle.std.proofs.lemmas.Grind.{common_steps}
+use Rattle.std.proofs.Common.{◌≡◌, arith}
 use Rattle.range_algebra.proofs.Lists.{any_none}
 use Rattle.range_change.specs.Lookups.{Overlap}
 use Rattle.range_change.proofs.InsertionFrames.{meets_some, none_meets}

@@ -1,4 +1,4 @@
-use Rattle.std.proofs.Common.{◌≡◌, ◌∷◌, [], Some, ap, arith, length, sym, ◌∙◌}
+use Rattle.std.proofs.Common.{◌≡◌, ◌∷◌, Some, ap, arith, length, sym, ◌∙◌}
 use Rattle.std.specs.Option.{option_map}
 use Rattle.range_keys.specs.Position.{bound_of}
 use Rattle.range_algebra.specs.References.{range_of}
