@@ -1,7 +1,8 @@
 #!/bin/sh
 # Times searches, insertions and removals at scattered keys, and the iteration, of a map over the B-tree and over the
 # vector, and of std's BTreeMap, at 1,000 to 1,000,000 items; prints the ratios of the first to the last; and measures
-# the memory of each at its fullest. Needs `rt` and `/usr/bin/time`; proves what is not proved yet.
+# the memory of each at its fullest. Builds the library without its proof. Needs `rt`, `rustc`, `cc`, python3 and
+# `/usr/bin/time`.
 set -eu
 top=$(cd "$(dirname "$0")/../../.." && pwd)
 work=$(mktemp -d)
@@ -12,22 +13,22 @@ for crate in $crates; do
     cp -r "$top/crates/$crate" "$work/crates/"
     grep "^$crate:" "$top/crates.txt" >> "$work/crates.txt"
 done
-cp "$top/HANDLES" "$work/"
 echo 'containers: btree_range_map anyhow' >> "$work/crates.txt"
 cp "$(dirname "$0")/containers.txt" "$work/crates/containers/src/main.rt"
-cd "$work/crates/containers"
-rt run > "$work/times"
-cat "$work/times"
+python3 "$top/bindings/unproved.py" "$work" "$work/crates/containers"
+cd "$work"
+./containers > times
+cat times
 awk '
     $1 == "tree" { get = $4; insert = $6; remove = $8; iteration = $11 }
     $1 == "std" { printf "tree to std, %d: get %.1f insert %.1f remove %.1f iteration %.1f\n", $2, get / $4, insert / $6, remove / $8, iteration / $11 }
-' "$work/times"
+' times
 
 # The most memory that such a map of n items has taken while it was filled, over that of a program with an empty one.
 for container in tree vector std; do
-    empty=$(/usr/bin/time -f %M out/containers "$container" 0 2>&1 >"$work/said")
+    empty=$(/usr/bin/time -f %M ./containers "$container" 0 2>&1 >said)
     for n in 100000 1000000; do
-        full=$(/usr/bin/time -f %M out/containers "$container" "$n" 2>&1 >"$work/said")
+        full=$(/usr/bin/time -f %M ./containers "$container" "$n" 2>&1 >said)
         echo "$container $n: $(((full - empty) * 1024 / n)) bytes an item"
     done
 done

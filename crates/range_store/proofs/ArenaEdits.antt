@@ -3,15 +3,15 @@ use Rattle.std.proofs.Common.{◌≡◌, ℕ, ◌+◌, ◌-◌, ◌*◌, ◌<◌
 use borrow.Rule.Slice.PartMut.{put_mid}
 use Rattle.std.specs.List.{insert, remove}
 use Rattle.std.proofs.Math.ListN.{set}
-use Rattle.std.proofs.lemmas.List.{length-append, length-set, take-take, length-take-le, length-drop, get_or-drop, get_or-take, get_or-set_same, get_or-set_other}
+use Rattle.std.proofs.lemmas.List.{append-nil, length-append, length-set, take-take, length-take-le, length-drop, get_or-drop, get_or-take, get_or-set_same, get_or-set_other}
 use Rattle.range_store.specs.declared.btree.blocks.Record.{Record}
 use Rattle.range_store.specs.declared.btree.nodes.TheConstants.{CAPACITY}
 use Rattle.range_store.specs.Heap.{full_cells}
 use Rattle.range_store.specs.Blocks.{block_of, HasBlock, items_held, list_held}
 use Rattle.range_store.specs.Arena.{cells_under, table_of, IsArena}
-use Rattle.range_store.proofs.FullCells.{full_set, Standing}
+use Rattle.range_store.proofs.FullCells.{full_set, length-full, Standing}
 use Rattle.range_store.proofs.Arena.{found}
-use Rattle.range_store.proofs.ArenaCells.{other_part, part_read, length-part, inserted, removed, other_set, front_set}
+use Rattle.range_store.proofs.ArenaCells.{front_written, other_part, part_read, length-part, inserted, removed, other_set, front_set}
 use Rattle.range_store.proofs.ArenaChanges.{IsChange, IsRewritten}
 
 same_record : (a b : Record) → a.len ≡ b.len → a.list ≡ b.list → a ≡ b
@@ -128,6 +128,33 @@ module _ {T : Type 0} where
         ∙ part_read n i len cells (omega arith) (omega (arith, here.few))
         ∙ ap (drop i) (ap (λ j. take j (cells_under cells n)) len_is ∙ here.full))
         ∙ get_or-drop i full 0 taken ∙ ap (λ j. get_or full j taken) at ∙ stands.cell_is taken
+
+  pub filling : (cells part : List (Option T)) (records : List (Option Record)) (free : List ℕ)
+      (capacity n k count list : ℕ) (xs : List T) (arena : IsArena cells records free)
+      (there : HasBlock (table_of cells records capacity) n) → count ≤ CAPACITY
+      → length xs ≡ count → k ≡ CAPACITY * n + count - CAPACITY * n → part ≡ full_cells xs
+      → IsRewritten cells (put_mid (CAPACITY * n) k cells part) records
+      (set records n (Some (record { len = count; list = list }))) n
+      (record { len = count; list = list }) xs
+  filling cells part records free capacity n k count list xs arena there fits long many is =
+      let here = found arena capacity n there in
+      let kept : Record = record { len = count; list = list } in
+      let all : length part ≡ count = ap length is ∙ length-full xs ∙ long in
+      let start : CAPACITY * n + 0 ≡ CAPACITY * n = omega arith in
+      record {
+        change = part_change cells part records free n (CAPACITY * n) k (Some kept) arena
+            here.room (omega arith) (omega (arith, many)) (omega (arith, all, many));
+        old = here.kept;
+        was = here.is;
+        is = get_or-set_same records n (Some kept) None here.within;
+        same_length = length-set records n (Some kept);
+        fits = fits;
+        front =
+            ap (λ a. take count (cells_under (put_mid a k cells part) n)) (sym start)
+            ∙ front_written n 0 k count cells part part [] (sym (append-nil part)) here.room
+            (omega arith) fits (omega (arith, all))
+            ∙ is;
+      }
 
   -- what stands in a cell of a block
   pub cell_read : (cells : List (Option T)) (records : List (Option Record)) (free : List ℕ)

@@ -15,7 +15,7 @@ use Rattle.range_store.specs.Occurrences.{occurrences, occurrences-append, occur
 use Rattle.range_store.specs.Weave.{weave_cut}
 use Rattle.range_store.proofs.Below.{Shaped-from_but, child_count_inner, items_below_leaf, used_is, used_leaf, weave_items_below}
 use Rattle.range_store.proofs.Contents.{Holds, held_items_below, held_used, held_shape, written_holds}
-use Rattle.range_store.proofs.Moves.{Moves-agree, Moves-beside, Moves-like, Moves-none, Moves-then, Stores-moves, Writes-moves}
+use Rattle.range_store.proofs.Moves.{Moves-agree, Moves-beside, Moves-like, Moves-then, Stores-moves, Writes-moves}
 use Rattle.range_store.proofs.Moved.{moved_all}
 use Rattle.range_store.proofs.Rank.{used_none}
 use Rattle.range_store.proofs.Room.{used_le}
@@ -144,18 +144,18 @@ module _ {T : Type 0} (r s t : Heap T) (d n many : ℕ) (cs : List ℕ) (built :
         ∙ ap (weave (xs ++ x ∷ [])) (map-append (items_below t d) ks cs
         ∙ ap (λ zs. zs ++ map (items_below t d) cs) same.items_below_same)
 
--- a leaf of one item
-pub leaf_begun : {T : Type 0} (r s : Heap T) (n : ℕ) (x : T) → Stores r s n (x ∷ []) []
-    → IsBuilt r s 0 n 1 × (items_below s (suc 0) n ≡ x ∷ [])
-leaf_begun r s n x stored =
+-- a leaf of new items
+pub built_leaf : {T : Type 0} (r s : Heap T) (n : ℕ) (xs : List T) → Stores r s n xs []
+    → length xs ≤ CAPACITY → IsBuilt r s 0 n (length xs) × (items_below s (suc 0) n ≡ xs)
+built_leaf r s n xs stored fits =
     let childless : length (children_of (node_of s n)) ≡ 0 = ap length stored.children_are in
-    let built : IsBuilt r s 0 n 1 = record {
+    let built : IsBuilt r s 0 n (length xs) = record {
       shape = record {
         node =
             record {
               present = stored.present;
               enough = omega arith;
-              fits = omega (arith, ap length stored.items_are);
+              fits = omega (arith, ap length stored.items_are, fits);
               branches = childless;
             };
         children = rw stored.children_are (All-nil (Shaped s zero));
@@ -163,33 +163,9 @@ leaf_begun r s n x stored =
       items = ap length stored.items_are;
       moved =
           subst (Moves r s []) (sym (used_leaf s n childless))
-          (Stores-moves r s n (x ∷ []) [] [] stored);
+          (Stores-moves r s n xs [] [] stored);
     } in
     (built, items_below_leaf s n childless ∙ stored.items_are)
-
--- a leaf gets an item
-module _ {T : Type 0} (r s t : Heap T) (n many : ℕ) (x : T) (built : IsBuilt r s 0 n many)
-    (room : many < CAPACITY)
-    (put : Writes s t n (insert (items_of (node_of s n)) many x) (children_of (node_of s n))) where
-  leaf_written : Writes s t n (items_of (node_of s n) ++ x ∷ []) (children_of (node_of s n) ++ [])
-  leaf_written =
-      let xs = items_of (node_of s n) in
-      let end : insert xs many x ≡ xs ++ x ∷ [] =
-      ap (λ m. insert xs m x) (sym built.items) ∙ insert_end xs x in
-      subst (Writes s t n (xs ++ x ∷ [])) (sym (append-nil (children_of (node_of s n))))
-      (subst (λ ys. Writes s t n ys (children_of (node_of s n))) end put)
-
-  pub leaf_more : IsBuilt r t 0 n (many + 1)
-      × (items_below t (suc 0) n ≡ items_below s (suc 0) n ++ x ∷ [])
-  leaf_more =
-      let childless : length (children_of (node_of s n)) ≡ 0 = built.shape.node.branches in
-      let none : length (children_of (node_of t n)) ≡ 0 =
-      ap length put.children_are ∙ childless in (
-        built_more r s s 0 n many [] built (Moves-none s []) t x room (All-nil (Shaped s 0))
-            (omega (arith, childless)) leaf_written,
-        items_below_leaf t n none ∙ leaf_written.items_are
-            ∙ ap (λ ys. ys ++ x ∷ []) (sym (items_below_leaf s n childless)),
-      )
 
 -- a node above its first child
 module _ {T : Type 0} (r s t : Heap T) (d n c : ℕ) (inner : 0 < d)

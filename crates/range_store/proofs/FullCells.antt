@@ -1,8 +1,8 @@
 -- Cells that have an item each.
-use Rattle.std.proofs.Common.{◌≡◌, ℕ, zero, suc, ◌<◌, List, [], ◌∷◌, ◌++◌, length, get_or, take, drop, Option, Some, refl, sym, ap, ◌∙◌, arith}
+use Rattle.std.proofs.Common.{◌≡◌, ℕ, zero, suc, ◌+◌, ◌<◌, List, [], ◌∷◌, ◌++◌, length, get_or, take, drop, take-add, Option, Some, refl, sym, ap, ◌∙◌, arith}
 use Rattle.std.proofs.Math.ListN.{set}
 use Rattle.std.specs.List.{insert, remove}
-use Rattle.std.proofs.lemmas.List.{length-map, map-append, map-set, take-map, drop-map}
+use Rattle.std.proofs.lemmas.List.{length-map, map-append, map-set, take-map, drop-map, drop-drop, take_more_set}
 use Rattle.range_store.specs.Heap.{full_cells}
 use Rattle.range_store.specs.Arena.{items_in, IsFull}
 
@@ -50,6 +50,19 @@ module _ {T : Type 0} where
 
   pub full_append : (xs ys : List T) → full_cells xs ++ full_cells ys ≡ full_cells (xs ++ ys)
   full_append xs ys = sym (map-append (λ x. Some x) xs ys)
+
+  -- one more of the cells has its item
+  pub full_more : (cells : List (Option T)) (xs rest : List T) (i : ℕ) (x : T) → i < length cells
+      → take i cells ≡ full_cells (take i xs) → drop i xs ≡ x ∷ rest
+      → (take (i + 1) (set cells i (Some x)) ≡ full_cells (take (i + 1) xs))
+      × (rest ≡ drop (i + 1) xs)
+  full_more cells xs rest i x within front next =
+      let more : take (i + 1) xs ≡ take i xs ++ x ∷ [] =
+      take-add i 1 xs ∙ ap (λ ys. take i xs ++ take 1 ys) next in (
+        take_more_set cells i (Some x) within ∙ ap (λ zs. zs ++ Some x ∷ []) front
+            ∙ full_append (take i xs) (x ∷ []) ∙ ap full_cells (sym more),
+        sym (ap (drop 1) next) ∙ drop-drop 1 i xs,
+      )
 
   -- what stands at an index, with its cell
   pub record Standing (xs : List T) (i : ℕ) : Type 0 where

@@ -68,7 +68,7 @@ module _ {T : Type 0} where
       ∙ ap (λ l. Some (record { items = other.items; list = l })) list
 
   -- a new block, and then its items
-  adds : (s t u : Table T) (n list : ℕ) (xs : List T) → StoresBlock s t n list
+  pub adds : (s t u : Table T) (n list : ℕ) (xs : List T) → StoresBlock s t n list
       → WritesBlock t u n xs → AddsBlock s u n list xs
   adds s t u n list xs stores writes =
       record {

@@ -2,6 +2,7 @@
 ghost use Rattle.std.specs.Prelude.{◌≡◌, ◌≢◌, ◌⊎◌, ◌+◌, ◌-◌, ◌*◌, ◌<◌, ◌≤◌, [], ◌∷◌, ◌++◌, length, take, drop, replicate, vec_capacity, slice_index_or, insert, remove, IsOk, IsSome, OnOk, None, Some};
 ghost use Rattle.std.specs.Borrow.{Lends, sem};
 ghost use Rattle.std.specs.Option.Follows.{option_follows_value};
+ghost use Rattle.std.specs.Vec.Iter.{into_iter_items};
 ghost use Rattle.range_store.specs.Arena.{MovesCells};
 ghost use Rattle.range_store.specs.Heap.{full_cells};
 ghost use Rattle.range_store.specs.Blocks.{block_of, HasBlock, items_held, list_held, block_count, HasRoomForBlocks, with_block_item, WritesBlock, StoresBlock, RemovesBlock, MovesEnd};
@@ -9,6 +10,7 @@ ghost use Rattle.range_store.specs.Blocks.{block_of, HasBlock, items_held, list_
 use crate::btree::nodes::CAPACITY;
 use std::alloc::{AllocError, Global};
 use std::marker::Model;
+use std::vec::IntoIter;
 
 // How many cells of a number hold an item, and the key of the list of its children.
 #[derive(Clone, Copy, Drop)]
@@ -80,6 +82,29 @@ fn take_first<T: Drop>(cells: &mut [Option<T>]) -> Option<T>
     let item = cells[0].take();
     cells.rotate_left(1);
     item
+}
+
+// The next item, of which there is one.
+pub fn next_item<T: Drop>(items: &mut IntoIter<T>) -> T
+    requires { 0 < length (into_iter_items items.old) }
+    ensures { into_iter_items items.old ≡ result ∷ into_iter_items items.new }
+{
+    match items.next() {
+        Some(item) => item,
+        None => unreachable!(),
+    }
+}
+
+// Puts the next items into these cells, one into each.
+fn fill<T: Drop>(cells: &mut [Option<T>], items: &mut IntoIter<T>)
+    requires { length cells.old ≤ length (into_iter_items items.old) }
+    ensures filled { cells.new
+        ≡ full_cells (take (length cells.old) (into_iter_items items.old)) }
+    ensures rest { into_iter_items items.new ≡ drop (length cells.old) (into_iter_items items.old) }
+{
+    for index in 0..cells.len() {
+        cells[index] = Some(next_item(items));
+    }
 }
 
 // Moves what so many cells hold to others, apart from them.
@@ -248,6 +273,21 @@ impl<T: Drop> Blocks<T> {
         let start = CAPACITY * number;
         put_first(&mut self.cells[start + index..start + len + 1], item);
         self.records[number] = Some(Record { len: len + 1, list });
+    }
+
+    /// Lets a block have the next so many items.
+    pub fn fill(&mut self, number: usize, count: usize, items: &mut IntoIter<T>)
+        requires present { HasBlock self.old number }
+        requires fits { count ≤ CAPACITY }
+        requires enough { count ≤ length (into_iter_items items.old) }
+        ensures filled { WritesBlock self.old self.new number
+            (take count (into_iter_items items.old)) }
+        ensures rest { into_iter_items items.new ≡ drop count (into_iter_items items.old) }
+    {
+        let list = self.list(number);
+        let start = CAPACITY * number;
+        fill(&mut self.cells[start..start + count], items);
+        self.records[number] = Some(Record { len: count, list });
     }
 
     /// Takes the item at an index out of a block.

@@ -5,6 +5,7 @@ ghost use Rattle.range_store.specs.Building.{IsBuilt, HasRoomToBuild};
 ghost use Rattle.range_store.specs.Heap.{HasRoomFor};
 ghost use Rattle.range_store.specs.Nodes.{items_below};
 
+use crate::btree::blocks::next_item;
 use crate::btree::nodes::{CAPACITY, Nodes};
 use std::vec::IntoIter;
 
@@ -32,17 +33,6 @@ pub fn layout_of(count: usize) -> Layout
     Layout { below, width }
 }
 
-// The next item, of which there is one.
-fn next_item<T: Drop>(items: &mut IntoIter<T>) -> T
-    requires { 0 < length (into_iter_items items.old) }
-    ensures { into_iter_items items.old ≡ result ∷ into_iter_items items.new }
-{
-    match items.next() {
-        Some(item) => item,
-        None => unreachable!(),
-    }
-}
-
 // Makes a leaf of the next items.
 fn build_leaf<T: Drop>(nodes: &mut Nodes<T>, count: usize, items: &mut IntoIter<T>) -> usize
     requires least { 0 < count }
@@ -54,13 +44,7 @@ fn build_leaf<T: Drop>(nodes: &mut Nodes<T>, count: usize, items: &mut IntoIter<
         ≡ items_below nodes.new (suc 0) result ++ into_iter_items items.new }
     ensures size { length (items_below nodes.new (suc 0) result) ≡ count }
 {
-    let first = next_item(items);
-    let number = nodes.store_leaf(first);
-    for index in 1..count {
-        let item = next_item(items);
-        nodes.put(number, index, item, None);
-    }
-    number
+    nodes.store_items(count, items)
 }
 
 // Makes a node of the next items, below each of whose children there are fewer than `width`.

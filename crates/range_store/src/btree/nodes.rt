@@ -1,6 +1,7 @@
 //! The nodes of a tree under numbers, each with its items and its children.
-ghost use Rattle.std.specs.Prelude.{◌≡◌, ◌≢◌, ◌⊎◌, ◌+◌, ◌-◌, ◌<◌, ◌≤◌, [], ◌∷◌, length, slice_get, slice_index, slice_index_or, insert, remove, IsOk, OnOk};
+ghost use Rattle.std.specs.Prelude.{◌≡◌, ◌≢◌, ◌⊎◌, ◌+◌, ◌-◌, ◌<◌, ◌≤◌, [], ◌∷◌, length, take, drop, slice_get, slice_index, slice_index_or, insert, remove, IsOk, OnOk};
 ghost use Rattle.std.specs.Borrow.{Lends, sem};
+ghost use Rattle.std.specs.Vec.Iter.{into_iter_items};
 ghost use Rattle.range_store.specs.Heap.{node_of, HasNode, items_of, children_of, full_cells, node_count, HasRoomFor, with_child, with_item, FitsChild, Writes, Stores, Removes, Divides, left_items, right_items, HasPair, RotatesLeft, RotatesRight, Merges, Absorbs};
 
 use crate::btree::blocks::Blocks;
@@ -13,6 +14,7 @@ use slab::Slab;
 use std::alloc::{AllocError, Global};
 use std::marker::Model;
 use std::mem;
+use std::vec::IntoIter;
 
 /// The most items in a node.
 pub const CAPACITY: usize = 11;
@@ -222,6 +224,20 @@ impl<T: Drop> Nodes<T> {
     {
         let number = self.blocks.store(NO_LIST);
         self.blocks.insert(number, 0, item);
+        number
+    }
+
+    /// Stores a new node with the next so many items and no child.
+    pub fn store_items(&mut self, count: usize, items: &mut IntoIter<T>) -> usize
+        requires room { HasRoomFor self.old 1 }
+        requires fits { count ≤ CAPACITY }
+        requires enough { count ≤ length (into_iter_items items.old) }
+        ensures stored { Stores self.old self.new result (take count (into_iter_items items.old))
+            [] }
+        ensures rest { into_iter_items items.new ≡ drop count (into_iter_items items.old) }
+    {
+        let number = self.blocks.store(NO_LIST);
+        self.blocks.fill(number, count, items);
         number
     }
 

@@ -1,5 +1,5 @@
 use Rattle.std.proofs.Common.{arith}
-use Rattle.range_store.proofs.btree.building.next_item.Goals as goal
+use Rattle.range_store.proofs.btree.blocks.next_item.Goals as goal
 
 pub unreachable-requires : goal.unreachable-requires
 unreachable-requires g c =
