@@ -21,21 +21,21 @@ path_fits s zero n g is = omega (arith, is.1)
 path_fits s (suc d) n g is = omega (arith, pow-suc PATH_BASE d, path_fits s d _ (inside g) is.1)
 
 pub path_small : {T : Type 0} (s : Heap T) (d n : ℕ) (g : Edge) → d < MAX_LEVELS → IsEdge s d n g
-    → g.path < 2 ^ 124
+    → g.path < 2 ^ 60
 path_small s d n g deep is =
-    let low : d ≤ 31 = omega arith in
+    let low : d ≤ 15 = omega arith in
     let some : 0 < PATH_BASE = omega arith in
-    let most : PATH_BASE ^ d ≤ PATH_BASE ^ 31 = pow-le-pow_right some low in
-    let width : ◌≡◌ {A = ℕ} (PATH_BASE ^ 31) (2 ^ 124) = refl in
+    let most : PATH_BASE ^ d ≤ PATH_BASE ^ 15 = pow-le-pow_right some low in
+    let width : ◌≡◌ {A = ℕ} (PATH_BASE ^ 15) (2 ^ 60) = refl in
     omega (arith, path_fits s d n g is, most, width)
 
 pub path_low : {T : Type 0} (s : Heap T) (d n : ℕ) (g : Edge) → d + 1 < MAX_LEVELS → IsEdge s d n g
-    → g.path < 2 ^ 120
+    → g.path < 2 ^ 56
 path_low s d n g deep is =
-    let low : d ≤ 30 = omega arith in
+    let low : d ≤ 14 = omega arith in
     let some : 0 < PATH_BASE = omega arith in
-    let most : PATH_BASE ^ d ≤ PATH_BASE ^ 30 = pow-le-pow_right some low in
-    let width : ◌≡◌ {A = ℕ} (PATH_BASE ^ 30) (2 ^ 120) = refl in
+    let most : PATH_BASE ^ d ≤ PATH_BASE ^ 14 = pow-le-pow_right some low in
+    let width : ◌≡◌ {A = ℕ} (PATH_BASE ^ 14) (2 ^ 56) = refl in
     omega (arith, path_fits s d n g is, most, width)
 
 pub leaf_edge : {T : Type 0} (s : Heap T) (n : ℕ) (g : Edge) → g.leaf ≡ n → g.path ≡ 0

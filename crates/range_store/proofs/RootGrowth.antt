@@ -1,12 +1,12 @@
 -- A whole tree after an insertion: of the first item, below the root, and with a cut of the root.
-use Rattle.std.proofs.Common.{◌≡◌, ℕ, zero, suc, ◌+◌, ◌-◌, ◌*◌, ◌^◌, ◌<◌, ◌≤◌, List, [], ◌∷◌, ◌++◌, length, refl, sym, ap, ◌∙◌, inl, inr, arith, None, Some}
+use Rattle.std.proofs.Common.{◌≡◌, ℕ, zero, suc, ◌+◌, ◌-◌, ◌*◌, ◌<◌, ◌≤◌, List, [], ◌∷◌, ◌++◌, length, refl, sym, ap, ◌∙◌, inl, inr, arith, None, Some}
 use Rattle.std.specs.List.{All, flat_map}
 use Rattle.std.proofs.lemmas.List.{append-nil, length-append}
 use Rattle.std.proofs.lemmas.List.Elements.{All-nil, All-head, All-tail, All-weaker}
 use Rattle.std.proofs.lemmas.Bool.{cases_eq}
 use Rattle.range_store.specs.Heap.{Heap, node_of, HasRoomFor, children_of, Stores}
 use Rattle.range_store.specs.declared.btree.nodes.Split.{Split}
-use Rattle.range_store.specs.declared.btree.nodes.TheConstants.{CAPACITY, MIN_LEN}
+use Rattle.range_store.specs.declared.btree.nodes.TheConstants.{CAPACITY, MAX_LEN, MIN_LEN}
 use Rattle.range_store.specs.declared.btree.path.Edge.{Edge}
 use Rattle.range_store.specs.Nodes.{items_below, used, Shaped, ShapedBut, IsTree, IsRoomy, HasTreeRoom, here, Replaces}
 use Rattle.range_store.specs.Edges.{turn, inside, IsEdge, place, IsSeat, seat_place}
@@ -91,7 +91,7 @@ module _ {T : Type 0} where
     pub items_are : items_below s levels root ≡ list
 
 pub grown_roomy : {T : Type 0} (s : Heap T) (levels root : ℕ) (list : List T)
-    → IsGrown s levels root list → length list ≤ MIN_LEN * s.capacity → length list < 2 ^ 64
+    → IsGrown s levels root list → length list ≤ MIN_LEN * s.capacity → length list ≤ MAX_LEN
     → IsRoomy s levels root
 grown_roomy s levels root list grown fits counted = record {
   tree = grown.tree;

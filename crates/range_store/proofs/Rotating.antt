@@ -53,7 +53,7 @@ drop_fewer (suc d) a b ks ls many many' = drop-append-le a ks ls (omega arith)
 -- an edge that lies at another index of its leaf, or goes through another child first
 pub moved_path : (low leaf index : ℕ) (g e : Edge)
     → (low ≡ 0 → g ≡ record { leaf = leaf; path = 0; index = index })
-    → (0 < low → inside g ≡ inside e) → e.path < 2 ^ 120 → g.path < 2 ^ 124
+    → (0 < low → inside g ≡ inside e) → e.path < 2 ^ 56 → g.path < 2 ^ 60
 moved_path zero leaf index g e at into small = rw (at refl) (omega arith)
 moved_path (suc low) leaf index g e at into small =
     let same = ap (λ (x : Edge). x.path) (into (omega arith)) in

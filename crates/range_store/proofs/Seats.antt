@@ -45,7 +45,7 @@ seat_small s zero xs ks i g branches seat = seat
 seat_small s (suc d) xs ks i g branches seat = omega (arith, seat.0, branches)
 
 pub seat_path : {T : Type 0} (s : Heap T) (d : ℕ) (xs : List T) (ks : List ℕ) (i : ℕ) (g : Edge)
-    → d < MAX_LEVELS → 0 < d → IsSeat s d xs ks i g → g.path < 2 ^ 124
+    → d < MAX_LEVELS → 0 < d → IsSeat s d xs ks i g → g.path < 2 ^ 60
 unfolding IsSeat
 seat_path s zero xs ks i g deep some seat = absurd (omega arith)
 seat_path s (suc d) xs ks i g deep some seat = path_small s d _ g (omega (arith, deep)) seat.1

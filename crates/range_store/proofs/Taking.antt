@@ -9,7 +9,7 @@ use Rattle.range_store.specs.Edges.{IsEdge, place}
 use Rattle.range_store.specs.Holding.{box_items, box_room, IsBoxEdge, box_place, box_home, IsGood, good_item, good_then, written_items, with_good_item}
 use Rattle.range_store.specs.Nodes.{items_below, IsRoomy}
 use Rattle.range_store.specs.declared.btree.BoxStorage.{BoxStorage}
-use Rattle.range_store.specs.declared.btree.nodes.TheConstants.{MIN_LEN}
+use Rattle.range_store.specs.declared.btree.nodes.TheConstants.{MAX_LEN, MIN_LEN}
 use Rattle.range_store.specs.declared.btree.path.Edge.{Edge}
 use Rattle.range_store.specs.declared.btree.path.Home.{Home}
 use Rattle.range_store.proofs.InLeaf.{moved_down}
@@ -33,7 +33,7 @@ module _ {T : Type 0} (s t : BoxStorage T) (p : ℕ) (some : 0 < p)
 pub space_grows : {T : Type 0} (s : BoxStorage T) (p : ℕ) (n : Heap T) (levels root : ℕ) → 0 < p
     → p ≤ length (box_items s) → items_below n levels root ≡ remove (box_items s) (p - 1)
     → n.capacity ≡ s.nodes.capacity
-    → box_room s + 1 ≤ min (MIN_LEN * n.capacity) 18446744073709551615 - length
+    → box_room s + 1 ≤ min (MIN_LEN * n.capacity) MAX_LEN - length
     (items_below n levels root)
 space_grows s p n levels root some within list capacity =
     omega (

@@ -20,12 +20,12 @@ heavier path weight i small low = omega (arith, small, mul-le-mul_left weight lo
 
 -- above a leaf no weight is too great
 pub weight_fits : (below left weight : ℕ) → below < MAX_LEVELS → 0 < left
-    → weight ≡ PATH_BASE ^ (below - left) → weight ≤ 2 ^ 120
+    → weight ≡ PATH_BASE ^ (below - left) → weight ≤ 2 ^ 56
 weight_fits below left weight deep some is =
-    let few : below - left ≤ 30 = omega (arith, deep, some) in
+    let few : below - left ≤ 14 = omega (arith, deep, some) in
     let wide : 0 < PATH_BASE = omega arith in
-    let most : PATH_BASE ^ (below - left) ≤ PATH_BASE ^ 30 = pow-le-pow_right wide few in
-    let width : ◌≡◌ {A = ℕ} (PATH_BASE ^ 30) (2 ^ 120) = refl in
+    let most : PATH_BASE ^ (below - left) ≤ PATH_BASE ^ 14 = pow-le-pow_right wide few in
+    let width : ◌≡◌ {A = ℕ} (PATH_BASE ^ 14) (2 ^ 56) = refl in
     omega (arith, is, most, width)
 
 module _ {T : Type 0} (s : Heap T) where

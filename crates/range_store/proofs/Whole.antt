@@ -1,9 +1,9 @@
 -- What is known of a whole tree.
-use Rattle.std.proofs.Common.{◌≡◌, ℕ, zero, suc, ◌+◌, ◌-◌, ◌^◌, ◌<◌, ◌≤◌, length, get_or, refl, ap, ◌∙◌, inl, inr, arith}
+use Rattle.std.proofs.Common.{◌≡◌, ℕ, zero, suc, ◌+◌, ◌-◌, ◌*◌, ◌^◌, ◌<◌, ◌≤◌, length, get_or, refl, ap, ◌∙◌, inl, inr, arith}
 use Rattle.std.proofs.Math.Nat.{pow-le-pow_right}
 use Rattle.std.proofs.lemmas.Bool.{cases_lt}
 use Rattle.range_store.specs.Heap.{Heap, node_of, items_of}
-use Rattle.range_store.specs.declared.btree.nodes.TheConstants.{CAPACITY, MIN_LEN}
+use Rattle.range_store.specs.declared.btree.nodes.TheConstants.{CAPACITY, MAX_LEN, MIN_LEN}
 use Rattle.range_store.specs.declared.btree.path.TheConstants.{MAX_LEVELS}
 use Rattle.range_store.specs.declared.btree.BoxStorage.{BoxStorage}
 use Rattle.range_store.specs.declared.btree.path.Edge.{Edge}
@@ -14,7 +14,7 @@ use Rattle.range_store.proofs.InLeaf.{IsLeafOf, leaf_of_edge, leaf_beside, leaf_
 use Rattle.range_store.proofs.Levels.{tree_lower}
 use Rattle.range_store.specs.Written.{root_shaped}
 
--- so many levels as a path has digits are enough for all items that a `usize` counts
+-- so many levels as a path has digits are enough for all items that a tree may have
 pub tree_is_not_too_deep : {T : Type 0} (s : Heap T) (levels root : ℕ) → IsRoomy s levels root
     → levels - 1 < MAX_LEVELS
 tree_is_not_too_deep s zero root roomy = omega arith
@@ -24,7 +24,7 @@ tree_is_not_too_deep s (suc d) root roomy =
       | inr high ↦
           let some : 0 < MIN_LEN + 1 = omega arith in
           let more : (MIN_LEN + 1) ^ MAX_LEVELS ≤ (MIN_LEN + 1) ^ d = pow-le-pow_right some high in
-          let limit : 2 ^ 64 ≤ (MIN_LEN + 1) ^ MAX_LEVELS = omega arith in
+          let limit : MAX_LEN + 1 < 2 * (MIN_LEN + 1) ^ MAX_LEVELS = omega arith in
           absurd (omega (arith, tree_lower s d root roomy.tree, more, limit, roomy.counted))
     ]
 

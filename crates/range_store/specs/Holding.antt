@@ -10,7 +10,7 @@ use Rattle.range_store.specs.Edges.{turn, inside, IsEdge, place, home_of}
 use Rattle.range_store.specs.Places.{place_before, IsAt}
 use Rattle.range_store.specs.Written.{SameShape, turned, length_same, tree_same, edge_same, place_same, IsHome, home_is, home_item, home_set, home_within, written_shape, item_written, tree_once, root_shaped}
 use Rattle.range_store.specs.declared.btree.BoxStorage.{BoxStorage}
-use Rattle.range_store.specs.declared.btree.nodes.TheConstants.{CAPACITY, MIN_LEN}
+use Rattle.range_store.specs.declared.btree.nodes.TheConstants.{CAPACITY, MAX_LEN, MIN_LEN}
 use Rattle.range_store.specs.declared.btree.searching.TheConstants.{MAX_ASKS}
 use Rattle.range_store.specs.declared.btree.path.Edge.{Edge}
 use Rattle.range_store.specs.declared.btree.path.Home.{Home}
@@ -24,9 +24,9 @@ module _ {T : Type 0} where
   abbrev pub level_count : BoxStorage T → ℕ
   level_count s = s.levels
 
-  -- how many more items are sure to fit, and to be counted by a `usize`
+  -- how many more items are sure to fit
   abbrev pub box_room : BoxStorage T → ℕ
-  box_room s = min (MIN_LEN * s.nodes.capacity) 18446744073709551615 - length (box_items s)
+  box_room s = min (MIN_LEN * s.nodes.capacity) MAX_LEN - length (box_items s)
 
   -- an empty tree has no edge
   pub record IsBoxEdge (s : BoxStorage T) (point : Edge) : Type 0 where
@@ -253,7 +253,7 @@ module _ {T : Type 0} where
   room_as : (s : BoxStorage T) (edge : Edge) (decided : Decided s edge) (x : T)
       → box_room (with_item_as s edge decided x) ≡ box_room s
   room_as s edge (inl good) x =
-      ap (λ m. min (MIN_LEN * s.nodes.capacity) 18446744073709551615 - m)
+      ap (λ m. min (MIN_LEN * s.nodes.capacity) MAX_LEN - m)
       (length_same s.nodes (now s edge good x) (written_nodes s edge good x) s.levels s.root)
   room_as s edge (inr bad) x = refl
 
@@ -286,7 +286,7 @@ module _ {T : Type 0} where
   good_in_range s edge good = rw (rank_is s edge good) (good_within s edge good)
 
   pub items_fit : (s : BoxStorage T) → length (box_items s) < 2 ^ 64
-  items_fit s = s.whole.counted
+  items_fit s = omega (arith, s.whole.counted)
 
   pub none_asked_of_empty : (s : BoxStorage T) → length (box_items s) ≡ 0 → MAX_ASKS * s.levels ≡ 0
   none_asked_of_empty s none = let levels : s.levels ≡ 0 =

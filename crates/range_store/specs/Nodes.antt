@@ -1,5 +1,5 @@
 -- What a heap of nodes means: the items in order, the nodes in use, and the shape.
-use Rattle.std.specs.Prelude.{◌≡◌, ◌⊎◌, ℕ, zero, suc, ◌+◌, ◌-◌, ◌*◌, ◌^◌, ◌<◌, ◌≤◌, List, [], ◌∷◌, ◌++◌, length, map, take, drop, Option, Some, None, IsSome, is_some, cond, slice_index}
+use Rattle.std.specs.Prelude.{◌≡◌, ◌⊎◌, ℕ, zero, suc, ◌+◌, ◌-◌, ◌*◌, ◌<◌, ◌≤◌, List, [], ◌∷◌, ◌++◌, length, map, take, drop, Option, Some, None, IsSome, is_some, cond, slice_index}
 use Rattle.std.specs.Coded.{×_prop, Unit-prop, le_prop}
 use Rattle.std.proofs.Math.Nat.{ℕ_set}
 use mathlib.Core.Bool.{Bool-set}
@@ -7,7 +7,7 @@ use Rattle.std.specs.List.{All, flat_map}
 use Rattle.range_store.specs.Heap.{Heap, node_of, node_count, items_of, children_of, child_count}
 use Rattle.range_store.specs.Occurrences.{occurrences}
 use Rattle.range_store.specs.declared.btree.nodes.Split.{Split}
-use Rattle.range_store.specs.declared.btree.nodes.TheConstants.{CAPACITY, MIN_LEN}
+use Rattle.range_store.specs.declared.btree.nodes.TheConstants.{CAPACITY, MAX_LEN, MIN_LEN}
 
 module _ {X : Type 0} where
   -- each item, followed by what stands to its right
@@ -181,11 +181,11 @@ module _ {T : Type 0} where
     pub within : k ≤ length (items_of (node_of s n))
     pub spare : MIN_LEN < child_size s n k
 
-  -- a tree with no more items than its capacity is counted for, and than a `usize` counts
+  -- a tree with no more items than its capacity is counted for, and than a tree may have
   pub record IsRoomy (s : Heap T) (levels root : ℕ) : Type 0 where
     pub tree : IsTree s levels root
     pub fits : length (items_below s levels root) ≤ MIN_LEN * s.capacity
-    pub counted : length (items_below s levels root) < 2 ^ 64
+    pub counted : length (items_below s levels root) ≤ MAX_LEN
 
   -- these facts have one proof each
   IsNode-prop : (least most : ℕ) (s : Heap T) (d n : ℕ) → IsProp (IsNode least most s d n)

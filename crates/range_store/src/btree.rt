@@ -16,7 +16,7 @@ mod searching;
 mod tree;
 
 use crate::btree::nodes::Nodes;
-pub use crate::btree::nodes::{CAPACITY, MIN_LEN};
+pub use crate::btree::nodes::{CAPACITY, MAX_LEN, MIN_LEN};
 pub use crate::btree::path::Edge;
 use crate::btree::path::stands_first;
 use crate::btree::searching::MAX_ASKS;
@@ -143,11 +143,11 @@ impl<T: Drop> Storage<T> for BoxStorage<T> {
     }
 
     fn reserve(&mut self, n: usize) -> Result<(), AllocError> {
-        // No capacity counts more items than a `usize`.
-        let Some(many) = self.len.checked_add(n) else {
+        // A path has no digits for a tree of more items.
+        if n > MAX_LEN - self.len {
             return Err(AllocError);
-        };
-        let wanted = many.div_ceil(MIN_LEN);
+        }
+        let wanted = (self.len + n).div_ceil(MIN_LEN);
         if wanted <= self.nodes.capacity() {
             return Ok(());
         }

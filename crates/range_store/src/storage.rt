@@ -189,8 +189,8 @@ pub trait Storage<T>: Drop {
 
     /// Makes capacity for so many further items.
     ///
-    /// Fails where an allocation does, and never where there is room for them; the items are as
-    /// they were in any case.
+    /// Fails where an allocation does, or where the container cannot have so many items, and never
+    /// where there is room for them; the items are as they were in any case.
     fn reserve(&mut self, n: usize) -> Result<(), AllocError>
         ensures list { items self.new ≡ items self.old }
         ensures ok { OnOk result (n ≤ room self.new) }

@@ -22,6 +22,9 @@ pub const CAPACITY: usize = 11;
 /// The fewest items in a node other than the root.
 pub const MIN_LEN: usize = 5;
 
+/// The most items of a tree, 2^42: the path to any of them is one `u64`.
+pub const MAX_LEN: usize = 1 << 42;
+
 // How many items of an overfull node stay in its first half.
 pub const HALF: usize = (CAPACITY + 1) / 2;
 

@@ -8,16 +8,16 @@ ghost use Rattle.range_store.specs.Edges.{turn, inside, seat_of, is_start, IsEdg
 use crate::btree::nodes::{CAPACITY, Nodes};
 
 // A path has a digit for each level: the child through which it goes, from the lowest digit on.
-pub const PATH_BASE: u128 = 16;
+pub const PATH_BASE: u64 = 16;
 
-// No tree has more levels: not so many items fit in memory.
-pub const MAX_LEVELS: usize = 32;
+// As many digits has a path. No tree has more levels, since it has at most `MAX_LEN` items.
+pub const MAX_LEVELS: usize = 16;
 
 /// A place between two items of a `BoxStorage`: an index in a leaf, and the path to that. It stands
 /// for the item before it.
 #[derive(Clone, Copy)]
 pub struct Edge {
-    pub(crate) path: u128,
+    pub(crate) path: u64,
     pub(crate) leaf: usize,
     pub(crate) index: usize,
 }
@@ -34,7 +34,7 @@ pub struct Home {
 struct Subtree {
     node: usize,
     below: usize,
-    path: u128,
+    path: u64,
 }
 
 // The child through which the path goes first.
@@ -58,13 +58,13 @@ pub fn seen_inside(edge: Edge) -> Edge
 // The edge as the node above sees it, of which it is below the child at `index`.
 pub fn seen_above(edge: Edge, index: usize) -> Edge
     requires index { index ≤ CAPACITY }
-    requires path { edge.path < 2 ^ 124 }
+    requires path { edge.path < 2 ^ 60 }
     ensures turn { turn result ≡ index }
     ensures inside { inside result ≡ edge }
 {
     Edge {
         leaf: edge.leaf,
-        path: edge.path * PATH_BASE + index as u128,
+        path: edge.path * PATH_BASE + index as u64,
         index: edge.index,
     }
 }
@@ -72,7 +72,7 @@ pub fn seen_above(edge: Edge, index: usize) -> Edge
 // The edge at a seat of a node: between the items of a leaf, or below the child at that index.
 pub fn edge_at(below: usize, number: usize, seat: usize, inner: Edge) -> Edge
     requires seat { seat ≤ CAPACITY }
-    requires path { 0 < below → inner.path < 2 ^ 124 }
+    requires path { 0 < below → inner.path < 2 ^ 60 }
     ensures leaf { below ≡ 0 → result ≡ record { leaf = number; path = 0; index = seat } }
     ensures turn { 0 < below → turn result ≡ seat }
     ensures inside { 0 < below → inside result ≡ inner }
@@ -135,11 +135,11 @@ pub fn end_edge<T: Drop>(nodes: &Nodes<T>, below: usize, number: usize) -> Edge
 {
     let mut leaf = number;
     let mut left = below;
-    let mut path: u128 = 0;
-    let mut weight: u128 = 1;
+    let mut path: u64 = 0;
+    let mut weight: u64 = 1;
     'down: while left > 0 {
         let last = nodes.item_count(leaf);
-        path += weight * (last as u128);
+        path += weight * (last as u64);
         weight *= PATH_BASE;
         leaf = nodes.child_at(leaf, last);
         left -= 1;
@@ -188,8 +188,8 @@ fn edge_behind<T: Drop>(nodes: &Nodes<T>, below: usize, number: usize, edge: Edg
     let mut at = number;
     let mut left = below;
     let mut inner = edge;
-    let mut path: u128 = 0;
-    let mut weight: u128 = 1;
+    let mut path: u64 = 0;
+    let mut weight: u64 = 1;
     let mut behind = None;
     'down: while left > 0 {
         let node = at;
@@ -197,7 +197,7 @@ fn edge_behind<T: Drop>(nodes: &Nodes<T>, below: usize, number: usize, edge: Edg
         at = nodes.child_at(node, index);
         left -= 1;
         inner = seen_inside(inner);
-        path += weight * (index as u128);
+        path += weight * (index as u64);
         let later = path + weight;
         weight *= PATH_BASE;
         if index < nodes.item_count(node) {

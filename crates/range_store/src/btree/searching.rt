@@ -74,8 +74,8 @@ pub fn search_below<T: Drop, P: Probe<T>>(
 {
     let mut at = number;
     let mut left = below;
-    let mut path: u128 = 0;
-    let mut weight: u128 = 1;
+    let mut path: u64 = 0;
+    let mut weight: u64 = 1;
     'down: loop {
         let cells = nodes.cells(at);
         let children = nodes.children(at);
@@ -88,7 +88,7 @@ pub fn search_below<T: Drop, P: Probe<T>>(
                 index,
             };
         }
-        path += weight * (index as u128);
+        path += weight * (index as u64);
         weight *= PATH_BASE;
         at = children[index];
         left -= 1;

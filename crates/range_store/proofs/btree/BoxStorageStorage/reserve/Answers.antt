@@ -1,4 +1,4 @@
-use Rattle.std.proofs.Common.{◌∙◌, length, refl, ap, sym, arith}
+use Rattle.std.proofs.Common.{◌+◌, ◌∙◌, length, refl, ap, sym, arith}
 use Rattle.std.proofs.lemmas.Grind.{div_ceil_times}
 use Rattle.std.proofs.lemmas.Result.{on_ok_weaker}
 use Rattle.range_store.specs.declared.btree.nodes.TheConstants.{MIN_LEN}
@@ -36,10 +36,20 @@ returns-clause-ok g c =
     ap length (kept_items s.nodes c.reserve.new.self c.reserve.ensures.rest_kept s.levels
     s.root) in
     let count = kept_count s.nodes c.reserve.new.self c.reserve.ensures.rest_kept in
-    let ceiling = div_ceil_times c.in-Some.many MIN_LEN (omega arith) in
+    let ceiling = div_ceil_times (s.len + c.args.n) MIN_LEN (omega arith) in
     on_ok_weaker c.reserve.result
     (λ room.
-    omega (arith, kept, count, ceiling.0, room, c.in-Some.ensures.1, s.counted, c.len.ensures))
+    omega (
+      arith,
+      kept,
+      count,
+      ceiling.0,
+      room,
+      c.if-n-self.false,
+      s.counted,
+      s.whole.counted,
+      c.len.ensures,
+    ))
     c.reserve.ensures.room
 
 pub returns-clause-positions : goal.returns-clause-positions
