@@ -184,12 +184,6 @@ module _ {K : Type 0} (order : KeyOrder K) (lawful : IsLawful order) {V : Type 0
     last_started None front = started_by None 0 refl front
     last_started (Some q) front = started_by (Some q) (rank q + 1) (front.0, refl) front.1
 
-  pub stored_drop : (n : ℕ) (items : List (Item (AnyRange K) V)) → IsListed order lawful same items
-      → IsListed order lawful same (drop n items)
-  stored_drop zero items h = h
-  stored_drop (suc n) [] h = tt
-  stored_drop (suc n) (i ∷ rest) h = stored_drop n rest (stored_tail i rest h)
-
   not_bound : (items : List (Item (AnyRange K) V)) (k : K)
       → Every (λ i. Holds order i.key k → ⊥) items → IsBound order items k → ⊥
   not_bound [] k all h = h
