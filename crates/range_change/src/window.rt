@@ -61,6 +61,7 @@ pub fn find<K: PartialEnum, V: Eq + Drop, C: Storage<Item<AnyRange<K>, V>>>(
 }
 
 /// The last item that starts at most at a bound. Each item asked is a step.
+#[inline(always)]
 pub fn find_last_started<K: PartialEnum, V: Eq + Drop, C: Storage<Item<AnyRange<K>, V>>>(
     stored: &C,
     bound: &Directed<Bound<&K>>,
