@@ -1,11 +1,12 @@
 -- What a search among stored items finds.
-use Rattle.std.proofs.Common.{◌≡◌, ℕ, zero, suc, ◌+◌, ◌<◌, List, [], ◌∷◌, ◌++◌, length, take, drop, get_or, ap, sym, ◌∙◌, arith, Option, Bool, true, false, inl, inr}
+use Rattle.std.proofs.Common.{◌≡◌, ◌↔◌, ℕ, zero, suc, ◌+◌, ◌<◌, List, [], ◌∷◌, ◌++◌, length, take, drop, get_or, refl, ap, sym, subst, arith, Option, None, Some, Bool, true, false, inl, inr}
+use Rattle.std.specs.Prelude.{MatchOption}
 use Rattle.std.specs.declared.cmp.Ordering.{Ordering}
 use Rattle.std.specs.declared.cmp.Ordering.TheVariants.{Less, Equal, Greater}
-use Rattle.std.specs.Ordering.{is_gt, is_lt}
+use Rattle.std.specs.Ordering.{is_gt, is_le, is_lt}
 use Rattle.std.specs.Cmp.{IsEquivalence}
 use Rattle.std.specs.List.Sorted.{IsPartitionedBy}
-use Rattle.std.proofs.lemmas.List.{drop_more}
+use Rattle.std.proofs.lemmas.List.{take_more}
 use Rattle.range_keys.specs.Order.{KeyOrder, IsLawful}
 use Rattle.range_keys.specs.Position.{start_position, end_position}
 use Rattle.range_keys.specs.PositionOrder.{position_total}
@@ -20,18 +21,28 @@ use Rattle.range_store.specs.declared.storage.Item.{Item}
 use Rattle.range_store.specs.Places.{IsAt, IsFrontOf}
 use Rattle.range_store.proofs.Places.{place_at}
 use Rattle.range_algebra.specs.Intervals.{Any, Le, Lt, Every}
-use Rattle.range_algebra.specs.Orders.{lt_not_le, not_lt, lt_le_trans, le_lt_trans, lt_trans, lt_of}
+use Rattle.range_algebra.specs.Orders.{lt_le, lt_not_le, le_trans, not_le, not_lt, lt_le_trans, le_lt_trans, lt_trans, lt_of}
 use Rattle.range_change.specs.Stored.{IsStored}
 use Rattle.range_change.specs.Bindings.{IsItemFor, IsStoredFor, IsBound, BindsTo}
-use Rattle.range_change.specs.Window.{IsFound, IsJustBefore}
+use Rattle.range_change.specs.Window.{IsFound, IsJustBefore, IsLastStarting, place_after}
 use Rattle.range_change.proofs.Forms.{places}
 use Rattle.range_change.proofs.Listed.{IsListed, stored_list_is_listed}
-use Rattle.range_algebra.proofs.Lists.{every_at, every_take, every_drop, list_is_take_and_drop, drop_all, every_weaker}
+use Rattle.range_algebra.proofs.Lists.{every_append, every_at, every_right, every_take, every_drop, list_is_take_and_drop, drop_all, every_weaker}
 
-not_less : (o : Ordering) → is_lt o ≡ false → o ≡ Less → ⊥
+pub not_less : (o : Ordering) → is_lt o ≡ false → o ≡ Less → ⊥
 not_less Less h e = cc
 not_less Equal h e = cc
 not_less Greater h e = cc
+
+le_is_at_most : (o : Ordering) → is_gt o ≡ false ↔ is_le o ≡ true
+le_is_at_most Less = (λ _. refl, λ _. refl)
+le_is_at_most Equal = (λ _. refl, λ _. refl)
+le_is_at_most Greater = (λ e. cc, λ e. cc)
+
+not_at_most : (o : Ordering) → is_le o ≡ false → is_gt o ≡ false → ⊥
+not_at_most Less h e = cc
+not_at_most Equal h e = cc
+not_at_most Greater h e = cc
 
 module _ {K : Type 0} (order : KeyOrder K) (lawful : IsLawful order) {V : Type 0}
     (same : V → V → Bool) where
@@ -76,32 +87,52 @@ module _ {K : Type 0} (order : KeyOrder K) (lawful : IsLawful order) {V : Type 0
   every_nonempty (i ∷ rest) h =
       (own_order i (stored_nonempty i rest h), every_nonempty rest (stored_tail i rest h))
 
-  listed_partitioned : (items : List (Item (AnyRange K) V)) (p : Position K)
-      → IsListed order lawful same items
-      → IsPartitionedBy (λ i. is_lt (places order lawful (End i) p)) items
-  listed_partitioned [] p h i j d le within passes = absurd (omega arith)
-  listed_partitioned (x ∷ xs) p h zero zero d le within passes = passes
-  listed_partitioned (x ∷ xs) p h zero (suc j) d le within passes =
-      let total = position_total order.cmp lawful.total in
+  -- a test that an item passes where a later one does holds on a front
+  listed_partitioned : (test : Item (AnyRange K) V → Bool)
+      → ((x y : Item (AnyRange K) V) → Le (places order lawful) (Start x) (End x)
+      → Lt (places order lawful) (End x) (Start y) → Le (places order lawful) (Start y) (End y)
+      → test y ≡ true → test x ≡ true) → (items : List (Item (AnyRange K) V))
+      → IsListed order lawful same items → IsPartitionedBy test items
+  listed_partitioned test falls [] h i j d le within passes = absurd (omega arith)
+  listed_partitioned test falls (x ∷ xs) h zero zero d le within passes = passes
+  listed_partitioned test falls (x ∷ xs) h zero (suc j) d le within passes =
       let cmp = places order lawful in
-      let y = get_or xs j d in
       let rise =
       every_at (λ k. Lt cmp (End x) (Start k)) xs j d (starts_rise x xs h) (omega arith) in
-      let own =
-      every_at (λ k. Le cmp (Start k) (End k)) xs j d
-      (every_nonempty xs (stored_tail x xs h)) (omega arith) in
-      (lt_is_less (cmp (End x) p)).1
-      (lt_trans cmp total (End x) (End y) p
-      (lt_le_trans cmp total (End x) (Start y) (End y) rise own) (lt_of (cmp (End y) p) passes))
-  listed_partitioned (x ∷ xs) p h (suc i) zero d le within passes = absurd (omega arith)
-  listed_partitioned (x ∷ xs) p h (suc i) (suc j) d le within passes =
-      listed_partitioned xs p (stored_tail x xs h) i j d (omega arith) (omega arith) passes
+      let own = every_nonempty (x ∷ xs) h in
+      falls x (get_or xs j d) own.0 rise
+      (every_at (λ k. Le cmp (Start k) (End k)) xs j d own.1 (omega arith)) passes
+  listed_partitioned test falls (x ∷ xs) h (suc i) zero d le within passes = absurd (omega arith)
+  listed_partitioned test falls (x ∷ xs) h (suc i) (suc j) d le within passes =
+      listed_partitioned test falls xs (stored_tail x xs h) i j d (omega arith) (omega arith) passes
 
   pub found_partitions : (items : List (Item (AnyRange K) V)) (p : Position K)
       → IsStored order same items
       → IsPartitionedBy (λ i. is_lt (places order lawful (End i) p)) items
   found_partitions items p h =
-      listed_partitioned items p (stored_list_is_listed order lawful same items h)
+      let total = position_total order.cmp lawful.total in
+      let cmp = places order lawful in
+      listed_partitioned (λ i. is_lt (cmp (End i) p))
+      (λ x y own rise others passes.
+      (lt_is_less (cmp (End x) p)).1
+      (lt_trans cmp total (End x) (End y) p
+      (lt_le_trans cmp total (End x) (Start y) (End y) rise others)
+      (lt_of (cmp (End y) p) passes)))
+      items (stored_list_is_listed order lawful same items h)
+
+  pub started_partitions : (items : List (Item (AnyRange K) V)) (p : Position K)
+      → IsStored order same items
+      → IsPartitionedBy (λ i. is_le (places order lawful (Start i) p)) items
+  started_partitions items p h =
+      let total = position_total order.cmp lawful.total in
+      let cmp = places order lawful in
+      listed_partitioned (λ i. is_le (cmp (Start i) p))
+      (λ x y own rise others passes.
+      (le_is_at_most (cmp (Start x) p)).0
+      (le_trans cmp total (Start x) (Start y) p
+      (lt_le cmp total (Start x) (Start y) (le_lt_trans cmp total (Start x) (End x) (Start y) own
+      rise)) ((le_is_at_most (cmp (Start y) p)).1 passes)))
+      items (stored_list_is_listed order lawful same items h)
 
   pub found_at : {P : Type 0} (is_good : P → Type 0) (rank : P → ℕ)
       (items : List (Item (AnyRange K) V)) (p : Position K) (before from : Option P) (place : ℕ)
@@ -125,22 +156,39 @@ module _ {K : Type 0} (order : KeyOrder K) (lawful : IsLawful order) {V : Type 0
             (every_drop (λ i. is_lt (cmp (End i) p) ≡ false) items place front.0 front.1.1));
       }
 
-  pub stored_drop : (n : ℕ) (items : List (Item (AnyRange K) V)) → IsListed order lawful same items
-      → IsListed order lawful same (drop n items)
-  stored_drop zero items h = h
-  stored_drop (suc n) [] h = tt
-  stored_drop (suc n) (i ∷ rest) h = stored_drop n rest (stored_tail i rest h)
+  module _ {P : Type 0} (is_good : P → Type 0) (rank : P → ℕ) (items : List (Item (AnyRange K) V))
+      (p : Position K) where
+    started_by : (last : Option P) (place : ℕ) → IsJustBefore is_good rank last place
+        → IsFrontOf (λ i. is_le (places order lawful (Start i) p)) items place
+        → IsLastStarting order is_good rank items p last place
+    started_by last place at front =
+        let cmp = places order lawful in
+        let total = position_total order.cmp lawful.total in
+        record {
+          position = at;
+          upto =
+              every_weaker _ _ (take place items) (λ i e. (le_is_at_most (cmp (Start i) p)).1 e)
+              (every_take (λ i. is_le (cmp (Start i) p) ≡ true) items place front.0 front.1.0);
+          past =
+              every_weaker _ _ (drop place items)
+              (λ i e. not_le cmp total p (Start i) (not_at_most (cmp (Start i) p) e))
+              (every_drop (λ i. is_le (cmp (Start i) p) ≡ false) items place front.0 front.1.1);
+        }
+
+    pub last_started : (last : Option P)
+        → MatchOption last
+        (IsFrontOf (λ i. is_le (places order lawful (Start i) p)) items 0)
+        (λ q. is_good q
+        × IsFrontOf (λ i. is_le (places order lawful (Start i) p)) items (rank q + 1))
+        → IsLastStarting order is_good rank items p last (place_after rank last)
+    last_started None front = started_by None 0 refl front
+    last_started (Some q) front = started_by (Some q) (rank q + 1) (front.0, refl) front.1
 
   not_bound : (items : List (Item (AnyRange K) V)) (k : K)
       → Every (λ i. Holds order i.key k → ⊥) items → IsBound order items k → ⊥
   not_bound [] k all h = h
   not_bound (i ∷ rest) k all (inl h) = all.0 h
   not_bound (i ∷ rest) k all (inr h) = not_bound rest k all.1 h
-
-  every_join : (P : Item (AnyRange K) V → Type 0) (xs ys : List (Item (AnyRange K) V)) → Every P xs
-      → Every P ys → Every P (xs ++ ys)
-  every_join P [] ys h k = k
-  every_join P (x ∷ xs) ys h k = (h.0, every_join P xs ys h.1 k)
 
   below_not : (i : Item (AnyRange K) V) (k : K) → order.is_key k
       → Lt (places order lawful) (End i) (Beside k At) → Holds order i.key k → ⊥
@@ -154,69 +202,83 @@ module _ {K : Type 0} (order : KeyOrder K) (lawful : IsLawful order) {V : Type 0
       lt_not_le (places order lawful) (position_total order.cmp lawful.total) (Beside k At)
       (Start i) l ((holds_by_position order lawful i.key k key).0 h).0
 
+  -- up to the place all end before the key, and from there on all start past it
+  pub apart_bound : (items : List (Item (AnyRange K) V)) (k : K) (place : ℕ) → order.is_key k
+      → Every (λ i. Lt (places order lawful) (End i) (Beside k At)) (take place items)
+      → Every (λ i. Lt (places order lawful) (Beside k At) (Start i)) (drop place items)
+      → IsBound order items k → ⊥
+  apart_bound items k place key below above =
+      let none =
+      every_append (λ i. Holds order i.key k → ⊥) (take place items) (drop place items)
+      (every_weaker _ _ (take place items) (λ i l. below_not i k key l) below)
+      (every_weaker _ _ (drop place items) (λ i l. above_not i k key l) above) in
+      λ h.
+      not_bound (take place items ++ drop place items) k none
+      (rw (list_is_take_and_drop items place) at h)
+
   -- no item from the place on
   pub none_bound : (items : List (Item (AnyRange K) V)) (k : K) (place : ℕ) → order.is_key k
       → Every (λ i. Lt (places order lawful) (End i) (Beside k At)) (take place items)
       → place ≡ length items → IsBound order items k → ⊥
   none_bound items k place key below at =
-      let split : items ≡ take place items ++ [] =
-      list_is_take_and_drop items place
-      ∙ ap (λ ys. take place items ++ ys) (drop_all items place at) in
-      let none =
-      every_join (λ i. Holds order i.key k → ⊥) (take place items) []
-      (every_weaker _ _ (take place items) (λ i l. below_not i k key l) below) tt in
-      λ h. not_bound (take place items ++ []) k none (rw split at h)
+      apart_bound items k place key below (rw (drop_all items place at) tt)
 
-  -- the item at the place does not hold the key
-  pub other_bound : (items : List (Item (AnyRange K) V)) (k : K) (place : ℕ)
-      (x : Item (AnyRange K) V) → order.is_key k → IsStored order same items → place < length items
-      → x ≡ get_or items place x
-      → Every (λ i. Lt (places order lawful) (End i) (Beside k At)) (take place items)
-      → Every (λ i. Le (places order lawful) (Beside k At) (End i)) (drop place items)
-      → (Holds order x.key k → ⊥) → IsBound order items k → ⊥
-  other_bound items k place x key stored within read below above not_held =
-      let cmp = places order lawful in
+  ends_upto_listed : (items : List (Item (AnyRange K) V)) (p : Position K) (place : ℕ)
+      (d : Item (AnyRange K) V) → IsListed order lawful same items → place < length items
+      → Lt (places order lawful) (End (get_or items place d)) p
+      → Every (λ i. Lt (places order lawful) (End i) p) (take (suc place) items)
+  ends_upto_listed [] p place d h within ends = absurd (omega arith)
+  ends_upto_listed (i ∷ rest) p zero d h within ends = (ends, tt)
+  ends_upto_listed (i ∷ rest) p (suc place) d h within ends =
       let total = position_total order.cmp lawful.total in
-      let more : drop place items ≡ x ∷ drop (place + 1) items =
-      drop_more items place x within ∙ ap (λ y. y ∷ drop (place + 1) items) (sym read) in
-      let rest : IsListed order lawful same (x ∷ drop (place + 1) items) =
-      rw more at (stored_drop place items
-      (stored_list_is_listed order lawful same items stored)) in
-      let ends : Every (λ i. Le cmp (Beside k At) (End i)) (x ∷ drop (place + 1) items) =
-      rw more at above in
-      let none =
-      every_join (λ i. Holds order i.key k → ⊥) (take place items)
-      (x ∷ drop (place + 1) items)
-      (every_weaker _ _ (take place items) (λ i l. below_not i k key l) below) (
-        not_held,
-        every_weaker _ _ (drop (place + 1) items)
-            (λ i l. above_not i k key
-            (le_lt_trans cmp total (Beside k At) (End x) (Start i) ends.0 l))
-            (starts_rise x (drop (place + 1) items) rest),
-      ) in
-      let split : items ≡ take place items ++ x ∷ drop (place + 1) items =
-      list_is_take_and_drop items place ∙ ap (λ ys. take place items ++ ys) more in
-      λ h. not_bound (take place items ++ x ∷ drop (place + 1) items) k none (rw split at h)
+      let cmp = places order lawful in
+      let y = get_or rest place d in
+      let rise =
+      every_at (λ j. Lt cmp (End i) (Start j)) rest place d (starts_rise i rest h)
+      (omega (arith, within)) in
+      let own =
+      every_at (λ j. Le cmp (Start j) (End j)) rest place d
+      (every_nonempty rest (stored_tail i rest h)) (omega (arith, within)) in (
+        lt_trans cmp total (End i) (End y) p
+            (lt_le_trans cmp total (End i) (Start y) (End y) rise own) ends,
+        ends_upto_listed rest p place d (stored_tail i rest h) (omega (arith, within)) ends,
+      )
 
-  -- an item that starts past the key does not hold it
-  pub past_not : (x : Item (AnyRange K) V) (k : K) → order.is_key k
-      → true ≡ is_gt (places order lawful (Start x) (Beside k At)) → Holds order x.key k → ⊥
-  past_not x k key past held =
-      let le : is_gt (places order lawful (Start x) (Beside k At)) ≡ false =
-      ((holds_by_position order lawful x.key k key).0 held).0 in
-      let clash : true ≡ false = past ∙ le in cc
+  -- with an item that ends before a position, those before it do
+  pub ends_upto : (items : List (Item (AnyRange K) V)) (p : Position K) (place : ℕ)
+      (x : Item (AnyRange K) V) → IsStored order same items → place < length items
+      → x ≡ get_or items place x → true ≡ is_lt (places order lawful (End x) p)
+      → Every (λ i. Lt (places order lawful) (End i) p) (take (place + 1) items)
+  ends_upto items p place x stored within read ends =
+      let next : suc place ≡ place + 1 = omega arith in
+      rw next at (ends_upto_listed items p place x
+      (stored_list_is_listed order lawful same items stored) within
+      (subst (λ y. Lt (places order lawful) (End y) p) read
+      (lt_of (places order lawful (End x) p) (sym ends))))
 
-  -- one that starts at it at most and does not end before it does
+  -- the item at the place is the last of those up to it
+  pub starts_here : (items : List (Item (AnyRange K) V)) (p : Position K) (place : ℕ)
+      (x : Item (AnyRange K) V) → place < length items → x ≡ get_or items place x
+      → Every (λ i. Le (places order lawful) (Start i) p) (take (place + 1) items)
+      → Le (places order lawful) (Start x) p
+  starts_here items p place x within read upto =
+      subst (λ y. Le (places order lawful) (Start y) p) (sym read)
+      (every_right (λ i. Le (places order lawful) (Start i) p) (take place items)
+      (get_or items place x ∷ []) (rw (take_more items place x within) at upto)).0
+
+  -- an item that starts at the key at most and does not end before it holds it
   pub holds_at : (items : List (Item (AnyRange K) V)) (k : K) (place : ℕ) (x : Item (AnyRange K) V)
       → order.is_key k → place < length items → x ≡ get_or items place x
-      → Every (λ i. Le (places order lawful) (Beside k At) (End i)) (drop place items)
-      → false ≡ is_gt (places order lawful (Start x) (Beside k At)) → Holds order x.key k
-  holds_at items k place x key within read above starts =
-      let more : drop place items ≡ x ∷ drop (place + 1) items =
-      drop_more items place x within ∙ ap (λ y. y ∷ drop (place + 1) items) (sym read) in
-      let ends : Every (λ i. Le (places order lawful) (Beside k At) (End i))
-      (x ∷ drop (place + 1) items) = rw more at above in
-      (holds_by_position order lawful x.key k key).1 (sym starts, ends.0)
+      → Every (λ i. Le (places order lawful) (Start i) (Beside k At)) (take (place + 1) items)
+      → false ≡ is_lt (places order lawful (End x) (Beside k At)) → Holds order x.key k
+  holds_at items k place x key within read upto ends =
+      let cmp = places order lawful in
+      let total = position_total order.cmp lawful.total in
+      (holds_by_position order lawful x.key k key).1 (
+        starts_here items (Beside k At) place x within read upto,
+        not_lt cmp total (Beside k At) (End x)
+            (not_less (cmp (End x) (Beside k At)) (sym ends)),
+      )
 
   pub item_at : (items : List (Item (AnyRange K) V)) (place : ℕ) (x : Item (AnyRange K) V)
       → place < length items

@@ -1,12 +1,11 @@
 -- Which stored ranges a range meets, and which keys both then hold.
-use Rattle.std.proofs.Common.{◌≡◌, ℕ, zero, suc, ◌+◌, ◌<◌, ◌≤◌, Bool, List, [], ◌∷◌, ◌++◌, length, take, drop, get_or, refl, ap, sym, ◌∙◌, arith, true, false, inl, inr, not, IsTrue, ◌↔◌, Option, Some, None}
+use Rattle.std.proofs.Common.{◌≡◌, ℕ, zero, suc, ◌+◌, ◌<◌, ◌≤◌, Bool, List, [], ◌∷◌, ◌++◌, length, take, drop, get_or, refl, sym, arith, true, false, inl, inr, not, IsTrue, ◌↔◌, Option, Some, None}
 use Rattle.std.specs.Borrow.{Bor}
 use Rattle.std.specs.List.{AllByRecursion}
 use Rattle.std.specs.Option.{option_copied, is_some}
 use Rattle.std.specs.declared.ops.Bound.{Bound}
-use Rattle.std.specs.Ordering.{is_gt}
-use Rattle.std.specs.Cmp.{IsEquivalence}
-use Rattle.std.proofs.lemmas.List.{drop_more, take_all}
+use Rattle.std.specs.Ordering.{is_lt}
+use Rattle.std.proofs.lemmas.List.{take_all}
 use Rattle.range_keys.specs.Order.{KeyOrder, IsLawful, IsComplete}
 use Rattle.range_keys.specs.Position.{start_position, end_position, position_cmp}
 use Rattle.range_keys.specs.PositionOrder.{position_total}
@@ -17,17 +16,15 @@ use Rattle.range_keys.proofs.Orderings.{not_both_greater_and_not, not_greater}
 use Rattle.range_algebra.specs.declared.any.AnyRange.{AnyRange}
 use Rattle.range_algebra.specs.Range.{Holds, IsKnownBound, IsKnownRange, IsEmptyRange}
 use Rattle.range_algebra.specs.Intervals.{Le, Lt, Any, Every}
-use Rattle.range_algebra.specs.Orders.{le_refl, lt_le, le_trans, lt_not_le, cases, not_le, not_lt, lt_le_trans}
-use Rattle.range_change.specs.Chains.{line_of}
-use Rattle.range_change.proofs.Chains.{chain_above, chain_right}
+use Rattle.range_algebra.specs.Orders.{le_refl, lt_le, le_trans, lt_not_le, cases, not_lt}
 use Rattle.range_algebra.proofs.Completeness.{nonempty_holds}
 use Rattle.range_algebra.proofs.Holding.{holds_by_position}
-use Rattle.range_algebra.proofs.Lists.{list_is_take_and_drop, any_none, any_split, every_weaker}
+use Rattle.range_algebra.proofs.Lists.{list_is_take_and_drop, any_none, any_split}
 use Rattle.range_store.specs.declared.storage.Item.{Item}
 use Rattle.range_change.specs.Bindings.{IsBound, BindsTo, Binds}
 use Rattle.range_change.specs.Stored.{IsStored}
 use Rattle.range_change.specs.Lookups.{MeetsSome, BindsKeyOf, Overlap}
-use Rattle.range_change.proofs.Forms.{Chained, stored_chain}
+use Rattle.range_change.proofs.Found.{ends_upto, not_less, starts_here}
 
 -- an item that is such is some item
 pub any_at : {X : Type 0} (P : X → Type 0) (xs : List X) (place : ℕ) (x : X) → place < length xs
@@ -146,12 +143,6 @@ module _ {K : Type 0} (order : KeyOrder K) (lawful : IsLawful order) where
         ),
       )
 
-  -- what starts past an end lies after it
-  not_le_end : (p q : Position K) → true ≡ is_gt (position_cmp order.cmp p q) → PLt q p
-  not_le_end p q past =
-      not_le (position_cmp order.cmp) (position_total order.cmp lawful.total) q p
-      (λ h. let clash : true ≡ false = past ∙ h in cc)
-
   module _ {V : Type 0} where
     bound_meets : (items : List (Item (AnyRange K) V)) (r : AnyRange K) (k : K) → order.is_key k
         → Holds order r k → IsBound order items k → MeetsSome order items r
@@ -195,91 +186,55 @@ module _ {K : Type 0} (order : KeyOrder K) (lawful : IsLawful order) where
         any_none (λ i. Overlap order i.key r) (λ i. PLt (End i.key) (Start r)) items all
         (λ i l meets. meets.0 l) h
 
-    -- it starts within the range at the latest
-    pub met_at : (items : List (Item (AnyRange K) V)) (r : AnyRange K) (place : ℕ)
-        (x : Item (AnyRange K) V) → place < length items → x ≡ get_or items place x
-        → Every (λ i. PLe (Start r) (End i.key)) (drop place items)
-        → false ≡ is_gt (position_cmp order.cmp (Start x.key) (End r)) → MeetsSome order items r
-    met_at items r place x within read above starts =
+    -- up to the place all end before the range, and from there on all start past it
+    pub apart_meets : (items : List (Item (AnyRange K) V)) (r : AnyRange K) (p e : Position K)
+        (place : ℕ) → p ≡ Start r → e ≡ End r
+        → Every (λ i. PLt (End i.key) p) (take place items)
+        → Every (λ i. PLt e (Start i.key)) (drop place items) → MeetsSome order items r → ⊥
+    apart_meets items r p e place start end below above h =
+        let parted : MeetsSome order (take place items ++ drop place items) r =
+        rw (list_is_take_and_drop items place) at h in
+        elim (any_split (λ i. Overlap order i.key r) (take place items) (drop place items)
+        parted) [
+          | inl k ↦
+              any_none (λ i. Overlap order i.key r) (λ i. PLt (End i.key) (Start r))
+              (take place items) (rw start at below) (λ i l meets. meets.0 l) k
+          | inr k ↦
+              any_none (λ i. Overlap order i.key r) (λ i. PLt (End r) (Start i.key))
+              (drop place items) (rw end at above) (λ i l meets. meets.1 l) k
+        ]
+
+    -- the last that starts within a nonempty range or before it decides
+    pub last_started_decides : (same : V → V → Bool) (items : List (Item (AnyRange K) V))
+        (r : AnyRange K) (p e : Position K) (place : ℕ) (x : Item (AnyRange K) V) (before : Bool)
+        → p ≡ Start r → e ≡ End r → IsStored order same items → (IsEmptyRange order r → ⊥)
+        → place < length items → x ≡ get_or items place x
+        → Every (λ i. PLe (Start i.key) e) (take (place + 1) items)
+        → Every (λ i. PLt e (Start i.key)) (drop (place + 1) items)
+        → before ≡ is_lt (position_cmp order.cmp (End x.key) p) → IsTrue (not before)
+        ↔ ((IsEmptyRange order r → ⊥) × MeetsSome order items r)
+    last_started_decides same items r p e place x true start end stored full within read upto above
+        ends = (
+          λ h. absurd (cc),
+          λ h.
+              absurd (apart_meets items r p e (place + 1) start end
+              (ends_upto order lawful same items p place x stored within read ends) above h.1),
+        )
+    last_started_decides same items r p e place x false start end stored full within read upto above
+        ends =
         let total = position_total order.cmp lawful.total in
         let cmp = position_cmp order.cmp in
-        let more : drop place items ≡ x ∷ drop (place + 1) items =
-        drop_more items place x within ∙ ap (λ y. y ∷ drop (place + 1) items) (sym read) in
-        let ends : Every (λ i. PLe (Start r) (End i.key)) (x ∷ drop (place + 1) items) =
-        rw more at above in
-        any_at (λ i. Overlap order i.key r) items place x within read (
-          λ l. lt_not_le cmp total (End x.key) (Start r) l ends.0,
-          λ l. lt_not_le cmp total (End r) (Start x.key) l (sym starts),
+        let starts = starts_here order lawful same items e place x within read upto in
+        let reaches : is_lt (cmp (End x.key) p) ≡ false = sym ends in (
+          λ h. (
+            full,
+            any_at (λ i. Overlap order i.key r) items place x within read (
+              λ l. not_less (cmp (End x.key) (Start r)) (rw start at reaches) l,
+              λ l. lt_not_le cmp total (End r) (Start x.key) l (rw end at starts),
+            ),
+          ),
+          λ h. refl,
         )
-
-    module _ (same : V → V → Bool) (equal : IsEquivalence same) where
-      -- the first that does not end before the range starts past it
-      pub past_meets : (items : List (Item (AnyRange K) V)) (r : AnyRange K) (place : ℕ)
-          (x : Item (AnyRange K) V) → IsStored order same items → place < length items
-          → x ≡ get_or items place x → Every (λ i. PLt (End i.key) (Start r)) (take place items)
-          → true ≡ is_gt (position_cmp order.cmp (Start x.key) (End r)) → MeetsSome order items r
-          → ⊥
-      past_meets items r place x stored within read below past h =
-          let total = position_total order.cmp lawful.total in
-          let cmp = position_cmp order.cmp in
-          let more : drop place items ≡ x ∷ drop (place + 1) items =
-          drop_more items place x within
-          ∙ ap (λ y. y ∷ drop (place + 1) items) (sym read) in
-          let split : items ≡ take place items ++ x ∷ drop (place + 1) items =
-          list_is_take_and_drop items place ∙ ap (λ ys. take place items ++ ys) more in
-          let whole : Chained order lawful same equal
-          (take place items ++ x ∷ drop (place + 1) items) =
-          rw split at (stored_chain order lawful same equal items stored) in
-          let chain =
-          chain_right (line_of order lawful same equal) (take place items)
-          (x ∷ drop (place + 1) items) whole in
-          let above =
-          chain_above (line_of order lawful same equal) (Start x.key) x
-          (drop (place + 1) items) chain (le_refl cmp total (Start x.key)) in
-          let over : PLt (End r) (Start x.key) = not_le_end (Start x.key) (End r) past in
-          let behind : Every (λ i. PLt (End r) (Start i.key)) (x ∷ drop (place + 1) items) =
-          every_weaker _ _ (x ∷ drop (place + 1) items)
-          (λ i l. lt_le_trans cmp total (End r) (Start x.key) (Start i.key) over l) above in
-          let parted : MeetsSome order (take place items ++ x ∷ drop (place + 1) items) r =
-          rw split at h in
-          elim (any_split (λ i. Overlap order i.key r) (take place items)
-          (x ∷ drop (place + 1) items) parted) [
-            | inl k ↦
-                any_none (λ i. Overlap order i.key r) (λ i. PLt (End i.key) (Start r))
-                (take place items) below (λ i l meets. meets.0 l) k
-            | inr k ↦
-                any_none (λ i. Overlap order i.key r) (λ i. PLt (End r) (Start i.key))
-                (x ∷ drop (place + 1) items) behind (λ i l meets. meets.1 l) k
-          ]
-
-      -- the first that does not end before a nonempty range decides
-      pub first_not_before_decides : (items : List (Item (AnyRange K) V)) (r : AnyRange K)
-          (p e : Position K) (place : ℕ) (x : Item (AnyRange K) V) (past : Bool) → p ≡ Start r
-          → e ≡ End r → IsStored order same items → (IsEmptyRange order r → ⊥)
-          → place < length items → x ≡ get_or items place x
-          → Every (λ i. PLt (End i.key) p) (take place items)
-          → Every (λ i. PLe p (End i.key)) (drop place items)
-          → past ≡ is_gt (position_cmp order.cmp (Start x.key) e) → IsTrue (not past)
-          ↔ ((IsEmptyRange order r → ⊥) × MeetsSome order items r)
-      first_not_before_decides items r p e place x true start end stored full within read below
-          above past = (
-            λ h. absurd (cc),
-            λ h.
-                absurd (past_meets items r place x stored within read (rw start at below)
-                (rw end at past) h.1),
-          )
-      first_not_before_decides items r p e place x false start end stored full within read below
-          above past = (
-            λ h. (full, met_at items r place x within read (rw start at above) (rw end at past)),
-            λ h. refl,
-          )
-
-    -- there is none
-    pub none_decides : (items : List (Item (AnyRange K) V)) (r : AnyRange K) (p : Position K)
-        → p ≡ Start r → Every (λ i. PLt (End i.key) p) (take (length items) items)
-        → MeetsSome order items r → ⊥
-    none_decides items r p start below h =
-        none_meets items r (length items) (rw start at below) refl h
 
 module _ {K : Type 0} (order : KeyOrder K) {V : Type 0} (same : V → V → Bool) where
   pub binds_bound : (items : List (Item (AnyRange K) V)) (k : K) (v : V)

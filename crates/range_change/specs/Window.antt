@@ -18,6 +18,11 @@ abbrev pub IsJustBefore : {P : Type 0} → (P → Type 0) → (P → ℕ) → Op
 IsJustBefore is_good rank None place = place ≡ 0
 IsJustBefore is_good rank (Some p) place = is_good p × (rank p + 1 ≡ place)
 
+-- the place after a position, or the first one
+abbrev pub place_after : {P : Type 0} → (P → ℕ) → Option P → ℕ
+place_after rank None = 0
+place_after rank (Some p) = rank p + 1
+
 -- the last of `count` items before the place
 abbrev pub IsLastOf : {P : Type 0} → (P → Type 0) → (P → ℕ) → Option P → ℕ → ℕ → Type 0
 IsLastOf is_good rank None place count = count ≡ 0
@@ -39,6 +44,16 @@ module _ {K : Type 0} (order : KeyOrder K) {V : Type 0} where
         (take (place_before rank (length items) from) items)
     pub above : Every (λ i. Le (position_cmp order.cmp) p (end_position order i.key.end))
         (drop (place_before rank (length items) from) items)
+
+  -- the items up to `last` start at most at the position, and no other does
+  pub record IsLastStarting {P : Type 0} (is_good : P → Type 0) (rank : P → ℕ)
+      (items : List (Item (AnyRange K) V)) (e : Position K) (last : Option P)
+      (place : ℕ) : Type 0 where
+    pub position : IsJustBefore is_good rank last place
+    pub upto : Every (λ i. Le (position_cmp order.cmp) (start_position order i.key.start) e)
+        (take place items)
+    pub past : Every (λ i. Lt (position_cmp order.cmp) e (start_position order i.key.start))
+        (drop place items)
 
   -- `count` items from a place on start at most at the position, and the next one does not
   pub record IsWalk {P : Type 0} (is_good : P → Type 0) (rank : P → ℕ)

@@ -1,7 +1,7 @@
 //! Questions to stored items.
-ghost use Rattle.std.specs.Ordering.{is_lt};
+ghost use Rattle.std.specs.Ordering.{is_le, is_lt};
 ghost use Rattle.range_keys.specs.Directed.{reference_position};
-ghost use Rattle.range_keys.specs.Position.{position_cmp, end_position};
+ghost use Rattle.range_keys.specs.Position.{position_cmp, start_position, end_position};
 
 use range_algebra::any::AnyRange;
 use range_keys::bound::Directed;
@@ -31,6 +31,35 @@ impl<'a, K: PartialEnum, V> Probe<Item<AnyRange<K>, V>> for EndsBefore<'a, K> {
             }
         }
         Directed::End(item.key.end_bound()) < self.bound
+    }
+
+    fn steps(&self) -> &Steps {
+        &self.steps
+    }
+}
+
+/// Asks whether a range starts at most at a bound.
+#[derive(Drop)]
+pub struct StartsBy<'a, K> {
+    pub bound: Directed<Bound<&'a K>>,
+    pub steps: Steps,
+}
+
+impl<'a, K: PartialEnum, V> Probe<Item<AnyRange<K>, V>> for StartsBy<'a, K> {
+    ghost test = { λ probe item. is_le
+        (position_cmp K.order.cmp (start_position K.order item.key.start)
+        (reference_position K.order probe.bound)) };
+
+    ghost steps_taken = { λ probe. probe.steps };
+
+    fn ask(&mut self, item: &Item<AnyRange<K>, V>) -> bool {
+        self.steps.tick();
+        if let Directed::End(Bound::Included(key)) = self.bound {
+            if let Bound::Included(start) = &item.key.start {
+                return *start <= *key;
+            }
+        }
+        Directed::Start(item.key.start_bound()) <= self.bound
     }
 
     fn steps(&self) -> &Steps {

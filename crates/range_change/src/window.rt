@@ -2,15 +2,15 @@
 ghost use Rattle.std.specs.Prelude.{◌≡◌, ◌+◌, length};
 ghost use Rattle.std.specs.Option.{ForSome};
 ghost use Rattle.range_keys.specs.Directed.{reference_position};
-ghost use Rattle.range_keys.specs.Position.{position_cmp, start_position};
-ghost use Rattle.std.specs.Ordering.{is_gt};
+ghost use Rattle.range_keys.specs.Position.{position_cmp, start_position, end_position};
+ghost use Rattle.std.specs.Ordering.{is_gt, is_lt};
 ghost use Rattle.range_algebra.specs.Range.{IsEmptyRange};
 ghost use Rattle.range_store.specs.Counting.{AddsSteps};
 ghost use Rattle.range_store.specs.Places.{place_before};
 ghost use Rattle.range_change.specs.Stored.{IsStored};
-ghost use Rattle.range_change.specs.Window.{IsFound, IsWalk, IsWindowOf};
+ghost use Rattle.range_change.specs.Window.{IsFound, IsLastStarting, IsWalk, IsWindowOf, place_after};
 
-use crate::probe::EndsBefore;
+use crate::probe::{EndsBefore, StartsBy};
 use range_algebra::any::AnyRange;
 use range_algebra::inner;
 use range_algebra::range::AsRange;
@@ -58,6 +58,50 @@ pub fn find<K: PartialEnum, V: Eq + Drop, C: Storage<Item<AnyRange<K>, V>>>(
         None => (None, stored.first()),
         Some(p) => (Some(p), stored.next(p)),
     }
+}
+
+/// The last item that starts at most at a bound. Each item asked is a step.
+#[inline(always)]
+pub fn find_last_started<K: PartialEnum, V: Eq + Drop, C: Storage<Item<AnyRange<K>, V>>>(
+    stored: &C,
+    bound: &Directed<Bound<&K>>,
+    steps: &mut Steps,
+) -> Option<C::Position>
+    requires { IsStored K.order V.eq (C.items stored.now) }
+    ensures found { IsLastStarting K.order (C.is_good stored.now) (C.rank stored.now)
+        (C.items stored.now) (reference_position K.order bound.now) result
+        (place_after (C.rank stored.now) result) }
+    ensures counted { AddsSteps steps.old steps.new (C.least_asks stored.now)
+        (C.most_asks stored.now) }
+    ensures idle { length (C.items stored.now) ≡ 0 → C.most_asks stored.now ≡ 0 }
+{
+    let mut probe = StartsBy {
+        bound: *bound,
+        steps: mem::replace(steps, Steps::new()),
+    };
+    let found = stored.search(&mut probe);
+    *steps = probe.steps;
+    found
+}
+
+/// Whether the item ends before the bound. A step.
+pub fn ends_before<K: PartialEnum, V>(
+    item: &Item<AnyRange<K>, V>,
+    bound: &Directed<Bound<&K>>,
+    steps: &mut Steps,
+) -> bool
+    ensures before { result
+        ≡ is_lt (position_cmp K.order.cmp (end_position K.order item.now.key.end)
+        (reference_position K.order bound.now)) }
+    ensures counted { AddsSteps steps.old steps.new 1 1 }
+{
+    let mut probe = EndsBefore {
+        bound: *bound,
+        steps: mem::replace(steps, Steps::new()),
+    };
+    let before = probe.ask(item);
+    *steps = probe.steps;
+    before
 }
 
 /// Whether the item starts past the bound. A step.

@@ -4,7 +4,7 @@ use Rattle.std.specs.Prelude.{MatchOption}
 use Rattle.std.specs.List.{AllByRecursion}
 use Rattle.std.specs.Ordering.{is_gt}
 use Rattle.std.specs.declared.ops.Bound.TheVariants.{Included, Unbounded}
-use Rattle.std.proofs.lemmas.List.{drop_more, get_or-take, get_or-drop, drop-drop, length-take-le}
+use Rattle.std.proofs.lemmas.List.{get_or-take, get_or-drop, drop-drop, length-take-le}
 use Rattle.std.proofs.Math.Seq.{take-add}
 use Rattle.range_keys.specs.Order.{KeyOrder, IsLawful}
 use Rattle.range_keys.specs.Position.{start_position, end_position, position_cmp}
@@ -13,18 +13,17 @@ use Rattle.range_keys.specs.declared.inner.position.Position.{Position}
 use Rattle.range_keys.proofs.Orderings.{not_greater, not_both_greater_and_not}
 use Rattle.range_algebra.specs.declared.any.AnyRange.{AnyRange}
 use Rattle.range_algebra.specs.Intervals.{Le, Lt, Any, Every}
-use Rattle.range_algebra.specs.Orders.{le_refl, lt_le, le_trans, lt_not_le, not_le, le_lt_trans, lt_trans}
+use Rattle.range_algebra.specs.Orders.{le_refl, lt_le, le_trans, lt_not_le, le_lt_trans, lt_trans}
 use Rattle.range_algebra.specs.Range.{IsEmptyRange, IsKnownRange, with_bounds}
-use Rattle.range_algebra.proofs.Lists.{any_none, any_left, any_right, any_split, every_at, every_append, every_left, every_right, every_weaker, list_is_take_and_drop, drop_all}
+use Rattle.range_algebra.proofs.Lists.{any_none, any_left, any_right, any_split, every_at, every_left, every_right, every_weaker, list_is_take_and_drop, drop_all}
 use Rattle.range_store.specs.declared.storage.Item.{Item}
 use Rattle.range_store.specs.Places.{place_before}
 use Rattle.range_change.specs.Lookups.{MeetsSome, Overlap}
-use Rattle.range_map.specs.Overlapping.{AreOverlapping, IsLastStarting, place_after}
+use Rattle.range_map.specs.Overlapping.{AreOverlapping}
 use Rattle.range_change.specs.Stored.{IsStored}
-use Rattle.range_change.specs.Window.{IsFound, IsJustBefore}
+use Rattle.range_change.specs.Window.{IsFound, IsLastStarting, place_after}
 use Rattle.range_change.proofs.RangePieces.{every_with}
-use Rattle.range_change.proofs.Found.{starts_rise, stored_tail, every_nonempty, stored_drop}
-use Rattle.range_change.proofs.PieceAnswers.{take_one_more}
+use Rattle.range_change.proofs.Found.{starts_rise, stored_tail, every_nonempty}
 use Rattle.range_map.proofs.JustBefore.{ends_full}
 use Rattle.range_change.proofs.Listed.{IsListed, stored_list_is_listed}
 use Rattle.range_change.proofs.Windows.{first_of_run, last_of_run}
@@ -110,64 +109,6 @@ module _ {K : Type 0} (order : KeyOrder K) (lawful : IsLawful order) where
     stored_order items m n x y stored in_m in_n read read' =
         listed_order items m n x y (stored_list_is_listed order lawful same items stored)
         in_m in_n read read'
-
-    -- what ends before a position starts before it
-    pub starts_upto : (items : List (Item (AnyRange K) V)) (e : Position K) (f : ℕ)
-        → IsStored order same items → Every (λ i. PLt (End i) e) (take f items)
-        → Every (λ i. PLe (Start i) e) (take f items)
-    starts_upto items e f stored below =
-        let cmp = position_cmp order.cmp in
-        let total = position_total order.cmp lawful.total in
-        let own =
-        every_nonempty order lawful same items
-        (stored_list_is_listed order lawful same items stored) in
-        every_with (λ i. PLt (End i) e) (λ i. PLe (Start i) (End i)) (λ i. PLe (Start i) e)
-        (take f items) below
-        (every_left (λ i. PLe (Start i) (End i)) (take f items) (drop f items)
-        (rw (list_is_take_and_drop items f) at own))
-        (λ i l le. lt_le cmp total (Start i) e (le_lt_trans cmp total (Start i) (End i) e le l))
-
-    rest_from : (items : List (Item (AnyRange K) V)) (f : ℕ) (x : Item (AnyRange K) V)
-        → f < length items → x ≡ get_or items f x → drop f items ≡ x ∷ drop (f + 1) items
-    rest_from items f x within read =
-        drop_more items f x within ∙ ap (λ y. y ∷ drop (f + 1) items) (sym read)
-
-    listed_from : (items : List (Item (AnyRange K) V)) (f : ℕ) (x : Item (AnyRange K) V)
-        → IsStored order same items → f < length items → x ≡ get_or items f x
-        → IsListed order lawful same (x ∷ drop (f + 1) items)
-    listed_from items f x stored within read =
-        rw (rest_from items f x within read)
-        at (stored_drop order lawful same f items
-        (stored_list_is_listed order lawful same items stored))
-
-    -- with an item that starts past a position, those after it do
-    pub starts_past_from : (items : List (Item (AnyRange K) V)) (e : Position K) (f : ℕ)
-        (x : Item (AnyRange K) V) → IsStored order same items → f < length items
-        → x ≡ get_or items f x → PLt e (Start x) → Every (λ i. PLt e (Start i)) (drop f items)
-    starts_past_from items e f x stored within read past =
-        let cmp = position_cmp order.cmp in
-        let total = position_total order.cmp lawful.total in
-        rw (rest_from items f x within read) (
-          past,
-          every_weaker (λ j. PLt (Start x) (Start j)) (λ j. PLt e (Start j)) (drop (f + 1) items)
-              (λ j l. lt_trans cmp total e (Start x) (Start j) past l)
-              (first_rises x (drop (f + 1) items) (listed_from items f x stored within read)),
-        )
-
-    -- after an item that reaches a position all start past it
-    pub starts_past_after : (items : List (Item (AnyRange K) V)) (e : Position K) (f : ℕ)
-        (x : Item (AnyRange K) V) → IsStored order same items → f < length items
-        → x ≡ get_or items f x → Every (λ i. PLe e (End i)) (drop f items)
-        → Every (λ i. PLt e (Start i)) (drop (f + 1) items)
-    starts_past_after items e f x stored within read above =
-        let cmp = position_cmp order.cmp in
-        let total = position_total order.cmp lawful.total in
-        let ends : Every (λ i. PLe e (End i)) (x ∷ drop (f + 1) items) =
-        rw (rest_from items f x within read) at above in
-        every_weaker (λ j. PLt (End x) (Start j)) (λ j. PLt e (Start j)) (drop (f + 1) items)
-        (λ j l. le_lt_trans cmp total e (End x) (Start j) ends.0 l)
-        (starts_rise order lawful same x (drop (f + 1) items)
-        (listed_from items f x stored within read))
 
     module _ (r : AnyRange K) (full : IsEmptyRange order r → ⊥) where
       abbrev Low : Position K
@@ -274,59 +215,6 @@ module _ {K : Type 0} (order : KeyOrder K) (lawful : IsLawful order) where
 module _ {K : Type 0} (order : KeyOrder K) (lawful : IsLawful order) {V : Type 0}
     (same : V → V → Bool) {P : Type 0} (is_good : P → Type 0) (rank : P → ℕ)
     (items : List (Item (AnyRange K) V)) (stored : IsStored order same items) where
-  after_previous : (before : Option P) (place : ℕ) → IsJustBefore is_good rank before place
-      → place_after rank before ≡ place
-  after_previous None place h = sym h
-  after_previous (Some p) place h = h.1
-
-  module _ (e : Position K) (before : Option P) where
-    last_by : (place : ℕ) → IsJustBefore is_good rank before place
-        → Every (λ i. PLt order lawful (End order lawful i) e) (take place items)
-        → Every (λ i. PLt order lawful e (Start order lawful i)) (drop place items)
-        → IsLastStarting order is_good rank items e before (place_after rank before)
-    last_by place previous below past =
-        rw (after_previous before place previous) record {
-          position = previous;
-          upto = starts_upto order lawful same items e place stored below;
-          past = past;
-        }
-
-    -- no item ends at the position or after it
-    pub last_of_all : IsFound order is_good rank items e before None
-        → IsLastStarting order is_good rank items e before (place_after rank before)
-    last_of_all found =
-        last_by (length items) found.previous found.below
-        (rw (drop_all items (length items) refl) tt)
-
-    -- the first that does starts past it
-    pub last_before : (p : P) (x : Item (AnyRange K) V)
-        → IsFound order is_good rank items e before (Some p) → rank p < length items
-        → x ≡ get_or items (rank p) x
-        → true ≡ is_gt (position_cmp order.cmp (Start order lawful x) e)
-        → IsLastStarting order is_good rank items e before (place_after rank before)
-    last_before p x found within read past =
-        last_by (rank p) found.previous found.below
-        (starts_past_from order lawful same items e (rank p) x stored within read
-        (not_le (position_cmp order.cmp) (position_total order.cmp lawful.total) e
-        (Start order lawful x)
-        (λ h. let clash : true ≡ false = past ∙ h in cc)))
-
-    -- the first that does starts at it at most
-    pub last_here : (p : P) (x : Item (AnyRange K) V)
-        → IsFound order is_good rank items e before (Some p) → is_good p → rank p < length items
-        → x ≡ get_or items (rank p) x
-        → false ≡ is_gt (position_cmp order.cmp (Start order lawful x) e)
-        → IsLastStarting order is_good rank items e (Some p) (rank p + 1)
-    last_here p x found good within read starts = record {
-      position = (good, refl);
-      upto =
-          rw (take_one_more items (rank p) (rank p + 1) x within read refl)
-          (every_append (λ i. PLe order lawful (Start order lawful i) e) (take (rank p) items)
-          (x ∷ []) (starts_upto order lawful same items e (rank p) stored found.below)
-          (sym starts, tt));
-      past = starts_past_after order lawful same items e (rank p) x stored within read found.above;
-    }
-
   -- what stands neither before what the first search finds nor after what the second does
   module _ (r : AnyRange K) (full : IsEmptyRange order r → ⊥) where
     pub overlapping_found : (p e : Position K) → p ≡ start_position order r.start

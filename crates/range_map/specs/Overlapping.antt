@@ -1,14 +1,11 @@
 -- The items that a range meets, as they stand in a list, and the run of items between two of them.
 use Rattle.std.specs.Prelude.{◌≡◌, ℕ, ◌+◌, ◌-◌, ◌≤◌, List, [], ◌∷◌, ◌++◌, take, drop, Option, Some, None, ⊤}
 use Rattle.range_keys.specs.Order.{KeyOrder}
-use Rattle.range_keys.specs.Position.{start_position, position_cmp}
-use Rattle.range_keys.specs.declared.inner.position.Position.{Position}
-use Rattle.range_algebra.specs.Intervals.{Le, Lt, Every}
+use Rattle.range_algebra.specs.Intervals.{Every}
 use Rattle.range_algebra.specs.Relations.{LiesBefore}
 use Rattle.range_algebra.specs.declared.any.AnyRange.{AnyRange}
 use Rattle.range_store.specs.declared.storage.Item.{Item}
 use Rattle.range_change.specs.Lookups.{Overlap}
-use Rattle.range_change.specs.Window.{IsJustBefore}
 
 module _ {K : Type 0} (order : KeyOrder K) {V : Type 0} where
   -- the list is what lies before the range, what meets it, and what lies after it
@@ -20,21 +17,6 @@ module _ {K : Type 0} (order : KeyOrder K) {V : Type 0} where
     pub below : Every (λ i. LiesBefore order i.key r) before
     pub meet : Every (λ i. Overlap order i.key r) met
     pub above : Every (λ i. LiesBefore order r i.key) after
-
-  -- the items up to `last` start at most at the position, and no other does
-  pub record IsLastStarting {P : Type 0} (is_good : P → Type 0) (rank : P → ℕ)
-      (items : List (Item (AnyRange K) V)) (e : Position K) (last : Option P)
-      (place : ℕ) : Type 0 where
-    pub position : IsJustBefore is_good rank last place
-    pub upto : Every (λ i. Le (position_cmp order.cmp) (start_position order i.key.start) e)
-        (take place items)
-    pub past : Every (λ i. Lt (position_cmp order.cmp) e (start_position order i.key.start))
-        (drop place items)
-
--- the place after a position, or the first one
-abbrev pub place_after : {P : Type 0} → (P → ℕ) → Option P → ℕ
-place_after rank None = 0
-place_after rank (Some p) = rank p + 1
 
 -- two good positions in order, unless there are none
 abbrev pub IsRun : {P : Type 0} → (P → Type 0) → (P → ℕ) → Option (P × P) → Type 0

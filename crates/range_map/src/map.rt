@@ -53,7 +53,7 @@ pub use overlapping::Overlapping;
 pub use pieces::Pieces;
 use range_algebra::any::AnyRange;
 pub use range_change::error::{MapError, NotAppended, NotInserted, UpdateError};
-use range_change::window::{find, starts_past};
+use range_change::window::{ends_before, find_last_started};
 use range_keys::bound::Directed;
 use range_keys::traits::PartialEnum;
 use range_store::storage::{Item, Steps, Storage};
@@ -143,13 +143,14 @@ impl<K: PartialEnum, V: Eq + Drop, C: Storage<Item<AnyRange<K>, V>>> RangeMap<K,
         ensures none { C.items self.now ≡ [] → AddsSteps steps.old steps.new 0 0 }
     {
         key.known();
-        let bound = Directed::Start(Bound::Included(&key));
-        let (_, from) = find::<K, V, C>(&self.stored, &bound, steps);
-        match from {
+        let end = Directed::End(Bound::Included(&key));
+        let last = find_last_started::<K, V, C>(&self.stored, &end, steps);
+        match last {
             None => None,
             Some(p) => {
                 let item = self.stored.get(p);
-                if starts_past::<K, V>(item, &bound, steps) {
+                let start = Directed::Start(Bound::Included(&key));
+                if ends_before::<K, V>(item, &start, steps) {
                     None
                 } else {
                     Some(item)

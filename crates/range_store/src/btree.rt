@@ -138,6 +138,7 @@ impl<T: Drop> Storage<T> for BoxStorage<T> {
         self.nodes.replace_item(home.node, home.index, item)
     }
 
+    #[inline(always)]
     fn search<P: Probe<T>>(&self, probe: &mut P) -> Option<Edge> {
         self.edge_after_passing(probe)
     }

@@ -102,7 +102,7 @@ impl<K: Measure, V: Eq + Drop, C: Storage<Item<AnyRange<K>, V>>> RangeMap<K, V, 
     /// wide as it goes and none empty.
     ///
     /// They refer to the bounds of the range and of the stored ranges beside them. Costs two
-    /// searches and two comparisons more, and then a few comparisons for each stored range that
+    /// searches and one comparison more, and then a few comparisons for each stored range that
     /// meets the range. Allocates nothing.
     ///
     /// ```
@@ -122,7 +122,7 @@ impl<K: Measure, V: Eq + Drop, C: Storage<Item<AnyRange<K>, V>>> RangeMap<K, V, 
     /// Whether each key of the range is bound.
     ///
     /// It is where no part of the range is free; over keys that leave no gap, nowhere else. An
-    /// empty range is bound. Costs two searches and two comparisons more, and then a few
+    /// empty range is bound. Costs two searches and one comparison more, and then a few
     /// comparisons for each stored range that meets the range, up to its first gap. Allocates nothing.
     ///
     /// ```

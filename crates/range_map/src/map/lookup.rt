@@ -10,7 +10,7 @@ use crate::map::RangeMap;
 use range_algebra::any::AnyRange;
 use range_algebra::inner;
 use range_algebra::range::AsRange;
-use range_change::window::{find, starts_past};
+use range_change::window::{ends_before, find_last_started};
 use range_keys::bound::Directed;
 use range_keys::traits::{Measure, PartialEnum};
 use range_store::storage::{Item, Steps, Storage};
@@ -109,13 +109,13 @@ impl<K: Measure, V: Eq + Drop, C: Storage<Item<AnyRange<K>, V>>> RangeMap<K, V, 
         if range.is_empty() {
             return false;
         }
-        let start = Directed::Start(range.start());
-        let (_, from) = find::<K, V, C>(&self.stored, &start, steps);
-        match from {
+        let end = Directed::End(range.end());
+        let last = find_last_started::<K, V, C>(&self.stored, &end, steps);
+        match last {
             None => false,
             Some(p) => {
-                let end = Directed::End(range.end());
-                !starts_past::<K, V>(self.stored.get(p), &end, steps)
+                let start = Directed::Start(range.start());
+                !ends_before::<K, V>(self.stored.get(p), &start, steps)
             }
         }
     }

@@ -3,22 +3,21 @@ ghost use Rattle.std.specs.Prelude.{◌≡◌, ◌↔◌, ◌∷◌, ◌++◌, �
 ghost use Rattle.std.specs.Iterator.{YieldsFirstBy, YieldsLastBy, item_count};
 ghost use Rattle.std.specs.Ordering.{is_gt};
 ghost use Rattle.std.specs.declared.ops.Bound.TheVariants.{Included, Unbounded};
-ghost use Rattle.range_keys.specs.Directed.{reference_position};
 ghost use Rattle.range_keys.specs.Order.{IsComplete};
 ghost use Rattle.range_keys.specs.Position.{position_cmp, start_position};
 ghost use Rattle.range_algebra.specs.Range.{IsEmptyRange, with_bounds};
 ghost use Rattle.range_store.specs.Places.{IsAt, place_before};
 ghost use Rattle.range_map.specs.Iteration.{shown_item};
 ghost use Rattle.range_change.specs.Lookups.{BindsKeyOf};
-ghost use Rattle.range_map.specs.Overlapping.{AreOverlapping, IsLastStarting, IsRun, place_after, run_items};
+ghost use Rattle.range_map.specs.Overlapping.{AreOverlapping, IsRun, run_items};
 ghost use Rattle.range_change.specs.Stored.{IsStored};
-ghost use Rattle.range_change.specs.Window.{IsJustBefore};
+ghost use Rattle.range_change.specs.Window.{IsJustBefore, place_after};
 
 use crate::map::RangeMap;
 use range_algebra::any::AnyRange;
 use range_algebra::inner;
 use range_algebra::range::AsRange;
-use range_change::window::{find, starts_past};
+use range_change::window::{find, find_last_started, starts_past};
 use range_keys::bound::Directed;
 use range_keys::traits::{Measure, PartialEnum};
 use range_store::storage::{Item, Steps, Storage};
@@ -138,30 +137,6 @@ fn split_last<'a, K: PartialEnum, V: Eq, C: Storage<Item<AnyRange<K>, V>>>(
     }
 }
 
-/// The last item that starts at most at a bound.
-fn find_last<K: PartialEnum, V: Eq + Drop, C: Storage<Item<AnyRange<K>, V>>>(
-    stored: &C,
-    bound: &Directed<Bound<&K>>,
-    steps: &mut Steps,
-) -> Option<C::Position>
-    requires { IsStored K.order V.eq (C.items stored.now) }
-    ensures { IsLastStarting K.order (C.is_good stored.now) (C.rank stored.now)
-        (C.items stored.now) (reference_position K.order bound.now) result
-        (place_after (C.rank stored.now) result) }
-{
-    let (before, from) = find::<K, V, C>(stored, bound, steps);
-    match from {
-        None => before,
-        Some(p) => {
-            if starts_past::<K, V>(stored.get(p), bound, steps) {
-                before
-            } else {
-                Some(p)
-            }
-        }
-    }
-}
-
 /// The run of the items that stand neither before the one position nor after the other.
 fn run_between<K: PartialEnum, V: Eq, C: Storage<Item<AnyRange<K>, V>>>(
     stored: &C,
@@ -247,7 +222,7 @@ impl<K: Measure, V: Eq + Drop, C: Storage<Item<AnyRange<K>, V>>> RangeMap<K, V, 
     /// both ends.
     ///
     /// An empty range meets none. There is none exactly where no key of the range is bound, over
-    /// keys that leave no gap. Costs two searches and two comparisons more, and then a comparison
+    /// keys that leave no gap. Costs two searches and one comparison more, and then a comparison
     /// for each range that is shown. Allocates nothing.
     ///
     /// ```
@@ -283,7 +258,7 @@ impl<K: Measure, V: Eq + Drop, C: Storage<Item<AnyRange<K>, V>>> RangeMap<K, V, 
         let start = Directed::Start(range.start());
         let end = Directed::End(range.end());
         let (_, first) = find::<K, V, C>(&self.stored, &start, &mut steps);
-        let last = find_last::<K, V, C>(&self.stored, &end, &mut steps);
+        let last = find_last_started::<K, V, C>(&self.stored, &end, &mut steps);
         let ends = run_between::<K, V, C>(&self.stored, first, last);
         Overlapping::new(&self.stored, ends)
     }

@@ -139,8 +139,8 @@ impl<K: Measure, V: Eq + Drop, C: Storage<Item<AnyRange<K>, V>>> RangeMap<K, V, 
     /// range binds, with its value, and each free part between, with none.
     ///
     /// The parts refer to the bounds of the range and of the stored ranges: `AnyRange::cloned`
-    /// makes one of its own of it. An empty range has no part. Costs two searches and two
-    /// comparisons more, and then a few comparisons for each part. Allocates nothing.
+    /// makes one of its own of it. An empty range has no part. Costs two searches and one
+    /// comparison more, and then a few comparisons for each part. Allocates nothing.
     ///
     /// ```
     /// // of a map that binds 0..=5 to 1

@@ -131,7 +131,7 @@ impl<T: Measure, C: Storage<Item<AnyRange<T>, ()>>> RangeSet<T, C> {
     /// The stored ranges that meet the range, whole, in ascending order, from both ends.
     ///
     /// An empty range meets none. There is none exactly where no key of the range is in the set,
-    /// over keys that leave no gap. Costs two searches and two comparisons more, and then a
+    /// over keys that leave no gap. Costs two searches and one comparison more, and then a
     /// comparison for each range that is shown. Allocates nothing.
     ///
     /// ```
@@ -155,7 +155,7 @@ impl<T: Measure, C: Storage<Item<AnyRange<T>, ()>>> RangeSet<T, C> {
     /// as wide as it goes and none empty.
     ///
     /// They refer to the bounds of the range and of the stored ranges beside them. Costs two
-    /// searches and two comparisons more, and then a few comparisons for each stored range that
+    /// searches and one comparison more, and then a few comparisons for each stored range that
     /// meets the range. Allocates nothing.
     ///
     /// ```
@@ -173,7 +173,7 @@ impl<T: Measure, C: Storage<Item<AnyRange<T>, ()>>> RangeSet<T, C> {
     /// Whether each key of the range is in the set.
     ///
     /// It is where no part of the range is free; over keys that leave no gap, nowhere else. An
-    /// empty range is covered. Costs two searches and two comparisons more, and then a few
+    /// empty range is covered. Costs two searches and one comparison more, and then a few
     /// comparisons for each stored range that meets the range, up to its first gap. Allocates nothing.
     ///
     /// ```

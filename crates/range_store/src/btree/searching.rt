@@ -29,6 +29,7 @@ fn read_ahead<T>(cells: &[Option<T>])
 }
 
 // How many of the items in these cells pass, found by halving.
+#[inline(always)]
 pub fn halve<T, P: Probe<T>>(cells: &[Option<T>], probe: &mut P) -> usize
     requires full { All IsSome cells.now }
     requires falls { Falls (at_item (P.test probe.old)) cells.now }
@@ -56,6 +57,7 @@ pub fn halve<T, P: Probe<T>>(cells: &[Option<T>], probe: &mut P) -> usize
 }
 
 // The edge after the items below a node that pass, by one path down to a leaf.
+#[inline(always)]
 pub fn search_below<T: Drop, P: Probe<T>>(
     nodes: &Nodes<T>,
     below: usize,

@@ -80,6 +80,7 @@ impl<T: Drop> BoxStorage<T> {
 
     // The edge after the last item that passes the probe's test, which holds on a front of them
     // alone.
+    #[inline(always)]
     pub fn edge_after_passing<P: Probe<T>>(&self, probe: &mut P) -> Option<Edge>
         requires { Falls (P.test probe.old) (box_items self.now) }
         ensures found { MatchOption result (count_by (P.test probe.old) (box_items self.now) ≡ 0)

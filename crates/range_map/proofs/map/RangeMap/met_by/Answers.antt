@@ -16,8 +16,8 @@ returns-clause-items g c = λ full.
     (g.R.AsRange.range c.args.range.now) full
     (start_position order (bound_of c.start.result)) (end_position order (bound_of c.end.result))
     (ap (start_position order) c.start.ensures) (ap (end_position order) c.end.ensures)
-    c.find-first.result.0 c.find-first.result.1 c.find_last-last.result
-    c.find-first.ensures.found c.find_last-last.ensures)
+    c.find-first.result.0 c.find-first.result.1 c.find_last_started-last.result
+    c.find-first.ensures.found c.find_last_started-last.ensures.found)
 
 pub returns-clause-none : goal.returns-clause-none
 returns-clause-none g c = λ none binds.
