@@ -3,13 +3,12 @@ use Rattle.std.proofs.Common.{◌≡◌, List, [], ◌∷◌, ◌⊎◌, inl, in
 use Rattle.std.specs.declared.ops.Bound.TheVariants.{Included}
 use Rattle.range_keys.specs.Order.{KeyOrder, IsLawful, IsComplete}
 use Rattle.range_keys.specs.Position.{start_position, end_position, position_cmp}
-use Rattle.range_keys.specs.PositionOrder.{position_total}
 use Rattle.range_keys.specs.declared.inner.position.Position.TheVariants.{Beside}
 use Rattle.range_keys.specs.declared.inner.position.Side.TheVariants.{At}
 use Rattle.range_keys.proofs.Orderings.{not_greater, not_both_greater_and_not}
 use Rattle.range_algebra.specs.declared.any.AnyRange.{AnyRange}
 use Rattle.range_algebra.specs.Intervals.{Every}
-use Rattle.range_algebra.specs.Orders.{le_refl, eq_le, eq_ge, le_trans, not_lt}
+use Rattle.range_map.proofs.PlaceOrder.{le_refl, eq_le, eq_ge, le_trans, not_lt}
 use Rattle.range_algebra.specs.Range.{Holds, IsEmptyRange}
 use Rattle.range_algebra.proofs.Completeness.{nonempty_holds}
 use Rattle.range_algebra.proofs.Holding.{holds_by_position}
@@ -30,19 +29,16 @@ module _ {K : Type 0} (order : KeyOrder K) (lawful : IsLawful order) {V : Type 0
       → IsEmptyRange order r → ⊥
   within_nonempty part within full empty =
       let cmp = position_cmp order.cmp in
-      let total = position_total order.cmp lawful.total in
       let a = start_position order r.start in
       let b = start_position order part.start in
       let c = end_position order part.end in
       let d = end_position order r.end in
       not_both_greater_and_not (cmp a d)
-      (le_trans cmp total a b d within.starts
-      (le_trans cmp total b c d (not_greater (cmp b c) full) within.ends)) empty
+      (le_trans lawful _ _ _ within.starts
+      (le_trans lawful _ _ _ (not_greater (cmp b c) full) within.ends)) empty
 
   common_lies_in : (i part : AnyRange K) → IsCommonPart order r i part → LiesIn order part r
   common_lies_in i part h =
-      let cmp = position_cmp order.cmp in
-      let total = position_total order.cmp lawful.total in
       let a = start_position order r.start in
       let b = start_position order part.start in
       let c = end_position order part.end in
@@ -51,10 +47,10 @@ module _ {K : Type 0} (order : KeyOrder K) (lawful : IsLawful order) {V : Type 0
       let e = earlier order d (end_position order i.end) in
       record {
         starts =
-            le_trans cmp total a s b (later_over order lawful a (start_position order i.start)).0
-            (eq_ge cmp total b s h.starts);
+            le_trans lawful _ _ _ (later_over order lawful a (start_position order i.start)).0
+            (eq_ge lawful _ _ h.starts);
         ends =
-            le_trans cmp total c e d (eq_le cmp total c e h.ends)
+            le_trans lawful _ _ _ (eq_le lawful _ _ h.ends)
             (earlier_under order lawful d (end_position order i.end)).0;
       }
 
@@ -92,12 +88,7 @@ module _ {K : Type 0} (order : KeyOrder K) (lawful : IsLawful order) {V : Type 0
 
     met_by_point : (i : AnyRange K) → Overlap order i Point → Holds order i k
     met_by_point i h =
-        let cmp = position_cmp order.cmp in
-        let total = position_total order.cmp lawful.total in
-        (holds_by_position order lawful i k key).1 (
-          not_lt cmp total (start_position order i.start) (Beside k At) h.1,
-          not_lt cmp total (Beside k At) (end_position order i.end) h.0,
-        )
+        (holds_by_position order lawful i k key).1 (not_lt lawful _ _ h.1, not_lt lawful _ _ h.0)
 
     bound_or_not : (xs : List (Item (AnyRange K) V))
         → IsBound order xs k ⊎ Every (λ i. Holds order i.key k → ⊥) xs
@@ -121,13 +112,12 @@ module _ {K : Type 0} (order : KeyOrder K) (lawful : IsLawful order) {V : Type 0
         → IsFreePart order items r Point
     point_is_free held none =
         let cmp = position_cmp order.cmp in
-        let total = position_total order.cmp lawful.total in
         let within = (holds_by_position order lawful r k key).0 held in
         record {
           known = (key, key);
           nonempty =
               not_both_greater_and_not (cmp (Beside k At) (Beside k At))
-              (le_refl cmp total (Beside k At));
+              (le_refl lawful (Beside k At));
           within = record { starts = within.0; ends = within.1 };
           free =
               every_weaker (λ i. Holds order i.key k → ⊥) (λ i. Overlap order i.key Point → ⊥) items
@@ -148,7 +138,6 @@ module _ {K : Type 0} (order : KeyOrder K) (lawful : IsLawful order) {V : Type 0
       → IsFreePart order items r part → ⊥
   bound_is_full complete bound part free =
       let cmp = position_cmp order.cmp in
-      let total = position_total order.cmp lawful.total in
       let a = start_position order part.start in
       let b = end_position order part.end in
       let found =
@@ -157,8 +146,8 @@ module _ {K : Type 0} (order : KeyOrder K) (lawful : IsLawful order) {V : Type 0
       let own = (holds_by_position order lawful part k found.1).0 found.2 in
       let held =
       (holds_by_position order lawful r k found.1).1 (
-        le_trans cmp total (start_position order r.start) a (Beside k At) free.within.starts own.0,
-        le_trans cmp total (Beside k At) b (end_position order r.end) own.1 free.within.ends,
+        le_trans lawful _ _ _ free.within.starts own.0,
+        le_trans lawful (Beside k At) b (end_position order r.end) own.1 free.within.ends,
       ) in
       let meets =
       (binding_meets order lawful items part (k, found.1, found.2, bound k found.1 held)).1 in

@@ -14,8 +14,8 @@ use Rattle.range_keys.specs.declared.inner.position.Position.TheVariants.{MinusI
 use Rattle.range_keys.specs.declared.inner.position.Side.TheVariants.{Before, At, After}
 use Rattle.range_keys.proofs.Orderings.{both_equal, equal_then_equal, eq_is_equal}
 use Rattle.range_algebra.specs.Clones.{IsBoundClone, range_clone}
-use Rattle.range_algebra.specs.Cuts.{past, lower, upper}
-use Rattle.range_algebra.specs.Orders.{eq_le, eq_ge, le_trans}
+use Rattle.range_algebra.specs.Cuts.{past}
+use Rattle.range_map.proofs.PlaceOrder.{eq_le, eq_ge, le_trans}
 use Rattle.range_algebra.specs.Range.{IsKnownRange, IsEmptyRange}
 use Rattle.range_algebra.specs.RangeOrder.{range_cmp, range_total}
 use Rattle.range_algebra.specs.declared.any.AnyRange.{AnyRange}
@@ -109,22 +109,17 @@ module _ {K : Type 0} (order : KeyOrder K) (lawful : IsLawful order) where
       → range_cmp order r r' ≡ Equal → range_cmp order s s' ≡ Equal → Touches order r s
       → Touches order r' s'
   same_touches r s r' s' known others known' others' full full' before before' e f h =
-      let cmp = position_cmp order.cmp in
-      let total = position_total order.cmp lawful.total in
       let le = (before_is order lawful r.end s.start known.1 others.0).0 before in
       let le' = (before_is order lawful r'.end s'.start known'.1 others'.0).0 before' in
       let back =
       (touches_is order lawful r.end s others
       ((nonempty_good order lawful s others).0 full) le).0 h in
-      let start = eq_ge cmp total (lower order s) (lower order s') (starts_same s s' f) in
+      let start = eq_ge lawful _ _ (starts_same s s' f) in
       let end =
-      eq_le cmp total (upper order r) (upper order r')
-      (past_same (end_position order r.end) (end_position order r'.end) (ends_same r r' e))
-      in
-      (touches_is order lawful r'.end s' others'
-      ((nonempty_good order lawful s' others').0 full') le').1
-      (le_trans cmp total (lower order s') (lower order s) (upper order r') start
-      (le_trans cmp total (lower order s) (upper order r) (upper order r') back end))
+      eq_le lawful _ _
+      (past_same (end_position order r.end) (end_position order r'.end) (ends_same r r' e)) in
+      (touches_is order lawful r'.end s' others' ((nonempty_good order lawful s' others').0 full')
+      le').1 (le_trans lawful _ _ _ start (le_trans lawful _ _ _ back end))
 
   module _ {V : Type 0} (same : V → V → Bool) (equal : IsEquivalence same) where
     same_values : (v w v' w' : V) → same v v' ≡ true → same w w' ≡ true → same v w ≡ true

@@ -11,7 +11,7 @@ use Rattle.range_keys.specs.declared.inner.position.Position.TheVariants.{Beside
 use Rattle.range_keys.specs.declared.inner.position.Side.TheVariants.{At}
 use Rattle.range_algebra.specs.Clones.{IsBoundClone, SameBound}
 use Rattle.range_algebra.specs.Intervals.{Le, Lt, Any, Every}
-use Rattle.range_algebra.specs.Orders.{le_refl, lt_le, eq_ge, le_trans, lt_not_le}
+use Rattle.range_map.proofs.PlaceOrder.{le_refl, lt_le, eq_ge, le_trans, lt_not_le}
 use Rattle.range_algebra.specs.Range.{Holds, IsKnownRange}
 use Rattle.range_algebra.specs.Relations.{LiesBefore}
 use Rattle.range_algebra.specs.declared.any.AnyRange.{AnyRange}
@@ -139,9 +139,7 @@ module _ {K : Type 0} (order : KeyOrder K) (lawful : IsLawful order) {V W X : Ty
     from_here None (Some v) j xs cut some from = absurd cut
     from_here (Some i) None j xs cut some from = absurd (some refl)
     from_here (Some i) (Some v) j xs cut some from =
-        let total = position_total order.cmp lawful.total in
-        le_trans (cmp order lawful) total m (Lo order lawful i.key) (Lo order lawful key) from.0
-        (eq_ge (cmp order lawful) total (Lo order lawful key) (Lo order lawful i.key) cut.1)
+        le_trans lawful _ _ _ from.0 (eq_ge lawful _ _ cut.1)
 
     starts_after : Le (cmp order lawful) m (Lo order lawful key)
     starts_after =
@@ -154,10 +152,8 @@ module _ {K : Type 0} (order : KeyOrder K) (lawful : IsLawful order) {V W X : Ty
     not_earlier : (p : Position K) → HoldsAt order lawful p key → (c : Answer)
         → Le (cmp order lawful) (Hi order lawful c.key) m → HoldsAt order lawful p c.key → ⊥
     not_earlier p at c below held =
-        let total = position_total order.cmp lawful.total in
-        lt_not_le (cmp order lawful) total p (Hi order lawful c.key) held.1
-        (le_trans (cmp order lawful) total (Hi order lawful c.key) m p below
-        (le_trans (cmp order lawful) total m (Lo order lawful key) p starts_after at.0))
+        lt_not_le lawful _ _ held.1
+        (le_trans lawful _ _ _ below (le_trans lawful _ _ _ starts_after at.0))
 
     -- both lists are constant on it
     pub is_shared : IsSharedPart order items others key value other
@@ -206,8 +202,7 @@ module _ {K : Type 0} (order : KeyOrder K) (lawful : IsLawful order) {V W X : Ty
         → Le (cmp order lawful) (Hi order lawful c.key) m → LiesBefore order c.key key
     before_it c part below =
         (before_is order lawful c.key.end key.start part.known.1 piece.placed.known.0).1
-        (le_trans (cmp order lawful) (position_total order.cmp lawful.total)
-        (Hi order lawful c.key) m (Lo order lawful key) below starts_after)
+        (le_trans lawful _ _ _ below starts_after)
 
     all_before : (cs : List Answer)
         → Every (λ c. IsSharedPart order items others c.key c.left c.right) cs
@@ -225,13 +220,9 @@ module _ {K : Type 0} (order : KeyOrder K) (lawful : IsLawful order) {V W X : Ty
         → IsCombinedUpTo (Hi order lawful key) (option_items last ++ rest)
         (option_items last_other ++ others_rest) new
     combined_more answer new is_clone clones says put =
-        let total = position_total order.cmp lawful.total in
         let c : Answer = record { key = key; left = value; right = other; answer = answer } in
-        let upto = lt_le (cmp order lawful) total (Lo order lawful key) (Hi order lawful key)
-        piece.placed.good in
-        let m_upto =
-        le_trans (cmp order lawful) total m (Lo order lawful key) (Hi order lawful key) starts_after
-        upto in
+        let upto = lt_le lawful _ _ piece.placed.good in
+        let m_upto = le_trans lawful _ _ _ starts_after upto in
         record {
           answers = was.answers ++ c ∷ [];
           first =
@@ -247,13 +238,11 @@ module _ {K : Type 0} (order : KeyOrder K) (lawful : IsLawful order) {V W X : Ty
               next_last (λ b d. LiesBefore order b.key d.key) was.answers c was.rising
               (all_before was.answers was.each was.below);
           below =
-              every_append (λ d. Le (cmp order lawful) (Hi order lawful d.key)
-              (Hi order lawful key)) was.answers (c ∷ [])
-              (every_weaker (λ d. Le (cmp order lawful) (Hi order lawful d.key) m)
+              every_append
               (λ d. Le (cmp order lawful) (Hi order lawful d.key) (Hi order lawful key)) was.answers
-              (λ d le. le_trans (cmp order lawful) total (Hi order lawful d.key) m
-              (Hi order lawful key) le m_upto) was.below)
-              (le_refl (cmp order lawful) total (Hi order lawful key), tt);
+              (c ∷ []) (every_weaker (λ d. Le (cmp order lawful) (Hi order lawful d.key) m)
+              (λ d. Le (cmp order lawful) (Hi order lawful d.key) (Hi order lawful key)) was.answers
+              (λ d le. le_trans lawful _ _ _ le m_upto) was.below) (le_refl lawful _, tt);
           given =
               every_append (λ d. may d.left d.right (Ok d.answer)) was.answers (c ∷ []) was.given
               (says, tt);
@@ -308,9 +297,8 @@ module _ {K : Type 0} (order : KeyOrder K) (lawful : IsLawful order) {V W X : Ty
           filled =
               rw (map_end answer_of was.answers c)
               (fill_more order lawful same equal full_range m (Hi order lawful key)
-              (map answer_of was.answers) key within_all starts_after
-              (le_refl (cmp order lawful) total (Hi order lawful key)) is_clone clones None answer
-              middle new was.filled put);
+              (map answer_of was.answers) key within_all starts_after (le_refl lawful _) is_clone
+              clones None answer middle new was.filled put);
         }
 
   -- among ranges that rise, a place lies in one alone
@@ -321,18 +309,17 @@ module _ {K : Type 0} (order : KeyOrder K) (lawful : IsLawful order) {V W X : Ty
       → Every (λ d. Le (cmp order lawful) low (Lo order lawful d.key)) cs
   above low c [] le each rising = tt
   above low c (d ∷ cs) le each rising =
-      let total = position_total order.cmp lawful.total in
       let from =
       (before_is order lawful c.key.end d.key.start each.0.known.1 each.1.0.known.0).0 rising.0 in
       let here =
-      le_trans (cmp order lawful) total low (Hi order lawful c.key) (Lo order lawful d.key) le from
+      le_trans lawful _ _ _ le from
       in (
         here,
         above low d cs
-            (le_trans (cmp order lawful) total low (Lo order lawful d.key) (Hi order lawful d.key)
-            here (lt_le (cmp order lawful) total (Lo order lawful d.key) (Hi order lawful d.key)
-            ((nonempty_good order lawful d.key each.1.0.known).0 each.1.0.nonempty)))
-            each.1 rising.1,
+            (le_trans lawful _ _ _ here
+            (lt_le lawful _ _
+            ((nonempty_good order lawful d.key each.1.0.known).0 each.1.0.nonempty))) each.1
+            rising.1,
       )
 
   -- what a range that holds the place answers, and no other does
@@ -348,9 +335,7 @@ module _ {K : Type 0} (order : KeyOrder K) (lawful : IsLawful order) {V W X : Ty
   one_alone p [] each rising h = h
   one_alone p (c ∷ cs) each rising (inl h) =
       let total = position_total order.cmp lawful.total in
-      let later =
-      above (Hi order lawful c.key) c cs (le_refl (cmp order lawful) total (Hi order lawful c.key))
-      each rising in
+      let later = above (Hi order lawful c.key) c cs (le_refl lawful _) each rising in
       inl (
         h,
         λ U. (
@@ -359,19 +344,13 @@ module _ {K : Type 0} (order : KeyOrder K) (lawful : IsLawful order) {V W X : Ty
             | inr e ↦
                 absurd (any_none (λ d. HoldsAt order lawful p d.key × Answers U d.answer)
                 (λ d. Le (cmp order lawful) (Hi order lawful c.key) (Lo order lawful d.key)) cs
-                later
-                (λ d le f. lt_not_le (cmp order lawful) total p (Hi order lawful c.key) h.1
-                (le_trans (cmp order lawful) total (Hi order lawful c.key) (Lo order lawful d.key) p
-                le f.0.0)) e)
+                later (λ d le f. lt_not_le lawful _ _ h.1 (le_trans lawful _ _ _ le f.0.0)) e)
           ],
           λ g. inl (h, g),
         ),
       )
   one_alone p (c ∷ cs) each rising (inr h) =
-      let total = position_total order.cmp lawful.total in
-      let later =
-      above (Hi order lawful c.key) c cs (le_refl (cmp order lawful) total (Hi order lawful c.key))
-      each rising in
+      let later = above (Hi order lawful c.key) c cs (le_refl lawful _) each rising in
       inr (any_with (λ d. HoldsAt order lawful p d.key × IsOnly p d cs)
       (λ d. Le (cmp order lawful) (Hi order lawful c.key) (Lo order lawful d.key))
       (λ d. HoldsAt order lawful p d.key × IsOnly p d (c ∷ cs)) cs
@@ -380,10 +359,7 @@ module _ {K : Type 0} (order : KeyOrder K) (lawful : IsLawful order) {V W X : Ty
         only.0,
         λ U. (
           λ g. elim g [
-            | inl e ↦
-                absurd (lt_not_le (cmp order lawful) total p (Hi order lawful c.key) e.0.1
-                (le_trans (cmp order lawful) total (Hi order lawful c.key) (Lo order lawful d.key) p
-                le only.0.0))
+            | inl e ↦ absurd (lt_not_le lawful _ _ e.0.1 (le_trans lawful _ _ _ le only.0.0))
             | inr e ↦ (only.1 U).0 e
           ],
           λ g. inr ((only.1 U).1 g),

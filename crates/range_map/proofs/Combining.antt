@@ -11,7 +11,7 @@ use Rattle.range_keys.specs.PositionOrder.{position_total}
 use Rattle.range_keys.specs.declared.inner.position.Position.{Position}
 use Rattle.range_algebra.specs.Cuts.{lower, upper}
 use Rattle.range_algebra.specs.Intervals.{Le, Lt, Any, Every}
-use Rattle.range_algebra.specs.Orders.{le_refl, lt_le, eq_le, eq_ge, le_trans, lt_not_le, cases, lt_le_trans}
+use Rattle.range_map.proofs.PlaceOrder.{le_refl, lt_le, eq_le, eq_ge, le_trans, lt_not_le, cases, lt_le_trans}
 use Rattle.range_algebra.specs.Range.{IsKnownRange}
 use Rattle.range_algebra.specs.declared.any.AnyRange.{AnyRange}
 use Rattle.range_algebra.proofs.Lists.{any_none, every_left, every_weaker}
@@ -69,14 +69,12 @@ module _ {K : Type 0} (order : KeyOrder K) (lawful : IsLawful order) where
         → ((x : Item (AnyRange K) V) → Any (λ i. i ≡ x) xs → Any (λ i. i ≡ x) items)
         → Every (IsTailIn items) xs
     all_tails items [] within = tt
-    all_tails items (x ∷ xs) within =
-        let total = position_total order.cmp lawful.total in (
-          any_over (λ i. i ≡ x) (λ i. (i.value ≡ x.value) × Le cmp (Lo i.key) (Lo x.key)
-              × Le cmp (Hi x.key) (Hi i.key)) items
-              (λ i e. rw e (refl, le_refl cmp total (Lo x.key), le_refl cmp total (Hi x.key)))
-              (within x (inl refl)),
-          all_tails items xs (λ y h. within y (inr h)),
-        )
+    all_tails items (x ∷ xs) within = (
+      any_over (λ i. i ≡ x) (λ i. (i.value ≡ x.value) × Le cmp (Lo i.key) (Lo x.key)
+          × Le cmp (Hi x.key) (Hi i.key)) items (λ i e. rw e
+          (refl, le_refl lawful _, le_refl lawful _)) (within x (inl refl)),
+      all_tails items xs (λ y h. within y (inr h)),
+    )
 
     -- at first the whole list is left
     pub all_left : (items : List (Item (AnyRange K) V)) (m : Position K)
@@ -104,7 +102,7 @@ module _ {K : Type 0} (order : KeyOrder K) (lawful : IsLawful order) where
     module _ (items : List (Item (AnyRange K) V)) (m : Position K) (key : AnyRange K)
         (placed : IsPlaced order key) where
       low_high : Le cmp (Lo key) (Hi key)
-      low_high = lt_le cmp (position_total order.cmp lawful.total) (Lo key) (Hi key) placed.good
+      low_high = lt_le lawful _ _ placed.good
 
       -- what is left past the piece
       pub left_past : (first : Option (Item (AnyRange K) V)) (value : Option V)
@@ -129,14 +127,11 @@ module _ {K : Type 0} (order : KeyOrder K) (lawful : IsLawful order) where
             chain = chain_tail (line_of order lawful same equal) i rest was.chain.1;
             from =
                 every_weaker (λ x. Le cmp (Hi i.key) (Lo x.key)) (λ x. Le cmp (Hi key) (Lo x.key))
-                rest
-                (λ x le. le_trans cmp total (Hi key) (Hi i.key) (Lo x.key)
-                (eq_le cmp total (Hi key) (Hi i.key) cut.2) le)
+                rest (λ x le. le_trans lawful _ _ _ (eq_le lawful _ _ cut.2) le)
                 (follows_above (line_of order lawful same equal) i rest was.chain.1);
             tails = was.tails.1;
           }
       left_past (Some i) (Some v) (Some j) rest none cut was =
-          let total = position_total order.cmp lawful.total in
           let chain : Chained order lawful same equal (j ∷ rest) = (
             cut.2.placed.good,
             follows_like (line_of order lawful same equal) i j rest cut.2.upto
@@ -147,7 +142,7 @@ module _ {K : Type 0} (order : KeyOrder K) (lawful : IsLawful order) where
             chain = chain;
             from =
                 chain_above (line_of order lawful same equal) (Hi key) j rest chain
-                (eq_le cmp total (Hi key) (Lo j.key) cut.2.from);
+                (eq_le lawful _ _ cut.2.from);
             tails = (
               any_over (λ o. (o.value ≡ i.value) × Le cmp (Lo o.key) (Lo i.key)
                   × Le cmp (Hi i.key) (Hi o.key))
@@ -155,13 +150,11 @@ module _ {K : Type 0} (order : KeyOrder K) (lawful : IsLawful order) where
                   × Le cmp (Hi j.key) (Hi o.key)) items
                   (λ o t. (
                     t.0 ∙ sym cut.2.value,
-                    le_trans cmp total (Lo o.key) (Lo i.key) (Lo j.key) t.1
-                        (le_trans cmp total (Lo i.key) (Lo key) (Lo j.key)
-                        (eq_ge cmp total (Lo key) (Lo i.key) cut.1)
-                        (le_trans cmp total (Lo key) (Hi key) (Lo j.key) low_high
-                        (eq_le cmp total (Hi key) (Lo j.key) cut.2.from))),
-                    le_trans cmp total (Hi j.key) (Hi i.key) (Hi o.key)
-                        (eq_le cmp total (Hi j.key) (Hi i.key) cut.2.upto) t.2,
+                    le_trans lawful _ _ _ t.1
+                        (le_trans lawful _ _ _ (eq_ge lawful _ _ cut.1)
+                        (le_trans lawful _ _ _ low_high (eq_le lawful _ _ cut.2.from))),
+                    le_trans lawful _ _ _
+                        (eq_le lawful _ _ cut.2.upto) t.2,
                   )) was.tails.0,
               was.tails.1,
             );
@@ -169,51 +162,43 @@ module _ {K : Type 0} (order : KeyOrder K) (lawful : IsLawful order) where
 
       front_held : (i : AnyRange K) (p : Position K) → cmp (Lo key) (Lo i) ≡ Equal
           → cmp (Hi key) (Hi i) ≡ Equal → HoldsAt p i ↔ HoldsAt p key
-      front_held i p starts ends =
-          let total = position_total order.cmp lawful.total in (
-            λ h. (
-              le_trans cmp total (Lo key) (Lo i) p (eq_le cmp total (Lo key) (Lo i) starts) h.0,
-              lt_le_trans cmp total p (Hi i) (Hi key) h.1 (eq_ge cmp total (Hi key) (Hi i) ends),
-            ),
-            λ h. (
-              le_trans cmp total (Lo i) (Lo key) p (eq_ge cmp total (Lo key) (Lo i) starts) h.0,
-              lt_le_trans cmp total p (Hi key) (Hi i) h.1 (eq_le cmp total (Hi key) (Hi i) ends),
-            ),
-          )
+      front_held i p starts ends = (
+        λ h. (
+          le_trans lawful _ _ _ (eq_le lawful _ _ starts) h.0,
+          lt_le_trans lawful _ _ _ h.1 (eq_ge lawful _ _ ends),
+        ),
+        λ h. (
+          le_trans lawful _ _ _ (eq_ge lawful _ _ starts) h.0,
+          lt_le_trans lawful _ _ _ h.1 (eq_le lawful _ _ ends),
+        ),
+      )
 
       both_held : (i j : AnyRange K) (p : Position K) → cmp (Lo key) (Lo i) ≡ Equal
           → Lt cmp (Lo j) (Hi j) → cmp (Hi key) (Lo j) ≡ Equal → cmp (Hi j) (Hi i) ≡ Equal
           → HoldsAt p i ↔ (HoldsAt p key ⊎ HoldsAt p j)
-      both_held i j p starts good middle ends =
-          let total = position_total order.cmp lawful.total in (
-            λ h. elim (cases cmp total p (Hi key)) [
-              | inl l ↦ inl (
-                le_trans cmp total (Lo key) (Lo i) p (eq_le cmp total (Lo key) (Lo i) starts) h.0,
-                l,
-              )
-              | inr g ↦ inr (
-                le_trans cmp total (Lo j) (Hi key) p (eq_ge cmp total (Hi key) (Lo j) middle) g,
-                lt_le_trans cmp total p (Hi i) (Hi j) h.1 (eq_ge cmp total (Hi j) (Hi i) ends),
-              )
-            ],
-            λ h. elim h [
-              | inl e ↦ (
-                le_trans cmp total (Lo i) (Lo key) p (eq_ge cmp total (Lo key) (Lo i) starts) e.0,
-                lt_le_trans cmp total p (Hi key) (Hi i) e.1
-                    (le_trans cmp total (Hi key) (Lo j) (Hi i)
-                    (eq_le cmp total (Hi key) (Lo j) middle)
-                    (le_trans cmp total (Lo j) (Hi j) (Hi i) (lt_le cmp total (Lo j) (Hi j) good)
-                    (eq_le cmp total (Hi j) (Hi i) ends))),
-              )
-              | inr e ↦ (
-                le_trans cmp total (Lo i) (Lo key) p (eq_ge cmp total (Lo key) (Lo i) starts)
-                    (le_trans cmp total (Lo key) (Hi key) p low_high
-                    (le_trans cmp total (Hi key) (Lo j) p
-                    (eq_le cmp total (Hi key) (Lo j) middle) e.0)),
-                lt_le_trans cmp total p (Hi j) (Hi i) e.1 (eq_le cmp total (Hi j) (Hi i) ends),
-              )
-            ],
+      both_held i j p starts good middle ends = (
+        λ h. elim (cases lawful p (Hi key)) [
+          | inl l ↦ inl (le_trans lawful _ _ _ (eq_le lawful _ _ starts) h.0, l)
+          | inr g ↦ inr (
+            le_trans lawful _ _ _ (eq_ge lawful _ _ middle) g,
+            lt_le_trans lawful _ _ _ h.1 (eq_ge lawful _ _ ends),
           )
+        ],
+        λ h. elim h [
+          | inl e ↦ (
+            le_trans lawful _ _ _ (eq_ge lawful _ _ starts) e.0,
+            lt_le_trans lawful _ _ _ e.1
+                (le_trans lawful _ _ _ (eq_le lawful _ _ middle)
+                (le_trans lawful _ _ _ (lt_le lawful _ _ good) (eq_le lawful _ _ ends))),
+          )
+          | inr e ↦ (
+            le_trans lawful _ _ _ (eq_ge lawful _ _ starts)
+                (le_trans lawful _ _ _ low_high
+                (le_trans lawful _ _ _ (eq_le lawful _ _ middle) e.0)),
+            lt_le_trans lawful _ _ _ e.1 (eq_le lawful _ _ ends),
+          )
+        ],
+      )
 
       -- the places of what was left are those of the piece, with its value, and of what is left
       pub left_seen : (first : Option (Item (AnyRange K) V)) (value : Option V)
@@ -265,16 +250,14 @@ module _ {K : Type 0} (order : KeyOrder K) (lawful : IsLawful order) where
           → Le cmp (Lo i.key) (Lo key) × Le cmp (Hi key) (Hi i.key)
       part_inside i v None cut =
           let total = position_total order.cmp lawful.total in
-          (eq_ge cmp total (Lo key) (Lo i.key) cut.1, eq_le cmp total (Hi key) (Hi i.key) cut.2)
-      part_inside i v (Some j) cut =
-          let total = position_total order.cmp lawful.total in (
-            eq_ge cmp total (Lo key) (Lo i.key) cut.1,
-            le_trans cmp total (Hi key) (Lo j.key) (Hi i.key)
-                (eq_le cmp total (Hi key) (Lo j.key) cut.2.from)
-                (le_trans cmp total (Lo j.key) (Hi j.key) (Hi i.key)
-                (lt_le cmp total (Lo j.key) (Hi j.key) cut.2.placed.good)
-                (eq_le cmp total (Hi j.key) (Hi i.key) cut.2.upto)),
-          )
+          (eq_ge lawful _ _ cut.1, eq_le lawful _ _ cut.2)
+      part_inside i v (Some j) cut = (
+        eq_ge lawful _ _ cut.1,
+        le_trans lawful _ _ _
+            (eq_le lawful _ _ cut.2.from)
+            (le_trans lawful _ _ _ (lt_le lawful _ _ cut.2.placed.good)
+            (eq_le lawful _ _ cut.2.upto)),
+      )
 
       nothing_left : (rest : List (Item (AnyRange K) V)) → rest ≡ [] → (p : Position K)
           → ¬ Hold order lawful same equal (λ u. true) p rest
@@ -297,21 +280,17 @@ module _ {K : Type 0} (order : KeyOrder K) (lawful : IsLawful order) where
           let total = position_total order.cmp lawful.total in
           let above =
           chain_above (line_of order lawful same equal) (Hi key) i rest was.chain cut.1 in
-          none_there known chain
-          (λ p at held. any_none (λ x. HoldsAt p x.key × (true ≡ true))
+          none_there known chain (λ p at held. any_none (λ x. HoldsAt p x.key × (true ≡ true))
           (λ x. Le cmp (Hi key) (Lo x.key)) (i ∷ rest) above
-          (λ x le h. lt_not_le cmp total p (Hi key) at.1
-          (le_trans cmp total (Hi key) (Lo x.key) p le h.0.0)) (seen p at held))
+          (λ x le h. lt_not_le lawful _ _ at.1 (le_trans lawful _ _ _ le h.0.0)) (seen p at held))
       constant_on (Some i) (Some v) last rest known chain none cut was seen =
-          let total = position_total order.cmp lawful.total in
           let inside = part_inside i v last cut in
           any_with (λ o. (o.value ≡ i.value) × Le cmp (Lo o.key) (Lo i.key)
           × Le cmp (Hi i.key) (Hi o.key)) (λ o. IsKnownRange order o.key)
           (λ o. LiesIn order key o.key × (o.value ≡ v)) items was.tails.0 known
           (λ o t known_o. (
             lies_in order lawful key o.key placed.known known_o
-                (le_trans cmp total (Lo o.key) (Lo i.key) (Lo key) t.1 inside.0)
-                (le_trans cmp total (Hi key) (Hi i.key) (Hi o.key) inside.1 t.2),
+                (le_trans lawful _ _ _ t.1 inside.0) (le_trans lawful _ _ _ inside.1 t.2),
             t.0 ∙ cut.0,
           ))
 

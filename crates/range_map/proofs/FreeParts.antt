@@ -5,17 +5,13 @@ use Rattle.std.specs.declared.ops.Bound.TheVariants.{Included, Excluded, Unbound
 use Rattle.std.specs.declared.cmp.Ordering.TheVariants.{Equal}
 use Rattle.range_keys.specs.Order.{KeyOrder, IsLawful}
 use Rattle.range_keys.specs.Position.{start_position, end_position, position_cmp}
-use Rattle.range_keys.specs.PositionOrder.{position_total}
 use Rattle.range_keys.specs.declared.inner.position.Position.{Position}
-use Rattle.range_keys.specs.declared.inner.position.Position.TheVariants.{Beside}
-use Rattle.range_keys.specs.declared.inner.position.Side.TheVariants.{At}
 use Rattle.range_keys.proofs.Orderings.{equal_then_equal, not_both_greater_and_not, not_greater}
 use Rattle.range_algebra.specs.declared.any.AnyRange.{AnyRange}
 use Rattle.range_algebra.proofs.Lists.{any_left, any_right, every_append, every_left, every_right, every_weaker}
 use Rattle.range_algebra.specs.Compared.{flipped, starts_past_end}
-use Rattle.range_algebra.specs.Cuts.{past}
 use Rattle.range_algebra.specs.Intervals.{Le, Lt, Any, Every}
-use Rattle.range_algebra.specs.Orders.{eq_le, eq_ge, le_refl, lt_le, le_trans, lt_not_le, cases, lt_le_trans, le_lt_trans, lt_trans, both}
+use Rattle.range_map.proofs.PlaceOrder.{eq_le, eq_ge, le_refl, lt_le, le_trans, lt_not_le, cases, lt_le_trans, le_lt_trans, lt_trans, both}
 use Rattle.range_algebra.specs.Range.{StartHolds, EndHolds, Holds, IsKnownBound, IsKnownRange}
 use Rattle.range_algebra.specs.RangeOrder.{range_cmp}
 use Rattle.range_algebra.specs.Relations.{LiesBefore}
@@ -94,24 +90,16 @@ module _ {K : Type 0} (order : KeyOrder K) (lawful : IsLawful order) where
       → flipped e ≡ Some i → IsKnownBound order r.start → PLt (End e) (Start r.start)
       ↔ PLe (Start i) (Start r.start)
   after_end_is_from_turned e i r known turns full =
-      let total = position_total order.cmp lawful.total in
-      let cmp = position_cmp order.cmp in
       let at = flipped_bound_is_past order lawful e i turns in
       let by = before_is order lawful e r.start known full in (
-        λ h. le_trans cmp total (Start i) (past order (End e)) (Start r.start)
-            (eq_ge cmp total (past order (End e)) (Start i) at) (by.0 h),
-        λ h.
-            by.1 (le_trans cmp total (past order (End e)) (Start i) (Start r.start)
-            (eq_le cmp total (past order (End e)) (Start i) at) h),
+        λ h. le_trans lawful _ _ _
+            (eq_ge lawful _ _ at) (by.0 h),
+        λ h. by.1 (le_trans lawful _ _ _ (eq_le lawful _ _ at) h),
       )
 
   beyond_all : (r : AnyRange K) → IsFull r → PLt (End Unbounded) (Start r.start) → ⊥
   beyond_all r full h =
-      let total = position_total order.cmp lawful.total in
-      let cmp = position_cmp order.cmp in
-      lt_not_le cmp total (End Unbounded) (Start r.start) h
-      (le_trans cmp total (Start r.start) (End r.end) (End Unbounded) full.1
-      (ends_full order lawful r.end full.0.1))
+      lt_not_le lawful _ _ h (le_trans lawful _ _ _ full.1 (ends_full order lawful r.end full.0.1))
 
   after_end_is_from : (e : Bound K) (r : AnyRange K) → IsKnownBound order e → IsFull r
       → PLt (End e) (Start r.start) ↔ From (flipped e) r
@@ -125,10 +113,8 @@ module _ {K : Type 0} (order : KeyOrder K) (lawful : IsLawful order) where
   ends_just_before : (s i : Bound K) → IsKnownBound order s → flipped s ≡ Some i
       → PLt (End i) (Start s)
   ends_just_before s i known turns =
-      let total = position_total order.cmp lawful.total in
-      let cmp = position_cmp order.cmp in
       (before_is order lawful i s (flipped_known order lawful s i turns known) known).1
-      (eq_le cmp total (past order (End i)) (Start s)
+      (eq_le lawful _ _
       (flipped_bound_is_past order lawful i s (flipped_back order lawful s i turns)))
 
   -- what holds of each range that may stand between two bounds holds of the one that does
@@ -160,18 +146,13 @@ module _ {K : Type 0} (order : KeyOrder K) (lawful : IsLawful order) where
 
   lies_by : (r s : AnyRange K) → (¬ Overlap order r s) → LiesBefore order r s ⊎ LiesBefore order s r
   lies_by r s apart =
-      let total = position_total order.cmp lawful.total in
-      let cmp = position_cmp order.cmp in
-      elim (cases cmp total (End r.end) (Start s.start)) [
+      elim (cases lawful (End r.end) (Start s.start)) [
         | inl l ↦ inl l
-        | inr g ↦ elim (cases cmp total (End s.end) (Start r.start)) [
+        | inr g ↦ elim (cases lawful (End s.end) (Start r.start)) [
           | inl l ↦ inr l
           | inr h ↦
               absurd
-              (apart (
-                λ l. lt_not_le cmp total (End r.end) (Start s.start) l g,
-                λ l. lt_not_le cmp total (End s.end) (Start r.start) l h,
-              ))
+              (apart (λ l. lt_not_le lawful _ _ l g, λ l. lt_not_le lawful _ _ l h))
         ]
       ]
 
@@ -188,12 +169,9 @@ module _ {K : Type 0} (order : KeyOrder K) (lawful : IsLawful order) where
     wide_last : (s : Option (Bound K)) → Bars F s
         → Every (IsWide F) (between order s (Some Unbounded))
     wide_last s bars = each_between (IsWide F) s (Some Unbounded) (λ a b e f le r such within.
-        let total = position_total order.cmp lawful.total in
-        let cmp = position_cmp order.cmp in
         let unbounded : Unbounded ≡ b = same_some (Some Unbounded) Unbounded b refl f in
         record {
-          starts =
-              bars a e r such (le_trans cmp total (Start a) (End b) (End r.end) le within.ends);
+          starts = bars a e r such (le_trans lawful _ _ _ le within.ends);
           ends =
               subst (λ x. PLe (End r.end) (End x)) unbounded
               (ends_full order lawful r.end (full r such).0.1);
@@ -202,11 +180,9 @@ module _ {K : Type 0} (order : KeyOrder K) (lawful : IsLawful order) where
   pub same_range : (r s : AnyRange K) → LiesIn order r s → LiesIn order s r
       → range_cmp order r s ≡ Equal
   same_range r s h k =
-      let total = position_total order.cmp lawful.total in
       let cmp = position_cmp order.cmp in
       equal_then_equal (cmp (Start r.start) (Start s.start)) (cmp (End r.end) (End s.end))
-      (both cmp total (Start r.start) (Start s.start) k.starts h.starts)
-      (both cmp total (End r.end) (End s.end) h.ends k.ends)
+      (both lawful _ _ k.starts h.starts) (both lawful _ _ h.ends k.ends)
 
   module _ (F : AnyRange K → Type 0) (part : AnyRange K) (full : IsFull part)
       (wide : (g : AnyRange K) → F g → LiesIn order part g → LiesIn order g part) where
@@ -216,12 +192,8 @@ module _ {K : Type 0} (order : KeyOrder K) (lawful : IsLawful order) where
     found_at : (a b : Bound K) → PLe (Start a) (Start part.start) → PLe (End part.end) (End b)
         → IsFound (between order (Some a) (Some b))
     found_at a b starts ends =
-        let total = position_total order.cmp lawful.total in
-        let cmp = position_cmp order.cmp in
         let g : AnyRange K = record { start = a; end = b } in
-        let le =
-        le_trans cmp total (Start a) (Start part.start) (End b) starts
-        (le_trans cmp total (Start part.start) (End part.end) (End b) full.1 ends) in
+        let le = le_trans lawful _ _ _ starts (le_trans lawful _ _ _ full.1 ends) in
         let within : LiesIn order part g = record { starts = starts; ends = ends } in
         between_is IsFound a b le (λ such. inl (same_range g part (wide g such.0 within) within))
 
@@ -239,11 +211,8 @@ module _ {K : Type 0} (order : KeyOrder K) (lawful : IsLawful order) where
     bounded_start (Included a) l e = cc
     bounded_start (Excluded a) l e = cc
     bounded_start Unbounded l e =
-        let total = position_total order.cmp lawful.total in
-        let cmp = position_cmp order.cmp in
-        lt_not_le cmp total (End part.end) (Start Unbounded) l
-        (le_trans cmp total (Start Unbounded) (Start part.start) (End part.end)
-        (unbounded_start order lawful part.start full.0.0) full.1)
+        lt_not_le lawful _ _ l
+        (le_trans lawful _ _ _ (unbounded_start order lawful part.start full.0.0) full.1)
 
   -- a bound that holds the key
   abbrev HoldsFrom : Option (Bound K) → K → Type 0
@@ -256,8 +225,7 @@ module _ {K : Type 0} (order : KeyOrder K) (lawful : IsLawful order) where
   held_reach : (a b : Bound K) (k : K) → order.is_key k → StartHolds order a k → EndHolds order b k
       → PLe (Start a) (End b)
   held_reach a b k key h g =
-      le_trans (position_cmp order.cmp) (position_total order.cmp lawful.total) (Start a)
-      (Beside k At) (End b) ((start_holds order lawful a k key).0 h)
+      le_trans lawful _ _ _ ((start_holds order lawful a k key).0 h)
       ((end_holds order lawful b k key).0 g)
 
   held_between : (s e : Option (Bound K)) (k : K) → order.is_key k → HoldsFrom s k
@@ -284,10 +252,7 @@ module _ {K : Type 0} (order : KeyOrder K) (lawful : IsLawful order) where
   before_not_both : (r s : AnyRange K) (k : K) → order.is_key k → LiesBefore order r s
       → Holds order r k → Holds order s k → ⊥
   before_not_both r s k key l h g =
-      lt_not_le (position_cmp order.cmp) (position_total order.cmp lawful.total) (End r.end)
-      (Start s.start) l
-      (le_trans (position_cmp order.cmp) (position_total order.cmp lawful.total) (Start s.start)
-      (Beside k At) (End r.end) ((start_holds order lawful s.start k key).0 g.0)
+      lt_not_le lawful _ _ l (le_trans lawful _ _ _ ((start_holds order lawful s.start k key).0 g.0)
       ((end_holds order lawful r.end k key).0 h.1))
 
   missed_not_both : (r s : AnyRange K) (k : K) → order.is_key k → (¬ Overlap order r s)
@@ -338,15 +303,11 @@ module _ {K : Type 0} (order : KeyOrder K) (lawful : IsLawful order) where
       listed_pairs [] h = tt
       listed_pairs (i ∷ []) h = (tt, tt)
       listed_pairs (i ∷ j ∷ rest) h =
-          let total = position_total order.cmp lawful.total in
-          let cmp = position_cmp order.cmp in
           let full = listed_full (j ∷ rest) h.4 in
           let others = listed_pairs (j ∷ rest) h.4 in
           let over =
-          λ (k : Item (AnyRange K) V) (l : LiesBefore order j.key k.key). lt_trans cmp total
-          (End i.key.end) (End j.key.end) (Start k.key.start)
-          (lt_le_trans cmp total (End i.key.end) (Start j.key.start)
-          (End j.key.end) h.2 full.0.1) l in (
+          λ (k : Item (AnyRange K) V) (l : LiesBefore order j.key k.key). lt_trans lawful _ _ _
+          (lt_le_trans lawful _ _ _ h.2 full.0.1) l in (
             (
               h.2,
               every_weaker (λ k. LiesBefore order j.key k.key)
@@ -395,19 +356,14 @@ module _ {K : Type 0} (order : KeyOrder K) (lawful : IsLawful order) where
         → IsFull i.key → IsFull r → From s i.key → From (flipped i.key.end) r → From s r
     from_end_is_from_start None i r full full_r ahead h = ahead
     from_end_is_from_start (Some b) i r full full_r ahead h =
-        let total = position_total order.cmp lawful.total in
-        let cmp = position_cmp order.cmp in
         let past = (after_end_is_from i.key.end r full.0.1 full_r).1 h in
-        le_trans cmp total (Start b) (Start i.key.start) (Start r.start) ahead
-        (lt_le cmp total (Start i.key.start) (Start r.start)
-        (le_lt_trans cmp total (Start i.key.start) (End i.key.end) (Start r.start) full.1 past))
+        le_trans lawful _ _ _ ahead (lt_le lawful _ _ (le_lt_trans lawful _ _ _ full.1 past))
 
     free_ranges_are_from : (s : Option (Bound K)) (items : List (Item (AnyRange K) V)) → IsRow items
         → Ahead s items → Every (From s) (free_from order s items)
     free_ranges_are_from s [] row ahead =
         each_between (From s) s (Some Unbounded)
-        (λ a b e f le. (from_is s a (record { start = a; end = b }) e).1
-        (le_refl (position_cmp order.cmp) (position_total order.cmp lawful.total) (Start a)))
+        (λ a b e f le. (from_is s a (record { start = a; end = b }) e).1 (le_refl lawful _))
     free_ranges_are_from s (i ∷ rest) row ahead =
         let gaps = free_from order (flipped i.key.end) rest in
         let full =
@@ -418,8 +374,7 @@ module _ {K : Type 0} (order : KeyOrder K) (lawful : IsLawful order) where
         (ahead_next i rest row) in
         every_append (From s) (between order s (flipped i.key.start)) gaps
         (each_between (From s) s (flipped i.key.start)
-        (λ a b e f le. (from_is s a (record { start = a; end = b }) e).1
-        (le_refl (position_cmp order.cmp) (position_total order.cmp lawful.total) (Start a))))
+        (λ a b e f le. (from_is s a (record { start = a; end = b }) e).1 (le_refl lawful _)))
         (every_with IsFull (From (flipped i.key.end)) (From s) gaps full others
         (λ r full_r h. from_end_is_from_start s i r row.full.0 full_r ahead.0 h))
 
@@ -430,14 +385,10 @@ module _ {K : Type 0} (order : KeyOrder K) (lawful : IsLawful order) where
     misses_before : (i : Item (AnyRange K) V) (rest : List (Item (AnyRange K) V)) (r : AnyRange K)
         → IsRow (i ∷ rest) → PLt (End r.end) (Start i.key.start) → Misses (i ∷ rest) r
     misses_before i rest r row l =
-        let total = position_total order.cmp lawful.total in
-        let cmp = position_cmp order.cmp in
         let over =
         λ (j : Item (AnyRange K) V) (before : LiesBefore order i.key j.key)
         (meets : Overlap order j.key r). meets.1
-        (lt_trans cmp total (End r.end) (End i.key.end) (Start j.key.start)
-        (lt_le_trans cmp total (End r.end) (Start i.key.start)
-        (End i.key.end) l row.full.0.1) before) in (
+        (lt_trans lawful _ _ _ (lt_le_trans lawful _ _ _ l row.full.0.1) before) in (
           λ meets. meets.1 l,
           every_weaker (λ j. LiesBefore order i.key j.key)
               (λ j. ¬ Overlap order j.key r) rest over row.pairs.0,
@@ -481,8 +432,6 @@ module _ {K : Type 0} (order : KeyOrder K) (lawful : IsLawful order) where
         range_between_is_alone (Some a) (Some b) =
             alone_by (starts_past_end order a b) (record { start = a; end = b })
     free_pairs s (i ∷ rest) row =
-        let total = position_total order.cmp lawful.total in
-        let cmp = position_cmp order.cmp in
         let gaps = free_from order (flipped i.key.end) rest in
         let full =
         free_full (flipped i.key.end) rest
@@ -500,9 +449,7 @@ module _ {K : Type 0} (order : KeyOrder K) (lawful : IsLawful order) where
         (each_between (λ g. Every (LiesBefore order g) gaps) s (flipped i.key.start) (λ a b e f le.
         let first = ends_just_before i.key.start b row.full.0.0.0 f in
         every_weaker (λ r. LiesBefore order i.key r) (λ r. PLt (End b) (Start r.start)) gaps
-        (λ r l. lt_trans cmp total (End b) (End i.key.end) (Start r.start)
-        (lt_le_trans cmp total (End b) (Start i.key.start) (End i.key.end) first row.full.0.1)
-        l) past))
+        (λ r l. lt_trans lawful _ _ _ (lt_le_trans lawful _ _ _ first row.full.0.1) l) past))
       where
         alone_by : (t : Bool) (r : AnyRange K) → Pairs (LiesBefore order) (if t then [] else r ∷ [])
         alone_by true r = tt
@@ -519,23 +466,16 @@ module _ {K : Type 0} (order : KeyOrder K) (lawful : IsLawful order) where
       item_bars_after_end : (i : Item (AnyRange K) V) → IsFull i.key
           → ((r : AnyRange K) → F r → ¬ Overlap order i.key r) → Bars F (flipped i.key.end)
       item_bars_after_end i known apart b e r such reach =
-          let total = position_total order.cmp lawful.total in
-          let cmp = position_cmp order.cmp in
           elim (lies_by i.key r (apart r such)) [
             | inl l ↦
                 (from_is (flipped i.key.end) b r e).0
                 ((after_end_is_from i.key.end r known.0.1 (full r such)).0 l)
             | inr l ↦
                 let over =
-                (after_end_is_from_turned i.key.end b
-                (record { start = b; end = b }) known.0.1 e
-                (subst KnownCut e (known_inverted i.key.end known.0.1))).1
-                (le_refl cmp total (Start b)) in
-                let below =
-                lt_trans cmp total (End r.end) (End i.key.end) (Start b)
-                (lt_le_trans cmp total (End r.end) (Start i.key.start)
-                (End i.key.end) l known.1) over in
-                absurd (lt_not_le cmp total (End r.end) (Start b) below reach)
+                (after_end_is_from_turned i.key.end b (record { start = b; end = b }) known.0.1 e
+                (subst KnownCut e (known_inverted i.key.end known.0.1))).1 (le_refl lawful _) in
+                let below = lt_trans lawful _ _ _ (lt_le_trans lawful _ _ _ l known.1) over in
+                absurd (lt_not_le lawful _ _ below reach)
           ]
 
       wide_between : (s : Option (Bound K)) (i : Item (AnyRange K) V) → Bars F s → IsFull i.key
@@ -543,23 +483,14 @@ module _ {K : Type 0} (order : KeyOrder K) (lawful : IsLawful order) where
           → Every (IsWide F) (between order s (flipped i.key.start))
       wide_between s i bars known apart =
           each_between (IsWide F) s (flipped i.key.start) (λ a b e f le r such within.
-          let total = position_total order.cmp lawful.total in
-          let cmp = position_cmp order.cmp in
           let first = ends_just_before i.key.start b known.0.0 f in
-          let starts =
-          bars a e r such (le_trans cmp total (Start a) (End b) (End r.end) le within.ends)
-          in
+          let starts = bars a e r such (le_trans lawful _ _ _ le within.ends) in
           let before : PLt (End r.end) (Start i.key.start) = elim (lies_by i.key r (apart r such)) [
             | inl l ↦
-                let up =
-                le_lt_trans cmp total (Start i.key.start) (End i.key.end)
-                (Start r.start) known.1 l in
+                let up = le_lt_trans lawful _ _ _ known.1 l in
                 let down =
-                le_lt_trans cmp total (Start r.start) (End b) (Start i.key.start)
-                (le_trans cmp total (Start r.start) (Start a) (End b) within.starts le)
-                first in
-                absurd (lt_not_le cmp total (Start i.key.start) (Start r.start) up
-                (lt_le cmp total (Start r.start) (Start i.key.start) down))
+                le_lt_trans lawful _ _ _ (le_trans lawful _ _ _ within.starts le) first in
+                absurd (lt_not_le lawful _ _ up (lt_le lawful _ _ down))
             | inr l ↦ l
           ] in
           record {

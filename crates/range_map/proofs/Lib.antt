@@ -24,6 +24,7 @@ pub mod Overlays
 pub mod PartWay
 pub mod PieceLists
 pub mod PieceSteps
+mod PlaceOrder
 pub mod ReboundKeys
 pub mod Retaining
 pub mod Scans

@@ -13,7 +13,7 @@ use Rattle.range_keys.specs.declared.inner.position.Position.{Position}
 use Rattle.range_keys.proofs.Orderings.{not_greater, not_both_greater_and_not}
 use Rattle.range_algebra.specs.declared.any.AnyRange.{AnyRange}
 use Rattle.range_algebra.specs.Intervals.{Le, Lt, Any, Every}
-use Rattle.range_algebra.specs.Orders.{le_refl, lt_le, le_trans, lt_not_le, not_le, le_lt_trans, lt_trans}
+use Rattle.range_map.proofs.PlaceOrder.{le_refl, lt_le, le_trans, lt_not_le, not_le, le_lt_trans, lt_trans}
 use Rattle.range_algebra.specs.Range.{IsEmptyRange, IsKnownRange, with_bounds}
 use Rattle.range_algebra.proofs.Lists.{any_none, any_left, any_right, any_split, every_at, every_append, every_left, every_right, every_weaker, list_is_take_and_drop, drop_all}
 use Rattle.range_store.specs.declared.storage.Item.{Item}
@@ -46,11 +46,8 @@ module _ {K : Type 0} (order : KeyOrder K) (lawful : IsLawful order) where
     first_rises : (i : Item (AnyRange K) V) (rest : List (Item (AnyRange K) V))
         → IsListed order lawful same (i ∷ rest) → Every (λ j. PLt (Start i) (Start j)) rest
     first_rises i rest h =
-        let cmp = position_cmp order.cmp in
-        let total = position_total order.cmp lawful.total in
         every_weaker (λ j. PLt (End i) (Start j)) (λ j. PLt (Start i) (Start j)) rest
-        (λ j l. le_lt_trans cmp total (Start i) (End i) (Start j)
-        (every_nonempty order lawful same (i ∷ rest) h).0 l)
+        (λ j l. le_lt_trans lawful _ _ _ (every_nonempty order lawful same (i ∷ rest) h).0 l)
         (starts_rise order lawful same i rest h)
 
     first_starts_first : (i : Item (AnyRange K) V) (rest : List (Item (AnyRange K) V)) (n : ℕ)
@@ -72,8 +69,7 @@ module _ {K : Type 0} (order : KeyOrder K) (lawful : IsLawful order) where
         let there : y ≡ i = read' in (
           λ e.
               let own : is_gt (position_cmp order.cmp (Start y) (Start x)) ≡ false =
-              rw (here, there) (le_refl (position_cmp order.cmp)
-              (position_total order.cmp lawful.total) (Start i)) in
+              rw (here, there) (le_refl lawful _) in
               let clash : true ≡ false = sym e ∙ own in
               absurd (cc),
           λ e. omega arith,
@@ -84,15 +80,13 @@ module _ {K : Type 0} (order : KeyOrder K) (lawful : IsLawful order) where
         let here : x ≡ i = read in
         let rise : PLt (Start x) (Start y) =
         rw here (first_starts_first i rest n y h (omega (arith, in_n)) read') in
-        (λ e. omega arith, λ e. absurd (lt_not_le cmp total (Start x) (Start y) rise e))
+        (λ e. omega arith, λ e. absurd (lt_not_le lawful _ _ rise e))
     listed_order (i ∷ rest) (suc m) zero x y h in_m in_n read read' =
-        let cmp = position_cmp order.cmp in
-        let total = position_total order.cmp lawful.total in
         let here : y ≡ i = read' in
         let rise : PLt (Start y) (Start x) =
         rw here (first_starts_first i rest m x h (omega (arith, in_m)) read) in (
           λ e.
-              let clash : true ≡ false = sym e ∙ lt_le cmp total (Start y) (Start x) rise in
+              let clash : true ≡ false = sym e ∙ lt_le lawful _ _ rise in
               absurd (cc),
           λ e. omega arith,
         )
@@ -116,16 +110,13 @@ module _ {K : Type 0} (order : KeyOrder K) (lawful : IsLawful order) where
         → IsStored order same items → Every (λ i. PLt (End i) e) (take f items)
         → Every (λ i. PLe (Start i) e) (take f items)
     starts_upto items e f stored below =
-        let cmp = position_cmp order.cmp in
-        let total = position_total order.cmp lawful.total in
         let own =
         every_nonempty order lawful same items
         (stored_list_is_listed order lawful same items stored) in
         every_with (λ i. PLt (End i) e) (λ i. PLe (Start i) (End i)) (λ i. PLe (Start i) e)
-        (take f items) below
-        (every_left (λ i. PLe (Start i) (End i)) (take f items) (drop f items)
+        (take f items) below (every_left (λ i. PLe (Start i) (End i)) (take f items) (drop f items)
         (rw (list_is_take_and_drop items f) at own))
-        (λ i l le. lt_le cmp total (Start i) e (le_lt_trans cmp total (Start i) (End i) e le l))
+        (λ i l le. lt_le lawful _ _ (le_lt_trans lawful _ _ _ le l))
 
     rest_from : (items : List (Item (AnyRange K) V)) (f : ℕ) (x : Item (AnyRange K) V)
         → f < length items → x ≡ get_or items f x → drop f items ≡ x ∷ drop (f + 1) items
@@ -145,12 +136,10 @@ module _ {K : Type 0} (order : KeyOrder K) (lawful : IsLawful order) where
         (x : Item (AnyRange K) V) → IsStored order same items → f < length items
         → x ≡ get_or items f x → PLt e (Start x) → Every (λ i. PLt e (Start i)) (drop f items)
     starts_past_from items e f x stored within read past =
-        let cmp = position_cmp order.cmp in
-        let total = position_total order.cmp lawful.total in
         rw (rest_from items f x within read) (
           past,
           every_weaker (λ j. PLt (Start x) (Start j)) (λ j. PLt e (Start j)) (drop (f + 1) items)
-              (λ j l. lt_trans cmp total e (Start x) (Start j) past l)
+              (λ j l. lt_trans lawful _ _ _ past l)
               (first_rises x (drop (f + 1) items) (listed_from items f x stored within read)),
         )
 
@@ -160,12 +149,10 @@ module _ {K : Type 0} (order : KeyOrder K) (lawful : IsLawful order) where
         → x ≡ get_or items f x → Every (λ i. PLe e (End i)) (drop f items)
         → Every (λ i. PLt e (Start i)) (drop (f + 1) items)
     starts_past_after items e f x stored within read above =
-        let cmp = position_cmp order.cmp in
-        let total = position_total order.cmp lawful.total in
         let ends : Every (λ i. PLe e (End i)) (x ∷ drop (f + 1) items) =
         rw (rest_from items f x within read) at above in
         every_weaker (λ j. PLt (End x) (Start j)) (λ j. PLt e (Start j)) (drop (f + 1) items)
-        (λ j l. le_lt_trans cmp total e (End x) (Start j) ends.0 l)
+        (λ j l. le_lt_trans lawful _ _ _ ends.0 l)
         (starts_rise order lawful same x (drop (f + 1) items)
         (listed_from items f x stored within read))
 
@@ -182,7 +169,6 @@ module _ {K : Type 0} (order : KeyOrder K) (lawful : IsLawful order) where
       not_behind [] a b stored fits below past behind = omega (arith, fits, behind)
       not_behind (i ∷ rest) a b stored fits below past behind =
           let cmp = position_cmp order.cmp in
-          let total = position_total order.cmp lawful.total in
           let items : List (Item (AnyRange K) V) = i ∷ rest in
           let x = get_or items b i in
           let none : b + 0 ≡ b = omega arith in
@@ -200,9 +186,8 @@ module _ {K : Type 0} (order : KeyOrder K) (lawful : IsLawful order) where
           (every_nonempty order lawful same items
           (stored_list_is_listed order lawful same items stored))
           (omega (arith, fits, behind)) in
-          lt_not_le cmp total High Low
-          (lt_trans cmp total High (Start x) Low starts (le_lt_trans cmp total (Start x) (End x) Low
-          own ends)) (not_greater (cmp Low High) full)
+          lt_not_le lawful _ _ (lt_trans lawful _ _ _ starts (le_lt_trans lawful _ _ _ own ends))
+          (not_greater (cmp Low High) full)
 
       -- the items from the first that does not end before the range to the last that starts within
       -- it at the latest
@@ -214,8 +199,6 @@ module _ {K : Type 0} (order : KeyOrder K) (lawful : IsLawful order) where
           → Every (λ i. PLt High (Start i)) (drop b items)
           → AreOverlapping order items r (take (b - a) (drop a items))
       overlapping_are items a b stored fits below above upto past =
-          let cmp = position_cmp order.cmp in
-          let total = position_total order.cmp lawful.total in
           let met = take (b - a) (drop a items) in
           let never : b < a → ⊥ = not_behind items a b stored fits below past in
           let in_order : a ≤ b = omega (arith, never) in
@@ -236,10 +219,7 @@ module _ {K : Type 0} (order : KeyOrder K) (lawful : IsLawful order) where
                 (λ i. Overlap order i.key r) met
                 (every_left (λ i. PLe Low (End i)) met (drop b items) (rw rest at above))
                 (every_right (λ i. PLe (Start i) High) (take a items) met (rw front at upto))
-                (λ i h k. (
-                  λ l. lt_not_le cmp total (End i) Low l h,
-                  λ l. lt_not_le cmp total High (Start i) l k,
-                ));
+                (λ i h k. (λ l. lt_not_le lawful _ _ l h, λ l. lt_not_le lawful _ _ l k));
             above = past;
           }
 
@@ -307,9 +287,7 @@ module _ {K : Type 0} (order : KeyOrder K) (lawful : IsLawful order) {V : Type 0
     last_before p x found within read past =
         last_by (rank p) found.previous found.below
         (starts_past_from order lawful same items e (rank p) x stored within read
-        (not_le (position_cmp order.cmp) (position_total order.cmp lawful.total) e
-        (Start order lawful x)
-        (λ h. let clash : true ≡ false = past ∙ h in cc)))
+        (not_le lawful _ _ (λ h. let clash : true ≡ false = past ∙ h in cc)))
 
     -- the first that does starts at it at most
     pub last_here : (p : P) (x : Item (AnyRange K) V)
@@ -356,7 +334,6 @@ module _ {K : Type 0} (order : KeyOrder K) (lawful : IsLawful order) {V : Type 0
       (drop (place_before rank (length items) first) items))
   found_from k key before first last found is_last =
       let cmp = position_cmp order.cmp in
-      let total = position_total order.cmp lawful.total in
       let listed = stored_list_is_listed order lawful same items stored in
       let upper : Position K = end_position order Unbounded in
       let full : IsEmptyRange order (with_bounds (Included k) Unbounded) → ⊥ =
@@ -366,8 +343,7 @@ module _ {K : Type 0} (order : KeyOrder K) (lawful : IsLawful order) {V : Type 0
       every_with (λ i. PLe order lawful (Start order lawful i) (End order lawful i))
       (λ i. IsKnownRange order i.key) (λ i. PLe order lawful (Start order lawful i) upper) items
       (every_nonempty order lawful same items listed) (all_known items stored.known)
-      (λ i own known. le_trans cmp total (Start order lawful i) (End order lawful i) upper own
-      (ends_full order lawful i.key.end known.1)) in
+      (λ i own known. le_trans lawful _ _ _ own (ends_full order lawful i.key.end known.1)) in
       let b = place_after rank last in
       overlapping_are order lawful same (with_bounds (Included k) Unbounded) full items
       (place_before rank (length items) first) b stored found.in_range found.below found.above

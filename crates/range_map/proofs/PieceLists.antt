@@ -14,7 +14,7 @@ use Rattle.range_algebra.specs.Combined.{common}
 use Rattle.range_algebra.specs.Compared.{flipped, starts_past_end}
 use Rattle.range_algebra.specs.Cuts.{past}
 use Rattle.range_algebra.specs.Intervals.{Any, Every}
-use Rattle.range_algebra.specs.Orders.{le_refl, lt_le, eq_le, eq_ge, le_trans, cases, not_le, not_lt, lt_le_trans}
+use Rattle.range_map.proofs.PlaceOrder.{le_refl, lt_le, eq_le, eq_ge, le_trans, cases, not_le, not_lt, lt_le_trans}
 use Rattle.range_algebra.specs.Range.{IsEmptyRange, IsKnownBound, IsKnownRange}
 use Rattle.range_algebra.specs.Relations.{LiesBefore}
 use Rattle.range_algebra.proofs.Commons.{later_is, earlier_is}
@@ -95,31 +95,21 @@ module _ {K : Type 0} (order : KeyOrder K) (lawful : IsLawful order) {V : Type 0
         (stops : position_cmp order.cmp (High gap) to ≡ Equal) (room : Lt' (Low gap) (High gap))
       where
         gap_from : Le' from (Low gap) × Le' (Low gap) from
-        gap_from = let total = position_total order.cmp lawful.total in (
-          eq_ge (position_cmp order.cmp) total (Low gap) from begins,
-          eq_le (position_cmp order.cmp) total (Low gap) from begins,
-        )
+        gap_from = (eq_ge lawful _ _ begins, eq_le lawful _ _ begins)
 
         gap_to : Le' to (High gap) × Le' (High gap) to
-        gap_to = let total = position_total order.cmp lawful.total in (
-          eq_ge (position_cmp order.cmp) total (High gap) to stops,
-          eq_le (position_cmp order.cmp) total (High gap) to stops,
-        )
+        gap_to = (eq_ge lawful _ _ stops, eq_le lawful _ _ stops)
 
         gap_inside : IsInside order lawful items r gap
-        gap_inside =
-            let cmp = position_cmp order.cmp in
-            let total = position_total order.cmp lawful.total in (
-              is_known,
-              le_trans cmp total (Low r) from (Low gap) ready.at_least gap_from.0,
-              room,
-              le_trans cmp total (High gap) to (High r) gap_to.1 within,
-            )
+        gap_inside = (
+          is_known,
+          le_trans lawful _ _ _ ready.at_least gap_from.0,
+          room,
+          le_trans lawful _ _ _ gap_to.1 within,
+        )
 
         gap_open : IsOpenPart order lawful items r gap
         gap_open =
-            let cmp = position_cmp order.cmp in
-            let total = position_total order.cmp lawful.total in
             let lo = Low gap in
             let hi = High gap in
             let Free = λ (i : Item (AnyRange K) V). Le' (High i.key) lo ⊎ Le' hi (Low i.key) in
@@ -129,46 +119,44 @@ module _ {K : Type 0} (order : KeyOrder K) (lawful : IsLawful order) {V : Type 0
               free =
                   rw list (every_append Free done tail
                   (every_weaker (λ j. Le' (High j.key) from) Free done
-                  (λ j le. inl (le_trans cmp total (High j.key) from lo le gap_from.0)) ready.below)
+                  (λ j le. inl (le_trans lawful _ _ _ le gap_from.0)) ready.below)
                   (every_weaker (λ i. Le' to (Low i.key)) Free tail
-                  (λ i le. inr (le_trans cmp total hi to (Low i.key) gap_to.1 le)) above));
+                  (λ i le. inr (le_trans lawful _ _ _ gap_to.1 le)) above));
               left = elim ready.edge [
-                | inl le ↦ inl (le_trans cmp total lo from (Low r) gap_from.1 le)
+                | inl le ↦ inl (le_trans lawful _ _ _ gap_from.1 le)
                 | inr some_item ↦
                     inr
                     (rw list (any_left Left done tail
                     (any_with (λ j. Le' from (High j.key) × Le' (High j.key) from)
                     (λ j. Le' (High j.key) from) Left done some_item ready.below
                     (λ j h k. (
-                      le_trans cmp total lo from (High j.key) gap_from.1 h.0,
-                      le_trans cmp total (High j.key) from lo h.1 gap_from.0,
+                      le_trans lawful _ _ _ gap_from.1 h.0,
+                      le_trans lawful _ _ _ h.1 gap_from.0,
                     )))))
               ];
               right = elim bounded [
-                | inl le ↦ inl (le_trans cmp total (High r) to hi le gap_to.0)
+                | inl le ↦ inl (le_trans lawful _ _ _ le gap_to.0)
                 | inr some_item ↦
                     inr
                     (rw list (any_right Right done tail
                     (any_with (λ i. Le' to (Low i.key) × Le' (Low i.key) to)
                     (λ i. Le' to (Low i.key)) Right tail some_item above
                     (λ i h k. (
-                      le_trans cmp total hi to (Low i.key) gap_to.1 h.0,
-                      le_trans cmp total (Low i.key) to hi h.1 gap_to.0,
+                      le_trans lawful _ _ _ gap_to.1 h.0,
+                      le_trans lawful _ _ _ h.1 gap_to.0,
                     )))))
               ];
             }
 
         add_gap : IsCutUpTo order lawful items r to (answers ++ told (free_piece gap) ∷ [])
         add_gap =
-            let cmp = position_cmp order.cmp in
-            let total = position_total order.cmp lawful.total in
             cut_more order lawful items r from to answers (told (free_piece gap)) was gap_inside
-            gap_open gap_from.0 gap_to.1 (λ p low high before. elim (cases cmp total p from) [
+            gap_open gap_from.0 gap_to.1 (λ p low high before. elim (cases lawful p from) [
               | inl l ↦ inl l
               | inr le ↦
                   inr (
-                    le_trans cmp total (Low gap) from p gap_from.1 le,
-                    lt_le_trans cmp total p to (High gap) before gap_to.0,
+                    le_trans lawful _ _ _ gap_from.1 le,
+                    lt_le_trans lawful _ _ _ before gap_to.0,
                   )
             ])
 
@@ -188,40 +176,32 @@ module _ {K : Type 0} (order : KeyOrder K) (lawful : IsLawful order) {V : Type 0
         let p = start_position order a in
         let q = past order (end_position order b) in
         let over =
-        not_lt cmp total q p (λ l.
+        not_lt lawful _ _ (λ l.
         let f = (reaching_is_before_past order lawful a b known_a known_b).1 l in
         let clash : true ≡ false = sym e ∙ f in cc) in
         as_they_were answers IsPast from was (
-          le_trans cmp total to q from (eq_ge cmp total q to upto)
-              (le_trans cmp total q p from over (eq_le cmp total p from at)),
-          inl (le_refl cmp total from),
+          le_trans lawful _ _ _ (eq_ge lawful _ _ upto)
+              (le_trans lawful _ _ _ over (eq_le lawful _ _ at)),
+          inl (le_refl lawful _),
         )
     gap_by a b false e known_a known_b at upto =
-        let cmp = position_cmp order.cmp in
-        let total = position_total order.cmp lawful.total in
         record {
           place = to;
           cut =
               add_gap (record { start = a; end = b }) (known_a, known_b) at upto
               ((reaching_is_before_past order lawful a b known_a known_b).0 e);
-          there = (le_refl cmp total to, inr (le_refl cmp total to));
+          there = (le_refl lawful _, inr (le_refl lawful _));
         }
 
     no_gap : Le' to from → Reaches answers [] IsPast
-    no_gap le =
-        as_they_were answers IsPast from was (
-          le,
-          inl (le_refl (position_cmp order.cmp) (position_total order.cmp lawful.total) from),
-        )
+    no_gap le = as_they_were answers IsPast from was (le, inl (le_refl lawful _))
 
     -- the gap from the place to the end bound, if there is one
     gap_step : (start end : Option (Bound K)) → Opens start from
         → ((b : Bound K) → end ≡ Some b → IsKnownBound order b
         × (position_cmp order.cmp (past order (end_position order b)) to ≡ Equal))
         → (end ≡ None → Le' to from) → Reaches answers (free_between order start end) IsPast
-    gap_step None end opens ends none =
-        no_gap (le_trans (position_cmp order.cmp) (position_total order.cmp lawful.total) to
-        (High r) from within opens)
+    gap_step None end opens ends none = no_gap (le_trans lawful _ _ _ within opens)
     gap_step (Some a) None opens ends none = no_gap (none refl)
     gap_step (Some a) (Some b) opens ends none =
         let at = ends b refl in
@@ -235,14 +215,12 @@ module _ {K : Type 0} (order : KeyOrder K) (lawful : IsLawful order) {V : Type 0
 
     starts_at : Lt' (Low x.key) (High r)
     starts_at =
-        not_le (position_cmp order.cmp) (position_total order.cmp lawful.total) (Low x.key)
-        (High r)
+        not_le lawful _ _
         (λ le. meets.1 ((before_is order lawful r.end x.key.start known.1 good_at.0.0).1 le))
 
     ends_at : Lt' (Low r) (High x.key)
     ends_at =
-        not_le (position_cmp order.cmp) (position_total order.cmp lawful.total) (Low r)
-        (High x.key)
+        not_le lawful _ _
         (λ le. meets.0 ((before_is order lawful x.key.end r.start good_at.0.1 known.0).1 le))
 
     chain_at : Chained order lawful same equal (done ++ x ∷ rest)
@@ -254,14 +232,11 @@ module _ {K : Type 0} (order : KeyOrder K) (lawful : IsLawful order) {V : Type 0
         follows_above (line_of order lawful same equal) x rest tail.1
 
     above_it : Every (λ i. Le' (Low x.key) (Low i.key)) (x ∷ rest)
-    above_it =
-        let cmp = position_cmp order.cmp in
-        let total = position_total order.cmp lawful.total in (
-          le_refl cmp total (Low x.key),
-          every_weaker (λ i. Le' (High x.key) (Low i.key)) (λ i. Le' (Low x.key) (Low i.key)) rest
-              (λ i le. le_trans cmp total (Low x.key) (High x.key) (Low i.key)
-              (lt_le cmp total (Low x.key) (High x.key) good_at.1) le) follow_it,
-        )
+    above_it = (
+      le_refl lawful _,
+      every_weaker (λ i. Le' (High x.key) (Low i.key)) (λ i. Le' (Low x.key) (Low i.key)) rest
+          (λ i le. le_trans lawful _ _ _ (lt_le lawful _ _ good_at.1) le) follow_it,
+    )
 
     abbrev Part : AnyRange K
     Part = common order r x.key
@@ -303,17 +278,13 @@ module _ {K : Type 0} (order : KeyOrder K) (lawful : IsLawful order) {V : Type 0
         → IsCutUpTo order lawful items r (High x.key)
         (answers ++ told (bound_piece order r x) ∷ [])
     add_part m answers was behind from =
-        let cmp = position_cmp order.cmp in
-        let total = position_total order.cmp lawful.total in
         cut_more order lawful items r m (High x.key) answers (told (bound_piece order r x)) was
-        part_inside part_right from part_within.3
-        (λ p low high before. elim (cases cmp total p m) [
+        part_inside part_right from part_within.3 (λ p low high before. elim (cases lawful p m) [
           | inl l ↦ inl l
           | inr le ↦
               inr (
                 later_is order lawful r.start x.key.start
-                    (λ b. Le' (start_position order b) p) low
-                    (le_trans cmp total (Low x.key) m p behind le),
+                    (λ b. Le' (start_position order b) p) low (le_trans lawful _ _ _ behind le),
                 earlier_is order lawful r.end x.key.end
                     (λ b. Lt' p (past order (end_position order b))) high before,
               )
@@ -321,38 +292,32 @@ module _ {K : Type 0} (order : KeyOrder K) (lawful : IsLawful order) {V : Type 0
 
     from_before_part : (from : Position K) → IsReady done from → Le' from (Low Part)
     from_before_part from ready =
-        let cmp = position_cmp order.cmp in
-        let total = position_total order.cmp lawful.total in
         elim ready.edge [
-          | inl le ↦ le_trans cmp total from (Low r) (Low Part) le part_within.0
+          | inl le ↦ le_trans lawful _ _ _ le part_within.0
           | inr some_item ↦
               any_use (λ j. Le' from (High j.key) × Le' (High j.key) from)
               (λ j. Leads (line_of order lawful same equal) j (item_lower order x) x.value) done
               some_item (chain_before (line_of order lawful same equal) done x rest chain_at)
               (λ j h leads.
-              le_trans cmp total from (High j.key) (Low Part) h.0
-              (le_trans cmp total (High j.key) (Low x.key) (Low Part) leads.0 part_within.1))
+              le_trans lawful _ _ _ h.0 (le_trans lawful _ _ _ leads.0 part_within.1))
         ]
 
     ready_after : IsReady (done ++ x ∷ []) (High x.key)
     ready_after =
-        let cmp = position_cmp order.cmp in
-        let total = position_total order.cmp lawful.total in
         let hi = High x.key in
         record {
           edge =
-              inr
-              (any_end (λ j. Le' hi (High j.key) × Le' (High j.key) hi) done x
-              (le_refl cmp total hi, le_refl cmp total hi));
-          at_least = lt_le cmp total (Low r) hi ends_at;
+              inr (any_end (λ j. Le' hi (High j.key) × Le' (High j.key) hi) done x
+              (le_refl lawful _, le_refl lawful _));
+          at_least = lt_le lawful _ _ ends_at;
           below =
               every_append (λ j. Le' (High j.key) hi) done (x ∷ [])
-              (every_weaker (λ j. Leads (line_of order lawful same equal) j
-              (item_lower order x) x.value) (λ j. Le' (High j.key) hi) done
-              (λ j l. le_trans cmp total (High j.key) (Low x.key) hi l.0
-              (lt_le cmp total (Low x.key) hi good_at.1))
+              (every_weaker
+              (λ j. Leads (line_of order lawful same equal) j (item_lower order x) x.value)
+              (λ j. Le' (High j.key) hi) done
+              (λ j l. le_trans lawful _ _ _ l.0 (lt_le lawful _ _ good_at.1))
               (chain_before (line_of order lawful same equal) done x rest chain_at))
-              (le_refl cmp total hi, tt);
+              (le_refl lawful _, tt);
         }
 
     opens_by : (e : Bound K) (i : Option (Bound K)) → IsKnownBound order e → flipped e ≡ i
@@ -380,9 +345,7 @@ module _ {K : Type 0} (order : KeyOrder K) (lawful : IsLawful order) {V : Type 0
     first_start (Included k) from turns le = absurd (cc)
     first_start (Excluded k) from turns le = absurd (cc)
     first_start Unbounded from turns le =
-        le_trans (position_cmp order.cmp) (position_total order.cmp lawful.total)
-        (start_position order Unbounded) (Low r) from (unbounded_start order lawful r.start known.0)
-        le
+        le_trans lawful _ _ _ (unbounded_start order lawful r.start known.0) le
 
     -- the gap before the item
     gap_before : (from : Position K) (start : Option (Bound K)) (answers : List (Answered K V))
@@ -390,13 +353,9 @@ module _ {K : Type 0} (order : KeyOrder K) (lawful : IsLawful order) {V : Type 0
         → Reaches answers (free_between order start (flipped x.key.start))
         (λ m. Le' (Low x.key) m × (Le' m from ⊎ Le' m (Low x.key)))
     gap_before from start answers ready opens was =
-        let cmp = position_cmp order.cmp in
-        let total = position_total order.cmp lawful.total in
-        let own = le_refl cmp total (Low x.key) in
-        gap_step done (x ∷ rest) list from (Low x.key) ready
-        (lt_le cmp total (Low x.key) (High r) starts_at) above_it (inr (inl (own, own))) answers was
-        start (flipped x.key.start) opens
-        (λ b turns. (
+        let own = le_refl lawful _ in
+        gap_step done (x ∷ rest) list from (Low x.key) ready (lt_le lawful _ _ starts_at) above_it
+        (inr (inl (own, own))) answers was start (flipped x.key.start) opens (λ b turns. (
           flipped_known order lawful x.key.start b turns good_at.0.0,
           flipped_bound_is_past order lawful b x.key.start
               (flipped_back order lawful x.key.start b turns),
@@ -410,17 +369,13 @@ module _ {K : Type 0} (order : KeyOrder K) (lawful : IsLawful order) {V : Type 0
         ((answers ++ map told (free_between order start (flipped x.key.start)))
         ++ told (bound_piece order r x) ∷ [])
     add_item from start answers ready opens was =
-        let cmp = position_cmp order.cmp in
-        let total = position_total order.cmp lawful.total in
         let opened = gap_before from start answers ready opens was in
         add_part opened.place
         (answers ++ map told (free_between order start (flipped x.key.start))) opened.cut
         opened.there.0
         (elim opened.there.1 [
-          | inl le ↦
-              le_trans cmp total opened.place from (Low Part) le (from_before_part from ready)
-          | inr le ↦
-              le_trans cmp total opened.place (Low x.key) (Low Part) le part_within.1
+          | inl le ↦ le_trans lawful _ _ _ le (from_before_part from ready)
+          | inr le ↦ le_trans lawful _ _ _ le part_within.1
         ])
 
   told_append : (xs ys : List (Item (AnyRange K) (Option V)))
@@ -444,9 +399,8 @@ module _ {K : Type 0} (order : KeyOrder K) (lawful : IsLawful order) {V : Type 0
       → IsReady done from → Opens start from → IsCutUpTo order lawful items r from answers
       → Reaches answers (pieces_from order r start (Some r.end) rest) (λ m. Le' (High r) m)
   pieces_reach [] done after list meet behind from start answers ready opens was =
-      let cmp = position_cmp order.cmp in
       let total = position_total order.cmp lawful.total in
-      let own = le_refl cmp total (High r) in
+      let own = le_refl lawful _ in
       let end =
       gap_step done after list from (High r) ready own behind (inl own) answers was start
       (Some r.end) opens
@@ -455,8 +409,7 @@ module _ {K : Type 0} (order : KeyOrder K) (lawful : IsLawful order) {V : Type 0
       (λ none. absurd (cc)) in
       record { place = end.place; cut = end.cut; there = end.there.0 }
   pieces_reach (x ∷ rest) done after list meet behind from start answers ready opens was =
-      let next =
-      add_item done (rest ++ after) x list meet.0 from start answers ready opens was in
+      let next = add_item done (rest ++ after) x list meet.0 from start answers ready opens was in
       let gap = free_between order start (flipped x.key.start) in
       let more = pieces_from order r (flipped x.key.end) (Some r.end) rest in
       let so_far = (answers ++ map told gap) ++ told (bound_piece order r x) ∷ [] in
@@ -514,7 +467,7 @@ module _ {K : Type 0} (order : KeyOrder K) (lawful : IsLawful order) {V : Type 0
       (λ m. PLe order lawful (Hi order lawful r) m)
   reached =
       let total = position_total order.cmp lawful.total in
-      let own = le_refl (position_cmp order.cmp) total (Lo order lawful r) in
+      let own = le_refl lawful _ in
       pieces_reach order lawful same equal items r known all_nonempty all_chained own_room met
       are.before are.after are.split are.meet lie_above (Lo order lawful r) (Some r.start) []
       (record { edge = inl own; at_least = own; below = lie_below })
@@ -552,26 +505,19 @@ module _ {K : Type 0} (order : KeyOrder K) (lawful : IsLawful order) {V : Type 0
           (λ i. PLe order lawful (Hi order lawful i.key) (Lo order lawful part)
           ⊎ PLe order lawful (Hi order lawful part) (Lo order lawful i.key)) items (λ i b. b.1)
           (free_apart order lawful items r known all_nonempty part free) in
-          absurd
-          (common_place_is_not_clear order lawful items r known all_nonempty same equal
-          (Lo order lawful part) a.key part v is_known h over.0 over.1 apart
-          (le_refl (position_cmp order.cmp) (position_total order.cmp lawful.total)
-          (Lo order lawful part)) others.2)
+          absurd (common_place_is_not_clear order lawful items r known all_nonempty same equal
+          (Lo order lawful part) a.key part v is_known h over.0 over.1 apart (le_refl lawful _)
+          others.2)
 
   -- where a part of the range is free, some piece is
   pub free_shows : (part : AnyRange K) → IsFreePart order items r part
       → Any (λ p. p.value ≡ None) Pieces
   free_shows part free =
-      let cmp = position_cmp order.cmp in
-      let total = position_total order.cmp lawful.total in
       let inside = free_inside order lawful items r known all_nonempty part free in
-      let before_end =
-      lt_le_trans cmp total (Lo order lawful part) (Hi order lawful part)
-      (Hi order lawful r) inside.2 inside.3 in
+      let before_end = lt_le_trans lawful _ _ _ inside.2 inside.3 in
       let there =
       reached.cut.covered (Lo order lawful part) inside.1 before_end
-      (lt_le_trans cmp total (Lo order lawful part) (Hi order lawful r) reached.place before_end
-      reached.there) in
+      (lt_le_trans lawful _ _ _ before_end reached.there) in
       let Right =
       λ (a : Answered K V). IsInside order lawful items r a.key
       × IsRight order lawful items r a.key a.value in

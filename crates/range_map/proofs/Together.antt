@@ -6,11 +6,10 @@ use denote.Ref.{Bor}
 use Rattle.std.specs.declared.cmp.Ordering.{Ordering}
 use Rattle.range_keys.specs.Order.{KeyOrder, IsLawful}
 use Rattle.range_keys.specs.Position.{start_position, end_position, position_cmp}
-use Rattle.range_keys.specs.PositionOrder.{position_total}
 use Rattle.range_keys.specs.declared.inner.position.Position.{Position}
 use Rattle.range_keys.proofs.Orderings.{not_greater}
 use Rattle.range_algebra.specs.Intervals.{Le, Any, Every}
-use Rattle.range_algebra.specs.Orders.{le_trans, lt_le, lt_not_le, lt_le_trans}
+use Rattle.range_map.proofs.PlaceOrder.{le_trans, lt_le, lt_not_le, lt_le_trans}
 use Rattle.range_algebra.specs.Range.{IsEmptyRange}
 use Rattle.range_algebra.specs.Relations.{LiesBefore}
 use Rattle.range_algebra.specs.declared.any.AnyRange.{AnyRange}
@@ -101,18 +100,13 @@ module _ {K : Type 0} (order : KeyOrder K) where
     pub before_through : (r s t : AnyRange K) → (IsEmptyRange order s → ⊥) → LiesBefore order r s
         → LiesBefore order s t → LiesBefore order r t
     before_through r s t full h k =
-        let total = position_total order.cmp lawful.total in
-        lt_le_trans cmp total (End r) (Start s) (Start t) h
-        (le_trans cmp total (Start s) (End s) (Start t) (within s full)
-        (lt_le cmp total (End s) (Start t) k))
+        lt_le_trans lawful _ _ _ h (le_trans lawful _ _ _ (within s full) (lt_le lawful _ _ k))
 
     -- two ranges do not lie before one another
     pub not_both_before : (r s : AnyRange K) → (IsEmptyRange order r → ⊥)
         → (IsEmptyRange order s → ⊥) → LiesBefore order r s → LiesBefore order s r → ⊥
     not_both_before r s full other h k =
-        let total = position_total order.cmp lawful.total in
-        lt_not_le cmp total (End r) (Start r)
-        (before_through r s r other h k) (within r full)
+        lt_not_le lawful _ _ (before_through r s r other h k) (within r full)
 
     module _ {V : Type 0} (same : V → V → Bool) where
       before_rest : (i j : Item (AnyRange K) V) (rest : List (Item (AnyRange K) V))
@@ -239,10 +233,7 @@ module _ {K : Type 0} (order : KeyOrder K) where
           → LiesBefore order j.key i.key → (IsEmptyRange order i.key → ⊥)
           → ¬ LiesIn order i.key j.key
       not_in_earlier i j h full inside =
-          let total = position_total order.cmp lawful.total in
-          lt_not_le cmp total (End j.key) (Start i.key) h
-          (le_trans cmp total (Start i.key) (End i.key) (End j.key)
-          (within i.key full) inside.ends)
+          lt_not_le lawful _ _ h (le_trans lawful _ _ _ (within i.key full) inside.ends)
 
       inside_others : (i : Item (AnyRange K) V) (j : Item (AnyRange K) W)
           (right : List (Item (AnyRange K) W)) → LiesBefore order j.key i.key
@@ -298,8 +289,7 @@ module _ {K : Type 0} (order : KeyOrder K) where
           → ¬ Any (λ l. LiesIn order i.key l.key) right
       not_in_later i j right h all inside =
           any_none (λ l. LiesIn order i.key l.key) (λ l. LiesBefore order j.key l.key) right all
-          (λ l k part. h (lt_le_trans cmp (position_total order.cmp lawful.total) (End j.key)
-          (Start l.key) (Start i.key) k part.starts)) inside
+          (λ l k part. h (lt_le_trans lawful _ _ _ k part.starts)) inside
 
       pub outside_not_inside : (items : List (Item (AnyRange K) V))
           (others : List (Item (AnyRange K) W)) (i : Item (AnyRange K) V)

@@ -2,9 +2,7 @@ use Rattle.std.proofs.Common.{◌≡◌, ◌∙◌, sym, ap, ◌∷◌, ◌++◌
 use Rattle.std.proofs.lemmas.List.{map-append}
 use Rattle.std.proofs.lemmas.Result.{IfOk-weaker}
 use Rattle.range_algebra.specs.Cuts.{lower}
-use Rattle.range_algebra.specs.Orders.{le_refl}
-use Rattle.range_keys.specs.Position.{position_cmp}
-use Rattle.range_keys.specs.PositionOrder.{position_total}
+use Rattle.range_map.proofs.PlaceOrder.{le_refl}
 use Rattle.range_change.specs.Bindings.{BindAlike}
 use Rattle.range_change.specs.Stored.{item_upper}
 use Rattle.range_change.proofs.OuterBounds.{prefix_is_all}
@@ -49,10 +47,8 @@ loop-range-preserved g c =
         end,
         rw (c.in_ok-push.ensures, c.into_range.ensures, map-append item done (pair ∷ []))
             (built_more order lawful g.V.PartialEq.eq g.met.V.Eq.laws was.built.0 end
-            (map item done) c.loop-range.items.items (item pair) rises.0 rises.1
-            rises.2
-            (le_refl (position_cmp order.cmp) (position_total order.cmp lawful.total) end)
-            was.built.1),
+            (map item done) c.loop-range.items.items (item pair) rises.0 rises.1 rises.2
+            (le_refl lawful _) was.built.1),
         rises.3,
       );
     }

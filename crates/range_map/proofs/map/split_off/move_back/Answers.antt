@@ -4,9 +4,8 @@ use Rattle.std.specs.declared.ops.Bound.TheVariants.{Included}
 use Rattle.std.proofs.lemmas.List.{append_assoc, append-nil, length-append}
 use Rattle.std.proofs.lemmas.List.Edits.{insert_end}
 use Rattle.range_keys.specs.Position.{start_position}
-use Rattle.range_keys.specs.PositionOrder.{position_total}
 use Rattle.range_algebra.specs.Intervals.{Le, Lt, Every}
-use Rattle.range_algebra.specs.Orders.{not_lt}
+use Rattle.range_map.proofs.PlaceOrder.{not_lt}
 use Rattle.range_store.specs.Places.{place_before}
 use Rattle.range_store.proofs.Places.{place_at}
 use Rattle.range_change.specs.Stored.{item_lower}
@@ -136,10 +135,8 @@ loop-last-preserved g c =
           c.in-Some.ensures.space;
       from =
           first_such (λ i. Le (places order lawful) key (item_lower order i))
-          (items c.loop-last.others) (items others)
-          (items c.insert_at-position-in-Some.new.self) last same put
-          (not_lt (places order lawful) (position_total order.cmp lawful.total) key
-          (item_lower order last) (λ h. let told = c.starts_before.ensures.1 h in let not =
+          (items c.loop-last.others) (items others) (items c.insert_at-position-in-Some.new.self)
+          last same put (not_lt lawful _ _ (λ h. let told = c.starts_before.ensures.1 h in let not =
           c.if-starts_before.false in absurd (cc)))
           c.loop-last.invariant.from;
     }
