@@ -334,7 +334,6 @@ module _ {K : Type 0} (order : KeyOrder K) (lawful : IsLawful order) {V W X : Ty
       → Any (λ c. HoldsAt order lawful p c.key × IsOnly p c cs) cs
   one_alone p [] each rising h = h
   one_alone p (c ∷ cs) each rising (inl h) =
-      let total = position_total order.cmp lawful.total in
       let later = above (Hi order lawful c.key) c cs (le_refl lawful _) each rising in
       inl (
         h,

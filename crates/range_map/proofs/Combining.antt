@@ -121,7 +121,6 @@ module _ {K : Type 0} (order : KeyOrder K) (lawful : IsLawful order) where
             tails = was.tails;
           })
       left_past (Some i) (Some v) None rest none cut was =
-          let total = position_total order.cmp lawful.total in
           record {
             known = was.known.1;
             chain = chain_tail (line_of order lawful same equal) i rest was.chain.1;
@@ -249,7 +248,6 @@ module _ {K : Type 0} (order : KeyOrder K) (lawful : IsLawful order) where
           → IsCutFrom order (Some i) key (Some v) last
           → Le cmp (Lo i.key) (Lo key) × Le cmp (Hi key) (Hi i.key)
       part_inside i v None cut =
-          let total = position_total order.cmp lawful.total in
           (eq_ge lawful _ _ cut.1, eq_le lawful _ _ cut.2)
       part_inside i v (Some j) cut = (
         eq_ge lawful _ _ cut.1,
@@ -277,7 +275,6 @@ module _ {K : Type 0} (order : KeyOrder K) (lawful : IsLawful order) where
           none_there known chain (λ p at held. nothing_left rest (none refl) p (seen p at held))
       constant_on None (Some v) last rest known chain none cut was seen = absurd cut
       constant_on (Some i) None last rest known chain none cut was seen =
-          let total = position_total order.cmp lawful.total in
           let above =
           chain_above (line_of order lawful same equal) (Hi key) i rest was.chain cut.1 in
           none_there known chain (λ p at held. any_none (λ x. HoldsAt p x.key × (true ≡ true))

@@ -188,8 +188,6 @@ module _ {K : Type 0} (order : KeyOrder K) (lawful : IsLawful order) {V : Type 0
       → RisesFrom order m xs → Lt (position_cmp order.cmp) (Beside k At) m → ¬ IsBound order xs k
   none_before k key m [] rises before bound = bound
   none_before k key m (x ∷ xs) rises before (inl held) =
-      let cmp = position_cmp order.cmp in
-      let total = position_total order.cmp lawful.total in
       let at = (held_between order lawful x.key k rises.0 key).0 held in
       lt_not_le lawful _ _ before (le_trans lawful _ _ _ rises.2 at.0)
   none_before k key m (x ∷ xs) rises before (inr later) =

@@ -75,8 +75,6 @@ module _ {K : Type 0} (order : KeyOrder K) (lawful : IsLawful order) where
           λ e. omega arith,
         )
     listed_order (i ∷ rest) zero (suc n) x y h in_m in_n read read' =
-        let cmp = position_cmp order.cmp in
-        let total = position_total order.cmp lawful.total in
         let here : x ≡ i = read in
         let rise : PLt (Start x) (Start y) =
         rw here (first_starts_first i rest n y h (omega (arith, in_n)) read') in

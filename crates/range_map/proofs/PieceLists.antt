@@ -171,8 +171,6 @@ module _ {K : Type 0} (order : KeyOrder K) (lawful : IsLawful order) {V : Type 0
         → Reaches answers
         (map free_piece (if t then [] else record { start = a; end = b } ∷ [])) IsPast
     gap_by a b true e known_a known_b at upto =
-        let cmp = position_cmp order.cmp in
-        let total = position_total order.cmp lawful.total in
         let p = start_position order a in
         let q = past order (end_position order b) in
         let over =

@@ -24,70 +24,69 @@ use Rattle.range_change.proofs.Overlaps.{binds_bound}
 use Rattle.range_map.proofs.Coarse.{coarse_alike, coarse_shortest, Follows}
 use Rattle.range_algebra.proofs.Joined.{before_is, ends_below, joined_touch, is_before_of}
 
-module _ {K : Type 0} (order : KeyOrder K) (lawful : IsLawful order) {V : Type 0}
-    (same_value : V → V → Bool) (values : IsEquivalence same_value) where
+module _ {K : Type 0} {order : KeyOrder K} (lawful : IsLawful order) {V : Type 0}
+    {same_value : V → V → Bool} (values : IsEquivalence same_value) where
   tail_is_stored : (i : Item (AnyRange K) V) (rest : List (Item (AnyRange K) V))
       → IsStored order same_value (i ∷ rest) → IsStored order same_value rest
   tail_is_stored i rest stored =
       record { known = stored.known.1; nonempty = stored.nonempty.1; rising = stored.rising.1 }
 
-  module _ (complete : IsComplete order) where
-    has_key : (i : Item (AnyRange K) V) (rest : List (Item (AnyRange K) V))
-        → IsStored order same_value (i ∷ rest) → ¬ IsKeyless order i.key
-    has_key i rest stored none =
-        let found =
-        nonempty_holds order lawful complete i.key stored.known.0
-        (not_greater (position_cmp order.cmp (start_position order i.key.start)
-        (end_position order i.key.end)) stored.nonempty.0) in
-        none found.0 found.1 found.2
+  has_key : (i : Item (AnyRange K) V) (rest : List (Item (AnyRange K) V))
+      → IsStored order same_value (i ∷ rest) → IsComplete order → ¬ IsKeyless order i.key
+  has_key i rest stored complete none =
+      let found =
+      nonempty_holds order lawful complete i.key stored.known.0
+      (not_greater (position_cmp order.cmp (start_position order i.key.start)
+      (end_position order i.key.end)) stored.nonempty.0) in
+      none found.0 found.1 found.2
 
-    -- over complete keys the map's form is coarse
-    pub stored_coarse : (items : List (Item (AnyRange K) V)) → IsStored order same_value items
-        → IsCoarse order same_value items
-    stored_coarse [] stored = record { keyed = tt; rising = tt; parted = tt }
-    stored_coarse (i ∷ []) stored =
-        record { keyed = (has_key i [] stored, tt); rising = (tt, tt); parted = (tt, tt) }
-    stored_coarse (i ∷ j ∷ rest) stored =
-        let before =
-        before_is order lawful i.key j.key (same_value i.value j.value) stored.rising.0 in
-        let behind = stored_coarse (j ∷ rest) (tail_is_stored i (j ∷ rest) stored) in
-        record {
-          keyed = (has_key i (j ∷ rest) stored, behind.keyed);
-          rising = (ends_below order lawful i.key j.key before.0, behind.rising);
-          parted = (
-            λ joined same. before.1 same
-                (joined_touch order lawful complete i.key j.key stored.known.0 stored.known.1.0
-                stored.nonempty.0 stored.nonempty.1.0 joined),
-            behind.parted,
-          );
-        }
+  -- over complete keys the map's form is coarse
+  pub stored_coarse : (items : List (Item (AnyRange K) V)) → IsStored order same_value items
+      → IsComplete order → IsCoarse order same_value items
+  stored_coarse [] stored complete = record { keyed = tt; rising = tt; parted = tt }
+  stored_coarse (i ∷ []) stored complete =
+      record { keyed = (has_key i [] stored complete, tt); rising = (tt, tt); parted = (tt, tt) }
+  stored_coarse (i ∷ j ∷ rest) stored complete =
+      let before =
+      before_is order lawful i.key j.key (same_value i.value j.value) stored.rising.0 in
+      let behind = stored_coarse (j ∷ rest) (tail_is_stored i (j ∷ rest) stored) complete in
+      record {
+        keyed = (has_key i (j ∷ rest) stored complete, behind.keyed);
+        rising = (ends_below order lawful i.key j.key before.0, behind.rising);
+        parted = (
+          λ joined same. before.1 same
+              (joined_touch order lawful complete i.key j.key stored.known.0 stored.known.1.0
+              stored.nonempty.0 stored.nonempty.1.0 joined),
+          behind.parted,
+        );
+      }
 
-    pub stored_only : (items : List (Item (AnyRange K) V)) → IsStored order same_value items
-        → IsOnlyCoarse order same_value items
-    stored_only items stored others coarse alike =
-        coarse_alike order lawful same_value values items others
-        (stored_coarse items stored) coarse alike
+  pub stored_only : (items : List (Item (AnyRange K) V)) → IsStored order same_value items
+      → IsComplete order → IsOnlyCoarse order same_value items
+  stored_only items stored complete others coarse alike =
+      coarse_alike order lawful same_value values items others
+      (stored_coarse items stored complete) coarse alike
 
-    pub stored_least : (items : List (Item (AnyRange K) V)) → IsStored order same_value items
-        → IsLeastCount order same_value items (length items)
-    stored_least items stored others alike =
-        coarse_shortest order lawful same_value values items others
-        (stored_coarse items stored) alike
+  pub stored_least : (items : List (Item (AnyRange K) V)) → IsStored order same_value items
+      → IsComplete order → IsLeastCount order same_value items (length items)
+  stored_least items stored complete others alike =
+      coarse_shortest order lawful same_value values items others
+      (stored_coarse items stored complete) alike
 
-    alike_equal : (items others : List (Item (AnyRange K) V)) → IsStored order same_value items
-        → IsStored order same_value others → AreAlike order same_value items others
-        → IsTrue (same_list order same_value items others)
-    alike_equal [] [] stored stored' alike = refl
-    alike_equal [] (j ∷ others) stored stored' alike = absurd alike
-    alike_equal (i ∷ items) [] stored stored' alike = absurd alike
-    alike_equal (i ∷ items) (j ∷ others) stored stored' alike =
-        and_from (eq_by_cmp (range_cmp order) i.key j.key && same_value i.value j.value)
-        (same_list order same_value items others)
-        (and_from (eq_by_cmp (range_cmp order) i.key j.key) (same_value i.value j.value)
-        (ap is_eq (same_is_equal order lawful complete i.key j.key stored.known.0 stored'.known.0
-        stored.nonempty.0 stored'.nonempty.0 alike.0.0)) alike.0.1)
-        (alike_equal items others (tail_is_stored i items stored)
-        (tail_is_stored j others stored') alike.1)
+  alike_equal : IsComplete order → (items others : List (Item (AnyRange K) V))
+      → IsStored order same_value items → IsStored order same_value others
+      → AreAlike order same_value items others → IsTrue (same_list order same_value items others)
+  alike_equal complete [] [] stored stored' alike = refl
+  alike_equal complete [] (j ∷ others) stored stored' alike = absurd alike
+  alike_equal complete (i ∷ items) [] stored stored' alike = absurd alike
+  alike_equal complete (i ∷ items) (j ∷ others) stored stored' alike =
+      and_from (eq_by_cmp (range_cmp order) i.key j.key && same_value i.value j.value)
+      (same_list order same_value items others)
+      (and_from (eq_by_cmp (range_cmp order) i.key j.key) (same_value i.value j.value)
+      (ap is_eq (same_is_equal order lawful complete i.key j.key stored.known.0 stored'.known.0
+      stored.nonempty.0 stored'.nonempty.0 alike.0.0)) alike.0.1)
+      (alike_equal complete items others (tail_is_stored i items stored)
+      (tail_is_stored j others stored') alike.1)
 
   equal_alike : (items others : List (Item (AnyRange K) V))
       → IsTrue (same_list order same_value items others) → AreAlike order same_value items others
@@ -173,7 +172,7 @@ module _ {K : Type 0} (order : KeyOrder K) (lawful : IsLawful order) {V : Type 0
     λ e. alike_binds items others (equal_alike items others e),
     λ alike. alike_equal complete items others stored stored'
         (coarse_alike order lawful same_value values items others
-        (stored_coarse complete items stored) (stored_coarse complete others stored') alike),
+        (stored_coarse items stored complete) (stored_coarse others stored' complete) alike),
   )
 
   module _ (value_cmp : V → V → Ordering) (total : IsTotalOrder value_cmp)

@@ -19,14 +19,12 @@ returns g c =
           (g.D.Storage.items c.args.other.now) c.in_ok-answers.answers.items
           c.in_ok-answers.ensures.combined);
       coarse =
-          rw c.in_ok-map_of.ensures (λ complete.
-          stored_coarse g.K.MaybeBounded.order g.met.K.PartialEnum.lawful g.X.PartialEq.eq
-          g.met.X.Eq.laws complete c.in_ok-answers.answers.items c.in_ok-answers.ensures.form);
+          rw c.in_ok-map_of.ensures
+          (stored_coarse g.met.K.PartialEnum.lawful g.met.X.Eq.laws _ c.in_ok-answers.ensures.form);
       only =
           rw c.in_ok-map_of.ensures (λ complete others coarse alike.
           coarse_alike g.K.MaybeBounded.order g.met.K.PartialEnum.lawful g.X.PartialEq.eq
           g.met.X.Eq.laws c.in_ok-answers.answers.items others
-          (stored_coarse g.K.MaybeBounded.order g.met.K.PartialEnum.lawful g.X.PartialEq.eq
-          g.met.X.Eq.laws complete c.in_ok-answers.answers.items c.in_ok-answers.ensures.form) coarse
-          alike);
+          (stored_coarse g.met.K.PartialEnum.lawful g.met.X.Eq.laws _ c.in_ok-answers.ensures.form
+          complete) coarse alike);
     }

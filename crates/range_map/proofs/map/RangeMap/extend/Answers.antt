@@ -52,11 +52,9 @@ returns-in_err-insert-clause-refused g c =
     )
 
 pub returns-clause-coarse : goal.returns-clause-coarse
-returns-clause-coarse g c complete =
-    stored_coarse g.K.MaybeBounded.order g.met.K.PartialEnum.lawful g.V.PartialEq.eq
-    g.met.V.Eq.laws complete (g.C.Storage.items c.loop-range.self) c.loop-range.invariant.form
+returns-clause-coarse g c =
+    stored_coarse g.met.K.PartialEnum.lawful g.met.V.Eq.laws _ c.loop-range.invariant.form
 
 pub returns-clause-only : goal.returns-clause-only
-returns-clause-only g c complete =
-    stored_only g.K.MaybeBounded.order g.met.K.PartialEnum.lawful g.V.PartialEq.eq
-    g.met.V.Eq.laws complete (g.C.Storage.items c.loop-range.self) c.loop-range.invariant.form
+returns-clause-only g c =
+    stored_only g.met.K.PartialEnum.lawful g.met.V.Eq.laws _ c.loop-range.invariant.form

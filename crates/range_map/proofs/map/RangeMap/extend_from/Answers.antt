@@ -21,12 +21,8 @@ loop-range-init g c =
           (set_out (λ front. IsOverlaid order same items front items)
           (g.D.Storage.items c.args.other.now) (none_over order same items));
       form = c.in_form.ensures;
-      coarse = λ complete.
-          stored_coarse order g.met.K.PartialEnum.lawful same g.met.V.Eq.laws complete items
-          c.in_form.ensures;
-      only = λ complete.
-          stored_only order g.met.K.PartialEnum.lawful same g.met.V.Eq.laws complete items
-          c.in_form.ensures;
+      coarse = stored_coarse g.met.K.PartialEnum.lawful g.met.V.Eq.laws _ c.in_form.ensures;
+      only = stored_only g.met.K.PartialEnum.lawful g.met.V.Eq.laws _ c.in_form.ensures;
     }
 
 pub loop-range-preserved : goal.loop-range-preserved

@@ -18,38 +18,32 @@ returns g c =
           rw (← c.self.view_is) (subst
           (λ r. MeetAlso g.K.MaybeBounded.order items new r) c.into_range-range.ensures
           c.in_ok-bind_in_order.ensures.ok.meets);
-      form =
-          c.in_ok-bind_in_order.ensures.ok.stored;
+      form = c.in_ok-bind_in_order.ensures.ok.stored;
       coarse =
-          λ complete.
-          stored_coarse g.K.MaybeBounded.order g.met.K.PartialEnum.lawful g.V.PartialEq.eq g.met.V.Eq.laws
-          complete (g.C.Storage.items c.bind_in_order.new.stored) c.in_ok-bind_in_order.ensures.ok.stored;
+          stored_coarse g.met.K.PartialEnum.lawful g.met.V.Eq.laws _
+          c.in_ok-bind_in_order.ensures.ok.stored;
       only =
-          λ complete.
-          stored_only g.K.MaybeBounded.order g.met.K.PartialEnum.lawful g.V.PartialEq.eq g.met.V.Eq.laws
-          complete (g.C.Storage.items c.bind_in_order.new.stored) c.in_ok-bind_in_order.ensures.ok.stored;
+          stored_only g.met.K.PartialEnum.lawful g.met.V.Eq.laws _
+          c.in_ok-bind_in_order.ensures.ok.stored;
       bound =
           rw (← c.self.view_is) (subst
           (λ r. IsBoundAfter g.K.MaybeBounded.order g.V.PartialEq.eq
           (g.C.Storage.items c.self.inside.stored)
           (g.C.Storage.items c.bind_in_order.new.stored) r c.args.value) c.into_range-range.ensures
           c.in_ok-bind_in_order.ensures.ok.bound);
-      empty =
-          λ _. refl;
+      empty = λ _. refl;
       empty_unchanged =
           λ empty. let told =
           c.is_empty.ensures.by_position.1 (rw c.into_range-range.ensures empty) in let not =
           c.if-is_empty.false in absurd (cc);
-      few =
-          rw (← c.self.view_is) c.bind_in_order.ensures.few;
+      few = rw (← c.self.view_is) c.bind_in_order.ensures.few;
       frame =
           λ full. rw (← c.self.view_is)
           (subst (λ r. IsInsertionFrame g.K.MaybeBounded.order g.V.PartialEq.eq
           (g.C.Storage.items c.self.inside.stored)
           (g.C.Storage.items c.bind_in_order.new.stored) r c.args.value) c.into_range-range.ensures
           c.in_ok-bind_in_order.ensures.ok.frame);
-      refused =
-          tt;
+      refused = tt;
     }
 
 pub returns-then-is_empty : goal.returns-then-is_empty
@@ -57,14 +51,8 @@ returns-then-is_empty g c =
     record {
       bound = grind (arith, common_steps);
       form = c.in_form.ensures;
-      coarse =
-          λ complete.
-          stored_coarse g.K.MaybeBounded.order g.met.K.PartialEnum.lawful g.V.PartialEq.eq
-          g.met.V.Eq.laws complete (g.C.Storage.items c.args.self.now) c.in_form.ensures;
-      only =
-          λ complete.
-          stored_only g.K.MaybeBounded.order g.met.K.PartialEnum.lawful g.V.PartialEq.eq
-          g.met.V.Eq.laws complete (g.C.Storage.items c.args.self.now) c.in_form.ensures;
+      coarse = stored_coarse g.met.K.PartialEnum.lawful g.met.V.Eq.laws _ c.in_form.ensures;
+      only = stored_only g.met.K.PartialEnum.lawful g.met.V.Eq.laws _ c.in_form.ensures;
       frame =
           λ full.
           absurd
@@ -87,14 +75,12 @@ returns-in_err-bind_in_order g c =
       bound = error_has_no_value _ c.from_residual.result c.from_residual.ensures.0;
       form = rw (c.in_err-bind_in_order.ensures.refused, c.self.view_is) c.in_form.ensures;
       coarse =
-          λ complete.
-          stored_coarse g.K.MaybeBounded.order g.met.K.PartialEnum.lawful g.V.PartialEq.eq
-          g.met.V.Eq.laws complete (g.C.Storage.items c.bind_in_order.new.stored)
+          stored_coarse g.met.K.PartialEnum.lawful g.met.V.Eq.laws
+          (g.C.Storage.items c.bind_in_order.new.stored)
           (rw (c.in_err-bind_in_order.ensures.refused, c.self.view_is) c.in_form.ensures);
       only =
-          λ complete.
-          stored_only g.K.MaybeBounded.order g.met.K.PartialEnum.lawful g.V.PartialEq.eq
-          g.met.V.Eq.laws complete (g.C.Storage.items c.bind_in_order.new.stored)
+          stored_only g.met.K.PartialEnum.lawful g.met.V.Eq.laws
+          (g.C.Storage.items c.bind_in_order.new.stored)
           (rw (c.in_err-bind_in_order.ensures.refused, c.self.view_is) c.in_form.ensures);
       frame = error_has_no_value _ c.from_residual.result c.from_residual.ensures.0;
       meets = error_has_no_value _ c.from_residual.result c.from_residual.ensures.0;

@@ -19,15 +19,9 @@ returns g c =
           c.in_ok-bind.ensures.ok.bound);
       form = c.in_ok-bind.ensures.ok.stored;
       coarse =
-          λ complete.
-          stored_coarse g.K.MaybeBounded.order g.met.K.PartialEnum.lawful g.V.PartialEq.eq
-          g.met.V.Eq.laws complete
-          (g.C.Storage.items c.bind.new.stored) c.in_ok-bind.ensures.ok.stored;
+          stored_coarse g.met.K.PartialEnum.lawful g.met.V.Eq.laws _ c.in_ok-bind.ensures.ok.stored;
       only =
-          λ complete.
-          stored_only g.K.MaybeBounded.order g.met.K.PartialEnum.lawful g.V.PartialEq.eq
-          g.met.V.Eq.laws complete
-          (g.C.Storage.items c.bind.new.stored) c.in_ok-bind.ensures.ok.stored;
+          stored_only g.met.K.PartialEnum.lawful g.met.V.Eq.laws _ c.in_ok-bind.ensures.ok.stored;
       frame =
           λ full. rw (← c.self.view_is)
           (subst (λ r. IsInsertionFrame g.K.MaybeBounded.order g.V.PartialEq.eq
@@ -58,14 +52,8 @@ returns-then-is_empty g c =
     record {
       bound = grind (arith, common_steps);
       form = c.in_form.ensures;
-      coarse =
-          λ complete.
-          stored_coarse g.K.MaybeBounded.order g.met.K.PartialEnum.lawful g.V.PartialEq.eq
-          g.met.V.Eq.laws complete (g.C.Storage.items c.args.self.now) c.in_form.ensures;
-      only =
-          λ complete.
-          stored_only g.K.MaybeBounded.order g.met.K.PartialEnum.lawful g.V.PartialEq.eq
-          g.met.V.Eq.laws complete (g.C.Storage.items c.args.self.now) c.in_form.ensures;
+      coarse = stored_coarse g.met.K.PartialEnum.lawful g.met.V.Eq.laws _ c.in_form.ensures;
+      only = stored_only g.met.K.PartialEnum.lawful g.met.V.Eq.laws _ c.in_form.ensures;
       frame =
           λ full.
           absurd
@@ -95,14 +83,12 @@ returns-in_err-bind g c =
       bound = error_has_no_value _ c.from_residual.result c.from_residual.ensures.0;
       form = rw (c.in_err-bind.ensures.refused, c.self.view_is) c.in_form.ensures;
       coarse =
-          λ complete.
-          stored_coarse g.K.MaybeBounded.order g.met.K.PartialEnum.lawful g.V.PartialEq.eq
-          g.met.V.Eq.laws complete (g.C.Storage.items c.bind.new.stored)
+          stored_coarse g.met.K.PartialEnum.lawful g.met.V.Eq.laws
+          (g.C.Storage.items c.bind.new.stored)
           (rw (c.in_err-bind.ensures.refused, c.self.view_is) c.in_form.ensures);
       only =
-          λ complete.
-          stored_only g.K.MaybeBounded.order g.met.K.PartialEnum.lawful g.V.PartialEq.eq
-          g.met.V.Eq.laws complete (g.C.Storage.items c.bind.new.stored)
+          stored_only g.met.K.PartialEnum.lawful g.met.V.Eq.laws
+          (g.C.Storage.items c.bind.new.stored)
           (rw (c.in_err-bind.ensures.refused, c.self.view_is) c.in_form.ensures);
       frame = error_has_no_value _ c.from_residual.result c.from_residual.ensures.0;
       meets = error_has_no_value _ c.from_residual.result c.from_residual.ensures.0;

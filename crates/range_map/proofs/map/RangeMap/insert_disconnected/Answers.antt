@@ -41,16 +41,8 @@ returns g c =
           ((IsEmptyRange order range → ⊥) → MeetAlso order items new range) c.bind_apart.result
           (λ h full. h) met);
       form = c.bind_apart.ensures.form;
-      coarse =
-          λ complete.
-          stored_coarse g.K.MaybeBounded.order g.met.K.PartialEnum.lawful g.V.PartialEq.eq
-          g.met.V.Eq.laws complete
-          (g.C.Storage.items c.bind_apart.new.stored) c.bind_apart.ensures.form;
-      only =
-          λ complete.
-          stored_only g.K.MaybeBounded.order g.met.K.PartialEnum.lawful g.V.PartialEq.eq
-          g.met.V.Eq.laws complete
-          (g.C.Storage.items c.bind_apart.new.stored) c.bind_apart.ensures.form;
+      coarse = stored_coarse g.met.K.PartialEnum.lawful g.met.V.Eq.laws _ c.bind_apart.ensures.form;
+      only = stored_only g.met.K.PartialEnum.lawful g.met.V.Eq.laws _ c.bind_apart.ensures.form;
       few = rw (← c.self.view_is)
           (put_few c.bind_apart.result (g.C.Storage.items c.self.inside.stored)
           (g.C.Storage.items c.bind_apart.new.stored) _ c.bind_apart.ensures.put
@@ -81,14 +73,8 @@ returns-then-is_empty g c =
           (full (rw (← c.into_range-range.ensures)
           (c.is_empty.ensures.by_position.0 c.if-is_empty.true)));
       form = c.in_form.ensures;
-      coarse =
-          λ complete.
-          stored_coarse g.K.MaybeBounded.order g.met.K.PartialEnum.lawful g.V.PartialEq.eq
-          g.met.V.Eq.laws complete (g.C.Storage.items c.args.self.now) c.in_form.ensures;
-      only =
-          λ complete.
-          stored_only g.K.MaybeBounded.order g.met.K.PartialEnum.lawful g.V.PartialEq.eq
-          g.met.V.Eq.laws complete (g.C.Storage.items c.args.self.now) c.in_form.ensures;
+      coarse = stored_coarse g.met.K.PartialEnum.lawful g.met.V.Eq.laws _ c.in_form.ensures;
+      only = stored_only g.met.K.PartialEnum.lawful g.met.V.Eq.laws _ c.in_form.ensures;
       few = grind (arith, common_steps);
       refused = tt;
       empty = λ _. refl;

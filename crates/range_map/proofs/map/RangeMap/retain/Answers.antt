@@ -123,16 +123,14 @@ returns-clause-form g c =
     g.met.V.Eq.laws done.0 old c.self.invariant)
 
 pub returns-clause-coarse : goal.returns-clause-coarse
-returns-clause-coarse g c complete =
-    stored_coarse g.K.MaybeBounded.order g.met.K.PartialEnum.lawful g.V.PartialEq.eq
-    g.met.V.Eq.laws complete (g.C.Storage.items c.loop-at.self-inside.stored)
-    (returns-clause-form g c)
+returns-clause-coarse g c =
+    stored_coarse g.met.K.PartialEnum.lawful g.met.V.Eq.laws
+    (g.C.Storage.items c.loop-at.self-inside.stored) (returns-clause-form g c)
 
 pub returns-clause-only : goal.returns-clause-only
-returns-clause-only g c complete =
-    stored_only g.K.MaybeBounded.order g.met.K.PartialEnum.lawful g.V.PartialEq.eq
-    g.met.V.Eq.laws complete (g.C.Storage.items c.loop-at.self-inside.stored)
-    (returns-clause-form g c)
+returns-clause-only g c =
+    stored_only g.met.K.PartialEnum.lawful g.met.V.Eq.laws
+    (g.C.Storage.items c.loop-at.self-inside.stored) (returns-clause-form g c)
 
 pub returns-clause-kept : goal.returns-clause-kept
 returns-clause-kept g c =

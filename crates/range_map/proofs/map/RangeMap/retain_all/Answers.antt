@@ -19,12 +19,8 @@ loop-gap-init g c =
       way = set_out (AreUnboundAfter order same items items) c.gaps-gaps.result
           (none_unbound order same items);
       form = c.in_form.ensures;
-      coarse = λ complete.
-          stored_coarse order g.met.K.PartialEnum.lawful same g.met.V.Eq.laws complete items
-          c.in_form.ensures;
-      only = λ complete.
-          stored_only order g.met.K.PartialEnum.lawful same g.met.V.Eq.laws complete items
-          c.in_form.ensures;
+      coarse = stored_coarse g.met.K.PartialEnum.lawful g.met.V.Eq.laws _ c.in_form.ensures;
+      only = stored_only g.met.K.PartialEnum.lawful g.met.V.Eq.laws _ c.in_form.ensures;
     }
 
 pub loop-gap-preserved : goal.loop-gap-preserved

@@ -56,12 +56,8 @@ returns g c =
           ((IsEmptyRange order range → ⊥) → MeetAlso order items new range)
           c.bind_where_free.result (λ h full. h.meets) done);
       form = form;
-      coarse =
-          λ complete.
-          stored_coarse order g.met.K.PartialEnum.lawful same g.met.V.Eq.laws complete new form;
-      only =
-          λ complete.
-          stored_only order g.met.K.PartialEnum.lawful same g.met.V.Eq.laws complete new form;
+      coarse = stored_coarse g.met.K.PartialEnum.lawful g.met.V.Eq.laws _ form;
+      only = stored_only g.met.K.PartialEnum.lawful g.met.V.Eq.laws _ form;
       refused = rw (← c.self.view_is) c.bind_where_free.ensures.refused;
       empty = λ empty. let told =
           c.is_empty.ensures.by_position.1 (rw c.into_range-range.ensures empty) in let not =
@@ -88,14 +84,8 @@ returns-then-is_empty g c =
           (full (rw (← c.into_range-range.ensures)
           (c.is_empty.ensures.by_position.0 c.if-is_empty.true)));
       form = c.in_form.ensures;
-      coarse =
-          λ complete.
-          stored_coarse g.K.MaybeBounded.order g.met.K.PartialEnum.lawful g.V.PartialEq.eq
-          g.met.V.Eq.laws complete (g.C.Storage.items c.args.self.now) c.in_form.ensures;
-      only =
-          λ complete.
-          stored_only g.K.MaybeBounded.order g.met.K.PartialEnum.lawful g.V.PartialEq.eq
-          g.met.V.Eq.laws complete (g.C.Storage.items c.args.self.now) c.in_form.ensures;
+      coarse = stored_coarse g.met.K.PartialEnum.lawful g.met.V.Eq.laws _ c.in_form.ensures;
+      only = stored_only g.met.K.PartialEnum.lawful g.met.V.Eq.laws _ c.in_form.ensures;
       refused = tt;
       empty = λ _. refl;
       empty_unchanged = λ _. refl;

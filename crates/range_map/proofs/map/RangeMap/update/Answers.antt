@@ -86,15 +86,8 @@ returns g c =
       spelled = rw (← c.self.view_is) c.update_pieces.ensures.spelled;
       form = c.update_pieces.ensures.form;
       coarse =
-          λ complete.
-          stored_coarse g.K.MaybeBounded.order g.met.K.PartialEnum.lawful g.V.PartialEq.eq
-          g.met.V.Eq.laws complete
-          (g.C.Storage.items c.update_pieces.new.stored) c.update_pieces.ensures.form;
-      only =
-          λ complete.
-          stored_only g.K.MaybeBounded.order g.met.K.PartialEnum.lawful g.V.PartialEq.eq
-          g.met.V.Eq.laws complete
-          (g.C.Storage.items c.update_pieces.new.stored) c.update_pieces.ensures.form;
+          stored_coarse g.met.K.PartialEnum.lawful g.met.V.Eq.laws _ c.update_pieces.ensures.form;
+      only = stored_only g.met.K.PartialEnum.lawful g.met.V.Eq.laws _ c.update_pieces.ensures.form;
       closure =
           λ e failed. rw (← c.self.view_is)
           (fails_too order lawful r s start end same g.F.Fn c.args.f items e
@@ -119,14 +112,8 @@ returns-then-is_empty g c =
           (g.C.Storage.items c.args.self.now);
       spelled = list_keeps_spelling g.met.K.PartialEnum.lawful g.met.V.Eq.laws c.in_form.ensures;
       form = c.in_form.ensures;
-      coarse =
-          λ complete.
-          stored_coarse g.K.MaybeBounded.order g.met.K.PartialEnum.lawful g.V.PartialEq.eq
-          g.met.V.Eq.laws complete (g.C.Storage.items c.args.self.now) c.in_form.ensures;
-      only =
-          λ complete.
-          stored_only g.K.MaybeBounded.order g.met.K.PartialEnum.lawful g.V.PartialEq.eq
-          g.met.V.Eq.laws complete (g.C.Storage.items c.args.self.now) c.in_form.ensures;
+      coarse = stored_coarse g.met.K.PartialEnum.lawful g.met.V.Eq.laws _ c.in_form.ensures;
+      only = stored_only g.met.K.PartialEnum.lawful g.met.V.Eq.laws _ c.in_form.ensures;
       closure = λ e failed. absurd (cc);
       refused = tt;
       empty = λ _. refl;
@@ -141,14 +128,8 @@ returns-in_err-range g c =
       kept = error_has_no_value _ c.from_residual.result c.from_residual.ensures.0;
       spelled = error_has_no_value _ c.from_residual.result c.from_residual.ensures.0;
       form = c.in_form.ensures;
-      coarse =
-          λ complete.
-          stored_coarse g.K.MaybeBounded.order g.met.K.PartialEnum.lawful g.V.PartialEq.eq
-          g.met.V.Eq.laws complete (g.C.Storage.items c.args.self.now) c.in_form.ensures;
-      only =
-          λ complete.
-          stored_only g.K.MaybeBounded.order g.met.K.PartialEnum.lawful g.V.PartialEq.eq
-          g.met.V.Eq.laws complete (g.C.Storage.items c.args.self.now) c.in_form.ensures;
+      coarse = stored_coarse g.met.K.PartialEnum.lawful g.met.V.Eq.laws _ c.in_form.ensures;
+      only = stored_only g.met.K.PartialEnum.lawful g.met.V.Eq.laws _ c.in_form.ensures;
       closure = grind (arith, common_steps);
       refused = on_error _ c.from_residual.result refl;
       empty = λ empty. let told = c.is_empty.ensures.by_position.1 empty in let not =

@@ -12,9 +12,8 @@ returns g c =
         ap g.C.Storage.items c.self.view_is,
         c.self.invariant,
         λ complete. (
-          stored_coarse order lawful g.V.PartialEq.eq g.met.V.Eq.laws complete items
-              c.self.invariant,
-          stored_only order lawful g.V.PartialEq.eq g.met.V.Eq.laws complete items c.self.invariant,
+          stored_coarse lawful g.met.V.Eq.laws _ c.self.invariant complete,
+          stored_only lawful g.met.V.Eq.laws _ c.self.invariant complete,
         ),
       );
     }
