@@ -1,20 +1,9 @@
 -- One stored list after another: its form, and what it binds.
 use Rattle.std.proofs.Common.{◌≡◌, refl, ap, ◌↔◌, ◌+◌, ◌-◌, ◌≤◌, ℕ, zero, suc, Bool, true, false, IsTrue, List, [], ◌∷◌, ◌++◌, length, get_or, inl, inr, arith}
 use Rattle.std.specs.Prelude.{◌&&◌, if◌then◌else◌, slice_set}
-use Rattle.std.specs.Cmp.{IsEquivalence}
-use Rattle.range_keys.specs.Order.{KeyOrder, IsLawful}
-use Rattle.range_keys.specs.declared.inner.position.Position.{Position}
-use Rattle.range_algebra.specs.Intervals.{Le, Lt, Every}
+use Rattle.range_map.proofs.Common.{IsEquivalence, KeyOrder, IsLawful, Position, Le, Lt, Every, IsKnownRange, LiesBefore, AnyRange, every_append, every_right, every_weaker, Item, BindAlike, line_of, Leads, Follows, Respects, IsStored, item_lower, item_upper}
 use Rattle.range_map.proofs.PlaceOrder.{le_refl, lt_le, le_trans, le_lt_trans, lt_trans, both, cases}
-use Rattle.range_algebra.specs.Range.{IsKnownRange}
-use Rattle.range_algebra.specs.Relations.{LiesBefore}
-use Rattle.range_algebra.specs.declared.any.AnyRange.{AnyRange}
-use Rattle.range_algebra.proofs.Lists.{every_append, every_right, every_weaker}
-use Rattle.range_store.specs.declared.storage.Item.{Item}
 use Rattle.range_map.specs.Appending.{IsApartFromLast, LieBefore, appended, are_one, as_one, joined}
-use Rattle.range_change.specs.Bindings.{BindAlike}
-use Rattle.range_change.specs.Chains.{line_of, Leads, Follows, Respects}
-use Rattle.range_change.specs.Stored.{IsStored, item_lower, item_upper}
 use Rattle.range_change.proofs.Chains.{same_is_symmetric, follows_like, chain_before, chain_right, chain_above}
 use Rattle.range_change.proofs.Forms.{places, Known, Chained, Hold, before_is, touches_is, stored_chain, stored_known, chain_stored, same_binds}
 

@@ -1,13 +1,7 @@
 -- A closure that may be asked of the items of two lists one by one, of each item of either with
 -- none beside it, and of each two, may be asked what `combine` may ask.
 use Rattle.std.proofs.Common.{◌≡◌, refl, subst, List, Option, Some, None}
-use Rattle.std.specs.Fn.{Shared}
-use Rattle.std.specs.Option.{option_copied}
-use denote.Ref.{Bor}
-use Rattle.range_algebra.specs.Intervals.{Every}
-use Rattle.range_algebra.specs.declared.any.AnyRange.{AnyRange}
-use Rattle.range_store.specs.declared.storage.Item.{Item}
-use Rattle.range_map.specs.Combining.{AreValuesOf, MayBeAskedBoth, MayBeAskedOfBoth}
+use Rattle.range_map.proofs.Common.{Shared, option_copied, Bor, Every, AnyRange, Item, AreValuesOf, MayBeAskedBoth, MayBeAskedOfBoth}
 use Rattle.range_change.proofs.RangePieces.{any_use}
 
 module _ {K F V W A : Type 0} (calls : Shared F (Option (Bor V) × (Option (Bor W) × Unit {0})) A)

@@ -1,24 +1,11 @@
 -- Whether each key of a range is bound, and that an empty range has no piece.
 use Rattle.std.proofs.Common.{◌≡◌, List, [], ◌∷◌, ◌⊎◌, inl, inr, Option, Some, None}
-use Rattle.std.specs.declared.ops.Bound.TheVariants.{Included}
-use Rattle.range_keys.specs.Order.{KeyOrder, IsLawful, IsComplete}
-use Rattle.range_keys.specs.Position.{start_position, end_position, position_cmp}
-use Rattle.range_keys.specs.declared.inner.position.Position.TheVariants.{Beside}
-use Rattle.range_keys.specs.declared.inner.position.Side.TheVariants.{At}
+use Rattle.range_map.proofs.Common.{Included, KeyOrder, IsLawful, IsComplete, start_position, end_position, position_cmp, Beside, At, AnyRange, Every, Holds, IsEmptyRange, any_none, every_weaker, Item, IsBound, Overlap, BindsAllOf, AreGapsWithin, LiesIn, IsCommonPart, IsFreePart, IsPiece, ArePieces, later, earlier}
 use Rattle.range_keys.proofs.Orderings.{not_greater, not_both_greater_and_not}
-use Rattle.range_algebra.specs.declared.any.AnyRange.{AnyRange}
-use Rattle.range_algebra.specs.Intervals.{Every}
 use Rattle.range_map.proofs.PlaceOrder.{le_refl, eq_le, eq_ge, le_trans, not_lt}
-use Rattle.range_algebra.specs.Range.{Holds, IsEmptyRange}
 use Rattle.range_algebra.proofs.Completeness.{nonempty_holds}
 use Rattle.range_algebra.proofs.Holding.{holds_by_position}
-use Rattle.range_algebra.proofs.Lists.{any_none, every_weaker}
 use Rattle.range_algebra.proofs.Pieces.{start_decided, end_decided}
-use Rattle.range_store.specs.declared.storage.Item.{Item}
-use Rattle.range_change.specs.Bindings.{IsBound}
-use Rattle.range_change.specs.Lookups.{Overlap, BindsAllOf}
-use Rattle.range_map.specs.PieceLists.{AreGapsWithin}
-use Rattle.range_change.specs.Pieces.{LiesIn, IsCommonPart, IsFreePart, IsPiece, ArePieces, later, earlier}
 use Rattle.range_change.proofs.RangePieces.{any_use, later_over, earlier_under}
 use Rattle.range_change.proofs.Overlaps.{binding_meets}
 

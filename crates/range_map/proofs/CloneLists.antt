@@ -1,28 +1,9 @@
 -- A list of clones: equal item by item to its source, and in the same form.
 use Rattle.std.proofs.Common.{◌≡◌, refl, sym, ap, ◌∙◌, List, [], ◌∷◌, Option, Some, None, Bool, true, ◌&&◌}
-use Rattle.std.specs.List.{All, AllZip, AllByRecursion}
-use Rattle.std.specs.declared.cmp.Ordering.TheVariants.{Less, Equal, Greater}
-use Rattle.std.specs.Ordering.{is_eq}
-use Rattle.std.specs.Cmp.{IsEquivalence, alike_right, tied_back}
+use Rattle.range_map.proofs.Common.{All, AllZip, AllByRecursion, Less, Equal, Greater, is_eq, IsEquivalence, alike_right, tied_back, and_from, and_parts, KeyOrder, IsLawful, SameAnswer, start_position, end_position, position_cmp, at_told, position_total, Position, MinusInfinity, Beside, PlusInfinity, Before, At, After, IsBoundClone, range_clone, past, IsKnownRange, IsEmptyRange, range_cmp, range_total, AnyRange, Item, IsCopyOf, LiesBefore, Touches, IsStored}
 use Rattle.std.proofs.lemmas.List.Elements.{recursion_from_All}
-use Rattle.std.proofs.lemmas.Bool.{and_from, and_parts}
-use Rattle.range_keys.specs.Order.{KeyOrder, IsLawful, SameAnswer}
-use Rattle.range_keys.specs.Position.{start_position, end_position, position_cmp, at_told}
-use Rattle.range_keys.specs.PositionOrder.{position_total}
-use Rattle.range_keys.specs.declared.inner.position.Position.{Position}
-use Rattle.range_keys.specs.declared.inner.position.Position.TheVariants.{MinusInfinity, Beside, PlusInfinity}
-use Rattle.range_keys.specs.declared.inner.position.Side.TheVariants.{Before, At, After}
 use Rattle.range_keys.proofs.Orderings.{both_equal, equal_then_equal, eq_is_equal}
-use Rattle.range_algebra.specs.Clones.{IsBoundClone, range_clone}
-use Rattle.range_algebra.specs.Cuts.{past}
 use Rattle.range_map.proofs.PlaceOrder.{eq_le, eq_ge, le_trans}
-use Rattle.range_algebra.specs.Range.{IsKnownRange, IsEmptyRange}
-use Rattle.range_algebra.specs.RangeOrder.{range_cmp, range_total}
-use Rattle.range_algebra.specs.declared.any.AnyRange.{AnyRange}
-use Rattle.range_store.specs.declared.storage.Item.{Item}
-use Rattle.range_map.specs.ListOrder.{IsCopyOf}
-use Rattle.range_algebra.specs.Relations.{LiesBefore, Touches}
-use Rattle.range_change.specs.Stored.{IsStored}
 use Rattle.range_change.proofs.Forms.{before_is, nonempty_good, touches_is}
 use Rattle.range_change.proofs.Listed.{IsListed, stored_list_is_listed, stored_by}
 

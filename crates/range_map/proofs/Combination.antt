@@ -1,32 +1,11 @@
 -- A merged pass over two lists: what the answers so far make of both.
 use Rattle.std.proofs.Common.{◌≡◌, refl, sym, ap, ◌∙◌, ◌↔◌, ◌⊎◌, inl, inr, Bool, true, Option, Some, None, Result, Ok, List, [], ◌∷◌, ◌++◌, map}
-use Rattle.std.specs.Cmp.{IsEquivalence}
-use Rattle.std.specs.Fn.{Shared}
-use denote.Ref.{Bor}
-use Rattle.std.specs.declared.ops.Bound.{Bound}
-use Rattle.range_keys.specs.Order.{KeyOrder, IsLawful}
-use Rattle.range_keys.specs.PositionOrder.{position_total}
-use Rattle.range_keys.specs.declared.inner.position.Position.{Position}
-use Rattle.range_keys.specs.declared.inner.position.Position.TheVariants.{Beside}
-use Rattle.range_keys.specs.declared.inner.position.Side.TheVariants.{At}
-use Rattle.range_algebra.specs.Clones.{IsBoundClone, SameBound}
-use Rattle.range_algebra.specs.Intervals.{Le, Lt, Any, Every}
+use Rattle.range_map.proofs.Common.{IsEquivalence, Shared, Bor, Bound, KeyOrder, IsLawful, position_total, Position, Beside, At, IsBoundClone, SameBound, Le, Lt, Any, Every, Holds, IsKnownRange, LiesBefore, AnyRange, any_none, any_left, any_split, every_append, every_weaker, Item, Answered, IsAsAnswered, IsBound, Binds, BindsTo, IsValueOf, MayBeAskedBoth, MayBeAskedOfBoth, Combined, IsConstantOn, IsSharedPart, AreCombined, IsCombination, full_range, LiesIn, IsStored}
 use Rattle.range_map.proofs.PlaceOrder.{le_refl, lt_le, eq_ge, le_trans, lt_not_le}
-use Rattle.range_algebra.specs.Range.{Holds, IsKnownRange}
-use Rattle.range_algebra.specs.Relations.{LiesBefore}
-use Rattle.range_algebra.specs.declared.any.AnyRange.{AnyRange}
-use Rattle.range_algebra.proofs.Lists.{any_none, any_left, any_split, every_append, every_weaker}
 use Rattle.range_algebra.proofs.Places.{held_between, unbounded_start, unbounded_end}
-use Rattle.range_store.specs.declared.storage.Item.{Item}
-use Rattle.range_change.specs.Answers.{Answered, IsAsAnswered}
 use Rattle.range_change.specs.Questions.{IsPut}
-use Rattle.range_change.specs.Bindings.{IsBound, Binds, BindsTo}
-use Rattle.range_map.specs.Combining.{IsValueOf, MayBeAskedBoth, MayBeAskedOfBoth, Combined, IsConstantOn, IsSharedPart, AreCombined, IsCombination}
-use Rattle.range_map.specs.FreeRanges.{full_range}
 use Rattle.range_map.specs.Merged.{IsCutFrom, IsFirstPiece}
 use Rattle.range_change.specs.Neighbours.{EachNext}
-use Rattle.range_change.specs.Pieces.{LiesIn}
-use Rattle.range_change.specs.Stored.{IsStored}
 use Rattle.range_change.specs.Window.{option_items}
 use Rattle.range_map.proofs.Combining.{cmp, Lo, Hi, HoldsAt, Gives, Alike, IsLeftFrom, IsFirstOf, all_left, left_past, left_seen, constant_on}
 use Rattle.range_change.proofs.RangePieces.{any_end, any_map, any_over, any_use, any_with, next_last}

@@ -1,27 +1,8 @@
 -- One side of a merged pass: what is left of a list, and what the pieces so far say of it.
 use Rattle.std.proofs.Common.{◌≡◌, refl, sym, ap, subst, append_assoc, ◌∙◌, ◌↔◌, ◌⊎◌, inl, inr, ℕ, ◌+◌, ◌*◌, ◌<◌, ◌≤◌, length, arith, Bool, true, Option, Some, None, List, [], ◌∷◌, ◌++◌, if◌then◌else◌}
-use Rattle.std.specs.Ordering.{is_eq}
-use Rattle.std.specs.Option.{option_map}
-use Rattle.std.specs.declared.cmp.Ordering.{Ordering}
-use Rattle.std.specs.declared.cmp.Ordering.TheVariants.{Less, Equal, Greater}
-use Rattle.std.specs.Cmp.{IsEquivalence}
-use Rattle.range_keys.specs.Order.{KeyOrder, IsLawful}
-use Rattle.range_keys.specs.Position.{position_cmp}
-use Rattle.range_keys.specs.PositionOrder.{position_total}
-use Rattle.range_keys.specs.declared.inner.position.Position.{Position}
-use Rattle.range_algebra.specs.Cuts.{lower, upper}
-use Rattle.range_algebra.specs.Intervals.{Le, Lt, Any, Every}
+use Rattle.range_map.proofs.Common.{is_eq, option_map, Ordering, Less, Equal, Greater, IsEquivalence, KeyOrder, IsLawful, position_cmp, position_total, Position, lower, upper, Le, Lt, Any, Every, IsKnownRange, AnyRange, any_none, every_left, every_weaker, Item, line_of, Respects, IsConstantOn, MeetsSome, LiesIn, IsStored, item_lower}
 use Rattle.range_map.proofs.PlaceOrder.{le_refl, lt_le, eq_le, eq_ge, le_trans, lt_not_le, cases, lt_le_trans}
-use Rattle.range_algebra.specs.Range.{IsKnownRange}
-use Rattle.range_algebra.specs.declared.any.AnyRange.{AnyRange}
-use Rattle.range_algebra.proofs.Lists.{any_none, every_left, every_weaker}
-use Rattle.range_store.specs.declared.storage.Item.{Item}
-use Rattle.range_change.specs.Chains.{line_of, Respects}
-use Rattle.range_map.specs.Combining.{IsConstantOn}
-use Rattle.range_change.specs.Lookups.{MeetsSome}
 use Rattle.range_map.specs.Merged.{IsPlaced, IsPlacedIn, IsCutFrom, IsUsedUp, StartAlike, IsFirstPiece}
-use Rattle.range_change.specs.Pieces.{LiesIn}
-use Rattle.range_change.specs.Stored.{IsStored, item_lower}
 use Rattle.range_change.specs.Window.{option_items}
 use Rattle.range_change.proofs.Chains.{chain_left, chain_above, chain_tail, follows_above, follows_like}
 use Rattle.range_change.proofs.CoveredPlaces.{met_range_is_covered, chained_items_have_places}

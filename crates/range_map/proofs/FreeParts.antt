@@ -1,29 +1,12 @@
 -- What stands free between the items of a stored list is all of its gaps.
 use Rattle.std.proofs.Common.{◌≡◌, refl, sym, subst, ◌∙◌, ◌↔◌, Option, Some, None, Bool, true, false, List, [], ◌∷◌, ◌++◌, ◌⊎◌, inl, inr, if◌then◌else◌, ◌+◌, ◌≤◌, arith, length, length-append}
-use Rattle.std.specs.declared.ops.Bound.{Bound}
-use Rattle.std.specs.declared.ops.Bound.TheVariants.{Included, Excluded, Unbounded}
-use Rattle.std.specs.declared.cmp.Ordering.TheVariants.{Equal}
-use Rattle.range_keys.specs.Order.{KeyOrder, IsLawful}
-use Rattle.range_keys.specs.Position.{start_position, end_position, position_cmp}
-use Rattle.range_keys.specs.declared.inner.position.Position.{Position}
+use Rattle.range_map.proofs.Common.{Bound, Included, Excluded, Unbounded, Equal, KeyOrder, IsLawful, start_position, end_position, position_cmp, Position, AnyRange, any_left, any_right, every_append, every_left, every_right, every_weaker, flipped, starts_past_end, Le, Lt, Any, Every, StartHolds, EndHolds, Holds, IsKnownBound, IsKnownRange, range_cmp, LiesBefore, Item, full_range, item_ranges, IsHeldOnce, AreGaps, between, free_from, LiesIn, IsFreePart, IsPiece, Overlap, IsStored}
 use Rattle.range_keys.proofs.Orderings.{equal_then_equal, not_both_greater_and_not, not_greater}
-use Rattle.range_algebra.specs.declared.any.AnyRange.{AnyRange}
-use Rattle.range_algebra.proofs.Lists.{any_left, any_right, every_append, every_left, every_right, every_weaker}
-use Rattle.range_algebra.specs.Compared.{flipped, starts_past_end}
-use Rattle.range_algebra.specs.Intervals.{Le, Lt, Any, Every}
 use Rattle.range_map.proofs.PlaceOrder.{eq_le, eq_ge, le_refl, lt_le, le_trans, lt_not_le, cases, lt_le_trans, le_lt_trans, lt_trans, both}
-use Rattle.range_algebra.specs.Range.{StartHolds, EndHolds, Holds, IsKnownBound, IsKnownRange}
-use Rattle.range_algebra.specs.RangeOrder.{range_cmp}
-use Rattle.range_algebra.specs.Relations.{LiesBefore}
 use Rattle.range_algebra.proofs.Holding.{start_holds, end_holds}
 use Rattle.range_algebra.proofs.Pieces.{start_decided, end_decided, flipped_end, flipped_start}
 use Rattle.range_algebra.proofs.Places.{flipped_bound_is_past, flipped_back, flipped_known, unbounded_start}
-use Rattle.range_store.specs.declared.storage.Item.{Item}
-use Rattle.range_map.specs.FreeRanges.{full_range, item_ranges, IsHeldOnce, AreGaps, between, free_from}
 use Rattle.range_change.specs.Neighbours.{BeforeFirst, EachNext}
-use Rattle.range_change.specs.Pieces.{LiesIn, IsFreePart, IsPiece}
-use Rattle.range_change.specs.Lookups.{Overlap}
-use Rattle.range_change.specs.Stored.{IsStored}
 use Rattle.range_change.proofs.RangePieces.{every_with}
 use Rattle.range_change.proofs.Forms.{before_is}
 use Rattle.range_map.proofs.JustBefore.{ends_before, ends_full}

@@ -1,20 +1,8 @@
 -- The items of a list that are bound one after the other, and ranges that are unbound so.
 use Rattle.std.proofs.Common.{◌≡◌, refl, sym, subst, ◌∙◌, ◌↔◌, ◌⊎◌, inl, inr, Bool, true, List, [], ◌∷◌, ◌++◌, Option, Some, None}
-use Rattle.std.specs.Cmp.{IsEquivalence}
-use Rattle.std.specs.declared.cmp.Ordering.TheVariants.{Equal}
-use Rattle.range_keys.specs.Order.{KeyOrder, IsLawful}
-use Rattle.range_algebra.specs.Intervals.{Any}
-use Rattle.range_algebra.specs.Range.{Holds}
-use Rattle.range_algebra.specs.RangeOrder.{range_cmp}
-use Rattle.range_algebra.specs.declared.any.AnyRange.{AnyRange}
+use Rattle.range_map.proofs.Common.{IsEquivalence, Equal, KeyOrder, IsLawful, Any, Holds, range_cmp, AnyRange, any_left, any_right, any_split, Item, IsBound, BindsTo, Binds, IsSomeOf, IsBoundAfter, IsUnboundAfter, IsStored, item_ranges, IsHeldOnce, IsOverlaid, IsRestricted, IsWithout}
 use Rattle.range_algebra.proofs.Canonical.{equal_is_same}
-use Rattle.range_algebra.proofs.Lists.{any_left, any_right, any_split}
 use Rattle.range_algebra.proofs.Meeting.{held_or_not}
-use Rattle.range_store.specs.declared.storage.Item.{Item}
-use Rattle.range_change.specs.Bindings.{IsBound, BindsTo, Binds, IsSomeOf, IsBoundAfter, IsUnboundAfter}
-use Rattle.range_change.specs.Stored.{IsStored}
-use Rattle.range_map.specs.FreeRanges.{item_ranges, IsHeldOnce}
-use Rattle.range_map.specs.Overlays.{IsOverlaid, IsRestricted, IsWithout}
 use Rattle.range_map.specs.PartWay.{AreUnboundAfter}
 use Rattle.range_map.proofs.HeldOnce.{one_of_two}
 use Rattle.range_map.proofs.Once.{bound_once}

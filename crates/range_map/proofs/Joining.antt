@@ -1,27 +1,11 @@
 -- Items put one after the other, where two that touch with equal values become one.
 use Rattle.std.proofs.Common.{◌⊎◌, inl, inr, Bool, true, false, Some, None, List, [], ◌∷◌, ◌++◌}
 use Rattle.std.specs.Prelude.{if◌then◌else◌}
-use Rattle.std.specs.Cmp.{IsEquivalence}
-use Rattle.range_keys.specs.Order.{KeyOrder, IsLawful}
-use Rattle.range_keys.specs.Position.{position_cmp}
-use Rattle.range_keys.specs.PositionOrder.{position_total}
-use Rattle.range_keys.specs.declared.inner.position.Position.{Position}
-use Rattle.range_keys.specs.declared.inner.position.Position.TheVariants.{Beside}
-use Rattle.range_keys.specs.declared.inner.position.Side.TheVariants.{At}
-use Rattle.range_algebra.specs.Cuts.{lower}
-use Rattle.range_algebra.specs.Intervals.{Le, Lt, Every}
+use Rattle.range_map.proofs.Common.{IsEquivalence, KeyOrder, IsLawful, position_cmp, position_total, Position, Beside, At, lower, Le, Lt, Every, Holds, IsEmptyRange, IsKnownRange, AnyRange, every_weaker, Item, BindAlike, BindsTo, IsBound, line_of, Follows, IsStored, item_lower, item_upper, full_range}
 use Rattle.range_map.proofs.PlaceOrder.{lt_le, le_trans, lt_not_le, lt_le_trans}
-use Rattle.range_algebra.specs.Range.{Holds, IsEmptyRange, IsKnownRange}
-use Rattle.range_algebra.specs.declared.any.AnyRange.{AnyRange}
-use Rattle.range_algebra.proofs.Lists.{every_weaker}
 use Rattle.range_algebra.proofs.Places.{held_between, unbounded_start}
-use Rattle.range_store.specs.declared.storage.Item.{Item}
-use Rattle.range_change.specs.Bindings.{BindAlike, BindsTo, IsBound}
-use Rattle.range_change.specs.Chains.{line_of, Follows}
-use Rattle.range_change.specs.Stored.{IsStored, item_lower, item_upper}
 use Rattle.range_change.proofs.Forms.{Known, nonempty_good, stored_chain, stored_known}
 use Rattle.range_map.specs.Appending.{LieBefore, appended, are_one, joined}
-use Rattle.range_map.specs.FreeRanges.{full_range}
 use Rattle.range_map.proofs.Appending.{appended_binds, appended_stored, lie_before_from}
 
 module _ {K : Type 0} (order : KeyOrder K) {V : Type 0} where

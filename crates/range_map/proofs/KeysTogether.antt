@@ -1,33 +1,14 @@
 -- Two lists of ranges, by the keys that they bind: where they share none, and where the one binds
 -- all of the other.
 use Rattle.std.proofs.Common.{◌≡◌, refl, inl, inr, Bool, true, Some, List, [], ◌∷◌}
-use Rattle.std.specs.declared.ops.Bound.{Bound}
-use Rattle.std.specs.declared.ops.Bound.TheVariants.{Included, Excluded, Unbounded}
-use Rattle.std.specs.declared.cmp.Ordering.{Ordering}
-use Rattle.std.specs.Cmp.{IsEquivalence}
-use Rattle.std.specs.List.{AllByRecursion}
-use Rattle.range_keys.specs.Order.{KeyOrder, IsLawful, IsComplete}
-use Rattle.range_keys.specs.Position.{start_position, end_position, position_cmp}
-use Rattle.range_keys.specs.declared.inner.position.Position.{Position}
-use Rattle.range_keys.specs.declared.inner.position.Position.TheVariants.{Beside}
-use Rattle.range_keys.specs.declared.inner.position.Side.TheVariants.{At}
+use Rattle.range_map.proofs.Common.{Bound, Included, Excluded, Unbounded, Ordering, IsEquivalence, AllByRecursion, KeyOrder, IsLawful, IsComplete, start_position, end_position, position_cmp, Position, Beside, At, flipped, lower, upper, past, Le, Lt, Any, Every, Holds, IsKnownRange, IsKnownBound, IsEmptyRange, AnyRange, Item, IsBound, line_of, LiesIn, IsStored, item_lower}
 use Rattle.range_keys.proofs.BoundPositions.{starts_lie_at_starts, ends_lie_at_ends}
-use Rattle.range_algebra.specs.Compared.{flipped}
-use Rattle.range_algebra.specs.Cuts.{lower, upper, past}
-use Rattle.range_algebra.specs.Intervals.{Le, Lt, Any, Every}
 use Rattle.range_map.proofs.PlaceOrder.{le_refl, lt_le, eq_le, eq_ge, le_trans, lt_not_le, lt_trans, cases, le_lt_trans, lt_le_trans, not_le}
-use Rattle.range_algebra.specs.Range.{Holds, IsKnownRange, IsKnownBound, IsEmptyRange}
-use Rattle.range_algebra.specs.declared.any.AnyRange.{AnyRange}
 use Rattle.range_algebra.proofs.Canonical.{NotPast, IsBefore, KeyFrom, key_from}
 use Rattle.range_algebra.proofs.Completeness.{nonempty_holds}
 use Rattle.range_algebra.proofs.Holding.{holds_by_position}
 use Rattle.range_algebra.proofs.Meeting.{past_is_start}
 use Rattle.range_algebra.proofs.Places.{held_between, flipped_bound_is_past, reaching_is_before_past, flipped_known, unbounded_end}
-use Rattle.range_store.specs.declared.storage.Item.{Item}
-use Rattle.range_change.specs.Bindings.{IsBound}
-use Rattle.range_change.specs.Chains.{line_of}
-use Rattle.range_change.specs.Pieces.{LiesIn}
-use Rattle.range_change.specs.Stored.{IsStored, item_lower}
 use Rattle.range_map.specs.Together.{MeetNowhere, LieInside, ShareNoKey, BindKeysOf}
 use Rattle.range_change.proofs.Chains.{chain_above}
 use Rattle.range_change.proofs.RangePieces.{lies_in}

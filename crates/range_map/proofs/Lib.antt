@@ -1,3 +1,4 @@
+mod Common
 pub mod Appending
 pub mod AskedOfBoth
 pub mod BindingAll

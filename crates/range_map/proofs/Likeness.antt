@@ -1,32 +1,10 @@
 -- A clone of a range in the place of the range.
 use Rattle.std.proofs.Common.{◌≡◌, refl, ◌∙◌, Option, Some, None, Bool, false, IsTrue, List, ◌⊎◌, inl, inr, Result, map}
-use Rattle.std.specs.Fn.{Shared}
-use denote.Ref.{Bor}
-use Rattle.std.specs.declared.ops.Bound.{Bound}
-use Rattle.std.specs.declared.ops.Bound.TheVariants.{Included, Excluded, Unbounded}
-use Rattle.std.specs.declared.cmp.Ordering.{Ordering}
-use Rattle.std.specs.declared.cmp.Ordering.TheVariants.{Less, Equal, Greater}
-use Rattle.std.specs.Ordering.{is_gt}
-use Rattle.std.specs.Cmp.{tied_back}
-use Rattle.range_keys.specs.Order.{KeyOrder, IsLawful}
-use Rattle.range_keys.specs.Position.{start_position, end_position, position_cmp}
-use Rattle.range_keys.specs.PositionOrder.{position_total}
-use Rattle.range_keys.specs.declared.inner.position.Position.{Position}
-use Rattle.range_keys.specs.declared.inner.position.Position.TheVariants.{Beside}
-use Rattle.range_keys.specs.declared.inner.position.Side.TheVariants.{At}
+use Rattle.range_map.proofs.Common.{Shared, Bor, Bound, Included, Excluded, Unbounded, Ordering, Less, Equal, Greater, is_gt, tied_back, KeyOrder, IsLawful, start_position, end_position, position_cmp, position_total, Position, Beside, At, AnyRange, SameBound, same_start, same_end, starts_at_end, Holds, IsEmptyRange, every_weaker, Item, piece_of, FailsAt, IsUpdated, later, earlier, IsCommonPart, LiesIn, IsFreePart, IsPiece, Overlap}
 use Rattle.range_keys.proofs.Orderings.{eq_is_equal, not_both_greater_and_not}
-use Rattle.range_algebra.specs.declared.any.AnyRange.{AnyRange}
-use Rattle.range_algebra.specs.Clones.{SameBound, same_start, same_end}
-use Rattle.range_algebra.specs.Compared.{starts_at_end}
-use Rattle.range_algebra.specs.Range.{Holds, IsEmptyRange}
 use Rattle.range_map.proofs.PlaceOrder.{eq_le, eq_ge, le_trans, lt_le_trans, le_lt_trans, both}
-use Rattle.range_algebra.proofs.Lists.{every_weaker}
 use Rattle.range_algebra.proofs.Holding.{holds_by_position}
-use Rattle.range_store.specs.declared.storage.Item.{Item}
-use Rattle.range_change.specs.Answers.{piece_of, FailsAt, IsUpdated}
 use Rattle.range_change.specs.Frames.{IsMergedInto}
-use Rattle.range_change.specs.Pieces.{later, earlier, IsCommonPart, LiesIn, IsFreePart, IsPiece}
-use Rattle.range_change.specs.Lookups.{Overlap}
 use Rattle.range_change.proofs.RangePieces.{PLe, any_over, later_over, earlier_under, either_choice_holds}
 use Rattle.range_change.proofs.MergedItems.{way_follows}
 

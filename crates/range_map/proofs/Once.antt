@@ -1,20 +1,9 @@
 -- A list in stored form binds a key once.
 use Rattle.std.proofs.Common.{sym, ◌∙◌, Bool, IsTrue, List, [], ◌∷◌, inl, inr}
-use Rattle.std.specs.Cmp.{IsEquivalence}
-use Rattle.range_keys.specs.Order.{KeyOrder, IsLawful}
-use Rattle.range_keys.specs.declared.inner.position.Position.{Position}
-use Rattle.range_keys.specs.declared.inner.position.Position.TheVariants.{Beside}
-use Rattle.range_keys.specs.declared.inner.position.Side.TheVariants.{At}
-use Rattle.range_change.specs.Chains.{line_of}
+use Rattle.range_map.proofs.Common.{IsEquivalence, KeyOrder, IsLawful, Position, Beside, At, line_of, Le, Lt, Every, Holds, AnyRange, Item, BindsTo, item_lower, item_upper, IsStored}
 use Rattle.range_change.proofs.Chains.{chain_above, chain_tail}
-use Rattle.range_algebra.specs.Intervals.{Le, Lt, Every}
 use Rattle.range_map.proofs.PlaceOrder.{lt_not_le, le_trans}
-use Rattle.range_algebra.specs.Range.{Holds}
-use Rattle.range_algebra.specs.declared.any.AnyRange.{AnyRange}
 use Rattle.range_algebra.proofs.Places.{held_between}
-use Rattle.range_store.specs.declared.storage.Item.{Item}
-use Rattle.range_change.specs.Bindings.{BindsTo}
-use Rattle.range_change.specs.Stored.{item_lower, item_upper, IsStored}
 use Rattle.range_change.proofs.Forms.{places, Known, Chained, stored_known, stored_chain}
 
 module _ {K : Type 0} (order : KeyOrder K) (lawful : IsLawful order) {V : Type 0}

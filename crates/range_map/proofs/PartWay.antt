@@ -1,10 +1,6 @@
 -- A list that is gone over, and what holds of the part of it that is done.
 use Rattle.std.proofs.Common.{◌≡◌, refl, sym, ap, subst, ◌∙◌, append_assoc, List, [], ◌∷◌, ◌++◌}
-use Rattle.std.proofs.lemmas.List.{append-nil}
-use Rattle.range_keys.specs.Order.{KeyOrder}
-use Rattle.range_algebra.specs.declared.any.AnyRange.{AnyRange}
-use Rattle.range_store.specs.declared.storage.Item.{Item}
-use Rattle.range_map.specs.FreeRanges.{AreGaps}
+use Rattle.range_map.proofs.Common.{append-nil, KeyOrder, AnyRange, Item, AreGaps}
 use Rattle.range_map.specs.PartWay.{BeforeOne, BeforeOneGap}
 
 module _ {A : Type 0} where

@@ -1,33 +1,11 @@
 -- The pieces that are read off from the items that meet a range are its pieces.
 use Rattle.std.proofs.Common.{◌≡◌, refl, sym, ap, ◌∙◌, List, [], ◌∷◌, ◌++◌, ◌⊎◌, inl, inr, Option, Some, None, Bool, true, false, map, if◌then◌else◌, append_assoc}
-use Rattle.std.proofs.lemmas.List.{append-nil}
-use Rattle.std.specs.Cmp.{IsEquivalence, tied_itself, tied_back}
-use Rattle.std.specs.declared.ops.Bound.{Bound}
-use Rattle.std.specs.declared.ops.Bound.TheVariants.{Included, Excluded, Unbounded}
-use Rattle.std.specs.declared.cmp.Ordering.TheVariants.{Equal}
-use Rattle.range_keys.specs.Order.{KeyOrder, IsLawful}
-use Rattle.range_keys.specs.Position.{start_position, end_position, position_cmp}
-use Rattle.range_keys.specs.PositionOrder.{position_total}
-use Rattle.range_keys.specs.declared.inner.position.Position.{Position}
-use Rattle.range_algebra.specs.declared.any.AnyRange.{AnyRange}
+use Rattle.range_map.proofs.Common.{append-nil, IsEquivalence, tied_itself, tied_back, Bound, Included, Excluded, Unbounded, Equal, KeyOrder, IsLawful, start_position, end_position, position_cmp, position_total, Position, AnyRange, flipped, starts_past_end, past, Any, Every, IsEmptyRange, IsKnownBound, IsKnownRange, LiesBefore, any_left, any_right, every_weaker, every_append, every_left, every_right, Item, Answered, piece_of, line_of, Leads, Overlap, free_piece, bound_piece, free_between, pieces_from, IsCommonPart, IsFreePart, ArePieces, item_lower, IsStored}
 use Rattle.range_algebra.specs.Combined.{common}
-use Rattle.range_algebra.specs.Compared.{flipped, starts_past_end}
-use Rattle.range_algebra.specs.Cuts.{past}
-use Rattle.range_algebra.specs.Intervals.{Any, Every}
 use Rattle.range_map.proofs.PlaceOrder.{le_refl, lt_le, eq_le, eq_ge, le_trans, cases, not_le, not_lt, lt_le_trans}
-use Rattle.range_algebra.specs.Range.{IsEmptyRange, IsKnownBound, IsKnownRange}
-use Rattle.range_algebra.specs.Relations.{LiesBefore}
 use Rattle.range_algebra.proofs.Commons.{later_is, earlier_is}
-use Rattle.range_algebra.proofs.Lists.{any_left, any_right, every_weaker, every_append, every_left, every_right}
 use Rattle.range_algebra.proofs.Places.{reaching_is_before_past, flipped_bound_is_past, flipped_back, flipped_known, unbounded_start, unbounded_end}
-use Rattle.range_store.specs.declared.storage.Item.{Item}
-use Rattle.range_change.specs.Answers.{Answered, piece_of}
-use Rattle.range_change.specs.Chains.{line_of, Leads}
-use Rattle.range_change.specs.Lookups.{Overlap}
-use Rattle.range_map.specs.PieceLists.{free_piece, bound_piece, free_between, pieces_from}
 use Rattle.range_map.specs.Overlapping.{AreOverlapping}
-use Rattle.range_change.specs.Pieces.{IsCommonPart, IsFreePart, ArePieces}
-use Rattle.range_change.specs.Stored.{item_lower, IsStored}
 use Rattle.range_change.proofs.Chains.{chain_before, chain_right, follows_above}
 use Rattle.range_change.proofs.RangePieces.{PLe, PLt, Lo, Hi, IsFull, IsOpenPart, IsRight, IsInside, IsCutUpTo, cut_none, cut_more, cut_all, shared_is, common_within, any_end, any_with, any_use, every_with, free_apart, free_inside, common_place_is_not_clear}
 use Rattle.range_change.proofs.Forms.{Chained, before_is, stored_chain, stored_known, nonempty_good}

@@ -1,11 +1,6 @@
 -- The order of the places where ranges start and end, step by step.
 use Rattle.std.proofs.Common.{◌≡◌, ◌⊎◌}
-use Rattle.std.specs.declared.cmp.Ordering.TheVariants.{Equal}
-use Rattle.range_keys.specs.Order.{KeyOrder, IsLawful}
-use Rattle.range_keys.specs.Position.{position_cmp}
-use Rattle.range_keys.specs.PositionOrder.{position_total}
-use Rattle.range_keys.specs.declared.inner.position.Position.{Position}
-use Rattle.range_algebra.specs.Intervals.{Le, Lt}
+use Rattle.range_map.proofs.Common.{Equal, KeyOrder, IsLawful, position_cmp, position_total, Position, Le, Lt}
 use Rattle.range_algebra.specs.Orders
 
 module _ {K : Type 0} {order : KeyOrder K} (lawful : IsLawful order) where

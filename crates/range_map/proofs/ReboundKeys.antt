@@ -1,25 +1,9 @@
 -- What the keys of a piece are bound to, and what they come to be bound to by an answer to it.
 use Rattle.std.proofs.Common.{◌≡◌, refl, Bool, true, false, List, [], ◌∷◌, map, Option, Some, None, ◌↔◌, inl, inr}
 use Rattle.std.specs.Prelude.{Result, Ok, if◌then◌else◌}
-use denote.Ref.{Bor}
-use Rattle.std.specs.Fn.{Shared}
-use Rattle.std.specs.Cmp.{IsEquivalence}
-use Rattle.std.specs.Ordering.{is_gt}
-use Rattle.range_keys.specs.Order.{KeyOrder, IsLawful}
-use Rattle.range_keys.specs.Position.{position_cmp, start_position, end_position}
-use Rattle.range_keys.specs.declared.inner.position.Position.{Position}
-use Rattle.range_keys.specs.declared.inner.position.Position.TheVariants.{Beside}
-use Rattle.range_keys.specs.declared.inner.position.Side.TheVariants.{At}
-use Rattle.range_algebra.specs.Intervals.{Le, Any, Every}
+use Rattle.range_map.proofs.Common.{Bor, Shared, IsEquivalence, is_gt, KeyOrder, IsLawful, position_cmp, start_position, end_position, Position, Beside, At, Le, Any, Every, Holds, IsEmptyRange, AnyRange, Item, Answered, IsAsAnswered, MayAnswer, IsUpdated, piece_of, Binds, BindsTo, IsBound, IsPiece, IsCommonPart, later, earlier, Overlap}
 use Rattle.range_map.proofs.PlaceOrder.{eq_le, eq_ge, le_refl, le_trans, lt_not_le, not_lt}
-use Rattle.range_algebra.specs.Range.{Holds, IsEmptyRange}
-use Rattle.range_algebra.specs.declared.any.AnyRange.{AnyRange}
 use Rattle.range_algebra.proofs.Holding.{holds_by_position, empty_is_keyless}
-use Rattle.range_store.specs.declared.storage.Item.{Item}
-use Rattle.range_change.specs.Answers.{Answered, IsAsAnswered, MayAnswer, IsUpdated, piece_of}
-use Rattle.range_change.specs.Bindings.{Binds, BindsTo, IsBound}
-use Rattle.range_change.specs.Pieces.{IsPiece, IsCommonPart, later, earlier}
-use Rattle.range_change.specs.Lookups.{Overlap}
 use Rattle.range_map.specs.Rebinding.{IsRebound, AreRebound}
 
 module _ {K : Type 0} (order : KeyOrder K) (lawful : IsLawful order) (k : K)

@@ -1,20 +1,10 @@
 -- Which items of a list are kept, one answer after the other.
 use Rattle.std.proofs.Common.{◌≡◌, ◌∙◌, refl, sym, ap, ℕ, ◌+◌, ◌-◌, ◌<◌, ◌≤◌, Bool, true, false, IsTrue, List, [], ◌∷◌, ◌++◌, length, ◌↔◌, inl, inr, Option, Some, None, arith, subst}
 use Rattle.std.specs.Prelude.{remove, slice_index_or}
-use Rattle.std.specs.List.{items_where_true}
+use Rattle.range_map.proofs.Common.{items_where_true, IsEquivalence, length-append, length_push, append_assoc, append-nil, remove-append_right, KeyOrder, IsLawful, Every, AnyRange, Item, IsBound, BindsTo, Binds, Line, Follows, IsChain, line_of, IsStored}
 use Rattle.std.specs.List.Retain.{ReturnsInTurn}
-use Rattle.std.specs.Cmp.{IsEquivalence}
-use Rattle.std.proofs.lemmas.List.{length-append, length_push, append_assoc, append-nil}
-use Rattle.std.proofs.lemmas.List.Edits.{remove-append_right}
-use Rattle.range_keys.specs.Order.{KeyOrder, IsLawful}
-use Rattle.range_algebra.specs.Intervals.{Every}
 use Rattle.range_algebra.specs.Orders.{le_lt_trans, lt_le_trans}
-use Rattle.range_algebra.specs.declared.any.AnyRange.{AnyRange}
-use Rattle.range_store.specs.declared.storage.Item.{Item}
-use Rattle.range_change.specs.Bindings.{IsBound, BindsTo, Binds}
-use Rattle.range_change.specs.Chains.{Line, Follows, IsChain, line_of}
 use Rattle.range_map.specs.Retaining.{BindOnlyAsBefore}
-use Rattle.range_change.specs.Stored.{IsStored}
 use Rattle.range_change.proofs.Chains.{strictly_leads}
 use Rattle.range_change.proofs.Forms.{stored_known, stored_chain, chain_stored}
 use Rattle.range_map.proofs.Once.{bound_once}

@@ -1,24 +1,9 @@
 -- Two lists of ranges in one pass over both: what the first ranges say of all.
 use Rattle.std.proofs.Common.{◌≡◌, sym, ◌∙◌, ◌<◌, ◌↔◌, inl, inr, Bool, Option, Some, None, List, [], ◌∷◌, ◌++◌, length, arith}
 use Rattle.std.specs.Prelude.{MatchOption}
-use Rattle.std.specs.Option.{option_map}
-use denote.Ref.{Bor}
-use Rattle.std.specs.declared.cmp.Ordering.{Ordering}
-use Rattle.range_keys.specs.Order.{KeyOrder, IsLawful}
-use Rattle.range_keys.specs.Position.{start_position, end_position, position_cmp}
-use Rattle.range_keys.specs.declared.inner.position.Position.{Position}
+use Rattle.range_map.proofs.Common.{option_map, Bor, Ordering, KeyOrder, IsLawful, start_position, end_position, position_cmp, Position, Le, Any, Every, IsEmptyRange, LiesBefore, AnyRange, any_none, every_weaker, Item, shown_item, Overlap, MeetsSome, LiesIn, IsStored}
 use Rattle.range_keys.proofs.Orderings.{not_greater}
-use Rattle.range_algebra.specs.Intervals.{Le, Any, Every}
 use Rattle.range_map.proofs.PlaceOrder.{le_trans, lt_le, lt_not_le, lt_le_trans}
-use Rattle.range_algebra.specs.Range.{IsEmptyRange}
-use Rattle.range_algebra.specs.Relations.{LiesBefore}
-use Rattle.range_algebra.specs.declared.any.AnyRange.{AnyRange}
-use Rattle.range_algebra.proofs.Lists.{any_none, every_weaker}
-use Rattle.range_store.specs.declared.storage.Item.{Item}
-use Rattle.range_map.specs.Iteration.{shown_item}
-use Rattle.range_change.specs.Lookups.{Overlap, MeetsSome}
-use Rattle.range_change.specs.Pieces.{LiesIn}
-use Rattle.range_change.specs.Stored.{IsStored}
 use Rattle.range_map.specs.Together.{MeetNowhere, LieInside}
 use Rattle.range_change.specs.Window.{option_items}
 use Rattle.range_change.proofs.Listed.{IsListed, stored_list_is_listed}

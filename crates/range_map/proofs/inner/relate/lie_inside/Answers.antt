@@ -1,7 +1,5 @@
-use Rattle.std.proofs.lemmas.Bool.{false≢true}
+use Rattle.range_map.proofs.Common.{false≢true, LiesBefore, LiesIn}
 use Rattle.std.proofs.Common.{◌∙◌, arith}
-use Rattle.range_algebra.specs.Relations.{LiesBefore}
-use Rattle.range_change.specs.Pieces.{LiesIn}
 use Rattle.range_map.proofs.Together.{stepped, drained, shorter, inside_begins, inside_goes_left, inside_goes_right, not_inside}
 use Rattle.range_change.proofs.Tests.{not_both}
 use Rattle.range_map.proofs.inner.relate.lie_inside.Goals as goal

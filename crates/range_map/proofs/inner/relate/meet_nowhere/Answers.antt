@@ -1,6 +1,5 @@
-use Rattle.std.proofs.lemmas.Bool.{false≢true}
+use Rattle.range_map.proofs.Common.{false≢true, LiesBefore}
 use Rattle.std.proofs.Common.{◌∙◌, refl, arith}
-use Rattle.range_algebra.specs.Relations.{LiesBefore}
 use Rattle.range_map.proofs.Together.{stepped, drained, shorter, apart_begins, apart_goes_left, apart_goes_right, not_apart, apart_none_left, apart_none_right}
 use Rattle.range_change.proofs.Tests.{not_both}
 use Rattle.range_map.proofs.inner.relate.meet_nowhere.Goals as goal

@@ -1,6 +1,5 @@
 use Rattle.std.proofs.Common.{◌≡◌, ◌+◌, ◌++◌, length, [], None}
-use Rattle.std.specs.Option.{option_map}
-use Rattle.range_map.specs.Iteration.{shown_item}
+use Rattle.range_map.proofs.Common.{option_map, shown_item}
 use Rattle.range_change.specs.Window.{option_items}
 use Rattle.range_map.proofs.Together.{IsApartUnless}
 use Rattle.range_map.proofs.inner.relate.meet_nowhere.Given as goal

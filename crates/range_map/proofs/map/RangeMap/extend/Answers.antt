@@ -1,6 +1,5 @@
 use Rattle.std.proofs.Common.{◌∷◌, [], map, rules}
-use Rattle.std.proofs.lemmas.List.{map-append}
-use Rattle.range_map.specs.Extending.{item_of}
+use Rattle.range_map.proofs.Common.{map-append, item_of}
 use Rattle.range_map.proofs.Extending.{none_bound_after, one_bound_after}
 use Rattle.range_change.proofs.Results.{on_error}
 use Rattle.range_map.proofs.StoredLists.{stored_coarse, stored_only}

@@ -1,11 +1,6 @@
 use Rattle.std.proofs.Common.{sym, ◌∙◌}
-use Rattle.std.specs.Cmp.{Equal-is, tied_back}
-use Rattle.range_algebra.specs.Clones.{range_clone}
-use Rattle.range_algebra.specs.RangeOrder.{range_total}
-use Rattle.range_algebra.specs.declared.any.AnyRange.{AnyRange}
-use Rattle.range_store.specs.declared.storage.Item.{Item}
+use Rattle.range_map.proofs.Common.{Equal-is, tied_back, range_clone, range_total, AnyRange, Item, IsOverlaid}
 use Rattle.range_change.proofs.Results.{on_error}
-use Rattle.range_map.specs.Overlays.{IsOverlaid}
 use Rattle.range_map.proofs.InPlace.{none_over, one_over}
 use Rattle.range_map.proofs.PartWay.{set_out, one_done, stopped, arrived}
 use Rattle.range_map.proofs.StoredLists.{stored_coarse, stored_only}

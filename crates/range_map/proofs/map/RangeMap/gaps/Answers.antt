@@ -1,6 +1,5 @@
 use Rattle.std.proofs.Common.{◌+◌, ◌≤◌, Some, sym, subst, length, ◌++◌}
-use Rattle.std.specs.declared.ops.Bound.TheVariants.{Unbounded}
-use Rattle.range_map.specs.FreeRanges.{free_from, item_ranges, AreGaps, IsHeldOnce}
+use Rattle.range_map.proofs.Common.{Unbounded, free_from, item_ranges, AreGaps, IsHeldOnce}
 use Rattle.range_map.proofs.FreeParts.{few_free}
 use Rattle.range_map.proofs.FreeParts.{gaps_are, held_once, stored_row}
 use Rattle.range_map.proofs.map.RangeMap.gaps.Goals as goal

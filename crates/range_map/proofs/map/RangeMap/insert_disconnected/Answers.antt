@@ -1,9 +1,5 @@
-use Rattle.std.proofs.lemmas.Grind.{common_steps}
+use Rattle.range_map.proofs.Common.{common_steps, length-insert, IsEmptyRange, IsBoundAfter, IsPutInto, MeetAlso}
 use Rattle.std.proofs.Common.{OnOk, OnErr, Ok, Err, Result, List, ◌≡◌, ◌+◌, ◌≤◌, length, refl, ap, arith, subst}
-use Rattle.std.proofs.lemmas.List.Edits.{length-insert}
-use Rattle.range_algebra.specs.Range.{IsEmptyRange}
-use Rattle.range_change.specs.Bindings.{IsBoundAfter}
-use Rattle.range_change.specs.Lookups.{IsPutInto, MeetAlso}
 use Rattle.range_change.proofs.CoveredPlaces.{on_ok}
 use Rattle.range_map.proofs.StoredLists.{stored_coarse, stored_only}
 use Rattle.range_map.proofs.map.RangeMap.insert_disconnected.Goals as goal

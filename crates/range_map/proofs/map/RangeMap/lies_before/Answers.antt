@@ -1,7 +1,5 @@
 use Rattle.std.proofs.Common.{◌≡◌, refl, List, ◌∷◌, []}
-use Rattle.range_algebra.specs.Intervals.{Every}
-use Rattle.range_algebra.specs.Relations.{LiesBefore}
-use Rattle.range_map.specs.Iteration.{shown_item}
+use Rattle.range_map.proofs.Common.{Every, LiesBefore, shown_item}
 use Rattle.range_map.proofs.Appending.{ends_tell}
 use Rattle.range_map.proofs.map.RangeMap.lies_before.Goals as goal
 

@@ -1,6 +1,5 @@
 use Rattle.std.proofs.Common.{ap}
-use Rattle.range_keys.specs.Position.{bound_of, start_position, end_position}
-use Rattle.range_algebra.specs.Range.{IsEmptyRange}
+use Rattle.range_map.proofs.Common.{bound_of, start_position, end_position, IsEmptyRange}
 use Rattle.range_change.proofs.Overlaps.{binding_meets, meeting_binds}
 use Rattle.range_map.proofs.Overlapping.{overlapping_found, none_shown, all_shown}
 use Rattle.range_map.proofs.map.RangeMap.met_by.Goals as goal

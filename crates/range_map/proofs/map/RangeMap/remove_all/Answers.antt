@@ -1,7 +1,5 @@
-use Rattle.range_algebra.specs.declared.any.AnyRange.{AnyRange}
-use Rattle.range_store.specs.declared.storage.Item.{Item}
+use Rattle.range_map.proofs.Common.{AnyRange, Item, IsWithout}
 use Rattle.range_change.proofs.Results.{on_error}
-use Rattle.range_map.specs.Overlays.{IsWithout}
 use Rattle.range_map.proofs.InPlace.{none_without, one_without}
 use Rattle.range_map.proofs.PartWay.{set_out, one_done, stopped, arrived}
 use Rattle.range_map.proofs.StoredLists.{stored_coarse, stored_only}

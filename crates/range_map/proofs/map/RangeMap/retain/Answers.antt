@@ -1,6 +1,5 @@
 use Rattle.std.proofs.Common.{◌≡◌, ◌∙◌, ◌+◌, ◌<◌, ap, arith, length}
-use Rattle.std.proofs.lemmas.List.Edits.{length-remove}
-use Rattle.range_store.specs.Places.{place_before}
+use Rattle.range_map.proofs.Common.{length-remove, place_before}
 use Rattle.range_store.proofs.Places.{place_at}
 use Rattle.range_map.specs.Retaining.{CalledAtItem}
 use Rattle.range_map.proofs.Retaining.{retaining_starts, kept_next, removed_next, retained, kept_stored, kept_as_before, fewer_kept}

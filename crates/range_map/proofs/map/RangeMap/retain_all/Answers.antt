@@ -1,8 +1,5 @@
 use Rattle.std.proofs.Common.{sym, ◌∙◌}
-use Rattle.std.specs.Cmp.{Equal-is, tied_back}
-use Rattle.range_algebra.specs.Clones.{range_clone}
-use Rattle.range_algebra.specs.RangeOrder.{range_total}
-use Rattle.range_algebra.specs.References.{range_of}
+use Rattle.range_map.proofs.Common.{Equal-is, tied_back, range_clone, range_total, range_of}
 use Rattle.range_change.proofs.Results.{on_error}
 use Rattle.range_map.specs.PartWay.{AreUnboundAfter}
 use Rattle.range_map.proofs.InPlace.{none_unbound, one_unbound, all_kept}

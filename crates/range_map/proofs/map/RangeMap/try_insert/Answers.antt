@@ -1,10 +1,7 @@
-use Rattle.std.proofs.lemmas.Grind.{common_steps}
+use Rattle.range_map.proofs.Common.{common_steps, IsEmptyRange, IsBoundAfter, MeetAlso}
 use Rattle.std.proofs.Common.{OnOk, refl, arith, subst}
-use Rattle.range_algebra.specs.Range.{IsEmptyRange}
-use Rattle.range_change.specs.Bindings.{IsBoundAfter}
 use Rattle.range_change.specs.Changes.{IsInserted}
 use Rattle.range_change.specs.Frames.{IsInsertionFrame}
-use Rattle.range_change.specs.Lookups.{MeetAlso}
 use Rattle.range_change.proofs.CoveredPlaces.{on_ok}
 use Rattle.range_change.proofs.Freeing.{form_after}
 use Rattle.range_map.proofs.StoredLists.{stored_coarse, stored_only}

@@ -1,9 +1,5 @@
-use Rattle.std.proofs.lemmas.Grind.{common_steps}
+use Rattle.range_map.proofs.Common.{common_steps, Equal-is, bound_clone, IsEmptyRange, MayAnswer, IsUpdated}
 use Rattle.std.proofs.Common.{sym, refl, ◌∙◌, arith}
-use Rattle.std.specs.Cmp.{Equal-is}
-use Rattle.range_algebra.specs.Clones.{bound_clone}
-use Rattle.range_algebra.specs.Range.{IsEmptyRange}
-use Rattle.range_change.specs.Answers.{MayAnswer, IsUpdated}
 use Rattle.range_change.proofs.CoveredPlaces.{on_ok}
 use Rattle.range_map.proofs.Likeness.{clone_empty, updated_too, fails_too}
 use Rattle.range_change.specs.Frames.{IsUpdateFrame}

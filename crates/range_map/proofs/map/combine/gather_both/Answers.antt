@@ -1,11 +1,5 @@
 use Rattle.std.proofs.Common.{◌∙◌, sym, ◌++◌, rules}
-use Rattle.std.specs.Cmp.{Equal-is}
-use Rattle.std.specs.Option.{option_copied, option_map}
-use Rattle.range_algebra.specs.Clones.{bound_clone}
-use Rattle.range_algebra.specs.Cuts.{lower, upper}
-use Rattle.range_algebra.specs.References.{range_of}
-use Rattle.range_map.specs.Combining.{MayAnswerBoth}
-use Rattle.range_map.specs.FreeRanges.{full_range}
+use Rattle.range_map.proofs.Common.{Equal-is, option_copied, option_map, bound_clone, lower, upper, range_of, MayAnswerBoth, full_range}
 use Rattle.range_map.specs.Merged.{part_item}
 use Rattle.range_change.specs.Window.{option_items}
 use Rattle.range_map.proofs.Combination.{combined_none, combined_more, combined_all, is_shared, asked_of_part}

@@ -1,13 +1,8 @@
 use Rattle.std.proofs.Common.{◌≡◌, ◌∙◌, sym, ap, ◌∷◌, ◌++◌, [], length, map, subst, arith, append_assoc}
-use Rattle.std.proofs.lemmas.List.{map-append}
+use Rattle.range_map.proofs.Common.{map-append, lower, BindAlike, item_upper, item_of, full_range}
 use Rattle.std.proofs.lemmas.Result.{IfOk-weaker}
-use Rattle.range_algebra.specs.Cuts.{lower}
 use Rattle.range_map.proofs.PlaceOrder.{le_refl}
-use Rattle.range_change.specs.Bindings.{BindAlike}
-use Rattle.range_change.specs.Stored.{item_upper}
 use Rattle.range_change.proofs.OuterBounds.{prefix_is_all}
-use Rattle.range_map.specs.Extending.{item_of}
-use Rattle.range_map.specs.FreeRanges.{full_range}
 use Rattle.range_map.proofs.Joining.{built_more, built_none}
 use Rattle.range_map.proofs.Sorting.{sorted_rises}
 use Rattle.range_map.proofs.map.from_sorted.build.Goals as goal

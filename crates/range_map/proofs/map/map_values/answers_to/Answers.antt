@@ -1,8 +1,5 @@
 use Rattle.std.proofs.Common.{◌≡◌, ◌∙◌, sym, [], rules, Err}
-use Rattle.std.specs.Cmp.{Equal-is}
-use Rattle.std.specs.Fn.{FnReturnsAt}
-use Rattle.range_algebra.specs.Cuts.{lower}
-use Rattle.range_map.specs.FreeRanges.{full_range}
+use Rattle.range_map.proofs.Common.{Equal-is, FnReturnsAt, lower, full_range}
 use Rattle.range_map.specs.Merged.{part_item}
 use Rattle.range_map.proofs.Joining.{built_none, stored_rises}
 use Rattle.range_map.proofs.MappedValues.{first_left, mapped_more}

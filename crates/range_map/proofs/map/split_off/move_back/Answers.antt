@@ -1,14 +1,7 @@
 use Rattle.std.proofs.Common.{rules, ◌≡◌, ◌∙◌, ℕ, ◌+◌, ◌≤◌, ◌<◌, refl, sym, ap, subst, List, length, ◌++◌, ◌∷◌, [], arith}
-use Rattle.std.specs.List.{insert}
-use Rattle.std.specs.declared.ops.Bound.TheVariants.{Included}
-use Rattle.std.proofs.lemmas.List.{append_assoc, append-nil, length-append}
-use Rattle.std.proofs.lemmas.List.Edits.{insert_end}
-use Rattle.range_keys.specs.Position.{start_position}
-use Rattle.range_algebra.specs.Intervals.{Le, Lt, Every}
+use Rattle.range_map.proofs.Common.{insert, Included, append_assoc, append-nil, length-append, insert_end, start_position, Le, Lt, Every, place_before, item_lower}
 use Rattle.range_map.proofs.PlaceOrder.{not_lt}
-use Rattle.range_store.specs.Places.{place_before}
 use Rattle.range_store.proofs.Places.{place_at}
-use Rattle.range_change.specs.Stored.{item_lower}
 use Rattle.range_change.proofs.Forms.{places}
 use Rattle.range_map.proofs.Splitting.{last_same}
 use Rattle.range_map.proofs.map.split_off.move_back.Goals as goal

@@ -1,7 +1,6 @@
 use Rattle.std.proofs.Common.{subst, rules, ◌≡◌, ◌∷◌}
 use Rattle.std.specs.Prelude.{IsOk}
-use Rattle.range_algebra.specs.declared.any.AnyRange.{AnyRange}
-use Rattle.range_store.specs.declared.storage.Item.{Item}
+use Rattle.range_map.proofs.Common.{AnyRange, Item}
 use Rattle.range_map.proofs.WrittenItems.{HasShown, shown_none, shown_more}
 use Rattle.range_map.proofs.map.text.write_items.Goals as goal
 

@@ -1,7 +1,5 @@
 use Rattle.std.proofs.Common.{rules, ap, ◌∙◌}
-use Rattle.std.specs.List.{fold}
-use Rattle.std.specs.Ordering.{is_eq}
-use Rattle.range_map.specs.ListOrder.{lists_fed}
+use Rattle.range_map.proofs.Common.{fold, is_eq, lists_fed}
 use Rattle.range_map.proofs.StoredLists.{stored_equal}
 use Rattle.range_map.proofs.map.compare.RangeMapHash.hash.Goals as goal
 
