@@ -2,6 +2,7 @@ use Rattle.range_map.proofs.Common.{common_steps, length-insert, IsEmptyRange, I
 use Rattle.std.proofs.Common.{OnOk, OnErr, Ok, Err, Result, List, ◌≡◌, ◌+◌, ◌≤◌, length, refl, ap, arith, subst}
 use Rattle.range_change.proofs.CoveredPlaces.{on_ok}
 use Rattle.range_map.proofs.StoredLists.{stored_coarse, stored_only}
+use Rattle.range_change.proofs.Tests.{not_both}
 use Rattle.range_map.proofs.map.RangeMap.insert_disconnected.Goals as goal
 
 -- putting one item in adds one
@@ -21,17 +22,12 @@ returns g c =
     let met : OnOk c.bind_apart.result (MeetAlso order items new range) =
     subst (λ r. OnOk c.bind_apart.result (MeetAlso order items new r))
     c.into_range-range.ensures c.bind_apart.ensures.meets in
+    let empty_is = rw c.into_range-range.ensures at c.is_empty.ensures.by_position in
     record {
       connected = grind (arith, common_steps);
       given = grind (arith, common_steps);
       put = grind (arith, common_steps);
-      bound =
-          rw (← c.self.view_is) (subst
-          (λ r. OnOk c.bind_apart.result
-          (IsBoundAfter g.K.MaybeBounded.order g.V.PartialEq.eq
-          (g.C.Storage.items c.self.inside.stored)
-          (g.C.Storage.items c.bind_apart.new.stored) r c.args.value)) c.into_range-range.ensures
-          c.bind_apart.ensures.bound);
+      bound = rw (← c.self.view_is) (rw c.into_range-range.ensures at c.bind_apart.ensures.bound);
       meets =
           rw (← c.self.view_is) (on_ok (MeetAlso order items new range)
           ((IsEmptyRange order range → ⊥) → MeetAlso order items new range) c.bind_apart.result
@@ -44,30 +40,19 @@ returns g c =
           (g.C.Storage.items c.bind_apart.new.stored) _ c.bind_apart.ensures.put
           c.bind_apart.ensures.refused);
       refused = rw (← c.self.view_is) c.bind_apart.ensures.refused;
-      empty = λ empty. let told =
-          c.is_empty.ensures.by_position.1 (rw c.into_range-range.ensures empty) in let not =
-          c.if-is_empty.false in absurd (cc);
-      empty_unchanged = λ empty. let told =
-          c.is_empty.ensures.by_position.1 (rw c.into_range-range.ensures empty) in let not =
-          c.if-is_empty.false in absurd (cc);
+      empty = λ e. absurd (not_both c.if-is_empty.false (empty_is.1 e));
+      empty_unchanged = λ e. absurd (not_both c.if-is_empty.false (empty_is.1 e));
     }
 
 pub returns-then-is_empty : goal.returns-then-is_empty
 returns-then-is_empty g c =
+    let empty_is = rw c.into_range-range.ensures at c.is_empty.ensures.by_position in
     record {
       connected = grind (arith, common_steps);
       given = tt;
-      put =
-          λ full.
-          absurd
-          (full (rw (← c.into_range-range.ensures)
-          (c.is_empty.ensures.by_position.0 c.if-is_empty.true)));
+      put = λ full. absurd (full (empty_is.0 c.if-is_empty.true));
       bound = grind (arith, common_steps);
-      meets =
-          λ full.
-          absurd
-          (full (rw (← c.into_range-range.ensures)
-          (c.is_empty.ensures.by_position.0 c.if-is_empty.true)));
+      meets = λ full. absurd (full (empty_is.0 c.if-is_empty.true));
       form = c.in_form.ensures;
       coarse = stored_coarse g.met.K.PartialEnum.lawful g.met.V.Eq.laws _ c.in_form.ensures;
       only = stored_only g.met.K.PartialEnum.lawful g.met.V.Eq.laws _ c.in_form.ensures;
@@ -81,6 +66,5 @@ pub bind_apart-requires : goal.bind_apart-requires
 bind_apart-requires g c =
     record {
       stored = rw c.self.view_is c.in_form.ensures;
-      nonempty = λ empty. let told = c.is_empty.ensures.by_position.1 empty in let not =
-          c.if-is_empty.false in cc;
+      nonempty = λ e. not_both c.if-is_empty.false (c.is_empty.ensures.by_position.1 e);
     }

@@ -5,14 +5,14 @@ use Rattle.range_change.specs.Frames.{IsInsertionFrame}
 use Rattle.range_change.proofs.CoveredPlaces.{on_ok}
 use Rattle.range_change.proofs.Freeing.{form_after}
 use Rattle.range_map.proofs.StoredLists.{stored_coarse, stored_only}
+use Rattle.range_change.proofs.Tests.{not_both}
 use Rattle.range_map.proofs.map.RangeMap.try_insert.Goals as goal
 
 pub bind_where_free-requires : goal.bind_where_free-requires
 bind_where_free-requires g c =
     record {
       stored = rw c.self.view_is c.in_form.ensures;
-      nonempty = λ empty. let told = c.is_empty.ensures.by_position.1 empty in let not =
-          c.if-is_empty.false in cc;
+      nonempty = λ e. not_both c.if-is_empty.false (c.is_empty.ensures.by_position.1 e);
     }
 
 pub invariant_of-self : goal.invariant_of-self
@@ -36,6 +36,7 @@ returns g c =
     form_after order same c.bind_where_free.result items new c.into_range-range.result
     c.args.value c.bind_where_free.ensures.ok c.bind_where_free.ensures.refused
     c.self.invariant in
+    let empty_is = rw c.into_range-range.ensures at c.is_empty.ensures.by_position in
     record {
       occupied = grind (arith, common_steps);
       given = grind (arith, common_steps);
@@ -56,30 +57,19 @@ returns g c =
       coarse = stored_coarse g.met.K.PartialEnum.lawful g.met.V.Eq.laws _ form;
       only = stored_only g.met.K.PartialEnum.lawful g.met.V.Eq.laws _ form;
       refused = rw (← c.self.view_is) c.bind_where_free.ensures.refused;
-      empty = λ empty. let told =
-          c.is_empty.ensures.by_position.1 (rw c.into_range-range.ensures empty) in let not =
-          c.if-is_empty.false in absurd (cc);
-      empty_unchanged = λ empty. let told =
-          c.is_empty.ensures.by_position.1 (rw c.into_range-range.ensures empty) in let not =
-          c.if-is_empty.false in absurd (cc);
+      empty = λ e. absurd (not_both c.if-is_empty.false (empty_is.1 e));
+      empty_unchanged = λ e. absurd (not_both c.if-is_empty.false (empty_is.1 e));
     }
 
 pub returns-then-is_empty : goal.returns-then-is_empty
 returns-then-is_empty g c =
+    let empty_is = rw c.into_range-range.ensures at c.is_empty.ensures.by_position in
     record {
       occupied = grind (arith, common_steps);
       given = tt;
       bound = grind (arith, common_steps);
-      frame =
-          λ full.
-          absurd
-          (full (rw (← c.into_range-range.ensures)
-          (c.is_empty.ensures.by_position.0 c.if-is_empty.true)));
-      meets =
-          λ full.
-          absurd
-          (full (rw (← c.into_range-range.ensures)
-          (c.is_empty.ensures.by_position.0 c.if-is_empty.true)));
+      frame = λ full. absurd (full (empty_is.0 c.if-is_empty.true));
+      meets = λ full. absurd (full (empty_is.0 c.if-is_empty.true));
       form = c.in_form.ensures;
       coarse = stored_coarse g.met.K.PartialEnum.lawful g.met.V.Eq.laws _ c.in_form.ensures;
       only = stored_only g.met.K.PartialEnum.lawful g.met.V.Eq.laws _ c.in_form.ensures;

@@ -10,6 +10,7 @@ use Rattle.range_change.proofs.UpdatedLists.{updated_stands}
 use Rattle.range_map.proofs.ReboundKeys.{update_rebinds, none_rebound}
 use Rattle.range_map.proofs.StoredLists.{stored_coarse, stored_only}
 use Rattle.range_change.proofs.Results.{error_has_no_value, on_error}
+use Rattle.range_change.proofs.Tests.{not_both}
 use Rattle.range_map.proofs.map.RangeMap.update.Goals as goal
 
 pub update_pieces-requires : goal.update_pieces-requires
@@ -89,10 +90,9 @@ returns g c =
           (fails_too order lawful r s start end same g.F.Fn c.args.f items e
           (c.update_pieces.ensures.closure e failed));
       refused = rw (← c.self.view_is) c.update_pieces.ensures.refused;
-      empty = λ empty. let told = c.is_empty.ensures.by_position.1 empty in let not =
-          c.if-is_empty.false in absurd (cc);
-      empty_unchanged = λ empty. let told = c.is_empty.ensures.by_position.1 empty in let not =
-          c.if-is_empty.false in absurd (cc);
+      empty = λ e. absurd (not_both c.if-is_empty.false (c.is_empty.ensures.by_position.1 e));
+      empty_unchanged =
+          λ e. absurd (not_both c.if-is_empty.false (c.is_empty.ensures.by_position.1 e));
     }
 
 pub returns-then-is_empty : goal.returns-then-is_empty
@@ -128,7 +128,6 @@ returns-in_err-range g c =
       only = stored_only g.met.K.PartialEnum.lawful g.met.V.Eq.laws _ c.in_form.ensures;
       closure = grind (arith, common_steps);
       refused = on_error _ c.from_residual.result refl;
-      empty = λ empty. let told = c.is_empty.ensures.by_position.1 empty in let not =
-          c.if-is_empty.false in absurd (cc);
+      empty = λ e. absurd (not_both c.if-is_empty.false (c.is_empty.ensures.by_position.1 e));
       empty_unchanged = λ _. refl;
     }
