@@ -45,9 +45,7 @@ loop-range-preserved g c =
     record { key = range; value = value } in
     record {
       way =
-          one_done (λ front. IsOverlaid order same first front before)
-          (λ front. IsOverlaid order same first front after) others c.loop-range.items
-          c.next.new.self item c.in-Some.ensures.steps
+          one_done {Q = λ front. IsOverlaid order same first front after} c.in-Some.ensures.steps
           (λ done split so_far. one_over order same lawful g.met.V.Eq.laws others
           (rw (← c.iter-items.ensures.items) c.iter-items.ensures.form) done c.next.new.self item
           split first before after copy put alike
@@ -60,38 +58,19 @@ loop-range-preserved g c =
 
 pub returns-clause-bound : goal.returns-clause-bound
 returns-clause-bound g c =
-    let first = g.C.Storage.items c.args.self.now in
-    let now = g.C.Storage.items c.loop-range.self in
-    arrived (λ front. IsOverlaid g.K.MaybeBounded.order g.V.PartialEq.eq first front now)
-    (g.D.Storage.items c.args.other.now) c.loop-range.items c.in_default.ensures.steps.0
-    c.loop-range.invariant.way
+    arrived c.in_default.ensures.steps.0 c.loop-range.invariant.way
 
 pub returns-in_err-clone-clause-refused : goal.returns-in_err-clone-clause-refused
 returns-in_err-clone-clause-refused g c =
-    let first = g.C.Storage.items c.args.self.now in
-    let now = g.C.Storage.items c.loop-range.self in
-    on_error _ c.from_residual.result (stopped
-    (λ front. IsOverlaid g.K.MaybeBounded.order g.V.PartialEq.eq first front now)
-    (g.D.Storage.items c.args.other.now) c.loop-range.items c.next.new.self
-    (record { key = c.in-Some.range.now; value = c.in-Some.value.now }) c.in-Some.ensures.steps
-    c.loop-range.invariant.way)
+    on_error _ c.from_residual.result
+    (stopped c.in-Some.ensures.steps c.loop-range.invariant.way)
 
 pub returns-in_err-clone-2-clause-refused : goal.returns-in_err-clone-2-clause-refused
 returns-in_err-clone-2-clause-refused g c =
-    let first = g.C.Storage.items c.args.self.now in
-    let now = g.C.Storage.items c.loop-range.self in
-    on_error _ c.from_residual-in_err-clone-2.result (stopped
-    (λ front. IsOverlaid g.K.MaybeBounded.order g.V.PartialEq.eq first front now)
-    (g.D.Storage.items c.args.other.now) c.loop-range.items c.next.new.self
-    (record { key = c.in-Some.range.now; value = c.in-Some.value.now }) c.in-Some.ensures.steps
-    c.loop-range.invariant.way)
+    on_error _ c.from_residual-in_err-clone-2.result
+    (stopped c.in-Some.ensures.steps c.loop-range.invariant.way)
 
 pub returns-in_err-insert-clause-refused : goal.returns-in_err-insert-clause-refused
 returns-in_err-insert-clause-refused g c =
-    let first = g.C.Storage.items c.args.self.now in
-    let now = g.C.Storage.items c.loop-range.self in
-    rw c.in_err-insert.ensures.refused (on_error _ c.from_residual-in_err-insert.result (stopped
-    (λ front. IsOverlaid g.K.MaybeBounded.order g.V.PartialEq.eq first front now)
-    (g.D.Storage.items c.args.other.now) c.loop-range.items c.next.new.self
-    (record { key = c.in-Some.range.now; value = c.in-Some.value.now }) c.in-Some.ensures.steps
-    c.loop-range.invariant.way))
+    rw c.in_err-insert.ensures.refused (on_error _ c.from_residual-in_err-insert.result
+    (stopped c.in-Some.ensures.steps c.loop-range.invariant.way))

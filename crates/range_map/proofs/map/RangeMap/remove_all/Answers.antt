@@ -31,9 +31,7 @@ loop-range-preserved g c =
     record { key = c.in-Some.range.now; value = c.in-Some.field-0-1.now } in
     record {
       way =
-          one_done (λ front. IsWithout order same first front before)
-          (λ front. IsWithout order same first front after) (g.D.Storage.items c.args.other.now)
-          c.loop-range.items c.next.new.self item c.in-Some.ensures.steps
+          one_done {Q = λ front. IsWithout order same first front after} c.in-Some.ensures.steps
           (λ done split so_far. one_without order same g.met.K.PartialEnum.lawful first before after
           done item so_far c.in_ok-remove.ensures.unbound) c.loop-range.invariant.way;
       form = c.remove.ensures.form;
@@ -43,18 +41,9 @@ loop-range-preserved g c =
 
 pub returns-clause-bound : goal.returns-clause-bound
 returns-clause-bound g c =
-    let first = g.C.Storage.items c.args.self.now in
-    let now = g.C.Storage.items c.loop-range.self in
-    arrived (λ front. IsWithout g.K.MaybeBounded.order g.V.PartialEq.eq first front now)
-    (g.D.Storage.items c.args.other.now) c.loop-range.items c.in_default.ensures.steps.0
-    c.loop-range.invariant.way
+    arrived c.in_default.ensures.steps.0 c.loop-range.invariant.way
 
 pub returns-in_err-remove-clause-refused : goal.returns-in_err-remove-clause-refused
 returns-in_err-remove-clause-refused g c =
-    let first = g.C.Storage.items c.args.self.now in
-    let now = g.C.Storage.items c.loop-range.self in
-    rw c.in_err-remove.ensures.refused (on_error _ c.from_residual.result (stopped
-    (λ front. IsWithout g.K.MaybeBounded.order g.V.PartialEq.eq first front now)
-    (g.D.Storage.items c.args.other.now) c.loop-range.items c.next.new.self
-    (record { key = c.in-Some.range.now; value = c.in-Some.field-0-1.now }) c.in-Some.ensures.steps
-    c.loop-range.invariant.way))
+    rw c.in_err-remove.ensures.refused (on_error _ c.from_residual.result
+    (stopped c.in-Some.ensures.steps c.loop-range.invariant.way))

@@ -40,8 +40,7 @@ loop-gap-preserved g c =
     (range_clone order lawful g.K.Clone.is_clone equal gap copy c.in_ok-cloned.ensures) in
     record {
       way =
-          one_done (AreUnboundAfter order same first before) (AreUnboundAfter order same first after)
-          c.gaps-gaps.result c.loop-gap.gaps c.next.new.self gap c.in-Some.ensures.steps
+          one_done {Q = AreUnboundAfter order same first after} c.in-Some.ensures.steps
           (λ done split so_far. one_unbound order same lawful first before after done gap copy alike
           so_far c.in_ok-remove.ensures.unbound) c.loop-gap.invariant.way;
       form = c.remove.ensures.form;
@@ -56,25 +55,14 @@ returns-clause-bound g c =
     let first = g.C.Storage.items c.args.self.now in
     let now = g.C.Storage.items c.loop-gap.self in
     all_kept order same first now (g.D.Storage.items c.args.other.now) c.gaps-gaps.result
-    c.gaps-gaps.ensures.once (arrived (AreUnboundAfter order same first now) c.gaps-gaps.result
-    c.loop-gap.gaps c.in_default.ensures.steps.0 c.loop-gap.invariant.way)
+    c.gaps-gaps.ensures.once (arrived c.in_default.ensures.steps.0 c.loop-gap.invariant.way)
 
 pub returns-in_err-cloned-clause-refused : goal.returns-in_err-cloned-clause-refused
 returns-in_err-cloned-clause-refused g c =
-    let first = g.C.Storage.items c.args.self.now in
-    let now = g.C.Storage.items c.loop-gap.self in
-    on_error _ c.from_residual.result (stopped_at_gap g.K.MaybeBounded.order
-    (AreUnboundAfter g.K.MaybeBounded.order g.V.PartialEq.eq first now)
-    (g.D.Storage.items c.args.other.now) c.gaps-gaps.result c.loop-gap.gaps c.next.new.self
-    (range_of c.in-Some.gap) c.gaps-gaps.ensures.gaps c.in-Some.ensures.steps
-    c.loop-gap.invariant.way)
+    on_error _ c.from_residual.result
+    (stopped_at_gap c.gaps-gaps.ensures.gaps c.in-Some.ensures.steps c.loop-gap.invariant.way)
 
 pub returns-in_err-remove-clause-refused : goal.returns-in_err-remove-clause-refused
 returns-in_err-remove-clause-refused g c =
-    let first = g.C.Storage.items c.args.self.now in
-    let now = g.C.Storage.items c.loop-gap.self in
-    rw c.in_err-remove.ensures.refused (on_error _ c.from_residual-in_err-remove.result (stopped_at_gap g.K.MaybeBounded.order
-    (AreUnboundAfter g.K.MaybeBounded.order g.V.PartialEq.eq first now)
-    (g.D.Storage.items c.args.other.now) c.gaps-gaps.result c.loop-gap.gaps c.next.new.self
-    (range_of c.in-Some.gap) c.gaps-gaps.ensures.gaps c.in-Some.ensures.steps
-    c.loop-gap.invariant.way))
+    rw c.in_err-remove.ensures.refused (on_error _ c.from_residual-in_err-remove.result
+    (stopped_at_gap c.gaps-gaps.ensures.gaps c.in-Some.ensures.steps c.loop-gap.invariant.way))
