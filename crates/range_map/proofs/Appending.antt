@@ -137,7 +137,6 @@ module _ {K : Type 0} (order : KeyOrder K) (lawful : IsLawful order) {V : Type 0
         ↔ Hold order lawful same equal W p (i ∷ j ∷ rest)
     one_holds true one rest W p respects =
         let line = line_of order lawful same equal in
-        let lo = item_lower order j in
         let hi = item_upper order i in (
           λ h. elim h [
             | inl own ↦ elim (cases lawful p hi) [

@@ -27,11 +27,7 @@ module _ {K : Type 0} (order : KeyOrder K) (lawful : IsLawful order) {V : Type 0
   common_lies_in : (i part : AnyRange K) → IsCommonPart order r i part → LiesIn order part r
   common_lies_in i part h =
       let a = start_position order r.start in
-      let b = start_position order part.start in
-      let c = end_position order part.end in
       let d = end_position order r.end in
-      let s = later order a (start_position order i.start) in
-      let e = earlier order d (end_position order i.end) in
       record {
         starts =
             le_trans lawful _ _ _ (later_over order lawful a (start_position order i.start)).0

@@ -100,14 +100,14 @@ module _ {K : Type 0} (order : KeyOrder K) (lawful : IsLawful order) {V W X : Ty
   -- the next piece, and the lists of which it is the first
   module _ (stored : IsStored order same_left items)
       (stored_others : IsStored order same_right others)
-      (m : Position K) (middle : List (Item (AnyRange K) X))
-      (first : Option (Item (AnyRange K) V)) (rest : List (Item (AnyRange K) V))
-      (second : Option (Item (AnyRange K) W)) (others_rest : List (Item (AnyRange K) W))
+      {m : Position K} {middle : List (Item (AnyRange K) X)}
+      {first : Option (Item (AnyRange K) V)} {rest : List (Item (AnyRange K) V)}
+      {second : Option (Item (AnyRange K) W)} {others_rest : List (Item (AnyRange K) W)}
       (none : IsFirstOf order lawful same_left equal_left first rest)
       (none_other : IsFirstOf order lawful same_right equal_right second others_rest)
       (was : IsCombinedUpTo m (option_items first ++ rest) (option_items second ++ others_rest)
-      middle) (key : AnyRange K) (value : Option V) (other : Option W)
-      (last : Option (Item (AnyRange K) V)) (last_other : Option (Item (AnyRange K) W))
+      middle) {key : AnyRange K} {value : Option V} {other : Option W}
+      {last : Option (Item (AnyRange K) V)} {last_other : Option (Item (AnyRange K) W)}
       (piece : IsFirstPiece order first second key value other last last_other) where
     from_here : {U : Type 0} (i : Option (Item (AnyRange K) U)) (v : Option U)
         (j : Option (Item (AnyRange K) U)) (xs : List (Item (AnyRange K) U))
@@ -191,6 +191,31 @@ module _ {K : Type 0} (order : KeyOrder K) (lawful : IsLawful order) {V W X : Ty
     all_before (c ∷ cs) each below =
         (before_it c each.0 below.0, all_before cs each.1 below.1)
 
+    seen_more : {H L M : Type 0} (p : Position K) (P : Answer → Type 0) (c : Answer)
+        → H ↔ (L ⊎ Any (λ d. HoldsAt order lawful p d.key × P d) was.answers)
+        → L ↔ ((HoldsAt order lawful p c.key × P c) ⊎ M)
+        → H ↔ (M ⊎ Any (λ d. HoldsAt order lawful p d.key × P d) (was.answers ++ c ∷ []))
+    seen_more p P c old step =
+        let Q = λ (d : Answer). HoldsAt order lawful p d.key × P d in (
+          λ h. elim (old.0 h) [
+            | inl left ↦ elim (step.0 left) [
+              | inl here ↦ inr (any_end Q was.answers c here)
+              | inr later ↦ inl later
+            ]
+            | inr done ↦ inr (any_left Q was.answers (c ∷ []) done)
+          ],
+          λ h. elim h [
+            | inl later ↦ old.1 (inl (step.1 (inr later)))
+            | inr done ↦ elim (any_split Q was.answers (c ∷ []) done) [
+              | inl before ↦ old.1 (inr before)
+              | inr it ↦ elim it [
+                | inl here ↦ old.1 (inl (step.1 (inl here)))
+                | inr nowhere ↦ absurd nowhere
+              ]
+            ]
+          ],
+        )
+
     -- one answer more
     pub combined_more : (answer : Option X) (new : List (Item (AnyRange K) X))
         (is_clone : K → K → Type 0)
@@ -225,54 +250,12 @@ module _ {K : Type 0} (order : KeyOrder K) (lawful : IsLawful order) {V W X : Ty
           given =
               every_append (λ d. may d.left d.right (Ok d.answer)) was.answers (c ∷ []) was.given
               (says, tt);
-          first_seen = λ p U.
-              let old = was.first_seen p U in
-              let step =
-              left_seen order lawful same_left equal_left items m key piece.placed first value last
-              rest piece.first p U in
-              let P = λ (d : Answer). HoldsAt order lawful p d.key × Gives U d.left in (
-                λ h. elim (old.0 h) [
-                  | inl left ↦ elim (step.0 left) [
-                    | inl here ↦ inr (any_end P was.answers c here)
-                    | inr later ↦ inl later
-                  ]
-                  | inr done ↦ inr (any_left P was.answers (c ∷ []) done)
-                ],
-                λ h. elim h [
-                  | inl later ↦ old.1 (inl (step.1 (inr later)))
-                  | inr done ↦ elim (any_split P was.answers (c ∷ []) done) [
-                    | inl before ↦ old.1 (inr before)
-                    | inr it ↦ elim it [
-                      | inl here ↦ old.1 (inl (step.1 (inl here)))
-                      | inr nowhere ↦ absurd nowhere
-                    ]
-                  ]
-                ],
-              );
-          second_seen = λ p U.
-              let old = was.second_seen p U in
-              let step =
-              left_seen order lawful same_right equal_right others m key piece.placed second other
-              last_other others_rest piece.second p U in
-              let P = λ (d : Answer). HoldsAt order lawful p d.key × Gives U d.right in (
-                λ h. elim (old.0 h) [
-                  | inl left ↦ elim (step.0 left) [
-                    | inl here ↦ inr (any_end P was.answers c here)
-                    | inr later ↦ inl later
-                  ]
-                  | inr done ↦ inr (any_left P was.answers (c ∷ []) done)
-                ],
-                λ h. elim h [
-                  | inl later ↦ old.1 (inl (step.1 (inr later)))
-                  | inr done ↦ elim (any_split P was.answers (c ∷ []) done) [
-                    | inl before ↦ old.1 (inr before)
-                    | inr it ↦ elim it [
-                      | inl here ↦ old.1 (inl (step.1 (inl here)))
-                      | inr nowhere ↦ absurd nowhere
-                    ]
-                  ]
-                ],
-              );
+          first_seen = λ p U. seen_more p (λ d. Gives U d.left) c (was.first_seen p U)
+              (left_seen order lawful same_left equal_left items m key piece.placed first value last
+              rest piece.first p U);
+          second_seen = λ p U. seen_more p (λ d. Gives U d.right) c (was.second_seen p U)
+              (left_seen order lawful same_right equal_right others m key piece.placed second other
+              last_other others_rest piece.second p U);
           filled =
               rw (map_end answer_of was.answers c)
               (fill_more order lawful same equal full_range m (Hi order lawful key)

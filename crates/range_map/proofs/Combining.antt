@@ -376,16 +376,16 @@ module _ {K : Type 0} (order : KeyOrder K) where
         ]
       ]
 
-  pub fewer_steps_at : {V W : Type 0} (left left_rest : Option (Item (AnyRange K) V))
-      (right right_rest : Option (Item (AnyRange K) W)) (xs : List (Item (AnyRange K) V))
-      (ys : List (Item (AnyRange K) W)) (key : AnyRange K) (value : Option V) (other : Option W)
-      (after : List (Item (AnyRange K) V)) (others_after : List (Item (AnyRange K) W))
+  pub fewer_steps_at : {V W : Type 0} {left left_rest : Option (Item (AnyRange K) V)}
+      {right right_rest : Option (Item (AnyRange K) W)} (xs : List (Item (AnyRange K) V))
+      (ys : List (Item (AnyRange K) W)) {key : AnyRange K} {value : Option V} {other : Option W}
+      {after : List (Item (AnyRange K) V)} {others_after : List (Item (AnyRange K) W)}
       → after ≡ option_items left_rest ++ xs → others_after ≡ option_items right_rest ++ ys
       → IsFirstPiece order left right key value other left_rest right_rest
       → steps_left after others_after
       < steps_left (option_items left ++ xs) (option_items right ++ ys)
-  fewer_steps_at left left_rest right right_rest xs ys key value other after others_after e f piece
-      =
+  fewer_steps_at {left = left} {left_rest = left_rest} {right = right} {right_rest = right_rest}
+      xs ys {key = key} {value = value} {other = other} e f piece =
       rw (e, f) (fewer_steps left left_rest right right_rest xs ys key value other piece)
 
 pub unmapped : {A B : Type 0} (f : A → B) (o : Option A) → option_map f o ≡ None → o ≡ None

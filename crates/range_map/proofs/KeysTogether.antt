@@ -122,8 +122,6 @@ module _ {K : Type 0} (order : KeyOrder K) (lawful : IsLawful order) where
         → Lt cmp (past order (end_position order e)) (Hi r)
         → HasKeyIn r (past order (end_position order e))
     end_is_flipped r e b turns known known_e from upto =
-        let p = past order (end_position order e) in
-        let q = start_position order b in
         let at = flipped_bound_is_past order lawful e b turns in
         let found =
         from_bound r b known (flipped_known order lawful e b turns known_e)

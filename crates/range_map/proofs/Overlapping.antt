@@ -79,14 +79,13 @@ module _ {K : Type 0} (order : KeyOrder K) (lawful : IsLawful order) where
         (omega (arith, in_n)) read read' in
         (λ e. omega (arith, next.0 e), λ e. omega (arith, next.1 e))
 
-    pub stored_order : (items : List (Item (AnyRange K) V)) (m n : ℕ) (x y : Item (AnyRange K) V)
+    pub stored_order : {items : List (Item (AnyRange K) V)} {m n : ℕ} {x y : Item (AnyRange K) V}
         → IsStored order same items → m < length items → n < length items
         → x ≡ get_or items m x → y ≡ get_or items n y →
         (is_gt (position_cmp order.cmp (Start y) (Start x)) ≡ true → m < n)
         × (is_gt (position_cmp order.cmp (Start y) (Start x)) ≡ false → n ≤ m)
-    stored_order items m n x y stored in_m in_n read read' =
+    stored_order {items = items} {m = m} {n = n} {x = x} {y = y} stored =
         listed_order items m n x y (stored_list_is_listed order lawful same items stored)
-        in_m in_n read read'
 
     -- what ends before a position starts before it
     pub starts_upto : (items : List (Item (AnyRange K) V)) (e : Position K) (f : ℕ)

@@ -149,8 +149,6 @@ module _ {K : Type 0} (order : KeyOrder K) (lawful : IsLawful order) {V : Type 0
         → Reaches answers
         (map free_piece (if t then [] else record { start = a; end = b } ∷ [])) IsPast
     gap_by a b true e known_a known_b at upto =
-        let p = start_position order a in
-        let q = past order (end_position order b) in
         let over =
         not_lt lawful _ _ (λ l.
         let f = (reaching_is_before_past order lawful a b known_a known_b).1 l in

@@ -25,9 +25,6 @@ module _ {K : Type 0} (order : KeyOrder K) (lawful : IsLawful order) (k : K)
       let cmp = position_cmp order.cmp in
       let within = (holds_by_position order lawful part k key).0 held in
       let here : Position K = Beside k At in
-      let from : Position K =
-      later order (start_position order r.start) (start_position order s.start) in
-      let to : Position K = earlier order (end_position order r.end) (end_position order s.end) in
       let start : Position K = start_position order part.start in
       let end : Position K = end_position order part.end in
       let starts : Le cmp (start_position order s.start) start =
@@ -47,7 +44,6 @@ module _ {K : Type 0} (order : KeyOrder K) (lawful : IsLawful order) (k : K)
   -- ranges that hold a key in common meet
   shared_key_is_overlap : (r s : AnyRange K) → Holds order r k → Holds order s k → Overlap order r s
   shared_key_is_overlap r s held other =
-      let here : Position K = Beside k At in
       let first = (holds_by_position order lawful r k key).0 held in
       let second = (holds_by_position order lawful s k key).0 other in (
         λ less. lt_not_le lawful _ _ less

@@ -229,11 +229,11 @@ module _ {X F : Type 0} (R : F → X → Bool → F → Type 0) (old : List X) (
       (retaining_more items next f g x false place was after.0 after.1 one is)
 
   -- at the end the closure was called at each item
-  pub retained : (items : List X) (place : ℕ) (f : F) → IsRetaining items place f
+  pub retained : {items : List X} {place : ℕ} {f : F} → IsRetaining items place f
       → place ≡ length items
       → (bs : List Bool) × (q : F) × (length bs ≡ length old) × ReturnsInTurn R start bs old q
       × (items ≡ items_where_true bs old)
-  retained items place f was end =
+  retained {f = f} was end =
       let kept = items_where_true was.bs was.done in
       let none = no_rest kept was.rest
       (omega (arith, end, was.size, ap length was.left)) in

@@ -13,7 +13,6 @@ returns-clause-bound g c =
 
 pub returns-clause-same : goal.returns-clause-same
 returns-clause-same g c = λ complete.
-    let order = g.K.MaybeBounded.order in
     rw (returns-clause-value g c)
     (stored_equal g.met.K.PartialEnum.lawful g.met.V.Eq.laws complete _ _
     c.in_form.ensures c.in_form-2.ensures)

@@ -13,8 +13,6 @@ returns g c =
     record {
       meets =
           λ full.
-          let items = g.C.Storage.items c.self.inside.stored in
-          let new = g.C.Storage.items c.bind_in_order.new.stored in
           rw (← c.self.view_is)
           (rw c.into_range-range.ensures at c.in_ok-bind_in_order.ensures.ok.meets);
       form = c.in_ok-bind_in_order.ensures.ok.stored;

@@ -22,8 +22,6 @@ returns g c =
           λ full. rw (← c.self.view_is)
           (rw c.into_range-range.ensures at c.in_ok-bind.ensures.ok.frame);
       meets = λ full.
-          let items = g.C.Storage.items c.self.inside.stored in
-          let new = g.C.Storage.items c.bind.new.stored in
           rw (← c.self.view_is) (rw c.into_range-range.ensures at c.in_ok-bind.ensures.ok.meets);
       few = grind (arith, common_steps);
       refused = tt;

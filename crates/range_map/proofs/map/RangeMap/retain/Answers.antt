@@ -95,31 +95,23 @@ loop-at-smaller g c =
 
 pub invariant_of-self : goal.invariant_of-self
 invariant_of-self g c =
-    let storage = g.C.Storage in
     let stored = c.loop-at.self-inside.stored in
-    let items = storage.items stored in
-    let old = storage.items c.self.inside.stored in
+    let count = length (g.C.Storage.items stored) in
     let done =
-    retained (CalledAtItem g.F.FnMut) old c.args.f items
-    (place_before (storage.rank stored) (length items) c.loop-at.at) c.loop-at.f
-    c.loop-at.invariant.told
-    (ap (place_before (storage.rank stored) (length items)) c.in_default.is) in
+    retained (CalledAtItem g.F.FnMut) _ _ c.loop-at.invariant.told
+    (ap (place_before (g.C.Storage.rank stored) count) c.in_default.is) in
     rw done.4 (kept_stored g.K.MaybeBounded.order g.met.K.PartialEnum.lawful g.V.PartialEq.eq
-    g.met.V.Eq.laws done.0 old c.self.invariant)
+    g.met.V.Eq.laws done.0 _ c.self.invariant)
 
 pub returns-clause-form : goal.returns-clause-form
 returns-clause-form g c =
-    let storage = g.C.Storage in
     let stored = c.loop-at.self-inside.stored in
-    let items = storage.items stored in
-    let old = storage.items c.self.inside.stored in
+    let count = length (g.C.Storage.items stored) in
     let done =
-    retained (CalledAtItem g.F.FnMut) old c.args.f items
-    (place_before (storage.rank stored) (length items) c.loop-at.at) c.loop-at.f
-    c.loop-at.invariant.told
-    (ap (place_before (storage.rank stored) (length items)) c.in_default.is) in
+    retained (CalledAtItem g.F.FnMut) _ _ c.loop-at.invariant.told
+    (ap (place_before (g.C.Storage.rank stored) count) c.in_default.is) in
     rw done.4 (kept_stored g.K.MaybeBounded.order g.met.K.PartialEnum.lawful g.V.PartialEq.eq
-    g.met.V.Eq.laws done.0 old c.self.invariant)
+    g.met.V.Eq.laws done.0 _ c.self.invariant)
 
 pub returns-clause-coarse : goal.returns-clause-coarse
 returns-clause-coarse g c =
@@ -133,27 +125,20 @@ returns-clause-only g c =
 
 pub returns-clause-kept : goal.returns-clause-kept
 returns-clause-kept g c =
-    let storage = g.C.Storage in
     let stored = c.loop-at.self-inside.stored in
-    let items = storage.items stored in
-    let old = storage.items c.self.inside.stored in
+    let count = length (g.C.Storage.items stored) in
     let done =
-    retained (CalledAtItem g.F.FnMut) old c.args.f items
-    (place_before (storage.rank stored) (length items) c.loop-at.at) c.loop-at.f
-    c.loop-at.invariant.told
-    (ap (place_before (storage.rank stored) (length items)) c.in_default.is) in
-    rw (← c.self.view_is, done.4) (kept_as_before g.K.MaybeBounded.order
-    g.met.K.PartialEnum.lawful g.V.PartialEq.eq g.met.V.Eq.laws done.0 old c.self.invariant)
+    retained (CalledAtItem g.F.FnMut) _ _ c.loop-at.invariant.told
+    (ap (place_before (g.C.Storage.rank stored) count) c.in_default.is) in
+    rw (← c.self.view_is, done.4)
+    (kept_as_before g.K.MaybeBounded.order g.met.K.PartialEnum.lawful g.V.PartialEq.eq
+    g.met.V.Eq.laws done.0 _ c.self.invariant)
 
 pub returns-clause-few : goal.returns-clause-few
 returns-clause-few g c =
-    let storage = g.C.Storage in
     let stored = c.loop-at.self-inside.stored in
-    let items = storage.items stored in
-    let old = storage.items c.self.inside.stored in
+    let count = length (g.C.Storage.items stored) in
     let done =
-    retained (CalledAtItem g.F.FnMut) old c.args.f items
-    (place_before (storage.rank stored) (length items) c.loop-at.at) c.loop-at.f
-    c.loop-at.invariant.told
-    (ap (place_before (storage.rank stored) (length items)) c.in_default.is) in
-    rw (← c.self.view_is, done.4) (fewer_kept done.0 old)
+    retained (CalledAtItem g.F.FnMut) _ _ c.loop-at.invariant.told
+    (ap (place_before (g.C.Storage.rank stored) count) c.in_default.is) in
+    rw (← c.self.view_is, done.4) (fewer_kept done.0 _)

@@ -12,10 +12,8 @@ returns-then-stands_before-clause-items g c =
     let at_p = rw c.in-Some-Some.is-0 at c.requires.first in
     let at_q = rw c.in-Some-Some.is-1 at c.requires.last in
     let order =
-    stored_order g.K.MaybeBounded.order g.met.K.PartialEnum.lawful g.V.PartialEq.eq items
-    (storage.rank stored q) (storage.rank stored p) c.get.result.now
-    c.get-in-Some-Some.result.now c.requires.stored
-    (g.met.C.Storage.good_is_in_range stored q at_q.0)
+    stored_order g.K.MaybeBounded.order g.met.K.PartialEnum.lawful g.V.PartialEq.eq
+    c.requires.stored (g.met.C.Storage.good_is_in_range stored q at_q.0)
     (g.met.C.Storage.good_is_in_range stored p at_p.0) c.get.ensures c.get-in-Some-Some.ensures in
     let behind : storage.rank stored q < storage.rank stored p =
     order.0 (sym c.if-stands_before.ensures) in
@@ -33,9 +31,7 @@ returns-else-stands_before-clause-run g c =
     let at_p = rw c.in-Some-Some.is-0 at c.requires.first in
     let at_q = rw c.in-Some-Some.is-1 at c.requires.last in
     let order =
-    stored_order g.K.MaybeBounded.order g.met.K.PartialEnum.lawful g.V.PartialEq.eq items
-    (storage.rank stored q) (storage.rank stored p) c.get.result.now
-    c.get-in-Some-Some.result.now c.requires.stored
-    (g.met.C.Storage.good_is_in_range stored q at_q.0)
+    stored_order g.K.MaybeBounded.order g.met.K.PartialEnum.lawful g.V.PartialEq.eq
+    c.requires.stored (g.met.C.Storage.good_is_in_range stored q at_q.0)
     (g.met.C.Storage.good_is_in_range stored p at_p.0) c.get.ensures c.get-in-Some-Some.ensures in
     (at_p.0, at_q.0, order.1 (sym c.if-stands_before.ensures))

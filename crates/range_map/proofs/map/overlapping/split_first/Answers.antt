@@ -11,8 +11,7 @@ unreachable-requires g c =
     let within = g.met.C.Storage.good_is_in_range stored c.args.last c.requires.run.1 in
     let order =
     stored_order g.K.MaybeBounded.order g.met.K.PartialEnum.lawful g.V.PartialEq.eq
-    (storage.items stored) p q c.get-item.result.now c.get.result.now c.requires.stored
-    (g.met.C.Storage.good_is_in_range stored c.args.first c.requires.run.0) within
+    c.requires.stored (g.met.C.Storage.good_is_in_range stored c.args.first c.requires.run.0) within
     c.get-item.ensures c.get.ensures in
     let before : p < q = order.0 (sym c.if-stands_before.ensures) in
     omega (arith, before, within, c.in-None.ensures)
@@ -35,8 +34,7 @@ returns-else-stands_before-clause-items g c =
     let within = g.met.C.Storage.good_is_in_range stored c.args.last c.requires.run.1 in
     let order =
     stored_order g.K.MaybeBounded.order g.met.K.PartialEnum.lawful g.V.PartialEq.eq
-    (storage.items stored) p q c.get-item.result.now c.get.result.now c.requires.stored
-    (g.met.C.Storage.good_is_in_range stored c.args.first c.requires.run.0) within
+    c.requires.stored (g.met.C.Storage.good_is_in_range stored c.args.first c.requires.run.0) within
     c.get-item.ensures c.get.ensures in
     let behind : q ≤ p = order.1 (sym c.if-stands_before.ensures) in
     run_alone_first (storage.items stored) p q c.get-item.result.now within c.requires.run.2 behind

@@ -20,9 +20,8 @@ returns-else-stands_before-clause-items g c =
     let within = g.met.C.Storage.good_is_in_range stored c.args.last c.requires.run.1 in
     let order =
     stored_order g.K.MaybeBounded.order g.met.K.PartialEnum.lawful g.V.PartialEq.eq
-    (storage.items stored) p q c.get.result.now c.get-item.result.now c.requires.stored
-    (g.met.C.Storage.good_is_in_range stored c.args.first c.requires.run.0) within c.get.ensures
-    c.get-item.ensures in
+    c.requires.stored (g.met.C.Storage.good_is_in_range stored c.args.first c.requires.run.0) within
+    c.get.ensures c.get-item.ensures in
     let behind : q ≤ p = order.1 (sym c.if-stands_before.ensures) in
     run_alone (storage.items stored) p q c.get-item.result.now within c.requires.run.2 behind
     c.get-item.ensures

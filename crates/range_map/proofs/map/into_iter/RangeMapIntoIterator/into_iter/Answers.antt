@@ -4,9 +4,7 @@ use Rattle.range_map.proofs.map.into_iter.RangeMapIntoIterator.into_iter.Goals a
 
 pub returns : goal.returns
 returns g c =
-    let order = g.K.MaybeBounded.order in
     let lawful = g.met.K.PartialEnum.lawful in
-    let items = g.C.Storage.items c.self.inside.stored in
     record {
       into_iter_gives = (
         ap g.C.Storage.items c.self.view_is,
