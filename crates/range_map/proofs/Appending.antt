@@ -307,9 +307,7 @@ module _ {K : Type 0} (order : KeyOrder K) (lawful : IsLawful order) {V : Type 0
       let last = chain_right line front (i ∷ []) chain in
       let hi = item_upper order i in
       let ends =
-      every_append _ front (i ∷ [])
-      (every_weaker _ (λ z. Le (places order lawful) (item_upper order z) hi) front
-      (λ z h.
+      every_append _ front (i ∷ []) (every_weaker _ _ front (λ z h.
       le_trans lawful _ _ _ h.0 (lt_le lawful _ _ last.0)) (chain_before line front i [] chain))
       (le_refl lawful _, tt) in (
         λ before. lie_before_from hi (front ++ i ∷ []) (j ∷ rest) known others_known ends

@@ -19,18 +19,14 @@ module _ {K F V W A : Type 0} (calls : Shared F (Option (Bor V) × (Option (Bor 
         → AreValuesOf items others left right → MayBeAskedBoth calls f left right
     asked_of_values each None None values = absurd (values.some refl refl)
     asked_of_values each (Some v) None values =
-        any_use (λ i. i.value ≡ v) (λ i. MayBeAskedBoth calls f (Some i.value) None) items
-        values.first each.left (λ i h may. subst (λ u. MayBeAskedBoth calls f (Some u) None) h may)
+        any_use _ _ items values.first each.left
+        (λ i h may. subst (λ u. MayBeAskedBoth calls f (Some u) None) h may)
     asked_of_values each None (Some w) values =
-        any_use (λ j. j.value ≡ w) (λ j. MayBeAskedBoth calls f None (Some j.value)) others
-        values.second each.right
+        any_use _ _ others values.second each.right
         (λ j h may. subst (λ u. MayBeAskedBoth calls f None (Some u)) h may)
     asked_of_values each (Some v) (Some w) values =
-        any_use (λ i. i.value ≡ v)
-        (λ i. Every (λ j. MayBeAskedBoth calls f (Some i.value) (Some j.value)) others) items
-        values.first each.both
-        (λ i h more. any_use (λ j. j.value ≡ w)
-        (λ j. MayBeAskedBoth calls f (Some i.value) (Some j.value)) others values.second more
+        any_use _ _ items values.first each.both
+        (λ i h more. any_use _ _ others values.second more
         (λ j same may. subst (λ u. MayBeAskedBoth calls f (Some u) (Some w)) h
         (subst (λ u. MayBeAskedBoth calls f (Some i.value) (Some u)) same may)))
 

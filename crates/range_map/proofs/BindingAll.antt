@@ -41,8 +41,7 @@ module _ {K : Type 0} (order : KeyOrder K) (lawful : IsLawful order) {V : Type 0
       → IsEmptyRange order r → ⊥
   piece_of_full part None h empty = within_nonempty part h.0.within h.0.nonempty empty
   piece_of_full part (Some v) h empty =
-      any_use (λ i. IsCommonPart order r i.key part × (i.value ≡ v)) (λ _. Unit {0}) items h.1
-      (every_unit items)
+      any_use _ _ items h.1 (every_unit items)
       (λ i c u. within_nonempty part (common_lies_in i.key part c.0) h.0 empty)
     where
       every_unit : (xs : List (Item (AnyRange K) V)) → Every (λ _. Unit {0}) xs
@@ -102,9 +101,7 @@ module _ {K : Type 0} (order : KeyOrder K) (lawful : IsLawful order) {V : Type 0
               not_both_greater_and_not (cmp (Beside k At) (Beside k At))
               (le_refl lawful (Beside k At));
           within = record { starts = within.0; ends = within.1 };
-          free =
-              every_weaker (λ i. Holds order i.key k → ⊥) (λ i. Overlap order i.key Point → ⊥) items
-              (λ i not_held h. not_held (met_by_point i.key h)) none;
+          free = every_weaker _ _ items (λ i not_held h. not_held (met_by_point i.key h)) none;
         }
 
   -- where no part is free, each key is bound
@@ -134,8 +131,7 @@ module _ {K : Type 0} (order : KeyOrder K) (lawful : IsLawful order) {V : Type 0
       ) in
       let meets =
       (binding_meets order lawful items part (k, found.1, found.2, bound k found.1 held)).1 in
-      any_none (λ i. Overlap order i.key part) (λ i. Overlap order i.key part → ⊥) items free.free
-      (λ i none h. none h) meets
+      any_none _ _ items free.free (λ i none h. none h) meets
 
   pub shown_is_free : (gaps : List (AnyRange K)) (g : AnyRange K) (rest : List (AnyRange K))
       → gaps ≡ g ∷ rest → AreGapsWithin order items r gaps → IsFreePart order items r g

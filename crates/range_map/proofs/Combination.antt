@@ -69,9 +69,7 @@ module _ {K : Type 0} (order : KeyOrder K) (lawful : IsLawful order) {V W X : Ty
       → Every (λ i. IsKnownRange order i.key) xs
       → Every (λ x. Le (cmp order lawful) (Lo order lawful full_range) (Lo order lawful x.key)) xs
   from_least xs known =
-      every_weaker (λ i. IsKnownRange order i.key)
-      (λ x. Le (cmp order lawful) (Lo order lawful full_range) (Lo order lawful x.key)) xs
-      (λ x k. unbounded_start order lawful x.key.start k.0) known
+      every_weaker _ _ xs (λ x k. unbounded_start order lawful x.key.start k.0) known
 
   -- at first all is left
   pub combined_none : IsStored order same_left items → IsStored order same_right others
@@ -146,8 +144,7 @@ module _ {K : Type 0} (order : KeyOrder K) (lawful : IsLawful order) {V W X : Ty
           (λ p at held. elim ((was.first_seen p (λ u. true)).0 held) [
             | inl left ↦ left
             | inr done ↦
-                absurd (any_none (λ c. HoldsAt order lawful p c.key × Gives (λ u. true) c.left)
-                (λ c. Le (cmp order lawful) (Hi order lawful c.key) m) was.answers was.below
+                absurd (any_none _ _ was.answers was.below
                 (λ c below h. not_earlier p at c below h.0) done)
           ]);
       second =
@@ -159,8 +156,7 @@ module _ {K : Type 0} (order : KeyOrder K) (lawful : IsLawful order) {V W X : Ty
           (λ p at held. elim ((was.second_seen p (λ u. true)).0 held) [
             | inl left ↦ left
             | inr done ↦
-                absurd (any_none (λ c. HoldsAt order lawful p c.key × Gives (λ u. true) c.right)
-                (λ c. Le (cmp order lawful) (Hi order lawful c.key) m) was.answers was.below
+                absurd (any_none _ _ was.answers was.below
                 (λ c below h. not_earlier p at c below h.0) done)
           ]);
       bound = piece.bound;
@@ -235,21 +231,15 @@ module _ {K : Type 0} (order : KeyOrder K) (lawful : IsLawful order) {V W X : Ty
           second =
               left_past order lawful same_right equal_right others m key piece.placed second other
               last_other others_rest none_other piece.second was.second;
-          each =
-              every_append (λ d. IsSharedPart order items others d.key d.left d.right) was.answers
-              (c ∷ []) was.each (is_shared, tt);
+          each = every_append _ was.answers (c ∷ []) was.each (is_shared, tt);
           rising =
               next_last (λ b d. LiesBefore order b.key d.key) was.answers c was.rising
               (all_before was.answers was.each was.below);
           below =
-              every_append
-              (λ d. Le (cmp order lawful) (Hi order lawful d.key) (Hi order lawful key)) was.answers
-              (c ∷ []) (every_weaker (λ d. Le (cmp order lawful) (Hi order lawful d.key) m)
-              (λ d. Le (cmp order lawful) (Hi order lawful d.key) (Hi order lawful key)) was.answers
-              (λ d le. le_trans lawful _ _ _ le m_upto) was.below) (le_refl lawful _, tt);
-          given =
-              every_append (λ d. may d.left d.right (Ok d.answer)) was.answers (c ∷ []) was.given
-              (says, tt);
+              every_append _ was.answers (c ∷ [])
+              (every_weaker _ _ was.answers (λ d le. le_trans lawful _ _ _ le m_upto) was.below)
+              (le_refl lawful _, tt);
+          given = every_append _ was.answers (c ∷ []) was.given (says, tt);
           first_seen = λ p U. seen_more p (λ d. Gives U d.left) c (was.first_seen p U)
               (left_seen order lawful same_left equal_left items m key piece.placed first value last
               rest piece.first p U);
@@ -303,20 +293,15 @@ module _ {K : Type 0} (order : KeyOrder K) (lawful : IsLawful order) {V W X : Ty
           λ g. elim g [
             | inl e ↦ e.1
             | inr e ↦
-                absurd (any_none (λ d. HoldsAt order lawful p d.key × Answers U d.answer)
-                (λ d. Le (cmp order lawful) (Hi order lawful c.key) (Lo order lawful d.key)) cs
-                later (λ d le f. lt_not_le lawful _ _ h.1 (le_trans lawful _ _ _ le f.0.0)) e)
+                absurd (any_none _ _ cs later
+                (λ d le f. lt_not_le lawful _ _ h.1 (le_trans lawful _ _ _ le f.0.0)) e)
           ],
           λ g. inl (h, g),
         ),
       )
   one_alone p (c ∷ cs) each rising (inr h) =
       let later = above (Hi order lawful c.key) c cs (le_refl lawful _) each rising in
-      inr (any_with (λ d. HoldsAt order lawful p d.key × IsOnly p d cs)
-      (λ d. Le (cmp order lawful) (Hi order lawful c.key) (Lo order lawful d.key))
-      (λ d. HoldsAt order lawful p d.key × IsOnly p d (c ∷ cs)) cs
-      (one_alone p cs each.1 rising.1 h) later
-      (λ d only le. (
+      inr (any_with _ _ _ cs (one_alone p cs each.1 rising.1 h) later (λ d only le. (
         only.0,
         λ U. (
           λ g. elim g [
@@ -357,9 +342,7 @@ module _ {K : Type 0} (order : KeyOrder K) (lawful : IsLawful order) {V W X : Ty
       → (v ≡ None → ⊥) → IsBound order xs k
   constant_bound xs r None k key held constant some = absurd (some refl)
   constant_bound xs r (Some v) k key held constant some =
-      inside_holds order lawful r xs k key held
-      (any_over (λ i. LiesIn order r i.key × (i.value ≡ v)) (λ i. LiesIn order r i.key) xs
-      (λ i h. h.0) constant)
+      inside_holds order lawful r xs k key held (any_over _ _ xs (λ i h. h.0) constant)
 
   -- a key of one of the ranges is bound by one of the lists
   part_bound : (c : Answer) → IsSharedPart order items others c.key c.left c.right → (k : K)
@@ -400,26 +383,18 @@ module _ {K : Type 0} (order : KeyOrder K) (lawful : IsLawful order) {V W X : Ty
                     elim ((was.first_seen p (λ u. true)).0
                     ((bound_hold order lawful same_left equal_left items k known key).0 b)) [
                       | inl l ↦ absurd (none p (λ u. true) l)
-                      | inr done ↦
-                          any_over (λ c. HoldsAt order lawful p c.key × Gives (λ u. true) c.left)
-                          (λ c. HoldsAt order lawful p c.key) was.answers (λ c h. h.0) done
+                      | inr done ↦ any_over _ _ was.answers (λ c h. h.0) done
                     ]
                 | inr b ↦
                     elim ((was.second_seen p (λ u. true)).0
                     ((bound_hold order lawful same_right equal_right others k known_others key).0
                     b)) [
                       | inl l ↦ absurd (none_other p (λ u. true) l)
-                      | inr done ↦
-                          any_over (λ c. HoldsAt order lawful p c.key × Gives (λ u. true) c.right)
-                          (λ c. HoldsAt order lawful p c.key) was.answers (λ c h. h.0) done
+                      | inr done ↦ any_over _ _ was.answers (λ c h. h.0) done
                     ]
               ] in
-              any_with (λ c. HoldsAt order lawful p c.key × IsOnly p c was.answers)
-              (λ c. IsSharedPart order items others c.key c.left c.right)
-              (λ c. Holds order c.key k
-              × ((b : Option X) → Binds order same new k b ↔ IsAsAnswered same c.answer b))
-              was.answers (one_alone p was.answers was.each was.rising there) was.each
-              (λ c only part. (
+              any_with _ _ _ was.answers (one_alone p was.answers was.each was.rising there)
+              was.each (λ c only part. (
                 (held_between order lawful c.key k part.known key).1 only.0,
                 λ b. as_answered new k was.filled.known key c.answer b
                     (λ U alike.
@@ -436,13 +411,10 @@ module _ {K : Type 0} (order : KeyOrder K) (lawful : IsLawful order) {V W X : Ty
               let says = was.filled.has p (λ u. true) (λ a b s t. t) in
               let P = λ (a : Answered K X). HoldsAt order lawful p a.key
               × Answers (λ u. true) a.answer in
-              any_use (λ c. HoldsAt order lawful p c.key × Answers (λ u. true) c.answer)
-              (λ c. IsSharedPart order items others c.key c.left c.right) was.answers
-              (any_unmap answer_of P was.answers
+              any_use _ _ was.answers (any_unmap answer_of P was.answers
               (says.0 ((bound_hold order lawful same equal new k was.filled.known key).0 bound)))
-              was.each
-              (λ c h part. elim (part_bound c part k key
-              ((held_between order lawful c.key k part.known key).1 h.0)) [
+              was.each (λ c h part. elim
+              (part_bound c part k key ((held_between order lawful c.key k part.known key).1 h.0)) [
                 | inl b ↦ unbound b
                 | inr b ↦ unbound_other b
               ]);
@@ -454,9 +426,7 @@ module _ {K : Type 0} (order : KeyOrder K) where
   constant_value : {V : Type 0} (items : List (Item (AnyRange K) V)) (part : AnyRange K)
       (v : Option V) → IsConstantOn order items part v → IsValueOf items v
   constant_value items part None h = tt
-  constant_value items part (Some v) h =
-      any_over (λ i. LiesIn order part i.key × (i.value ≡ v)) (λ i. i.value ≡ v) items
-      (λ i inside. inside.1) h
+  constant_value items part (Some v) h = any_over _ _ items (λ i inside. inside.1) h
 
   pub asked_of_part : {F V W A : Type 0}
       (calls : Shared F (Option (Bor V) × (Option (Bor W) × Unit {0})) A) (f : F)

@@ -51,8 +51,7 @@ module _ {K : Type 0} (order : KeyOrder K) (lawful : IsLawful order) where
         → Every (IsTailIn items) xs
     all_tails items [] within = tt
     all_tails items (x ∷ xs) within = (
-      any_over (λ i. i ≡ x) (λ i. (i.value ≡ x.value) × Le cmp (Lo i.key) (Lo x.key)
-          × Le cmp (Hi x.key) (Hi i.key)) items (λ i e. rw e
+      any_over _ _ items (λ i e. rw e
           (refl, le_refl lawful _, le_refl lawful _)) (within x (inl refl)),
       all_tails items xs (λ y h. within y (inr h)),
     )
@@ -106,8 +105,7 @@ module _ {K : Type 0} (order : KeyOrder K) (lawful : IsLawful order) where
             known = was.known.1;
             chain = chain_tail (line_of order lawful same equal) i rest was.chain.1;
             from =
-                every_weaker (λ x. Le cmp (Hi i.key) (Lo x.key)) (λ x. Le cmp (Hi key) (Lo x.key))
-                rest (λ x le. le_trans lawful _ _ _ (eq_le lawful _ _ cut.2) le)
+                every_weaker _ _ rest (λ x le. le_trans lawful _ _ _ (eq_le lawful _ _ cut.2) le)
                 (follows_above (line_of order lawful same equal) i rest was.chain.1);
             tails = was.tails.1;
           }
@@ -124,17 +122,12 @@ module _ {K : Type 0} (order : KeyOrder K) (lawful : IsLawful order) where
                 chain_above (line_of order lawful same equal) (Hi key) j rest chain
                 (eq_le lawful _ _ cut.2.from);
             tails = (
-              any_over (λ o. (o.value ≡ i.value) × Le cmp (Lo o.key) (Lo i.key)
-                  × Le cmp (Hi i.key) (Hi o.key))
-                  (λ o. (o.value ≡ j.value) × Le cmp (Lo o.key) (Lo j.key)
-                  × Le cmp (Hi j.key) (Hi o.key)) items
-                  (λ o t. (
+              any_over _ _ items (λ o t. (
                     t.0 ∙ sym cut.2.value,
                     le_trans lawful _ _ _ t.1
                         (le_trans lawful _ _ _ (eq_ge lawful _ _ cut.1)
                         (le_trans lawful _ _ _ low_high (eq_le lawful _ _ cut.2.from))),
-                    le_trans lawful _ _ _
-                        (eq_le lawful _ _ cut.2.upto) t.2,
+                    le_trans lawful _ _ _ (eq_le lawful _ _ cut.2.upto) t.2,
                   )) was.tails.0,
               was.tails.1,
             );
@@ -232,8 +225,7 @@ module _ {K : Type 0} (order : KeyOrder K) (lawful : IsLawful order) where
           (eq_ge lawful _ _ cut.1, eq_le lawful _ _ cut.2)
       part_inside i v (Some j) cut = (
         eq_ge lawful _ _ cut.1,
-        le_trans lawful _ _ _
-            (eq_le lawful _ _ cut.2.from)
+        le_trans lawful _ _ _ (eq_le lawful _ _ cut.2.from)
             (le_trans lawful _ _ _ (lt_le lawful _ _ cut.2.placed.good)
             (eq_le lawful _ _ cut.2.upto)),
       )
@@ -258,15 +250,11 @@ module _ {K : Type 0} (order : KeyOrder K) (lawful : IsLawful order) where
       constant_on (Some i) None last rest known chain none cut was seen =
           let above =
           chain_above (line_of order lawful same equal) (Hi key) i rest was.chain cut.1 in
-          none_there known chain (λ p at held. any_none (λ x. HoldsAt p x.key × (true ≡ true))
-          (λ x. Le cmp (Hi key) (Lo x.key)) (i ∷ rest) above
+          none_there known chain (λ p at held. any_none _ _ (i ∷ rest) above
           (λ x le h. lt_not_le lawful _ _ at.1 (le_trans lawful _ _ _ le h.0.0)) (seen p at held))
       constant_on (Some i) (Some v) last rest known chain none cut was seen =
           let inside = part_inside i v last cut in
-          any_with (λ o. (o.value ≡ i.value) × Le cmp (Lo o.key) (Lo i.key)
-          × Le cmp (Hi i.key) (Hi o.key)) (λ o. IsKnownRange order o.key)
-          (λ o. LiesIn order key o.key × (o.value ≡ v)) items was.tails.0 known
-          (λ o t known_o. (
+          any_with _ _ _ items was.tails.0 known (λ o t known_o. (
             lies_in order lawful key o.key placed.known known_o
                 (le_trans lawful _ _ _ t.1 inside.0) (le_trans lawful _ _ _ inside.1 t.2),
             t.0 ∙ cut.0,
@@ -408,7 +396,7 @@ next_stored order lawful same equal all done rest others listed item stored part
     let form : IsStored order same ((done ++ item ∷ []) ++ others) =
     subst (λ l. IsStored order same l) (sym whole) stored in
     rw is (chain_stored order lawful same equal (done ++ item ∷ [])
-    (every_left (λ i. IsKnownRange order i.key) (done ++ item ∷ []) others
+    (every_left _ (done ++ item ∷ []) others
     (stored_known order lawful same equal ((done ++ item ∷ []) ++ others) form))
     (chain_left (line_of order lawful same equal) (done ++ item ∷ []) others
     (stored_chain order lawful same equal ((done ++ item ∷ []) ++ others) form)))

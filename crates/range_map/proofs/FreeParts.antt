@@ -75,8 +75,7 @@ module _ {K : Type 0} (order : KeyOrder K) (lawful : IsLawful order) where
   after_end_is_from_turned e i r known turns full =
       let at = flipped_bound_is_past order lawful e i turns in
       let by = before_is order lawful e r.start known full in (
-        λ h. le_trans lawful _ _ _
-            (eq_ge lawful _ _ at) (by.0 h),
+        λ h. le_trans lawful _ _ _ (eq_ge lawful _ _ at) (by.0 h),
         λ h. by.1 (le_trans lawful _ _ _ (eq_le lawful _ _ at) h),
       )
 
@@ -187,7 +186,7 @@ module _ {K : Type 0} (order : KeyOrder K) (lawful : IsLawful order) where
     found_between None e gaps from ends some such = absurd from
     found_between (Some a) None gaps from ends some such = absurd (some refl)
     found_between (Some a) (Some b) gaps from ends some such =
-        any_left (λ g. range_cmp order g part ≡ Equal) (between order (Some a) (Some b)) gaps
+        any_left _ (between order (Some a) (Some b)) gaps
         (found_at a b from (ends b refl) (every_left F (between order (Some a) (Some b)) gaps such))
 
     bounded_start : (b : Bound K) → PLt (End part.end) (Start b) → flipped b ≡ None → ⊥
@@ -249,8 +248,7 @@ module _ {K : Type 0} (order : KeyOrder K) (lawful : IsLawful order) where
   key_is_held_once : (k : K) (ranges : List (AnyRange K)) → Pairs (NotBoth k) ranges
       → HeldBy k ranges → IsHeldOnce order ranges k
   key_is_held_once k [] pairs h = absurd h
-  key_is_held_once k (r ∷ rest) pairs (inl h) =
-      inl (h, every_weaker (NotBoth k r) (λ s. ¬ Holds order s k) rest (λ s f. f h) pairs.0)
+  key_is_held_once k (r ∷ rest) pairs (inl h) = inl (h, every_weaker _ _ rest (λ s f. f h) pairs.0)
   key_is_held_once k (r ∷ rest) pairs (inr h) =
       inr (λ g. none rest pairs.0 g h, key_is_held_once k rest pairs.1 h)
     where
@@ -293,8 +291,7 @@ module _ {K : Type 0} (order : KeyOrder K) (lawful : IsLawful order) where
           (lt_le_trans lawful _ _ _ h.2 full.0.1) l in (
             (
               h.2,
-              every_weaker (λ k. LiesBefore order j.key k.key)
-                  (λ k. LiesBefore order i.key k.key) rest over others.0,
+              every_weaker _ _ rest over others.0,
             ),
             others,
           )
@@ -314,8 +311,7 @@ module _ {K : Type 0} (order : KeyOrder K) (lawful : IsLawful order) where
     ahead_next : (i : Item (AnyRange K) V) (rest : List (Item (AnyRange K) V)) → IsRow (i ∷ rest)
         → Ahead (flipped i.key.end) rest
     ahead_next i rest row =
-        every_with (λ j. IsFull j.key) (λ j. LiesBefore order i.key j.key)
-        (λ j. From (flipped i.key.end) j.key) rest row.full.1 row.pairs.0
+        every_with _ _ _ rest row.full.1 row.pairs.0
         (λ j full l. (after_end_is_from i.key.end j.key row.full.0.0.1 full).0 l)
 
     -- free ranges are known and nonempty
@@ -358,7 +354,7 @@ module _ {K : Type 0} (order : KeyOrder K) (lawful : IsLawful order) where
         every_append (From s) (between order s (flipped i.key.start)) gaps
         (each_between (From s) s (flipped i.key.start)
         (λ a b e f le. (from_is s a (record { start = a; end = b }) e).1 (le_refl lawful _)))
-        (every_with IsFull (From (flipped i.key.end)) (From s) gaps full others
+        (every_with IsFull _ (From s) gaps full others
         (λ r full_r h. from_end_is_from_start s i r row.full.0 full_r ahead.0 h))
 
     abbrev Misses : List (Item (AnyRange K) V) → AnyRange K → Type 0
@@ -373,8 +369,7 @@ module _ {K : Type 0} (order : KeyOrder K) (lawful : IsLawful order) where
         (meets : Overlap order j.key r). meets.1
         (lt_trans lawful _ _ _ (lt_le_trans lawful _ _ _ l row.full.0.1) before) in (
           λ meets. meets.1 l,
-          every_weaker (λ j. LiesBefore order i.key j.key)
-              (λ j. ¬ Overlap order j.key r) rest over row.pairs.0,
+          every_weaker _ _ rest over row.pairs.0,
         )
 
     free_misses : (s : Option (Bound K)) (items : List (Item (AnyRange K) V)) → IsRow items
@@ -389,15 +384,13 @@ module _ {K : Type 0} (order : KeyOrder K) (lawful : IsLawful order) where
         free_ranges_are_from (flipped i.key.end) rest (rest_row i rest row)
         (ahead_next i rest row) in
         let past =
-        every_with IsFull (From (flipped i.key.end))
-        (λ r. LiesBefore order i.key r) gaps full after
+        every_with IsFull _ _ gaps full after
         (λ r full_r h. (after_end_is_from i.key.end r row.full.0.0.1 full_r).1 h) in
-        every_append (Misses (i ∷ rest)) (between order s (flipped i.key.start)) gaps
+        every_append _ (between order s (flipped i.key.start)) gaps
         (each_between (Misses (i ∷ rest)) s (flipped i.key.start)
         (λ a b e f le. misses_before i rest (record { start = a; end = b }) row
         (ends_just_before i.key.start b row.full.0.0.0 f)))
-        (every_with (λ r. LiesBefore order i.key r) (Misses rest) (Misses (i ∷ rest)) gaps past
-        (free_misses (flipped i.key.end) rest (rest_row i rest row))
+        (every_with _ _ _ gaps past (free_misses (flipped i.key.end) rest (rest_row i rest row))
         (λ r l h. (λ meets. meets.0 l, h)))
 
     free_pairs : (s : Option (Bound K)) (items : List (Item (AnyRange K) V)) → IsRow items
@@ -423,15 +416,14 @@ module _ {K : Type 0} (order : KeyOrder K) (lawful : IsLawful order) where
         free_ranges_are_from (flipped i.key.end) rest (rest_row i rest row)
         (ahead_next i rest row) in
         let past =
-        every_with IsFull (From (flipped i.key.end))
-        (λ r. LiesBefore order i.key r) gaps full after
+        every_with IsFull _ _ gaps full after
         (λ r full_r h. (after_end_is_from i.key.end r row.full.0.0.1 full_r).1 h) in
         pairs_append (LiesBefore order) (between order s (flipped i.key.start)) gaps
         (range_between_is_alone s (flipped i.key.start))
         (free_pairs (flipped i.key.end) rest (rest_row i rest row))
         (each_between (λ g. Every (LiesBefore order g) gaps) s (flipped i.key.start) (λ a b e f le.
         let first = ends_just_before i.key.start b row.full.0.0.0 f in
-        every_weaker (λ r. LiesBefore order i.key r) (λ r. PLt (End b) (Start r.start)) gaps
+        every_weaker _ _ gaps
         (λ r l. lt_trans lawful _ _ _ (lt_le_trans lawful _ _ _ first row.full.0.1) l) past))
       where
         alone_by : (t : Bool) (r : AnyRange K) → Pairs (LiesBefore order) (if t then [] else r ∷ [])
@@ -504,8 +496,7 @@ module _ {K : Type 0} (order : KeyOrder K) (lawful : IsLawful order) where
       free_found s (i ∷ rest) known apart from such =
           elim (lies_by i.key part apart.0) [
             | inl l ↦
-                any_right (λ g. range_cmp order g part ≡ Equal)
-                (between order s (flipped i.key.start))
+                any_right _ (between order s (flipped i.key.start))
                 (free_from order (flipped i.key.end) rest)
                 (free_found (flipped i.key.end) rest known.1 apart.1
                 ((after_end_is_from i.key.end part known.0.0.1 full).0 l)
@@ -541,9 +532,9 @@ module _ {K : Type 0} (order : KeyOrder K) (lawful : IsLawful order) where
 
       gaps_free : Every IsFree (free_from order (Some Unbounded) items)
       gaps_free =
-          every_with IsFull (Misses items) IsFree (free_from order (Some Unbounded) items)
-          (free_full (Some Unbounded) items tt row.full)
-          (free_misses (Some Unbounded) items row) is_free
+          every_with IsFull _ IsFree (free_from order (Some Unbounded) items)
+          (free_full (Some Unbounded) items tt row.full) (free_misses (Some Unbounded) items row)
+          is_free
 
       from_first : (r : AnyRange K) → IsFull r → From (Some Unbounded) r
       from_first r full = unbounded_start order lawful r.start full.0.0
@@ -557,10 +548,9 @@ module _ {K : Type 0} (order : KeyOrder K) (lawful : IsLawful order) where
       pub gaps_are : AreGaps order items (free_from order (Some Unbounded) items)
       gaps_are = record {
         each =
-            every_with IsFree (IsWide IsFree) (λ g. IsPiece order items full_range g None)
-            (free_from order (Some Unbounded) items) gaps_free
-            (free_wide IsFree is_full (Some Unbounded) items row.full
-            (λ r such. such.free) bars_first) (λ g h k. (h, k));
+            every_with IsFree _ _ (free_from order (Some Unbounded) items) gaps_free
+            (free_wide IsFree is_full (Some Unbounded) items row.full (λ r such. such.free)
+            bars_first) (λ g h k. (h, k));
         rising =
             each_next (LiesBefore order) (free_from order (Some Unbounded) items)
             (free_pairs (Some Unbounded) items row);
@@ -588,11 +578,11 @@ module _ {K : Type 0} (order : KeyOrder K) (lawful : IsLawful order) where
                 elim (key_is_held_or_free (flipped i.key.end) rest k key
                 (unheld_end_holds_from i.key.end k over)) [
                   | inl g ↦ inl (inr g)
-                  | inr g ↦ inr (any_right (λ r. Holds order r k) first gaps g)
+                  | inr g ↦ inr (any_right _ first gaps g)
                 ]
           ]
           | inr under ↦
-              inr (any_left (λ r. Holds order r k) first gaps
+              inr (any_left _ first gaps
               (held_between s (flipped i.key.start) k key h
               (λ b e. (flipped_end order lawful i.key.start b k e).1 under)
               (unheld_start i.key.start k under)))
@@ -613,8 +603,8 @@ module _ {K : Type 0} (order : KeyOrder K) (lawful : IsLawful order) where
         → Every (Misses items) gaps → Every (λ i. Every (λ g. ¬ Overlap order i.key g) gaps) items
     turned_round [] gaps h = tt
     turned_round (i ∷ rest) gaps h = (
-      every_weaker (Misses (i ∷ rest)) (λ g. ¬ Overlap order i.key g) gaps (λ g m. m.0) h,
-      turned_round rest gaps (every_weaker (Misses (i ∷ rest)) (Misses rest) gaps (λ g m. m.1) h),
+      every_weaker _ _ gaps (λ g m. m.0) h,
+      turned_round rest gaps (every_weaker _ _ gaps (λ g m. m.1) h),
     )
 
     -- the ranges and the gaps together hold each key exactly once
@@ -634,14 +624,12 @@ module _ {K : Type 0} (order : KeyOrder K) (lawful : IsLawful order) where
         let missed = turned_round items gaps (free_misses (Some Unbounded) items row) in
         let across =
         range_every (λ r. Every (NotBoth k r) gaps) items
-        (every_weaker (λ i. Every (λ g. ¬ Overlap order i.key g) gaps)
-        (λ i. Every (NotBoth k i.key) gaps) items
-        (λ i m. every_weaker (λ g. ¬ Overlap order i.key g) (NotBoth k i.key) gaps
-        (λ g apart. missed_not_both i.key g k key apart) m) missed) in
+        (every_weaker _ _ items
+        (λ i m. every_weaker _ _ gaps (λ g apart. missed_not_both i.key g k key apart) m) missed) in
         key_is_held_once k (ranges ++ gaps) (pairs_append (NotBoth k) ranges gaps own others across)
         (elim (key_is_held_or_free (Some Unbounded) items k key tt) [
-          | inl h ↦ any_left (λ r. Holds order r k) ranges gaps h
-          | inr h ↦ any_right (λ r. Holds order r k) ranges gaps h
+          | inl h ↦ any_left _ ranges gaps h
+          | inr h ↦ any_right _ ranges gaps h
         ])
 
 none_or_one : {X : Type 0} (t : Bool) (x : X) → length (if t then [] else x ∷ []) ≤ 1

@@ -19,9 +19,8 @@ module _ {K : Type 0} (order : KeyOrder K) where
     | inl held ↦
         inl (
           inl held.0,
-          any_none (λ r. Holds order r k) (λ r. ¬ Holds order r k) gaps
-              (every_right (λ r. ¬ Holds order r k) (item_ranges items) gaps held.1)
-              (λ r out held. out held),
+          any_none _ _ gaps
+              (every_right _ (item_ranges items) gaps held.1) (λ r out held. out held),
         )
     | inr later ↦ elim (one_of_two items gaps k later.1) [
       | inl both ↦ inl (inr both.0, both.1)

@@ -98,13 +98,13 @@ module _ {K : Type 0} (order : KeyOrder K) where
             → Any (λ s. Holds order s k) (done ++ g ∷ [])
             ↔ (Any (λ s. Holds order s k) done ⊎ Holds order r k)
         some_with k alike = (
-          λ h. elim (any_split (λ s. Holds order s k) done (g ∷ []) h) [
+          λ h. elim (any_split _ done (g ∷ []) h) [
             | inl some ↦ inl some
             | inr last ↦ elim last [ inl held ↦ inr (alike.1 held) | inr none ↦ absurd none ]
           ],
           λ h. elim h [
-            | inl some ↦ any_left (λ s. Holds order s k) done (g ∷ []) some
-            | inr held ↦ any_right (λ s. Holds order s k) done (g ∷ []) (inl (alike.0 held))
+            | inl some ↦ any_left _ done (g ∷ []) some
+            | inr held ↦ any_right _ done (g ∷ []) (inl (alike.0 held))
           ],
         )
 

@@ -157,9 +157,8 @@ module _ {K : Type 0} (order : KeyOrder K) (lawful : IsLawful order) {V : Type 0
       record {
         stored = appended_stored order lawful same equal built last was.stored form before;
         upto =
-            appended_upto n built j (every_weaker (λ x. Le cmp (item_upper order x) m)
-            (λ x. Le cmp (item_upper order x) n) built (λ x le. le_trans lawful _ _ _ le later)
-            was.upto) upto;
+            appended_upto n built j
+            (every_weaker _ _ built (λ x le. le_trans lawful _ _ _ le later) was.upto) upto;
         bound = λ k key b.
             let one = appended_binds order lawful same equal built last was.stored form before k key b in
             let more = alike_more order same built given last was.bound k key b in

@@ -110,9 +110,7 @@ module _ {K : Type 0} (order : KeyOrder K) (lawful : IsLawful order) where
       )
   piece_too items r s starts ends part (Some v) h = (
     h.0,
-    any_over (λ i. IsCommonPart order r i.key part × (i.value ≡ v))
-        (λ i. IsCommonPart order s i.key part × (i.value ≡ v)) items
-        (λ i t. (common_too r s starts ends i.key part t.0, t.1)) h.1,
+    any_over _ _ items (λ i t. (common_too r s starts ends i.key part t.0, t.1)) h.1,
   )
 
   touches_start : (e : Bound K) (r s : AnyRange K)
@@ -225,8 +223,7 @@ module _ {K : Type 0} (order : KeyOrder K) (lawful : IsLawful order) where
           answers = h.answered.answers;
           pieces = record {
             each =
-                every_weaker (λ p. IsPiece order items s p.key p.value)
-                (λ p. IsPiece order items r p.key p.value) (map piece_of h.answered.answers)
+                every_weaker _ _ (map piece_of h.answered.answers)
                 (λ p t. piece_too items s r starts_alike ends_alike p.key p.value t)
                 h.answered.pieces.each;
             rising = h.answered.pieces.rising;

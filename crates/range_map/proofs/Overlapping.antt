@@ -31,7 +31,7 @@ module _ {K : Type 0} (order : KeyOrder K) (lawful : IsLawful order) where
     first_rises : (i : Item (AnyRange K) V) (rest : List (Item (AnyRange K) V))
         → IsListed order lawful same (i ∷ rest) → Every (λ j. PLt (Start i) (Start j)) rest
     first_rises i rest h =
-        every_weaker (λ j. PLt (End i) (Start j)) (λ j. PLt (Start i) (Start j)) rest
+        every_weaker _ _ rest
         (λ j l. le_lt_trans lawful _ _ _ (every_nonempty order lawful same (i ∷ rest) h).0 l)
         (starts_rise order lawful same i rest h)
 
@@ -40,7 +40,7 @@ module _ {K : Type 0} (order : KeyOrder K) (lawful : IsLawful order) where
         → y ≡ get_or rest n y → PLt (Start i) (Start y)
     first_starts_first i rest n y h within read =
         subst (λ z. PLt (Start i) (Start z)) (sym read)
-        (every_at (λ j. PLt (Start i) (Start j)) rest n y (first_rises i rest h) within)
+        (every_at _ rest n y (first_rises i rest h) within)
 
     -- the one item stands before the other where the other starts past its start
     listed_order : (items : List (Item (AnyRange K) V)) (m n : ℕ) (x y : Item (AnyRange K) V)
@@ -95,9 +95,8 @@ module _ {K : Type 0} (order : KeyOrder K) (lawful : IsLawful order) where
         let own =
         every_nonempty order lawful same items
         (stored_list_is_listed order lawful same items stored) in
-        every_with (λ i. PLt (End i) e) (λ i. PLe (Start i) (End i)) (λ i. PLe (Start i) e)
-        (take f items) below (every_left (λ i. PLe (Start i) (End i)) (take f items) (drop f items)
-        (rw (list_is_take_and_drop items f) at own))
+        every_with _ _ _ (take f items) below
+        (every_left _ (take f items) (drop f items) (rw (list_is_take_and_drop items f) at own))
         (λ i l le. lt_le lawful _ _ (le_lt_trans lawful _ _ _ le l))
 
     rest_from : (items : List (Item (AnyRange K) V)) (f : ℕ) (x : Item (AnyRange K) V)
@@ -120,7 +119,7 @@ module _ {K : Type 0} (order : KeyOrder K) (lawful : IsLawful order) where
     starts_past_from items e f x stored within read past =
         rw (rest_from items f x within read) (
           past,
-          every_weaker (λ j. PLt (Start x) (Start j)) (λ j. PLt e (Start j)) (drop (f + 1) items)
+          every_weaker _ _ (drop (f + 1) items)
               (λ j l. lt_trans lawful _ _ _ past l)
               (first_rises x (drop (f + 1) items) (listed_from items f x stored within read)),
         )
@@ -133,8 +132,7 @@ module _ {K : Type 0} (order : KeyOrder K) (lawful : IsLawful order) where
     starts_past_after items e f x stored within read above =
         let ends : Every (λ i. PLe e (End i)) (x ∷ drop (f + 1) items) =
         rw (rest_from items f x within read) at above in
-        every_weaker (λ j. PLt (End x) (Start j)) (λ j. PLt e (Start j)) (drop (f + 1) items)
-        (λ j l. le_lt_trans lawful _ _ _ ends.0 l)
+        every_weaker _ _ (drop (f + 1) items) (λ j l. le_lt_trans lawful _ _ _ ends.0 l)
         (starts_rise order lawful same x (drop (f + 1) items)
         (listed_from items f x stored within read))
 
@@ -156,18 +154,15 @@ module _ {K : Type 0} (order : KeyOrder K) (lawful : IsLawful order) where
           let none : b + 0 ≡ b = omega arith in
           let ends : PLt (End x) Low =
           subst (λ y. PLt (End y) Low) (get_or-take a items b i behind)
-          (every_at (λ j. PLt (End j) Low) (take a items) b i below
+          (every_at _ (take a items) b i below
           (omega (arith, fits, behind, length-take-le a items fits))) in
           let starts : PLt High (Start x) =
           subst (λ y. PLt High (Start y))
           (get_or-drop b items 0 i ∙ ap (λ n. get_or items n i) none)
-          (every_at (λ j. PLt High (Start j)) (drop b items) 0 i past
-          (omega (arith, fits, behind, length-drop b items))) in
+          (every_at _ (drop b items) 0 i past (omega (arith, fits, behind, length-drop b items))) in
           let own : PLe (Start x) (End x) =
-          every_at (λ j. PLe (Start j) (End j)) items b i
-          (every_nonempty order lawful same items
-          (stored_list_is_listed order lawful same items stored))
-          (omega (arith, fits, behind)) in
+          every_at _ items b i (every_nonempty order lawful same items
+          (stored_list_is_listed order lawful same items stored)) (omega (arith, fits, behind)) in
           lt_not_le lawful _ _ (lt_trans lawful _ _ _ starts (le_lt_trans lawful _ _ _ own ends))
           (not_greater (cmp Low High) full)
 
@@ -197,10 +192,8 @@ module _ {K : Type 0} (order : KeyOrder K) (lawful : IsLawful order) where
             split = list_is_take_and_drop items a ∙ ap (λ ys. take a items ++ ys) rest;
             below = below;
             meet =
-                every_with (λ i. PLe Low (End i)) (λ i. PLe (Start i) High)
-                (λ i. Overlap order i.key r) met
-                (every_left (λ i. PLe Low (End i)) met (drop b items) (rw rest at above))
-                (every_right (λ i. PLe (Start i) High) (take a items) met (rw front at upto))
+                every_with _ _ _ met (every_left _ met (drop b items) (rw rest at above))
+                (every_right _ (take a items) met (rw front at upto))
                 (λ i h k. (λ l. lt_not_le lawful _ _ l h, λ l. lt_not_le lawful _ _ l k));
             above = past;
           }
@@ -212,14 +205,9 @@ module _ {K : Type 0} (order : KeyOrder K) (lawful : IsLawful order) where
   none_shown items r met are none h =
       let shown : Any (λ i. Overlap order i.key r) (are.before ++ (met ++ are.after)) =
       rw are.split at h in
-      elim (any_split (λ i. Overlap order i.key r) are.before (met ++ are.after) shown) [
-        | inl k ↦
-            any_none (λ i. Overlap order i.key r) (λ i. PLt (End i) (start_position order r.start))
-            are.before are.below (λ i l both. both.0 l) k
-        | inr k ↦
-            any_none (λ i. Overlap order i.key r) (λ i. PLt (end_position order r.end) (Start i))
-            are.after are.above (λ i l both. both.1 l)
-            (rw none at k)
+      elim (any_split _ are.before (met ++ are.after) shown) [
+        | inl k ↦ any_none _ _ are.before are.below (λ i l both. both.0 l) k
+        | inr k ↦ any_none _ _ are.after are.above (λ i l both. both.1 l) (rw none at k)
       ]
 
   -- where the range meets none, none is shown
@@ -229,8 +217,8 @@ module _ {K : Type 0} (order : KeyOrder K) (lawful : IsLawful order) where
   all_shown items r [] are none = refl
   all_shown items r (i ∷ rest) are none =
       let shown : MeetsSome order (are.before ++ ((i ∷ rest) ++ are.after)) r =
-      any_right (λ j. Overlap order j.key r) are.before ((i ∷ rest) ++ are.after)
-      (any_left (λ j. Overlap order j.key r) (i ∷ rest) are.after (inl are.meet.0)) in
+      any_right _ are.before ((i ∷ rest) ++ are.after)
+      (any_left _ (i ∷ rest) are.after (inl are.meet.0)) in
       absurd (none (rw are.split shown))
 
 module _ {K : Type 0} (order : KeyOrder K) (lawful : IsLawful order) {V : Type 0}
@@ -281,9 +269,8 @@ module _ {K : Type 0} (order : KeyOrder K) (lawful : IsLawful order) {V : Type 0
       position = (good, refl);
       upto =
           rw (take_one_more items (rank p) (rank p + 1) x within read refl)
-          (every_append (λ i. PLe order lawful (Start order lawful i) e) (take (rank p) items)
-          (x ∷ []) (starts_upto order lawful same items e (rank p) stored found.below)
-          (sym starts, tt));
+          (every_append _ (take (rank p) items) (x ∷ [])
+          (starts_upto order lawful same items e (rank p) stored found.below) (sym starts, tt));
       past = starts_past_after order lawful same items e (rank p) x stored within read found.above;
     }
 
@@ -322,15 +309,13 @@ module _ {K : Type 0} (order : KeyOrder K) (lawful : IsLawful order) {V : Type 0
       not_both_greater_and_not (cmp (start_position order (Included k)) upper)
       (ends_full order lawful (Included k) key) in
       let all : Every (λ i. PLe order lawful (Start order lawful i) upper) items =
-      every_with (λ i. PLe order lawful (Start order lawful i) (End order lawful i))
-      (λ i. IsKnownRange order i.key) (λ i. PLe order lawful (Start order lawful i) upper) items
-      (every_nonempty order lawful same items listed) (all_known items stored.known)
+      every_with _ _ _ items (every_nonempty order lawful same items listed)
+      (all_known items stored.known)
       (λ i own known. le_trans lawful _ _ _ own (ends_full order lawful i.key.end known.1)) in
       let b = place_after rank last in
       overlapping_are order lawful same (with_bounds (Included k) Unbounded) full items
       (place_before rank (length items) first) b stored found.in_range found.below found.above
-      (every_left (λ i. PLe order lawful (Start order lawful i) upper) (take b items)
-      (drop b items) (rw (list_is_take_and_drop items b) at all))
+      (every_left _ (take b items) (drop b items) (rw (list_is_take_and_drop items b) at all))
       (rw (drop_all items b (at_end last is_last)) tt)
     where
       all_known : (xs : List (Item (AnyRange K) V))

@@ -96,18 +96,14 @@ module _ {K : Type 0} (order : KeyOrder K) (lawful : IsLawful order) {V : Type 0
             record {
               free =
                   rw list (every_append Free done tail
-                  (every_weaker (λ j. Le' (High j.key) from) Free done
-                  (λ j le. inl (le_trans lawful _ _ _ le gap_from.0)) ready.below)
-                  (every_weaker (λ i. Le' to (Low i.key)) Free tail
+                  (every_weaker _ Free done (λ j le. inl (le_trans lawful _ _ _ le gap_from.0))
+                  ready.below) (every_weaker _ Free tail
                   (λ i le. inr (le_trans lawful _ _ _ gap_to.1 le)) above));
               left = elim ready.edge [
                 | inl le ↦ inl (le_trans lawful _ _ _ gap_from.1 le)
                 | inr some_item ↦
-                    inr
-                    (rw list (any_left Left done tail
-                    (any_with (λ j. Le' from (High j.key) × Le' (High j.key) from)
-                    (λ j. Le' (High j.key) from) Left done some_item ready.below
-                    (λ j h k. (
+                    inr (rw list (any_left Left done tail
+                    (any_with _ _ Left done some_item ready.below (λ j h k. (
                       le_trans lawful _ _ _ gap_from.1 h.0,
                       le_trans lawful _ _ _ h.1 gap_from.0,
                     )))))
@@ -115,11 +111,8 @@ module _ {K : Type 0} (order : KeyOrder K) (lawful : IsLawful order) {V : Type 0
               right = elim bounded [
                 | inl le ↦ inl (le_trans lawful _ _ _ le gap_to.0)
                 | inr some_item ↦
-                    inr
-                    (rw list (any_right Right done tail
-                    (any_with (λ i. Le' to (Low i.key) × Le' (Low i.key) to)
-                    (λ i. Le' to (Low i.key)) Right tail some_item above
-                    (λ i h k. (
+                    inr (rw list
+                    (any_right Right done tail (any_with _ _ Right tail some_item above (λ i h k. (
                       le_trans lawful _ _ _ gap_to.1 h.0,
                       le_trans lawful _ _ _ h.1 gap_to.0,
                     )))))
@@ -185,7 +178,7 @@ module _ {K : Type 0} (order : KeyOrder K) (lawful : IsLawful order) {V : Type 0
   module _ (done rest : List (Item (AnyRange K) V)) (x : Item (AnyRange K) V)
       (list : items ≡ done ++ x ∷ rest) (meets : Overlap order x.key r) where
     good_at : IsFull order lawful items r x
-    good_at = (every_right (IsFull order lawful items r) done (x ∷ rest) (rw list at full)).0
+    good_at = (every_right _ done (x ∷ rest) (rw list at full)).0
 
     starts_at : Lt' (Low x.key) (High r)
     starts_at =
@@ -208,7 +201,7 @@ module _ {K : Type 0} (order : KeyOrder K) (lawful : IsLawful order) {V : Type 0
     above_it : Every (λ i. Le' (Low x.key) (Low i.key)) (x ∷ rest)
     above_it = (
       le_refl lawful _,
-      every_weaker (λ i. Le' (High x.key) (Low i.key)) (λ i. Le' (Low x.key) (Low i.key)) rest
+      every_weaker _ _ rest
           (λ i le. le_trans lawful _ _ _ (lt_le lawful _ _ good_at.1) le) follow_it,
     )
 
@@ -242,10 +235,7 @@ module _ {K : Type 0} (order : KeyOrder K) (lawful : IsLawful order) {V : Type 0
         )
 
     part_right : IsRight order lawful items r Part (Some x.value)
-    part_right =
-        rw list
-        (any_right (λ i. IsCommonPart order r i.key Part × (i.value ≡ x.value)) done (x ∷ rest)
-        (inl (shared_is order lawful r x.key, refl)))
+    part_right = rw list (any_right _ done (x ∷ rest) (inl (shared_is order lawful r x.key, refl)))
 
     add_part : (m : Position K) (answers : List (Answered K V))
         → IsCutUpTo order lawful items r m answers → Le' (Low x.key) m → Le' m (Low Part)
@@ -269,10 +259,8 @@ module _ {K : Type 0} (order : KeyOrder K) (lawful : IsLawful order) {V : Type 0
         elim ready.edge [
           | inl le ↦ le_trans lawful _ _ _ le part_within.0
           | inr some_item ↦
-              any_use (λ j. Le' from (High j.key) × Le' (High j.key) from)
-              (λ j. Leads (line_of order lawful same equal) j (item_lower order x) x.value) done
-              some_item (chain_before (line_of order lawful same equal) done x rest chain_at)
-              (λ j h leads.
+              any_use _ _ done some_item
+              (chain_before (line_of order lawful same equal) done x rest chain_at) (λ j h leads.
               le_trans lawful _ _ _ h.0 (le_trans lawful _ _ _ leads.0 part_within.1))
         ]
 
@@ -280,16 +268,11 @@ module _ {K : Type 0} (order : KeyOrder K) (lawful : IsLawful order) {V : Type 0
     ready_after =
         let hi = High x.key in
         record {
-          edge =
-              inr (any_end (λ j. Le' hi (High j.key) × Le' (High j.key) hi) done x
-              (le_refl lawful _, le_refl lawful _));
+          edge = inr (any_end _ done x (le_refl lawful _, le_refl lawful _));
           at_least = lt_le lawful _ _ ends_at;
           below =
-              every_append (λ j. Le' (High j.key) hi) done (x ∷ [])
-              (every_weaker
-              (λ j. Leads (line_of order lawful same equal) j (item_lower order x) x.value)
-              (λ j. Le' (High j.key) hi) done
-              (λ j l. le_trans lawful _ _ _ l.0 (lt_le lawful _ _ good_at.1))
+              every_append _ done (x ∷ [])
+              (every_weaker _ _ done (λ j l. le_trans lawful _ _ _ l.0 (lt_le lawful _ _ good_at.1))
               (chain_before (line_of order lawful same equal) done x rest chain_at))
               (le_refl lawful _, tt);
         }
@@ -423,17 +406,13 @@ module _ {K : Type 0} (order : KeyOrder K) (lawful : IsLawful order) {V : Type 0
 
   lie_below : Every (λ i. PLe order lawful (Hi order lawful i.key) (Lo order lawful r)) are.before
   lie_below =
-      every_with (λ i. LiesBefore order i.key r) (λ i. IsKnownRange order i.key)
-      (λ i. PLe order lawful (Hi order lawful i.key) (Lo order lawful r)) are.before are.below
-      (every_left (λ i. IsKnownRange order i.key) are.before (met ++ are.after) known_parts)
+      every_with _ _ _ are.before are.below (every_left _ are.before (met ++ are.after) known_parts)
       (λ i l k. (before_is order lawful i.key.end r.start k.1 known.0).0 l)
 
   lie_above : Every (λ i. PLe order lawful (Hi order lawful r) (Lo order lawful i.key)) are.after
   lie_above =
-      every_with (λ i. LiesBefore order r i.key) (λ i. IsKnownRange order i.key)
-      (λ i. PLe order lawful (Hi order lawful r) (Lo order lawful i.key)) are.after are.above
-      (every_right (λ i. IsKnownRange order i.key) met are.after
-      (every_right (λ i. IsKnownRange order i.key) are.before (met ++ are.after) known_parts))
+      every_with _ _ _ are.after are.above
+      (every_right _ met are.after (every_right _ are.before (met ++ are.after) known_parts))
       (λ i l k. (before_is order lawful r.end i.key.start known.1 k.0).0 l)
 
   reached : Reaches order lawful same equal items r known all_nonempty all_chained own_room []
@@ -473,11 +452,7 @@ module _ {K : Type 0} (order : KeyOrder K) (lawful : IsLawful order) {V : Type 0
       by_value (Some v) e h =
           let others = free_inside order lawful items r known all_nonempty part free in
           let apart =
-          every_weaker (λ i. IsFull order lawful items r i
-          × (PLe order lawful (Hi order lawful i.key) (Lo order lawful part)
-          ⊎ PLe order lawful (Hi order lawful part) (Lo order lawful i.key)))
-          (λ i. PLe order lawful (Hi order lawful i.key) (Lo order lawful part)
-          ⊎ PLe order lawful (Hi order lawful part) (Lo order lawful i.key)) items (λ i b. b.1)
+          every_weaker _ _ items (λ i b. b.1)
           (free_apart order lawful items r known all_nonempty part free) in
           absurd (common_place_is_not_clear order lawful items r known all_nonempty same equal
           (Lo order lawful part) a.key part v is_known h over.0 over.1 apart (le_refl lawful _)
@@ -496,12 +471,8 @@ module _ {K : Type 0} (order : KeyOrder K) (lawful : IsLawful order) {V : Type 0
       λ (a : Answered K V). IsInside order lawful items r a.key
       × IsRight order lawful items r a.key a.value in
       let each : Every Right (map told Pieces) =
-      every_with (λ a. IsInside order lawful items r a.key
-      × PLe order lawful (Hi order lawful a.key) reached.place)
-      (λ a. IsRight order lawful items r a.key a.value) Right (map told Pieces) reached.cut.inside
-      reached.cut.right (λ a h k. (h.0, k)) in
+      every_with _ _ Right (map told Pieces) reached.cut.inside reached.cut.right
+      (λ a h k. (h.0, k)) in
       told_some (λ p. p.value ≡ None) Pieces
-      (any_with (λ a. PLe order lawful (Lo order lawful a.key) (Lo order lawful part)
-      × PLt order lawful (Lo order lawful part) (Hi order lawful a.key)) Right
-      (λ a. a.value ≡ None) (map told Pieces) there each
+      (any_with _ Right _ (map told Pieces) there each
       (λ a over h. free_is_listed part free a over h.0.0 h.1))

@@ -91,8 +91,7 @@ module _ {K : Type 0} {order : KeyOrder K} (lawful : IsLawful order) where
       → LiesBefore order r s → (¬ IsEmptyRange order s)
       → Every (λ l. LiesBefore order s l.key) rest → Every (λ l. LiesBefore order r l.key) rest
   before_rest r s rest h full all =
-      every_weaker (λ l. LiesBefore order s l.key) (λ l. LiesBefore order r l.key) rest
-      (λ l k. before_through r s l.key full h k) all
+      every_weaker _ _ rest (λ l k. before_through r s l.key full h k) all
 
   module _ {V : Type 0} where
     listed_ascends : (same : V → V → Bool) (items : List (Item (AnyRange K) V))
@@ -157,8 +156,8 @@ module _ {K : Type 0} {order : KeyOrder K} (lawful : IsLawful order) where
         unmet : LiesBefore order i.key j.key → ¬ MeetsSome order (j ∷ right) i.key
         unmet h (inl meets) = meets.1 h
         unmet h (inr meets) =
-            any_none (λ l. Overlap order l.key i.key) (λ l. LiesBefore order j.key l.key) right
-            rising'.1 (λ l k m. m.1 (before_through i.key j.key l.key rising'.0 h k)) meets
+            any_none _ _ right rising'.1
+            (λ l k m. m.1 (before_through i.key j.key l.key rising'.0 h k)) meets
 
         unmet_by : (x : Item (AnyRange K) V) → LiesBefore order j.key x.key
             → (¬ MeetsSome order right x.key) → ¬ MeetsSome order (j ∷ right) x.key
@@ -174,8 +173,8 @@ module _ {K : Type 0} {order : KeyOrder K} (lawful : IsLawful order) where
       none = λ h k inside. elim inside.0 [
         | inl part ↦ h part
         | inr later ↦
-            any_none (λ l. LiesIn order i.key l.key) (λ l. LiesBefore order j.key l.key) right
-            rising'.1 (λ l m part. k (lt_le_trans lawful _ _ _ m part.starts)) later
+            any_none _ _ right rising'.1 (λ l m part. k (lt_le_trans lawful _ _ _ m part.starts))
+            later
       ];
     }
       where

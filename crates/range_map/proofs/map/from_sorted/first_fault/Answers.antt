@@ -37,7 +37,6 @@ loop-index-preserved g c =
           rw more (sorted_more order front (item pair) was.sorted
           (rw was.last at (c.is_next.ensures.next.0 holds)));
       known =
-          rw more (every_append (λ i. IsKnownRange order i.key) front (item pair ∷ []) was.known
-          (c.is_next.ensures.known, tt));
+          rw more (every_append _ front (item pair ∷ []) was.known (c.is_next.ensures.known, tt));
       last = rw more (sym (last_is front (item pair)));
     }
