@@ -248,9 +248,9 @@ module _ {K : Type 0} (order : KeyOrder K) (lawful : IsLawful order) {V W X : Ty
               last_other others_rest piece.second p U);
           filled =
               rw (map_end answer_of was.answers c)
-              (fill_more order lawful same equal full_range m (Hi order lawful key)
-              (map answer_of was.answers) key within_all starts_after (le_refl lawful _) is_clone
-              clones None answer middle new was.filled put);
+              (fill_more order lawful same equal full_range m (Hi order lawful key) _ key within_all
+              starts_after (le_refl lawful _) is_clone clones None answer middle new was.filled
+              put);
         }
 
   -- among ranges that rise, a place lies in one alone

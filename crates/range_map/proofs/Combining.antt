@@ -395,8 +395,8 @@ next_stored order lawful same equal all done rest others listed item stored part
     append_assoc done (item ∷ []) others ∙ (ap (λ l. done ++ l) (sym next) ∙ parted) in
     let form : IsStored order same ((done ++ item ∷ []) ++ others) =
     subst (λ l. IsStored order same l) (sym whole) stored in
-    rw is (chain_stored order lawful same equal (done ++ item ∷ [])
-    (every_left _ (done ++ item ∷ []) others
+    rw is (chain_stored order lawful same equal _
+    (every_left _ _ others
     (stored_known order lawful same equal ((done ++ item ∷ []) ++ others) form))
-    (chain_left (line_of order lawful same equal) (done ++ item ∷ []) others
+    (chain_left (line_of order lawful same equal) _ others
     (stored_chain order lawful same equal ((done ++ item ∷ []) ++ others) form)))

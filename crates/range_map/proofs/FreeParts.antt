@@ -186,8 +186,7 @@ module _ {K : Type 0} (order : KeyOrder K) (lawful : IsLawful order) where
     found_between None e gaps from ends some such = absurd from
     found_between (Some a) None gaps from ends some such = absurd (some refl)
     found_between (Some a) (Some b) gaps from ends some such =
-        any_left _ (between order (Some a) (Some b)) gaps
-        (found_at a b from (ends b refl) (every_left F (between order (Some a) (Some b)) gaps such))
+        any_left _ _ gaps (found_at a b from (ends b refl) (every_left F _ gaps such))
 
     bounded_start : (b : Bound K) → PLt (End part.end) (Start b) → flipped b ≡ None → ⊥
     bounded_start (Included a) l e = cc
@@ -321,10 +320,7 @@ module _ {K : Type 0} (order : KeyOrder K) (lawful : IsLawful order) where
         each_between IsFull s (Some Unbounded)
         (λ a b e f le. ((subst KnownCut e known, subst KnownCut f tt), le))
     free_full s (i ∷ rest) known full =
-        every_append IsFull (between order s (flipped i.key.start))
-        (free_from order (flipped i.key.end) rest)
-        (each_between IsFull s (flipped i.key.start)
-        (λ a b e f le. (
+        every_append IsFull _ _ (each_between IsFull s (flipped i.key.start) (λ a b e f le. (
           (subst KnownCut e known, subst KnownCut f (known_inverted i.key.start full.0.0.0)),
           le,
         )))
@@ -342,7 +338,7 @@ module _ {K : Type 0} (order : KeyOrder K) (lawful : IsLawful order) where
         → Ahead s items → Every (From s) (free_from order s items)
     free_ranges_are_from s [] row ahead =
         each_between (From s) s (Some Unbounded)
-        (λ a b e f le. (from_is s a (record { start = a; end = b }) e).1 (le_refl lawful _))
+        (λ a b e f le. (from_is s a _ e).1 (le_refl lawful _))
     free_ranges_are_from s (i ∷ rest) row ahead =
         let gaps = free_from order (flipped i.key.end) rest in
         let full =
@@ -351,9 +347,9 @@ module _ {K : Type 0} (order : KeyOrder K) (lawful : IsLawful order) where
         let others =
         free_ranges_are_from (flipped i.key.end) rest (rest_row i rest row)
         (ahead_next i rest row) in
-        every_append (From s) (between order s (flipped i.key.start)) gaps
+        every_append (From s) _ gaps
         (each_between (From s) s (flipped i.key.start)
-        (λ a b e f le. (from_is s a (record { start = a; end = b }) e).1 (le_refl lawful _)))
+        (λ a b e f le. (from_is s a _ e).1 (le_refl lawful _)))
         (every_with IsFull _ (From s) gaps full others
         (λ r full_r h. from_end_is_from_start s i r row.full.0 full_r ahead.0 h))
 
@@ -386,9 +382,8 @@ module _ {K : Type 0} (order : KeyOrder K) (lawful : IsLawful order) where
         let past =
         every_with IsFull _ _ gaps full after
         (λ r full_r h. (after_end_is_from i.key.end r row.full.0.0.1 full_r).1 h) in
-        every_append _ (between order s (flipped i.key.start)) gaps
-        (each_between (Misses (i ∷ rest)) s (flipped i.key.start)
-        (λ a b e f le. misses_before i rest (record { start = a; end = b }) row
+        every_append _ _ gaps (each_between (Misses (i ∷ rest)) s (flipped i.key.start)
+        (λ a b e f le. misses_before i rest _ row
         (ends_just_before i.key.start b row.full.0.0.0 f)))
         (every_with _ _ _ gaps past (free_misses (flipped i.key.end) rest (rest_row i rest row))
         (λ r l h. (λ meets. meets.0 l, h)))
@@ -405,8 +400,7 @@ module _ {K : Type 0} (order : KeyOrder K) (lawful : IsLawful order) where
             → Pairs (LiesBefore order) (between order s e)
         range_between_is_alone None e = tt
         range_between_is_alone (Some a) None = tt
-        range_between_is_alone (Some a) (Some b) =
-            alone_by (starts_past_end order a b) (record { start = a; end = b })
+        range_between_is_alone (Some a) (Some b) = alone_by (starts_past_end order a b) _
     free_pairs s (i ∷ rest) row =
         let gaps = free_from order (flipped i.key.end) rest in
         let full =
@@ -418,8 +412,7 @@ module _ {K : Type 0} (order : KeyOrder K) (lawful : IsLawful order) where
         let past =
         every_with IsFull _ _ gaps full after
         (λ r full_r h. (after_end_is_from i.key.end r row.full.0.0.1 full_r).1 h) in
-        pairs_append (LiesBefore order) (between order s (flipped i.key.start)) gaps
-        (range_between_is_alone s (flipped i.key.start))
+        pairs_append (LiesBefore order) _ gaps (range_between_is_alone s (flipped i.key.start))
         (free_pairs (flipped i.key.end) rest (rest_row i rest row))
         (each_between (λ g. Every (LiesBefore order g) gaps) s (flipped i.key.start) (λ a b e f le.
         let first = ends_just_before i.key.start b row.full.0.0.0 f in
@@ -434,8 +427,7 @@ module _ {K : Type 0} (order : KeyOrder K) (lawful : IsLawful order) where
             → Pairs (LiesBefore order) (between order s e)
         range_between_is_alone None e = tt
         range_between_is_alone (Some a) None = tt
-        range_between_is_alone (Some a) (Some b) =
-            alone_by (starts_past_end order a b) (record { start = a; end = b })
+        range_between_is_alone (Some a) (Some b) = alone_by (starts_past_end order a b) _
 
     module _ (F : AnyRange K → Type 0) (full : (r : AnyRange K) → F r → IsFull r) where
       item_bars_after_end : (i : Item (AnyRange K) V) → IsFull i.key
@@ -478,9 +470,7 @@ module _ {K : Type 0} (order : KeyOrder K) (lawful : IsLawful order) where
           → Every (IsWide F) (free_from order s items)
       free_wide s [] known apart bars = wide_last F full s bars
       free_wide s (i ∷ rest) known apart bars =
-          every_append (IsWide F) (between order s (flipped i.key.start))
-          (free_from order (flipped i.key.end) rest)
-          (wide_between s i bars known.0 (λ r such. (apart r such).0))
+          every_append (IsWide F) _ _ (wide_between s i bars known.0 (λ r such. (apart r such).0))
           (free_wide (flipped i.key.end) rest known.1 (λ r such. (apart r such).1)
           (item_bars_after_end i known.0 (λ r such. (apart r such).0)))
 
@@ -496,16 +486,11 @@ module _ {K : Type 0} (order : KeyOrder K) (lawful : IsLawful order) where
       free_found s (i ∷ rest) known apart from such =
           elim (lies_by i.key part apart.0) [
             | inl l ↦
-                any_right _ (between order s (flipped i.key.start))
-                (free_from order (flipped i.key.end) rest)
-                (free_found (flipped i.key.end) rest known.1 apart.1
-                ((after_end_is_from i.key.end part known.0.0.1 full).0 l)
-                (every_right F (between order s (flipped i.key.start))
-                (free_from order (flipped i.key.end) rest) such))
+                any_right _ _ _ (free_found (flipped i.key.end) rest known.1 apart.1
+                ((after_end_is_from i.key.end part known.0.0.1 full).0 l) (every_right F _ _ such))
             | inr l ↦
-                found_between F part full wide s (flipped i.key.start)
-                (free_from order (flipped i.key.end) rest)
-                from (λ b e. ends_before order lawful part.end i.key.start b full.0.1 e l)
+                found_between F part full wide s (flipped i.key.start) _ from
+                (λ b e. ends_before order lawful part.end i.key.start b full.0.1 e l)
                 (bounded_start F part full wide i.key.start l) such
           ]
 
@@ -532,9 +517,8 @@ module _ {K : Type 0} (order : KeyOrder K) (lawful : IsLawful order) where
 
       gaps_free : Every IsFree (free_from order (Some Unbounded) items)
       gaps_free =
-          every_with IsFull _ IsFree (free_from order (Some Unbounded) items)
-          (free_full (Some Unbounded) items tt row.full) (free_misses (Some Unbounded) items row)
-          is_free
+          every_with IsFull _ IsFree _ (free_full (Some Unbounded) items tt row.full)
+          (free_misses (Some Unbounded) items row) is_free
 
       from_first : (r : AnyRange K) → IsFull r → From (Some Unbounded) r
       from_first r full = unbounded_start order lawful r.start full.0.0
@@ -548,12 +532,10 @@ module _ {K : Type 0} (order : KeyOrder K) (lawful : IsLawful order) where
       pub gaps_are : AreGaps order items (free_from order (Some Unbounded) items)
       gaps_are = record {
         each =
-            every_with IsFree _ _ (free_from order (Some Unbounded) items) gaps_free
+            every_with IsFree _ _ _ gaps_free
             (free_wide IsFree is_full (Some Unbounded) items row.full (λ r such. such.free)
             bars_first) (λ g h k. (h, k));
-        rising =
-            each_next (LiesBefore order) (free_from order (Some Unbounded) items)
-            (free_pairs (Some Unbounded) items row);
+        rising = each_next (LiesBefore order) _ (free_pairs (Some Unbounded) items row);
         all =
             λ part known piece. free_found IsFree part (is_full part piece.0) piece.1
             (Some Unbounded) items row.full piece.0.free
@@ -641,8 +623,7 @@ module _ {K : Type 0} (order : KeyOrder K) where
   one_between : (s e : Option (Bound K)) → length (between order s e) ≤ 1
   one_between None e = omega arith
   one_between (Some a) None = omega arith
-  one_between (Some a) (Some b) =
-      none_or_one (starts_past_end order a b) (record { start = a; end = b })
+  one_between (Some a) (Some b) = none_or_one (starts_past_end order a b) _
 
   pub few_free : {V : Type 0} (s : Option (Bound K)) (items : List (Item (AnyRange K) V))
       → length (free_from order s items) ≤ length items + 1

@@ -184,13 +184,13 @@ module _ {K : Type 0} (order : KeyOrder K) where
             let bound = λ (w : V) (h : BindsTo order same (done ++ i ∷ rest) k w).
             subst (λ l. BindsTo order same l k w) split h in (
               λ h.
-                  let own = binds_right done (i ∷ rest) k i.value (inl (held, equal.refl i.value)) in
+                  let own = binds_right done _ k i.value (inl (held, equal.refl i.value)) in
                   bound_once order lawful same equal others stored k key i.value v
                   (bound i.value own)
                   (bound v (elim (binds_split done (i ∷ []) k v h) [
-                    | inl was ↦ binds_left done (i ∷ rest) k v was
+                    | inl was ↦ binds_left done _ k v was
                     | inr last ↦ elim last [
-                      | inl to ↦ binds_right done (i ∷ rest) k v (inl to)
+                      | inl to ↦ binds_right done _ k v (inl to)
                       | inr none ↦ absurd none
                     ]
                   ])),

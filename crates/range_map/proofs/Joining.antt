@@ -113,8 +113,8 @@ module _ {K : Type 0} (order : KeyOrder K) (lawful : IsLawful order) {V : Type 0
       → RisesFrom order (lower order full_range) items
   stored_rises [] stored = tt
   stored_rises (i ∷ rest) stored =
-      let known = stored_known order lawful same equal (i ∷ rest) stored in
-      let chain = stored_chain order lawful same equal (i ∷ rest) stored in (
+      let known = stored_known order lawful same equal _ stored in
+      let chain = stored_chain order lawful same equal _ stored in (
         known.0,
         (nonempty_good order lawful i.key known.0).1 chain.0,
         unbounded_start order lawful i.key.start known.0.0,

@@ -223,7 +223,7 @@ module _ {K : Type 0} (order : KeyOrder K) (lawful : IsLawful order) where
           answers = h.answered.answers;
           pieces = record {
             each =
-                every_weaker _ _ (map piece_of h.answered.answers)
+                every_weaker _ _ _
                 (λ p t. piece_too items s r starts_alike ends_alike p.key p.value t)
                 h.answered.pieces.each;
             rising = h.answered.pieces.rising;

@@ -95,8 +95,7 @@ module _ {K : Type 0} (order : KeyOrder K) (lawful : IsLawful order) where
         let own =
         every_nonempty order lawful same items
         (stored_list_is_listed order lawful same items stored) in
-        every_with _ _ _ (take f items) below
-        (every_left _ (take f items) (drop f items) (rw (list_is_take_and_drop items f) at own))
+        every_with _ _ _ _ below (every_left _ _ _ (rw (list_is_take_and_drop items f) at own))
         (λ i l le. lt_le lawful _ _ (le_lt_trans lawful _ _ _ le l))
 
     rest_from : (items : List (Item (AnyRange K) V)) (f : ℕ) (x : Item (AnyRange K) V)
@@ -119,9 +118,9 @@ module _ {K : Type 0} (order : KeyOrder K) (lawful : IsLawful order) where
     starts_past_from items e f x stored within read past =
         rw (rest_from items f x within read) (
           past,
-          every_weaker _ _ (drop (f + 1) items)
+          every_weaker _ _ _
               (λ j l. lt_trans lawful _ _ _ past l)
-              (first_rises x (drop (f + 1) items) (listed_from items f x stored within read)),
+              (first_rises x _ (listed_from items f x stored within read)),
         )
 
     -- after an item that reaches a position all start past it
@@ -132,9 +131,8 @@ module _ {K : Type 0} (order : KeyOrder K) (lawful : IsLawful order) where
     starts_past_after items e f x stored within read above =
         let ends : Every (λ i. PLe e (End i)) (x ∷ drop (f + 1) items) =
         rw (rest_from items f x within read) at above in
-        every_weaker _ _ (drop (f + 1) items) (λ j l. le_lt_trans lawful _ _ _ ends.0 l)
-        (starts_rise order lawful same x (drop (f + 1) items)
-        (listed_from items f x stored within read))
+        every_weaker _ _ _ (λ j l. le_lt_trans lawful _ _ _ ends.0 l)
+        (starts_rise order lawful same x _ (listed_from items f x stored within read))
 
     module _ (r : AnyRange K) (full : IsEmptyRange order r → ⊥) where
       abbrev Low : Position K
@@ -154,12 +152,11 @@ module _ {K : Type 0} (order : KeyOrder K) (lawful : IsLawful order) where
           let none : b + 0 ≡ b = omega arith in
           let ends : PLt (End x) Low =
           subst (λ y. PLt (End y) Low) (get_or-take a items b i behind)
-          (every_at _ (take a items) b i below
-          (omega (arith, fits, behind, length-take-le a items fits))) in
+          (every_at _ _ b i below (omega (arith, fits, behind, length-take-le a items fits))) in
           let starts : PLt High (Start x) =
           subst (λ y. PLt High (Start y))
           (get_or-drop b items 0 i ∙ ap (λ n. get_or items n i) none)
-          (every_at _ (drop b items) 0 i past (omega (arith, fits, behind, length-drop b items))) in
+          (every_at _ _ 0 i past (omega (arith, fits, behind, length-drop b items))) in
           let own : PLe (Start x) (End x) =
           every_at _ items b i (every_nonempty order lawful same items
           (stored_list_is_listed order lawful same items stored)) (omega (arith, fits, behind)) in
@@ -183,7 +180,7 @@ module _ {K : Type 0} (order : KeyOrder K) (lawful : IsLawful order) where
           let behind : drop (b - a) (drop a items) ≡ drop b items =
           drop-drop (b - a) a items ∙ ap (λ n. drop n items) (sym whole) in
           let rest : drop a items ≡ met ++ drop b items =
-          list_is_take_and_drop (drop a items) (b - a) ∙ ap (λ ys. met ++ ys) behind in
+          list_is_take_and_drop _ (b - a) ∙ ap (λ ys. met ++ ys) behind in
           let front : take b items ≡ take a items ++ met =
           ap (λ n. take n items) whole ∙ take-add a (b - a) items in
           record {
@@ -192,8 +189,8 @@ module _ {K : Type 0} (order : KeyOrder K) (lawful : IsLawful order) where
             split = list_is_take_and_drop items a ∙ ap (λ ys. take a items ++ ys) rest;
             below = below;
             meet =
-                every_with _ _ _ met (every_left _ met (drop b items) (rw rest at above))
-                (every_right _ (take a items) met (rw front at upto))
+                every_with _ _ _ met (every_left _ met _ (rw rest at above))
+                (every_right _ _ met (rw front at upto))
                 (λ i h k. (λ l. lt_not_le lawful _ _ l h, λ l. lt_not_le lawful _ _ l k));
             above = past;
           }
@@ -269,7 +266,7 @@ module _ {K : Type 0} (order : KeyOrder K) (lawful : IsLawful order) {V : Type 0
       position = (good, refl);
       upto =
           rw (take_one_more items (rank p) (rank p + 1) x within read refl)
-          (every_append _ (take (rank p) items) (x ∷ [])
+          (every_append _ _ (x ∷ [])
           (starts_upto order lawful same items e (rank p) stored found.below) (sym starts, tt));
       past = starts_past_after order lawful same items e (rank p) x stored within read found.above;
     }
@@ -315,7 +312,7 @@ module _ {K : Type 0} (order : KeyOrder K) (lawful : IsLawful order) {V : Type 0
       let b = place_after rank last in
       overlapping_are order lawful same (with_bounds (Included k) Unbounded) full items
       (place_before rank (length items) first) b stored found.in_range found.below found.above
-      (every_left _ (take b items) (drop b items) (rw (list_is_take_and_drop items b) at all))
+      (every_left _ _ _ (rw (list_is_take_and_drop items b) at all))
       (rw (drop_all items b (at_end last is_last)) tt)
     where
       all_known : (xs : List (Item (AnyRange K) V))

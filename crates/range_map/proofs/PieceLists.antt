@@ -155,7 +155,7 @@ module _ {K : Type 0} (order : KeyOrder K) (lawful : IsLawful order) {V : Type 0
         record {
           place = to;
           cut =
-              add_gap (record { start = a; end = b }) (known_a, known_b) at upto
+              add_gap _ (known_a, known_b) at upto
               ((reaching_is_before_past order lawful a b known_a known_b).0 e);
           there = (le_refl lawful _, inr (le_refl lawful _));
         }
@@ -178,7 +178,7 @@ module _ {K : Type 0} (order : KeyOrder K) (lawful : IsLawful order) {V : Type 0
   module _ (done rest : List (Item (AnyRange K) V)) (x : Item (AnyRange K) V)
       (list : items ≡ done ++ x ∷ rest) (meets : Overlap order x.key r) where
     good_at : IsFull order lawful items r x
-    good_at = (every_right _ done (x ∷ rest) (rw list at full)).0
+    good_at = (every_right _ done _ (rw list at full)).0
 
     starts_at : Lt' (Low x.key) (High r)
     starts_at =
@@ -195,7 +195,7 @@ module _ {K : Type 0} (order : KeyOrder K) (lawful : IsLawful order) {V : Type 0
 
     follow_it : Every (λ i. Le' (High x.key) (Low i.key)) rest
     follow_it =
-        let tail = chain_right (line_of order lawful same equal) done (x ∷ rest) chain_at in
+        let tail = chain_right (line_of order lawful same equal) done _ chain_at in
         follows_above (line_of order lawful same equal) x rest tail.1
 
     above_it : Every (λ i. Le' (Low x.key) (Low i.key)) (x ∷ rest)
@@ -235,7 +235,7 @@ module _ {K : Type 0} (order : KeyOrder K) (lawful : IsLawful order) {V : Type 0
         )
 
     part_right : IsRight order lawful items r Part (Some x.value)
-    part_right = rw list (any_right _ done (x ∷ rest) (inl (shared_is order lawful r x.key, refl)))
+    part_right = rw list (any_right _ done _ (inl (shared_is order lawful r x.key, refl)))
 
     add_part : (m : Position K) (answers : List (Answered K V))
         → IsCutUpTo order lawful items r m answers → Le' (Low x.key) m → Le' m (Low Part)
@@ -311,7 +311,7 @@ module _ {K : Type 0} (order : KeyOrder K) (lawful : IsLawful order) {V : Type 0
         (λ m. Le' (Low x.key) m × (Le' m from ⊎ Le' m (Low x.key)))
     gap_before from start answers ready opens was =
         let own = le_refl lawful _ in
-        gap_step done (x ∷ rest) list from (Low x.key) ready (lt_le lawful _ _ starts_at) above_it
+        gap_step done _ list from (Low x.key) ready (lt_le lawful _ _ starts_at) above_it
         (inr (inl (own, own))) answers was start (flipped x.key.start) opens (λ b turns. (
           flipped_known order lawful x.key.start b turns good_at.0.0,
           flipped_bound_is_past order lawful b x.key.start
@@ -371,9 +371,8 @@ module _ {K : Type 0} (order : KeyOrder K) (lawful : IsLawful order) {V : Type 0
       let more = pieces_from order r (flipped x.key.end) (Some r.end) rest in
       let so_far = (answers ++ map told gap) ++ told (bound_piece order r x) ∷ [] in
       let end =
-      pieces_reach rest (done ++ x ∷ []) after (list ∙ relist done rest after x) meet.1 behind
-      (High x.key) (flipped x.key.end) so_far
-      (ready_after done (rest ++ after) x list meet.0)
+      pieces_reach rest _ after (list ∙ relist done rest after x) meet.1 behind (High x.key)
+      (flipped x.key.end) so_far (ready_after done (rest ++ after) x list meet.0)
       (opens_after done (rest ++ after) x list meet.0) next in
       record {
         place = end.place;
@@ -429,9 +428,8 @@ module _ {K : Type 0} (order : KeyOrder K) (lawful : IsLawful order) {V : Type 0
   -- the list has all pieces of the range
   pub pieces_are : ArePieces order items r Pieces
   pieces_are =
-      rw (told_back Pieces)
-      at (cut_all order lawful items r known same equal all_nonempty all_chained reached.place
-      (map told Pieces) reached.cut reached.there)
+      rw (told_back Pieces) at (cut_all order lawful items r known same equal all_nonempty
+      all_chained reached.place _ reached.cut reached.there)
 
   told_some : (P : Item (AnyRange K) (Option V) → Type 0)
       (pieces : List (Item (AnyRange K) (Option V)))
@@ -471,8 +469,6 @@ module _ {K : Type 0} (order : KeyOrder K) (lawful : IsLawful order) {V : Type 0
       λ (a : Answered K V). IsInside order lawful items r a.key
       × IsRight order lawful items r a.key a.value in
       let each : Every Right (map told Pieces) =
-      every_with _ _ Right (map told Pieces) reached.cut.inside reached.cut.right
-      (λ a h k. (h.0, k)) in
+      every_with _ _ Right _ reached.cut.inside reached.cut.right (λ a h k. (h.0, k)) in
       told_some (λ p. p.value ≡ None) Pieces
-      (any_with _ Right _ (map told Pieces) there each
-      (λ a over h. free_is_listed part free a over h.0.0 h.1))
+      (any_with _ Right _ _ there each (λ a over h. free_is_listed part free a over h.0.0 h.1))

@@ -46,7 +46,7 @@ module _ {L V X : Type 0} (line : Line L V X) where
   chain_kept (b ∷ bs) [] h = tt
   chain_kept (true ∷ bs) (x ∷ xs) h = (h.0, follows_kept x bs xs h.1)
   chain_kept (false ∷ bs) (x ∷ []) h = chain_kept bs [] tt
-  chain_kept (false ∷ bs) (x ∷ y ∷ xs) h = chain_kept bs (y ∷ xs) h.1.1
+  chain_kept (false ∷ bs) (x ∷ y ∷ xs) h = chain_kept bs _ h.1.1
 
 module _ {K : Type 0} (order : KeyOrder K) (lawful : IsLawful order) {V : Type 0}
     (same : V → V → Bool) (equal : IsEquivalence same) where

@@ -70,7 +70,7 @@ module _ {K : Type 0} (order : KeyOrder K) {V : Type 0} where
       → IsFirstFault order xs n → ¬ (m < n)
   not_later xs m n fault other less =
       let same = fewer (m + 1) n xs (omega (arith, less)) in
-      fault.1 (rw same at (front_sorted (m + 1) (take n xs) other.0))
+      fault.1 (rw same at (front_sorted (m + 1) _ other.0))
 
   -- there is one first fault
   pub one_fault : (xs : List (Item (AnyRange K) V)) (m n : ℕ) → IsFirstFault order xs m

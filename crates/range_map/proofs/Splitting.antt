@@ -101,7 +101,7 @@ module _ {K : Type 0} (order : KeyOrder K) (lawful : IsLawful order) {V : Type 0
           let line = line_of order lawful same equal in
           let whole = subst (IsStored order same) together form in
           let known = stored_known order lawful same equal (front ++ x ∷ rest) whole in
-          let x_known = (every_right _ front (x ∷ rest) known).0 in
+          let x_known = (every_right _ front _ known).0 in
           let chain = stored_chain order lawful same equal (front ++ x ∷ rest) whole in
           let at = held_between order lawful x.key key x_known key_known in
           let ends : Le (places order lawful) (item_upper order x) cut =
@@ -122,9 +122,9 @@ module _ {K : Type 0} (order : KeyOrder K) (lawful : IsLawful order) {V : Type 0
           let line = line_of order lawful same equal in
           let whole = subst (IsStored order same) together form in
           let known = stored_known order lawful same equal (front ++ x ∷ rest) whole in
-          let front_known = every_left _ front (x ∷ rest) known in
-          let x_known = (every_right _ front (x ∷ rest) known).0 in
-          let rest_known = (every_right _ front (x ∷ rest) known).1 in
+          let front_known = every_left _ front _ known in
+          let x_known = (every_right _ front _ known).0 in
+          let rest_known = (every_right _ front _ known).1 in
           let chain = stored_chain order lawful same equal (front ++ x ∷ rest) whole in
           let at = (held_between order lawful x.key key x_known key_known).0 held in
           let y : Item (AnyRange K) V =
@@ -136,7 +136,7 @@ module _ {K : Type 0} (order : KeyOrder K) (lawful : IsLawful order) {V : Type 0
           let sum = length-append front (x ∷ rest) in
           let sum_front = length-append front (y ∷ []) in
           subst (λ items. IsDivided order same key items (front ++ y ∷ []) (z ∷ rest))
-          (sym together) (divided (front ++ x ∷ rest) (front ++ y ∷ []) (z ∷ rest) known
+          (sym together) (divided (front ++ x ∷ rest) (front ++ y ∷ []) _ known
           (every_append _ front (y ∷ []) front_known ((x_known.0, b_known), tt))
           ((key_known, x_known.1), rest_known)
           (left_cut line front x rest y cut chain low (lt_le lawful cut (item_upper order x) at.1)

@@ -41,13 +41,11 @@ returns-clause-form g c = invariant_of-self-2 g c
 
 pub returns-clause-coarse : goal.returns-clause-coarse
 returns-clause-coarse g c =
-    stored_coarse g.met.K.PartialEnum.lawful g.met.V.Eq.laws
-    (g.C.Storage.items c.move_all.new.stored) (invariant_of-self-2 g c)
+    stored_coarse g.met.K.PartialEnum.lawful g.met.V.Eq.laws _ (invariant_of-self-2 g c)
 
 pub returns-clause-only : goal.returns-clause-only
 returns-clause-only g c =
-    stored_only g.met.K.PartialEnum.lawful g.met.V.Eq.laws (g.C.Storage.items c.move_all.new.stored)
-    (invariant_of-self-2 g c)
+    stored_only g.met.K.PartialEnum.lawful g.met.V.Eq.laws _ (invariant_of-self-2 g c)
 
 pub returns-clause-bound : goal.returns-clause-bound
 returns-clause-bound g c =

@@ -12,12 +12,10 @@ returns g c =
       form = search rules;
       closure = search rules;
       bound =
-          rw c.in_ok-map_of.ensures
-          (pieces_combine g.K.MaybeBounded.order g.met.K.PartialEnum.lawful g.V.PartialEq.eq
-          g.met.V.Eq.laws g.W.PartialEq.eq g.met.W.Eq.laws g.X.PartialEq.eq
-          (MayAnswerBoth g.F.Fn c.args.f) (g.C.Storage.items c.args.self.now)
-          (g.D.Storage.items c.args.other.now) c.in_ok-answers.answers.items
-          c.in_ok-answers.ensures.combined);
+          rw c.in_ok-map_of.ensures (pieces_combine g.K.MaybeBounded.order
+          g.met.K.PartialEnum.lawful g.V.PartialEq.eq g.met.V.Eq.laws g.W.PartialEq.eq
+          g.met.W.Eq.laws g.X.PartialEq.eq (MayAnswerBoth g.F.Fn c.args.f) _ _
+          c.in_ok-answers.answers.items c.in_ok-answers.ensures.combined);
       coarse =
           rw c.in_ok-map_of.ensures
           (stored_coarse g.met.K.PartialEnum.lawful g.met.X.Eq.laws _ c.in_ok-answers.ensures.form);

@@ -7,9 +7,7 @@ returns-clause-value g c = search rules
 
 pub returns-clause-bound : goal.returns-clause-bound
 returns-clause-bound g c =
-    rw (returns-clause-value g c)
-    (equal_binds g.met.K.PartialEnum.lawful g.met.V.Eq.laws
-    (g.C.Storage.items c.args.self.now) (g.D.Storage.items c.args.other.now))
+    rw (returns-clause-value g c) (equal_binds g.met.K.PartialEnum.lawful g.met.V.Eq.laws _ _)
 
 pub returns-clause-same : goal.returns-clause-same
 returns-clause-same g c = λ complete.

@@ -14,7 +14,7 @@ loop-range-init g c =
       can = ready.0;
       ends = ready.1;
       bound = none_bound_after g.K.MaybeBounded.order g.V.PartialEq.eq
-          (g.C.Storage.items c.args.self.now);
+          _;
       form = c.in_form.ensures;
     }
 

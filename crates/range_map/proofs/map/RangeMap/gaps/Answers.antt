@@ -25,7 +25,7 @@ returns g c =
           (sym c.iter.ensures.items)
           (held_once order lawful items k (stored_row order lawful g.V.PartialEq.eq items stored) key);
       few =
-          subst (λ walk. length (free_from order (Some Unbounded) walk)
-          ≤ length (g.C.Storage.items c.args.self.now) + 1) (sym c.iter.ensures.items)
-          (few_free order (Some Unbounded) (g.C.Storage.items c.args.self.now));
+          subst (λ walk. length (free_from order (Some Unbounded) walk) ≤ length
+          (g.C.Storage.items c.args.self.now) + 1) (sym c.iter.ensures.items)
+          (few_free order (Some Unbounded) _);
     }

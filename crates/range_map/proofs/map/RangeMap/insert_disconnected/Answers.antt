@@ -36,9 +36,7 @@ returns g c =
       coarse = stored_coarse g.met.K.PartialEnum.lawful g.met.V.Eq.laws _ c.bind_apart.ensures.form;
       only = stored_only g.met.K.PartialEnum.lawful g.met.V.Eq.laws _ c.bind_apart.ensures.form;
       few = rw (← c.self.view_is)
-          (put_few c.bind_apart.result (g.C.Storage.items c.self.inside.stored)
-          (g.C.Storage.items c.bind_apart.new.stored) _ c.bind_apart.ensures.put
-          c.bind_apart.ensures.refused);
+          (put_few c.bind_apart.result _ _ _ c.bind_apart.ensures.put c.bind_apart.ensures.refused);
       refused = rw (← c.self.view_is) c.bind_apart.ensures.refused;
       empty = λ e. absurd (not_both c.if-is_empty.false (empty_is.1 e));
       empty_unchanged = λ e. absurd (not_both c.if-is_empty.false (empty_is.1 e));

@@ -12,8 +12,8 @@ loop-range-init g c =
     let items = g.C.Storage.items c.args.self.now in
     record {
       way = rw c.iter-items.ensures.items
-          (set_out (λ front. IsWithout order same items front items)
-          (g.D.Storage.items c.args.other.now) (none_without order same items));
+          (set_out (λ front. IsWithout order same items front items) _
+          (none_without order same items));
       form = c.in_form.ensures;
       coarse = stored_coarse g.met.K.PartialEnum.lawful g.met.V.Eq.laws _ c.in_form.ensures;
       only = stored_only g.met.K.PartialEnum.lawful g.met.V.Eq.laws _ c.in_form.ensures;

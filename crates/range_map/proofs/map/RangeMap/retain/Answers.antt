@@ -38,10 +38,9 @@ loop-at-preserved-then-keeps g c =
       position = rw next c.next-at.ensures;
       callable = c.keeps.ensures.callable;
       told =
-          rw next
-          (kept_next (CalledAtItem g.F.FnMut) (storage.items c.self.inside.stored) c.args.f items
-          c.loop-at.f c.keeps.new.f c.get.result.now (storage.rank stored p) was within
-          c.get.ensures (rw c.if-keeps.true at c.keeps.ensures.called));
+          rw next (kept_next (CalledAtItem g.F.FnMut) (storage.items c.self.inside.stored) c.args.f
+          items c.loop-at.f c.keeps.new.f c.get.result.now _ was within c.get.ensures
+          (rw c.if-keeps.true at c.keeps.ensures.called));
     }
 
 pub loop-at-preserved : goal.loop-at-preserved
@@ -59,16 +58,14 @@ loop-at-preserved g c =
     let next : place_before (storage.rank after) (length (storage.items after))
     c.remove_at-removed.result.1 ≡ storage.rank stored p =
     place_at (storage.is_good after) (storage.rank after) (length (storage.items after))
-    c.remove_at-removed.result.1 (storage.rank stored p) removed.following in
+    c.remove_at-removed.result.1 _ removed.following in
     record {
       position = rw next removed.following;
       callable = c.keeps.ensures.callable;
       told =
-          rw next
-          (removed_next (CalledAtItem g.F.FnMut) (storage.items c.self.inside.stored) c.args.f
-          items (storage.items after) c.loop-at.f c.keeps.new.f c.get.result.now
-          (storage.rank stored p) was within
-          c.get.ensures (rw c.if-keeps.false at c.keeps.ensures.called) removed.list);
+          rw next (removed_next (CalledAtItem g.F.FnMut) (storage.items c.self.inside.stored)
+          c.args.f items _ c.loop-at.f c.keeps.new.f c.get.result.now _ was within c.get.ensures
+          (rw c.if-keeps.false at c.keeps.ensures.called) removed.list);
     }
 
 pub loop-at-smaller : goal.loop-at-smaller
@@ -85,7 +82,7 @@ loop-at-smaller g c =
     let next : place_before (storage.rank after) (length (storage.items after))
     c.remove_at-removed.result.1 ≡ storage.rank stored p =
     place_at (storage.is_good after) (storage.rank after) (length (storage.items after))
-    c.remove_at-removed.result.1 (storage.rank stored p) removed.following in
+    c.remove_at-removed.result.1 _ removed.following in
     let now : place_before (storage.rank stored) (length items) c.loop-at.at
     ≡ storage.rank stored p =
     ap (place_before (storage.rank stored) (length items)) c.in-Some.is in
@@ -115,13 +112,11 @@ returns-clause-form g c =
 
 pub returns-clause-coarse : goal.returns-clause-coarse
 returns-clause-coarse g c =
-    stored_coarse g.met.K.PartialEnum.lawful g.met.V.Eq.laws
-    (g.C.Storage.items c.loop-at.self-inside.stored) (returns-clause-form g c)
+    stored_coarse g.met.K.PartialEnum.lawful g.met.V.Eq.laws _ (returns-clause-form g c)
 
 pub returns-clause-only : goal.returns-clause-only
 returns-clause-only g c =
-    stored_only g.met.K.PartialEnum.lawful g.met.V.Eq.laws
-    (g.C.Storage.items c.loop-at.self-inside.stored) (returns-clause-form g c)
+    stored_only g.met.K.PartialEnum.lawful g.met.V.Eq.laws _ (returns-clause-form g c)
 
 pub returns-clause-kept : goal.returns-clause-kept
 returns-clause-kept g c =

@@ -54,8 +54,8 @@ returns-clause-bound g c =
     let same = g.V.PartialEq.eq in
     let first = g.C.Storage.items c.args.self.now in
     let now = g.C.Storage.items c.loop-gap.self in
-    all_kept order same first now (g.D.Storage.items c.args.other.now) c.gaps-gaps.result
-    c.gaps-gaps.ensures.once (arrived c.in_default.ensures.steps.0 c.loop-gap.invariant.way)
+    all_kept order same first now _ c.gaps-gaps.result c.gaps-gaps.ensures.once
+    (arrived c.in_default.ensures.steps.0 c.loop-gap.invariant.way)
 
 pub returns-in_err-cloned-clause-refused : goal.returns-in_err-cloned-clause-refused
 returns-in_err-cloned-clause-refused g c =

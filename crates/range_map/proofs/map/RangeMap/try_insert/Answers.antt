@@ -17,10 +17,9 @@ bind_where_free-requires g c =
 
 pub invariant_of-self : goal.invariant_of-self
 invariant_of-self g c =
-    form_after g.K.MaybeBounded.order g.V.PartialEq.eq c.bind_where_free.result
-    (g.C.Storage.items c.self.inside.stored)
-    (g.C.Storage.items c.bind_where_free.new.stored) c.into_range-range.result c.args.value
-    c.bind_where_free.ensures.ok c.bind_where_free.ensures.refused c.self.invariant
+    form_after g.K.MaybeBounded.order g.V.PartialEq.eq c.bind_where_free.result _ _
+    c.into_range-range.result c.args.value c.bind_where_free.ensures.ok
+    c.bind_where_free.ensures.refused c.self.invariant
 
 pub returns : goal.returns
 returns g c =

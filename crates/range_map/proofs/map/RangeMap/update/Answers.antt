@@ -101,11 +101,8 @@ returns-then-is_empty g c =
       updated = λ full. absurd (full (c.is_empty.ensures.by_position.0 c.if-is_empty.true));
       rebound =
           none_rebound g.K.MaybeBounded.order g.met.K.PartialEnum.lawful g.V.PartialEq.eq
-          g.met.V.Eq.laws g.F.Fn c.args.f (g.C.Storage.items c.args.self.now)
-          (g.R.AsRange.range c.args.range) (c.is_empty.ensures.by_position.0 c.if-is_empty.true);
-      kept =
-          unchanged_stands g.K.MaybeBounded.order g.V.PartialEq.eq (g.R.AsRange.range c.args.range)
-          (g.C.Storage.items c.args.self.now);
+          g.met.V.Eq.laws g.F.Fn c.args.f _ _ (c.is_empty.ensures.by_position.0 c.if-is_empty.true);
+      kept = unchanged_stands g.K.MaybeBounded.order g.V.PartialEq.eq _ _;
       spelled = list_keeps_spelling g.met.K.PartialEnum.lawful g.met.V.Eq.laws c.in_form.ensures;
       form = c.in_form.ensures;
       coarse = stored_coarse g.met.K.PartialEnum.lawful g.met.V.Eq.laws _ c.in_form.ensures;

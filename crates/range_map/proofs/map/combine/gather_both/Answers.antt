@@ -15,9 +15,8 @@ loop-piece-init g c =
         lower g.K.MaybeBounded.order full_range,
         rw (left, right, c.new-answers.ensures.items)
             (combined_none g.K.MaybeBounded.order lawful g.V.PartialEq.eq first g.W.PartialEq.eq
-            second g.X.PartialEq.eq equal (MayAnswerBoth g.F.Fn c.args.f.now)
-            (g.C.Storage.items c.args.map.now) (g.D.Storage.items c.args.other.now)
-            c.in_form.ensures c.in_form-2.ensures),
+            second g.X.PartialEq.eq equal (MayAnswerBoth g.F.Fn c.args.f.now) _ _ c.in_form.ensures
+            c.in_form-2.ensures),
       );
       first = c.next_part-left.ensures.last;
       second = c.next_part-right.ensures.last;
@@ -30,13 +29,11 @@ first_piece-requires g c =
     g.met.X.Eq.laws in
     record {
       left =
-          first_placed g.K.MaybeBounded.order g.met.K.PartialEnum.lawful g.V.PartialEq.eq g.met.V.Eq.laws
-          (g.C.Storage.items c.args.map.now) up_to.0 (option_map part_item c.loop-piece.left)
-          c.loop-piece.items up_to.1.first;
+          first_placed g.K.MaybeBounded.order g.met.K.PartialEnum.lawful g.V.PartialEq.eq
+          g.met.V.Eq.laws _ up_to.0 _ c.loop-piece.items up_to.1.first;
       right =
-          first_placed g.K.MaybeBounded.order g.met.K.PartialEnum.lawful g.W.PartialEq.eq g.met.W.Eq.laws
-          (g.D.Storage.items c.args.other.now) up_to.0 (option_map part_item c.loop-piece.right)
-          c.loop-piece.others up_to.1.second;
+          first_placed g.K.MaybeBounded.order g.met.K.PartialEnum.lawful g.W.PartialEq.eq
+          g.met.W.Eq.laws _ up_to.0 _ c.loop-piece.others up_to.1.second;
     }
 
 pub ask_both-requires : goal.ask_both-requires
@@ -51,9 +48,8 @@ ask_both-requires g c =
     (λ e. inv.first (unmapped part_item c.loop-piece.left e))
     (λ e. inv.second (unmapped part_item c.loop-piece.right e)) was.1
     (rw c.in-Some.is at c.first_piece.ensures) in
-    asked_of_part g.K.MaybeBounded.order g.F.Fn c.args.f.now (g.C.Storage.items c.args.map.now)
-    (g.D.Storage.items c.args.other.now) c.requires.asked _ _ _ shared.first shared.second
-    shared.bound
+    asked_of_part g.K.MaybeBounded.order g.F.Fn c.args.f.now _ _ c.requires.asked _ _ _ shared.first
+    shared.second shared.bound
 
 pub returns-in_err-ask_both-clause-closure : goal.returns-in_err-ask_both-clause-closure
 returns-in_err-ask_both-clause-closure g c e failed =
@@ -94,10 +90,8 @@ loop-piece-preserved g c =
         upper order (range_of c.in-Some.piece.range),
         rw (c.refilled-left.ensures.items, c.refilled-right.ensures.items)
             (combined_more order lawful g.V.PartialEq.eq first g.W.PartialEq.eq second
-            g.X.PartialEq.eq equal (MayAnswerBoth g.F.Fn c.args.f.now)
-            (g.C.Storage.items c.args.map.now) (g.D.Storage.items c.args.other.now)
-            c.in_form.ensures c.in_form-2.ensures
-            (λ e. inv.first (unmapped part_item c.loop-piece.left e))
+            g.X.PartialEq.eq equal (MayAnswerBoth g.F.Fn c.args.f.now) _ _ c.in_form.ensures
+            c.in_form-2.ensures (λ e. inv.first (unmapped part_item c.loop-piece.left e))
             (λ e. inv.second (unmapped part_item c.loop-piece.right e))
             (inv.up_to lawful first second equal).1 (rw c.in-Some.is at c.first_piece.ensures)
             asked.0 c.ask_both.new.answers.items g.K.Clone.is_clone
@@ -110,24 +104,18 @@ loop-piece-preserved g c =
 pub returns : goal.returns
 returns g c =
     let lawful = g.met.K.PartialEnum.lawful in
-    let was =
-    c.loop-piece.invariant.up_to lawful g.met.V.Eq.laws g.met.W.Eq.laws g.met.X.Eq.laws in
+    let was = c.loop-piece.invariant.up_to lawful g.met.V.Eq.laws g.met.W.Eq.laws g.met.X.Eq.laws in
     let none = rw c.in_default.is at c.first_piece.ensures in
     let all =
     combined_all g.K.MaybeBounded.order lawful g.V.PartialEq.eq g.met.V.Eq.laws g.W.PartialEq.eq
-    g.met.W.Eq.laws g.X.PartialEq.eq g.met.X.Eq.laws (MayAnswerBoth g.F.Fn c.args.f.now)
-    (g.C.Storage.items c.args.map.now) (g.D.Storage.items c.args.other.now) was.0
-    (option_items (option_map part_item c.loop-piece.left) ++ c.loop-piece.items)
-    (option_items (option_map part_item c.loop-piece.right) ++ c.loop-piece.others)
-    c.loop-piece.answers.items
+    g.met.W.Eq.laws g.X.PartialEq.eq g.met.X.Eq.laws (MayAnswerBoth g.F.Fn c.args.f.now) _ _ was.0 _
+    _ c.loop-piece.answers.items
     (nothing_listed part_item c.loop-piece.left c.loop-piece.items none.0
     (c.loop-piece.invariant.first none.0))
     (nothing_listed part_item c.loop-piece.right c.loop-piece.others none.1
     (c.loop-piece.invariant.second none.1)) c.in_form.ensures c.in_form-2.ensures was.1 in
     record {
       closure = search rules;
-      form =
-          all.0;
-      combined =
-          all.1;
+      form = all.0;
+      combined = all.1;
     }

@@ -41,9 +41,9 @@ loop-range-preserved g c =
       built = (
         end,
         rw (c.in_ok-push.ensures, c.into_range.ensures, map-append item done (pair ∷ []))
-            (built_more order lawful g.V.PartialEq.eq g.met.V.Eq.laws was.built.0 end
-            (map item done) c.loop-range.items.items (item pair) rises.0 rises.1 rises.2
-            (le_refl lawful _) was.built.1),
+            (built_more order lawful g.V.PartialEq.eq g.met.V.Eq.laws was.built.0 end _
+            c.loop-range.items.items (item pair) rises.0 rises.1 rises.2 (le_refl lawful _)
+            was.built.1),
         rises.3,
       );
     }
@@ -61,5 +61,5 @@ returns-clause-bound g c =
     λ (list : _). BindAlike g.K.MaybeBounded.order g.V.PartialEq.eq list
     (map (item_of g.R.AsRange.range) c.args.pairs.items) in
     let bound : alike c.loop-range.items.items = rw all at was.built.1.bound in
-    IfOk-weaker c.map_of.result _ (λ new. alike (g.C.Storage.items new))
-    (λ new is. subst alike (sym is) bound) c.map_of.ensures
+    IfOk-weaker c.map_of.result _ (λ new. alike _) (λ new is. subst alike (sym is) bound)
+    c.map_of.ensures

@@ -14,8 +14,7 @@ returns-then-not-is_next-clause-fault g c =
       was.sorted,
       λ sorted.
           let next =
-          more_sorted g.K.MaybeBounded.order (take place (map item pairs)) (item pair)
-          (rw more at sorted) in
+          more_sorted g.K.MaybeBounded.order (take place _) (item pair) (rw more at sorted) in
           let holds : c.is_next.result ≡ true =
           c.is_next.ensures.next.1 (rw (← was.last) at next) in
           absurd (cc),
@@ -28,7 +27,7 @@ loop-index-preserved g c =
     let place = c.loop-index.index in
     let pairs = c.args.pairs.now in
     let pair = get_or pairs place c.index-pairs-index.result in
-    let front = take place (map item pairs) in
+    let front = take place _ in
     let was = c.loop-index.invariant in
     let more = take_next item pairs place c.index-pairs-index.result c.loop-index-test.true in
     let holds : c.is_next.result ≡ true = search rules in

@@ -19,8 +19,8 @@ loop-part-init g c =
             rw c.in_ok-answers.ensures.items
             (built_none order g.W.PartialEq.eq (lower order full_range));
         rises =
-            rw c.iter-items.ensures.items (stored_rises order g.met.K.PartialEnum.lawful
-            g.V.PartialEq.eq g.met.V.Eq.laws (g.C.Storage.items c.args.map.now)
+            rw c.iter-items.ensures.items
+            (stored_rises order g.met.K.PartialEnum.lawful g.V.PartialEq.eq g.met.V.Eq.laws _
             c.in_form.ensures);
       };
     }
@@ -28,17 +28,14 @@ loop-part-init g c =
 pub answered-requires : goal.answered-requires
 answered-requires g c = λ shown is.
     let was = c.loop-part.invariant.mapped in
-    c.requires.asked shown
-    (first_left (λ i. i.value ≡ shown.now) was.done c.next_part.new.items
-    (g.C.Storage.items c.args.map.now) (part_item c.in-Some.part)
-    (rw (← c.in-Some.ensures.items) at was.parted) (sym is))
+    c.requires.asked shown (first_left (λ i. i.value ≡ shown.now) was.done c.next_part.new.items _
+    (part_item c.in-Some.part) (rw (← c.in-Some.ensures.items) at was.parted) (sym is))
 
 pub returns-in_err-answered-clause-closure : goal.returns-in_err-answered-clause-closure
 returns-in_err-answered-clause-closure g c = λ e failed.
     let was = c.loop-part.invariant.mapped in
-    first_left (λ i. FnReturnsAt g.F.Fn c.args.f.now i.value (Err e)) was.done
-    c.next_part.new.items (g.C.Storage.items c.args.map.now) (part_item c.in-Some.part)
-    (rw (← c.in-Some.ensures.items) at was.parted)
+    first_left (λ i. FnReturnsAt g.F.Fn c.args.f.now i.value (Err e)) was.done c.next_part.new.items
+    _ (part_item c.in-Some.part) (rw (← c.in-Some.ensures.items) at was.parted)
     (c.answered.ensures.closure e (search rules))
 
 pub loop-part-preserved : goal.loop-part-preserved
@@ -51,12 +48,12 @@ loop-part-preserved g c =
     (sym (g.met.K.Ord.matches_eq a b) ∙ c.requires.keys a b h) in
     record {
       mapped =
-          rw c.in_ok-push.ensures (mapped_more order g.F.Fn c.args.f.now g.W.PartialEq.eq
-          (g.C.Storage.items c.args.map.now) g.met.K.PartialEnum.lawful g.met.W.Eq.laws
-          (part_item c.in-Some.part) c.next_part.new.items
-          c.loop-part.answers.items c.in_ok-answered.field-0 g.K.Clone.is_clone
-          equal_keys c.in_ok-answered.ensures.range c.in_ok-answered.ensures.known
-          c.in_ok-answered.ensures.value (rw (← c.in-Some.ensures.items) at was.mapped));
+          rw c.in_ok-push.ensures (mapped_more order g.F.Fn c.args.f.now g.W.PartialEq.eq _
+          g.met.K.PartialEnum.lawful g.met.W.Eq.laws (part_item c.in-Some.part)
+          c.next_part.new.items c.loop-part.answers.items c.in_ok-answered.field-0
+          g.K.Clone.is_clone equal_keys c.in_ok-answered.ensures.range
+          c.in_ok-answered.ensures.known c.in_ok-answered.ensures.value
+          (rw (← c.in-Some.ensures.items) at was.mapped));
     }
 
 pub map_of-requires : goal.map_of-requires

@@ -67,14 +67,12 @@ returns-then-starts_before g c =
           room_kept (length (g.C.Storage.items c.loop-last.others)) (room c.loop-last.stored)
           (room c.pop_last.new.self) (room c.insert_at-position.new.self) c.loop-last.invariant.room
           c.in-Some.ensures.space c.insert_at-position.ensures.space;
-      from =
-          c.loop-last.invariant.from;
+      from = c.loop-last.invariant.from;
       below =
           let order = g.K.MaybeBounded.order in
           λ rest x ends. last_such (λ i. Lt (places order g.met.K.PartialEnum.lawful)
-          (item_lower order i) (start_position order (Included c.args.key.now)))
-          (g.C.Storage.items c.pop_last.new.self) (g.C.Storage.items c.insert_at-position.new.self)
-          rest c.in-Some.last x c.insert_at-position.ensures.list
+          (item_lower order i) (start_position order (Included c.args.key.now))) _ _ rest
+          c.in-Some.last x c.insert_at-position.ensures.list
           (c.starts_before.ensures.0 c.if-starts_before.true) ends;
     }
 

@@ -7,7 +7,7 @@ use Rattle.range_map.proofs.map.text.write_items.Goals as goal
 pub loop-range-init : goal.loop-range-init
 loop-range-init g c =
     rw c.new-items.ensures (shown_none g.K.Debug.debug_output g.V.Debug.debug_output
-    g.W.Write.write_str_gives (g.C.Storage.items c.args.stored.now) c.args.f.now)
+    g.W.Write.write_str_gives _ c.args.f.now)
 
 pub loop-range-preserved : goal.loop-range-preserved
 loop-range-preserved g c =
