@@ -1,11 +1,19 @@
 -- A list of clones: equal item by item to its source, and in the same form.
-use Rattle.std.proofs.Common.{◌≡◌, refl, sym, ap, ◌∙◌, List, [], ◌∷◌, Option, Some, None, Bool, true, ◌&&◌}
-use Rattle.range_map.proofs.Common.{All, AllZip, AllByRecursion, Less, Equal, Greater, is_eq, IsEquivalence, alike_right, tied_back, and_from, and_parts, KeyOrder, IsLawful, SameAnswer, start_position, end_position, position_cmp, at_told, position_total, Position, MinusInfinity, Beside, PlusInfinity, Before, At, After, IsBoundClone, range_clone, past, IsKnownRange, IsEmptyRange, range_cmp, range_total, AnyRange, Item, IsCopyOf, LiesBefore, Touches, IsStored}
+use Rattle.std.proofs.Common.{◌≡◌, refl, sym, ap, ◌∙◌, List, [], ◌∷◌, Option, Some, None, Bool, true, ◌&&◌, IsTrue}
+use Rattle.range_map.proofs.Common.{All, AllZip, AllByRecursion, Less, Equal, Greater, is_eq, eq_by_cmp, Equal-is, Ordering, IsEquivalence, alike_right, tied_back, and_from, and_parts, KeyOrder, IsLawful, SameAnswer, start_position, end_position, position_cmp, at_told, position_total, Position, MinusInfinity, Beside, PlusInfinity, Before, At, After, IsBoundClone, range_clone, past, IsKnownRange, IsEmptyRange, range_cmp, range_total, AnyRange, Item, IsCopyOf, LiesBefore, Touches, IsStored}
 use Rattle.std.proofs.lemmas.List.Elements.{recursion_from_All}
 use Rattle.range_keys.proofs.Orderings.{both_equal, equal_then_equal, eq_is_equal}
 use Rattle.range_map.proofs.PlaceOrder.{eq_le, eq_ge, le_trans}
 use Rattle.range_change.proofs.Forms.{before_is, nonempty_good, touches_is}
 use Rattle.range_change.proofs.Listed.{IsListed, stored_list_is_listed, stored_by}
+
+-- clones of keys are tied in their order where clones are equal
+pub clones_tied : {K : Type 0} {tell cmp : K → K → Ordering} {eq : K → K → Bool}
+    {is_clone : K → K → Type 0} → ((a b : K) → tell a b ≡ cmp a b)
+    → ((a b : K) → eq a b ≡ eq_by_cmp tell a b) → ((a b : K) → is_clone a b → IsTrue (eq a b))
+    → (a b : K) → is_clone a b → cmp a b ≡ Equal
+clones_tied told equal keys a b h =
+    sym (told a b) ∙ (Equal-is _).0 (sym (equal a b) ∙ keys a b h)
 
 module _ {K : Type 0} (order : KeyOrder K) (lawful : IsLawful order) where
   abbrev Same : Position K → Position K → Type 0

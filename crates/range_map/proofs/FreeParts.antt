@@ -257,6 +257,16 @@ module _ {K : Type 0} (order : KeyOrder K) (lawful : IsLawful order) where
       none (s ∷ others) all g (inl h) = all.0 g h
       none (s ∷ others) all g (inr h) = none others all.1 g h
 
+  alone_by : (t : Bool) (r : AnyRange K) → Pairs (LiesBefore order) (if t then [] else r ∷ [])
+  alone_by true r = tt
+  alone_by false r = (tt, tt)
+
+  range_between_is_alone : (s e : Option (Bound K))
+      → Pairs (LiesBefore order) (between order s e)
+  range_between_is_alone None e = tt
+  range_between_is_alone (Some a) None = tt
+  range_between_is_alone (Some a) (Some b) = alone_by (starts_past_end order a b) _
+
   module _ {V : Type 0} where
     -- known, nonempty, each before all after it
     pub record IsRow (items : List (Item (AnyRange K) V)) : Type 0 where
@@ -391,16 +401,6 @@ module _ {K : Type 0} (order : KeyOrder K) (lawful : IsLawful order) where
     free_pairs : (s : Option (Bound K)) (items : List (Item (AnyRange K) V)) → IsRow items
         → Pairs (LiesBefore order) (free_from order s items)
     free_pairs s [] row = range_between_is_alone s (Some Unbounded)
-      where
-        alone_by : (t : Bool) (r : AnyRange K) → Pairs (LiesBefore order) (if t then [] else r ∷ [])
-        alone_by true r = tt
-        alone_by false r = (tt, tt)
-
-        range_between_is_alone : (s e : Option (Bound K))
-            → Pairs (LiesBefore order) (between order s e)
-        range_between_is_alone None e = tt
-        range_between_is_alone (Some a) None = tt
-        range_between_is_alone (Some a) (Some b) = alone_by (starts_past_end order a b) _
     free_pairs s (i ∷ rest) row =
         let gaps = free_from order (flipped i.key.end) rest in
         let full =
@@ -418,16 +418,6 @@ module _ {K : Type 0} (order : KeyOrder K) (lawful : IsLawful order) where
         let first = ends_just_before i.key.start b row.full.0.0.0 f in
         every_weaker _ _ gaps
         (λ r l. lt_trans lawful _ _ _ (lt_le_trans lawful _ _ _ first row.full.0.1) l) past))
-      where
-        alone_by : (t : Bool) (r : AnyRange K) → Pairs (LiesBefore order) (if t then [] else r ∷ [])
-        alone_by true r = tt
-        alone_by false r = (tt, tt)
-
-        range_between_is_alone : (s e : Option (Bound K))
-            → Pairs (LiesBefore order) (between order s e)
-        range_between_is_alone None e = tt
-        range_between_is_alone (Some a) None = tt
-        range_between_is_alone (Some a) (Some b) = alone_by (starts_past_end order a b) _
 
     module _ (F : AnyRange K → Type 0) (full : (r : AnyRange K) → F r → IsFull r) where
       item_bars_after_end : (i : Item (AnyRange K) V) → IsFull i.key

@@ -350,6 +350,5 @@ module _ {T : Type 0} (items : List T) (p q : ℕ) (x : T) (within : q < length 
   pub run_alone_first : p ≤ q → q ≤ p → x ≡ get_or items p x
       → take (q + 1 - p) (drop p items) ≡ x ∷ []
   run_alone_first le ge read =
-      let none : q + 1 - p - 1 ≡ 0 = omega (arith, le, ge) in
-      first_of_run items p (q + 1 - p) x (omega (arith, le)) (omega (arith, le, within)) read
-      ∙ ap (λ m. x ∷ take m (drop (p + 1) items)) none
+      let at : p ≡ q = omega (arith, le, ge) in
+      run_alone le ge (read ∙ ap (λ n. get_or items n x) at)

@@ -4,6 +4,7 @@ use Rattle.range_change.proofs.Results.{on_error}
 use Rattle.range_map.proofs.InPlace.{none_over, one_over}
 use Rattle.range_map.proofs.PartWay.{set_out, one_done, stopped, arrived}
 use Rattle.range_map.proofs.StoredLists.{stored_coarse, stored_only}
+use Rattle.range_map.proofs.CloneLists.{clones_tied}
 use Rattle.range_map.proofs.map.RangeMap.extend_from.Goals as goal
 
 pub loop-range-init : goal.loop-range-init
@@ -30,10 +31,8 @@ loop-range-preserved g c =
     let before = items c.loop-range.self in
     let after = items c.insert.new.self in
     let others = g.D.Storage.items c.args.other.now in
-    let equal = λ (x : g.row.K.Denot) (y : g.row.K.Denot) (h : g.K.Clone.is_clone x y).
-    sym (g.met.K.MaybeBounded.order_is_cmp x y)
-    ∙ (Equal-is (g.K.Ord.cmp x y)).0
-    (sym (g.met.K.Ord.matches_eq x y) ∙ c.requires.keys x y h) in
+    let equal =
+    clones_tied g.met.K.MaybeBounded.order_is_cmp g.met.K.Ord.matches_eq c.requires.keys in
     let range = c.in-Some.range.now in
     let copy = c.in_ok-clone.field-0 in
     let alike =

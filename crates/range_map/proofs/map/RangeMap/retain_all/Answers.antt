@@ -5,6 +5,7 @@ use Rattle.range_map.specs.PartWay.{AreUnboundAfter}
 use Rattle.range_map.proofs.InPlace.{none_unbound, one_unbound, all_kept}
 use Rattle.range_map.proofs.PartWay.{set_out, one_done, stopped_at_gap, arrived}
 use Rattle.range_map.proofs.StoredLists.{stored_coarse, stored_only}
+use Rattle.range_map.proofs.CloneLists.{clones_tied}
 use Rattle.range_map.proofs.map.RangeMap.retain_all.Goals as goal
 
 pub loop-gap-init : goal.loop-gap-init
@@ -29,10 +30,8 @@ loop-gap-preserved g c =
     let first = items c.args.self.now in
     let before = items c.loop-gap.self in
     let after = items c.remove.new.self in
-    let equal = λ (x : g.row.K.Denot) (y : g.row.K.Denot) (h : g.K.Clone.is_clone x y).
-    sym (g.met.K.MaybeBounded.order_is_cmp x y)
-    ∙ (Equal-is (g.K.Ord.cmp x y)).0
-    (sym (g.met.K.Ord.matches_eq x y) ∙ c.requires.keys x y h) in
+    let equal =
+    clones_tied g.met.K.MaybeBounded.order_is_cmp g.met.K.Ord.matches_eq c.requires.keys in
     let gap = range_of c.in-Some.gap in
     let copy = c.in_ok-cloned.field-0 in
     let alike =

@@ -11,16 +11,15 @@ use Rattle.range_map.proofs.ReboundKeys.{update_rebinds, none_rebound}
 use Rattle.range_map.proofs.StoredLists.{stored_coarse, stored_only}
 use Rattle.range_change.proofs.Results.{error_has_no_value, on_error}
 use Rattle.range_change.proofs.Tests.{not_both}
+use Rattle.range_map.proofs.CloneLists.{clones_tied}
 use Rattle.range_map.proofs.map.RangeMap.update.Goals as goal
 
 pub update_pieces-requires : goal.update_pieces-requires
 update_pieces-requires g c =
     let order = g.K.MaybeBounded.order in
     let lawful = g.met.K.PartialEnum.lawful in
-    let equal_keys = λ (a : g.row.K.Denot) (b : g.row.K.Denot) (h : g.K.Clone.is_clone a b).
-    sym (g.met.K.MaybeBounded.order_is_cmp a b)
-    ∙ (Equal-is (g.K.Ord.cmp a b)).0
-    (sym (g.met.K.Ord.matches_eq a b) ∙ c.requires.keys a b h) in
+    let equal_keys =
+    clones_tied g.met.K.MaybeBounded.order_is_cmp g.met.K.Ord.matches_eq c.requires.keys in
     let r = g.R.AsRange.range c.args.range in
     let s = c.in_ok-range.range in
     let start =
@@ -46,10 +45,8 @@ pub returns : goal.returns
 returns g c =
     let order = g.K.MaybeBounded.order in
     let lawful = g.met.K.PartialEnum.lawful in
-    let equal_keys = λ (a : g.row.K.Denot) (b : g.row.K.Denot) (h : g.K.Clone.is_clone a b).
-    sym (g.met.K.MaybeBounded.order_is_cmp a b)
-    ∙ (Equal-is (g.K.Ord.cmp a b)).0
-    (sym (g.met.K.Ord.matches_eq a b) ∙ c.requires.keys a b h) in
+    let equal_keys =
+    clones_tied g.met.K.MaybeBounded.order_is_cmp g.met.K.Ord.matches_eq c.requires.keys in
     let r = g.R.AsRange.range c.args.range in
     let s = c.in_ok-range.range in
     let start =

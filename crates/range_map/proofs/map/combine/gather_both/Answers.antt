@@ -4,6 +4,7 @@ use Rattle.range_map.specs.Merged.{part_item}
 use Rattle.range_change.specs.Window.{option_items}
 use Rattle.range_map.proofs.Combination.{combined_none, combined_more, combined_all, is_shared, asked_of_part}
 use Rattle.range_map.proofs.Combining.{first_placed, fewer_steps_at, unmapped, nothing_listed}
+use Rattle.range_map.proofs.CloneLists.{clones_tied}
 use Rattle.range_map.proofs.map.combine.gather_both.Goals as goal
 
 pub loop-piece-init : goal.loop-piece-init
@@ -80,10 +81,8 @@ pub loop-piece-preserved : goal.loop-piece-preserved
 loop-piece-preserved g c =
     let order = g.K.MaybeBounded.order in
     let inv = c.loop-piece.invariant in
-    let equal_keys = λ (a : g.row.K.Denot) (b : g.row.K.Denot) (h : g.K.Clone.is_clone a b).
-    sym (g.met.K.MaybeBounded.order_is_cmp a b)
-    ∙ (Equal-is (g.K.Ord.cmp a b)).0
-    (sym (g.met.K.Ord.matches_eq a b) ∙ c.requires.keys a b h) in
+    let equal_keys =
+    clones_tied g.met.K.MaybeBounded.order_is_cmp g.met.K.Ord.matches_eq c.requires.keys in
     let asked = c.in_ok-ask_both.ensures.ok in
     record {
       up_to = λ lawful first second equal. (

@@ -3,6 +3,7 @@ use Rattle.range_map.proofs.Common.{Equal-is, FnReturnsAt, lower, full_range}
 use Rattle.range_map.specs.Merged.{part_item}
 use Rattle.range_map.proofs.Joining.{built_none, stored_rises}
 use Rattle.range_map.proofs.MappedValues.{first_left, mapped_more}
+use Rattle.range_map.proofs.CloneLists.{clones_tied}
 use Rattle.range_map.proofs.map.map_values.answers_to.Goals as goal
 
 pub loop-part-init : goal.loop-part-init
@@ -42,10 +43,8 @@ pub loop-part-preserved : goal.loop-part-preserved
 loop-part-preserved g c =
     let order = g.K.MaybeBounded.order in
     let was = c.loop-part.invariant in
-    let equal_keys = λ (a : g.row.K.Denot) (b : g.row.K.Denot) (h : g.K.Clone.is_clone a b).
-    sym (g.met.K.MaybeBounded.order_is_cmp a b)
-    ∙ (Equal-is (g.K.Ord.cmp a b)).0
-    (sym (g.met.K.Ord.matches_eq a b) ∙ c.requires.keys a b h) in
+    let equal_keys =
+    clones_tied g.met.K.MaybeBounded.order_is_cmp g.met.K.Ord.matches_eq c.requires.keys in
     record {
       mapped =
           rw c.in_ok-push.ensures (mapped_more order g.F.Fn c.args.f.now g.W.PartialEq.eq _
