@@ -93,13 +93,10 @@ module _ {K : Type 0} (order : KeyOrder K) (lawful : IsLawful order) {V : Type 0
     point_is_free : Holds order r k → Every (λ i. Holds order i.key k → ⊥) items
         → IsFreePart order items r Point
     point_is_free held none =
-        let cmp = position_cmp order.cmp in
         let within = (holds_by_position order lawful r k key).0 held in
         record {
           known = (key, key);
-          nonempty =
-              not_both_greater_and_not (cmp (Beside k At) (Beside k At))
-              (le_refl lawful (Beside k At));
+          nonempty = not_both_greater_and_not _ (le_refl lawful (Beside k At));
           within = record { starts = within.0; ends = within.1 };
           free = every_weaker _ _ items (λ i not_held h. not_held (met_by_point i.key h)) none;
         }

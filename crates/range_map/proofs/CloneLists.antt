@@ -24,7 +24,7 @@ module _ {K : Type 0} (order : KeyOrder K) (lawful : IsLawful order) where
   told_same None None q r h e = e
   told_same None (Some y) q r h e = absurd h
   told_same (Some x) None q r h e = absurd h
-  told_same (Some x) (Some y) q r h e = equal_then_equal (order.cmp x y) Equal h refl
+  told_same (Some x) (Some y) q r h e = equal_then_equal _ Equal h refl
 
   -- the places past equal ends are equal
   past_same : (p q : Position K) → Same p q → Same (past order p) (past order q)
@@ -37,13 +37,13 @@ module _ {K : Type 0} (order : KeyOrder K) (lawful : IsLawful order) where
   past_same PlusInfinity (Beside b t) h = cc
   past_same PlusInfinity PlusInfinity h = refl
   past_same (Beside a Before) (Beside b Before) h =
-      equal_then_equal (order.cmp a b) Equal (both_equal (order.cmp a b) Equal h).0 refl
+      equal_then_equal _ Equal (both_equal (order.cmp a b) Equal h).0 refl
   past_same (Beside a At) (Beside b At) h =
       let e = (both_equal (order.cmp a b) Equal h).0 in
       told_same (order.succ a) (order.succ b) (Beside a After) (Beside b After)
-      (lawful.succ_congr a b e) (equal_then_equal (order.cmp a b) Equal e refl)
+      (lawful.succ_congr a b e) (equal_then_equal _ Equal e refl)
   past_same (Beside a After) (Beside b After) h =
-      equal_then_equal (order.cmp a b) Equal (both_equal (order.cmp a b) Equal h).0 refl
+      equal_then_equal _ Equal (both_equal (order.cmp a b) Equal h).0 refl
   past_same (Beside a Before) (Beside b At) h =
       absurd (let e = (both_equal (order.cmp a b) Less h).1 in cc)
   past_same (Beside a Before) (Beside b After) h =
@@ -170,8 +170,8 @@ module _ {K : Type 0} (order : KeyOrder K) (lawful : IsLawful order) where
     equal_items_are_copy [] (y ∷ ys) zip = absurd zip
     equal_items_are_copy (x ∷ xs) [] zip = absurd zip
     equal_items_are_copy (x ∷ xs) (y ∷ ys) zip =
-        let both = and_parts (is_eq (range_cmp order y.key x.key)) (same y.value x.value) zip.0 in (
-          ((eq_is_equal (range_cmp order y.key x.key)).0 both.0, both.1),
+        let both = and_parts _ _ zip.0 in (
+          ((eq_is_equal _).0 both.0, both.1),
           equal_items_are_copy xs ys zip.1,
         )
 
@@ -183,7 +183,6 @@ module _ {K : Type 0} (order : KeyOrder K) (lawful : IsLawful order) where
         × IsBoundClone is_clone x.key.end y.key.end) → is_value_clone x.value y.value
         → (is_eq (range_cmp order y.key x.key) && same y.value x.value) ≡ true
     item_clone is_clone keys is_value_clone values x y key value =
-        and_from (is_eq (range_cmp order y.key x.key)) (same y.value x.value)
-        (ap is_eq (tied_back (range_total order lawful) x.key y.key
+        and_from _ _ (ap is_eq (tied_back (range_total order lawful) x.key y.key
         (range_clone order lawful is_clone keys x.key y.key key)))
         (equal.symm y.value x.value ∙ values x.value y.value value)

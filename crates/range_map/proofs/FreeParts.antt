@@ -162,9 +162,7 @@ module _ {K : Type 0} (order : KeyOrder K) (lawful : IsLawful order) where
   pub same_range : (r s : AnyRange K) → LiesIn order r s → LiesIn order s r
       → range_cmp order r s ≡ Equal
   same_range r s h k =
-      let cmp = position_cmp order.cmp in
-      equal_then_equal (cmp (Start r.start) (Start s.start)) (cmp (End r.end) (End s.end))
-      (both lawful _ _ k.starts h.starts) (both lawful _ _ h.ends k.ends)
+      equal_then_equal _ _ (both lawful _ _ k.starts h.starts) (both lawful _ _ h.ends k.ends)
 
   module _ (F : AnyRange K → Type 0) (part : AnyRange K) (full : IsFull part)
       (wide : (g : AnyRange K) → F g → LiesIn order part g → LiesIn order g part) where
@@ -281,12 +279,8 @@ module _ {K : Type 0} (order : KeyOrder K) (lawful : IsLawful order) where
       listed_full : (items : List (Item (AnyRange K) V)) → IsListed order lawful same items
           → Every (λ i. IsFull i.key) items
       listed_full [] h = tt
-      listed_full (i ∷ []) h =
-          ((h.0, not_greater (position_cmp order.cmp (Start i.key.start) (End i.key.end)) h.1), tt)
-      listed_full (i ∷ j ∷ rest) h = (
-        (h.0, not_greater (position_cmp order.cmp (Start i.key.start) (End i.key.end)) h.1),
-        listed_full (j ∷ rest) h.4,
-      )
+      listed_full (i ∷ []) h = ((h.0, not_greater _ h.1), tt)
+      listed_full (i ∷ j ∷ rest) h = ((h.0, not_greater _ h.1), listed_full (j ∷ rest) h.4)
 
       listed_pairs : (items : List (Item (AnyRange K) V)) → IsListed order lawful same items
           → Pairs (λ i j. LiesBefore order i.key j.key) items
@@ -489,14 +483,12 @@ module _ {K : Type 0} (order : KeyOrder K) (lawful : IsLawful order) where
       IsFree r = IsFreePart order items full_range r
 
       is_full : (r : AnyRange K) → IsFree r → IsFull r
-      is_full r h =
-          (h.known, not_greater (position_cmp order.cmp (Start r.start) (End r.end)) h.nonempty)
+      is_full r h = (h.known, not_greater _ h.nonempty)
 
       is_free : (r : AnyRange K) → IsFull r → Misses items r → IsFree r
       is_free r full misses = record {
         known = full.0;
-        nonempty =
-            not_both_greater_and_not (position_cmp order.cmp (Start r.start) (End r.end)) full.1;
+        nonempty = not_both_greater_and_not _ full.1;
         within =
             record {
               starts = unbounded_start order lawful r.start full.0.0;

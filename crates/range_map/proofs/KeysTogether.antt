@@ -193,7 +193,8 @@ module _ {K : Type 0} (order : KeyOrder K) (lawful : IsLawful order) where
             → IsKnownRange order y.key → order.is_key k → Le cmp (Hi y.key) (Beside k At)
             → IsBound order (y ∷ ys) k → IsBound order ys k
         not_by_first y ys k known_y key over (inl held) =
-            absurd (lt_not_le lawful _ _ ((held_between order lawful y.key k known_y key).0 held).1 over)
+            absurd (lt_not_le lawful _ _
+            ((held_between order lawful y.key k known_y key).0 held).1 over)
         not_by_first y ys k known_y key over (inr bound) = bound
 
         -- the first ends within the range

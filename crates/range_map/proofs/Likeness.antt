@@ -59,13 +59,11 @@ module _ {K : Type 0} (order : KeyOrder K) (lawful : IsLawful order) where
         let v = end_position order i.end in
         record {
           starts =
-              equal_positions_chain (start_position order part.start) (later order p u)
-              (later order q u) h.starts
+              equal_positions_chain _ _ _ h.starts
               (both lawful _ _ (later_under q p u (eq_le lawful _ _ starts))
               (later_under p q u (eq_ge lawful _ _ starts)));
           ends =
-              equal_positions_chain (end_position order part.end) (earlier order a v)
-              (earlier order b v) h.ends
+              equal_positions_chain _ _ _ h.ends
               (both lawful _ _ (earlier_over a b v (eq_le lawful _ _ ends))
               (earlier_over b a v (eq_ge lawful _ _ ends)));
         }
@@ -100,11 +98,9 @@ module _ {K : Type 0} (order : KeyOrder K) (lawful : IsLawful order) where
       → (part : AnyRange K) (value : Option V) → IsPiece order items r part value
       → IsPiece order items s part value
   piece_too items r s starts ends part None h =
-      let start_back =
-      equal_positions_turn (start_position order r.start)
-      (start_position order s.start) starts in
+      let start_back = equal_positions_turn _ _ starts in
       let end_back =
-      equal_positions_turn (end_position order r.end) (end_position order s.end) ends in (
+      equal_positions_turn _ _ ends in (
         free_too r s starts ends items part h.0,
         λ other free wide. h.1 other (free_too s r start_back end_back items other free) wide,
       )
@@ -158,15 +154,11 @@ module _ {K : Type 0} (order : KeyOrder K) (lawful : IsLawful order) where
       (end : SameBound order r.end s.end) where
     starts_alike : position_cmp order.cmp (start_position order s.start)
         (start_position order r.start) ≡ Equal
-    starts_alike =
-        equal_positions_turn (start_position order r.start) (start_position order s.start)
-        (same_start order lawful r.start s.start start)
+    starts_alike = equal_positions_turn _ _ (same_start order lawful r.start s.start start)
 
     ends_alike : position_cmp order.cmp (end_position order s.end) (end_position order r.end)
         ≡ Equal
-    ends_alike =
-        equal_positions_turn (end_position order r.end) (end_position order s.end)
-        (same_end order lawful r.end s.end end)
+    ends_alike = equal_positions_turn _ _ (same_end order lawful r.end s.end end)
 
     pub clone_empty : IsEmptyRange order s → IsEmptyRange order r
     clone_empty h =

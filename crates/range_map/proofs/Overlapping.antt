@@ -161,7 +161,7 @@ module _ {K : Type 0} (order : KeyOrder K) (lawful : IsLawful order) where
           every_at _ items b i (every_nonempty order lawful same items
           (stored_list_is_listed order lawful same items stored)) (omega (arith, fits, behind)) in
           lt_not_le lawful _ _ (lt_trans lawful _ _ _ starts (le_lt_trans lawful _ _ _ own ends))
-          (not_greater (cmp Low High) full)
+          (not_greater _ full)
 
       -- the items from the first that does not end before the range to the last that starts within
       -- it at the latest
@@ -299,12 +299,10 @@ module _ {K : Type 0} (order : KeyOrder K) (lawful : IsLawful order) {V : Type 0
       (take (place_after rank last - place_before rank (length items) first)
       (drop (place_before rank (length items) first) items))
   found_from k key before first last found is_last =
-      let cmp = position_cmp order.cmp in
       let listed = stored_list_is_listed order lawful same items stored in
       let upper : Position K = end_position order Unbounded in
       let full : IsEmptyRange order (with_bounds (Included k) Unbounded) → ⊥ =
-      not_both_greater_and_not (cmp (start_position order (Included k)) upper)
-      (ends_full order lawful (Included k) key) in
+      not_both_greater_and_not _ (ends_full order lawful (Included k) key) in
       let all : Every (λ i. PLe order lawful (Start order lawful i) upper) items =
       every_with _ _ _ items (every_nonempty order lawful same items listed)
       (all_known items stored.known)

@@ -21,9 +21,7 @@ module _ {K : Type 0} {order : KeyOrder K} (lawful : IsLawful order) {V : Type 0
       → IsStored order same_value (i ∷ rest) → IsComplete order → ¬ IsKeyless order i.key
   has_key i rest stored complete none =
       let found =
-      nonempty_holds order lawful complete i.key stored.known.0
-      (not_greater (position_cmp order.cmp (start_position order i.key.start)
-      (end_position order i.key.end)) stored.nonempty.0) in
+      nonempty_holds order lawful complete i.key stored.known.0 (not_greater _ stored.nonempty.0) in
       none found.0 found.1 found.2
 
   -- over complete keys the map's form is coarse
@@ -66,9 +64,7 @@ module _ {K : Type 0} {order : KeyOrder K} (lawful : IsLawful order) {V : Type 0
   alike_equal complete [] (j ∷ others) stored stored' alike = absurd alike
   alike_equal complete (i ∷ items) [] stored stored' alike = absurd alike
   alike_equal complete (i ∷ items) (j ∷ others) stored stored' alike =
-      and_from (eq_by_cmp (range_cmp order) i.key j.key && same_value i.value j.value)
-      (same_list order same_value items others)
-      (and_from (eq_by_cmp (range_cmp order) i.key j.key) (same_value i.value j.value)
+      and_from _ _ (and_from _ _
       (ap is_eq (same_is_equal order lawful complete i.key j.key stored.known.0 stored'.known.0
       stored.nonempty.0 stored'.nonempty.0 alike.0.0)) alike.0.1)
       (alike_equal complete items others (tail_is_stored i items stored)
@@ -80,20 +76,10 @@ module _ {K : Type 0} {order : KeyOrder K} (lawful : IsLawful order) {V : Type 0
   equal_alike [] (j ∷ others) e = cc
   equal_alike (i ∷ items) [] e = cc
   equal_alike (i ∷ items) (j ∷ others) e =
-      let here =
-      first_so (eq_by_cmp (range_cmp order) i.key j.key && same_value i.value j.value)
-      (same_list order same_value items others) e in
-      let there =
-      second_so (eq_by_cmp (range_cmp order) i.key j.key && same_value i.value j.value)
-      (same_list order same_value items others) e in
-      let ranges =
-      first_so (eq_by_cmp (range_cmp order) i.key j.key)
-      (same_value i.value j.value) here in (
-        (
-          equal_is_same order lawful i.key j.key
-              ((Equal-is (range_cmp order i.key j.key)).0 ranges),
-          second_so (eq_by_cmp (range_cmp order) i.key j.key) (same_value i.value j.value) here,
-        ),
+      let here = first_so _ _ e in
+      let there = second_so _ _ e in
+      let ranges = first_so _ _ here in (
+        (equal_is_same order lawful i.key j.key ((Equal-is _).0 ranges), second_so _ _ here),
         equal_alike items others there,
       )
 
@@ -171,7 +157,7 @@ module _ {K : Type 0} {order : KeyOrder K} (lawful : IsLawful order) {V : Type 0
     stored_compared items others stored stored' =
         let equal = stored_equal complete items others stored stored' in
         let ties = lists_tied order same_value value_cmp tied items others in
-        let level = Equal-is (list_cmp order value_cmp items others) in
+        let level = Equal-is _ in
         (λ e. equal.0 (ties ∙ level.1 e), λ alike. level.0 (sym ties ∙ equal.1 alike))
 
     -- lists compare as those do that bind every key alike
@@ -235,9 +221,7 @@ module _ {K : Type 0} (order : KeyOrder K) (lawful : IsLawful order) (complete :
   keyed_range_has_key : (r : AnyRange K) → IsKnownRange order r → ¬ IsKeyless order r
       → (k : K) × order.is_key k × Holds order r k
   keyed_range_has_key r known keyed =
-      nonempty_holds order lawful complete r known
-      (not_greater (position_cmp order.cmp (start_position order r.start)
-      (end_position order r.end)) (keyed_full r keyed))
+      nonempty_holds order lawful complete r known (not_greater _ (keyed_full r keyed))
 
   -- over complete keys a coarse list of ranges of keys has the map's form
   pub coarse_stored : (items : List (Item (AnyRange K) V))

@@ -78,8 +78,7 @@ module _ {K : Type 0} (order : KeyOrder K) where
 module _ {K : Type 0} {order : KeyOrder K} (lawful : IsLawful order) where
   within : (r : AnyRange K) → (¬ IsEmptyRange order r)
       → Le (position_cmp order.cmp) (start_position order r.start) (end_position order r.end)
-  within r full = not_greater
-      (position_cmp order.cmp (start_position order r.start) (end_position order r.end)) full
+  within r full = not_greater _ full
 
   -- what lies before a range lies before what that range lies before
   before_through : (r s t : AnyRange K) → (¬ IsEmptyRange order s) → LiesBefore order r s

@@ -50,7 +50,8 @@ loop-next-preserved g c =
       left =
           goes_right _ _ _ c.loop-next.ranges _ c.loop-next.others was.left
           (inside_tells g.met.K.PartialEnum.lawful) _ _ c.in-Some-Some.is-0 c.in-Some-Some.is-1
-          (c.lies_before.ensures.0 c.if-lies_before.true) near.new.self near.result near.ensures.steps;
+          (c.lies_before.ensures.0 c.if-lies_before.true) near.new.self near.result
+          near.ensures.steps;
       first = was.first;
       second = drained c.loop-next.others near.new.self near.result near.ensures.steps;
     }

@@ -29,7 +29,8 @@ loop-next-preserved-then-lies_before g c =
       left =
           goes_left _ _ _ c.loop-next.ranges _ c.loop-next.others was.left
           (apart_tells g.met.K.PartialEnum.lawful) _ _ c.in-Some-Some.is-0 c.in-Some-Some.is-1
-          (c.lies_before.ensures.0 c.if-lies_before.true) next.new.self next.result next.ensures.steps;
+          (c.lies_before.ensures.0 c.if-lies_before.true) next.new.self next.result
+          next.ensures.steps;
       first = drained c.loop-next.ranges next.new.self next.result next.ensures.steps;
       second = was.second;
     }

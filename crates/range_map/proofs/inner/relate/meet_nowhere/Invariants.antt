@@ -5,8 +5,8 @@ use Rattle.range_map.proofs.inner.relate.meet_nowhere.Given as goal
 
 abbrev pub invariant-loop-next : goal.invariant-loop-next
 invariant-loop-next g l = record {
-  left : IsLeft g.K.MaybeBounded.order (MeetNowhere g.K.MaybeBounded.order) (g.C.Storage.items l.map)
-      (g.D.Storage.items l.other) (ahead l.next l.ranges)
+  left : IsLeft g.K.MaybeBounded.order (MeetNowhere g.K.MaybeBounded.order)
+      (g.C.Storage.items l.map) (g.D.Storage.items l.other) (ahead l.next l.ranges)
       (ahead l.near l.others);
   first : l.next ≡ None → l.ranges ≡ [];
   second : l.near ≡ None → l.others ≡ [];

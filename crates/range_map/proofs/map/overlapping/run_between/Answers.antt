@@ -23,9 +23,7 @@ returns-then-stands_before-clause-items g c =
 
 pub returns-else-stands_before-clause-run : goal.returns-else-stands_before-clause-run
 returns-else-stands_before-clause-run g c =
-    let storage = g.C.Storage in
     let stored = c.args.stored.now in
-    let items = storage.items stored in
     let p = c.in-Some-Some.p in
     let q = c.in-Some-Some.q in
     let at_p = rw c.in-Some-Some.is-0 at c.requires.first in

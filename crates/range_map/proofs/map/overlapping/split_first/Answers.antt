@@ -18,7 +18,6 @@ unreachable-requires g c =
 
 pub returns-in-Some-clause-items : goal.returns-in-Some-clause-items
 returns-in-Some-clause-items g c =
-    let storage = g.C.Storage in
     let stored = c.args.stored.now in
     run_first _ _ _ c.get-item.result.now
     (g.met.C.Storage.good_is_in_range stored c.args.last c.requires.run.1) c.requires.run.2

@@ -4,7 +4,6 @@ use Rattle.range_map.proofs.map.overlapping.split_last.Goals as goal
 
 pub returns-in-Some-clause-items : goal.returns-in-Some-clause-items
 returns-in-Some-clause-items g c =
-    let storage = g.C.Storage in
     let stored = c.args.stored.now in
     run_last _ _ _ c.get-item.result.now
     (g.met.C.Storage.good_is_in_range stored c.args.last c.requires.run.1) c.requires.run.2
