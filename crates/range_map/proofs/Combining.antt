@@ -123,12 +123,12 @@ module _ {K : Type 0} (order : KeyOrder K) (lawful : IsLawful order) where
                 (eq_le lawful _ _ cut.2.from);
             tails = (
               any_over _ _ items (λ o t. (
-                    t.0 ∙ sym cut.2.value,
-                    le_trans lawful _ _ _ t.1
-                        (le_trans lawful _ _ _ (eq_ge lawful _ _ cut.1)
-                        (le_trans lawful _ _ _ low_high (eq_le lawful _ _ cut.2.from))),
-                    le_trans lawful _ _ _ (eq_le lawful _ _ cut.2.upto) t.2,
-                  )) was.tails.0,
+                t.0 ∙ sym cut.2.value,
+                le_trans lawful _ _ _ t.1
+                    (le_trans lawful _ _ _ (eq_ge lawful _ _ cut.1)
+                    (le_trans lawful _ _ _ low_high (eq_le lawful _ _ cut.2.from))),
+                le_trans lawful _ _ _ (eq_le lawful _ _ cut.2.upto) t.2,
+              )) was.tails.0,
               was.tails.1,
             );
           }

@@ -53,27 +53,27 @@ module _ {K : Type 0} (order : KeyOrder K) where
 
   module _ {V W : Type 0} (M : List (Item (AnyRange K) V) → List (Item (AnyRange K) W) → Type 0)
     where
-    -- what is left of two lists, which are so exactly where what is left is
-    pub record IsLeft (items : List (Item (AnyRange K) V)) (others : List (Item (AnyRange K) W))
-        (left : List (Item (AnyRange K) V)) (right : List (Item (AnyRange K) W)) : Type 0 where
-      pub left_ascends : IsAscending left
-      pub right_ascends : IsAscending right
-      pub same : M items others ↔ M left right
+      -- what is left of two lists, which are so exactly where what is left is
+      pub record IsLeft (items : List (Item (AnyRange K) V)) (others : List (Item (AnyRange K) W))
+          (left : List (Item (AnyRange K) V)) (right : List (Item (AnyRange K) W)) : Type 0 where
+        pub left_ascends : IsAscending left
+        pub right_ascends : IsAscending right
+        pub same : M items others ↔ M left right
 
-    -- what the first two ranges say: where they lie so, or the second lies before the first, what
-    -- is behind them tells, and otherwise the lists are not so
-    pub record IsTold (F : AnyRange K → AnyRange K → Type 0) (i : Item (AnyRange K) V)
-        (left : List (Item (AnyRange K) V)) (j : Item (AnyRange K) W)
-        (right : List (Item (AnyRange K) W)) : Type 0 where
-      pub first : F i.key j.key → M (i ∷ left) (j ∷ right) ↔ M left (j ∷ right)
-      pub second : LiesBefore order j.key i.key → M (i ∷ left) (j ∷ right) ↔ M (i ∷ left) right
-      pub none : (¬ F i.key j.key) → (¬ LiesBefore order j.key i.key)
-          → ¬ M (i ∷ left) (j ∷ right)
+      -- what the first two ranges say: where they lie so, or the second lies before the first, what
+      -- is behind them tells, and otherwise the lists are not so
+      pub record IsTold (F : AnyRange K → AnyRange K → Type 0) (i : Item (AnyRange K) V)
+          (left : List (Item (AnyRange K) V)) (j : Item (AnyRange K) W)
+          (right : List (Item (AnyRange K) W)) : Type 0 where
+        pub first : F i.key j.key → M (i ∷ left) (j ∷ right) ↔ M left (j ∷ right)
+        pub second : LiesBefore order j.key i.key → M (i ∷ left) (j ∷ right) ↔ M (i ∷ left) right
+        pub none : (¬ F i.key j.key) → (¬ LiesBefore order j.key i.key)
+            → ¬ M (i ∷ left) (j ∷ right)
 
-    abbrev pub Tells : (AnyRange K → AnyRange K → Type 0) → Type 0
-    Tells F = (i : Item (AnyRange K) V) (left : List (Item (AnyRange K) V))
-        (j : Item (AnyRange K) W) (right : List (Item (AnyRange K) W)) → IsAscending (i ∷ left)
-        → IsAscending (j ∷ right) → IsTold F i left j right
+      abbrev pub Tells : (AnyRange K → AnyRange K → Type 0) → Type 0
+      Tells F = (i : Item (AnyRange K) V) (left : List (Item (AnyRange K) V))
+          (j : Item (AnyRange K) W) (right : List (Item (AnyRange K) W)) → IsAscending (i ∷ left)
+          → IsAscending (j ∷ right) → IsTold F i left j right
 
 module _ {K : Type 0} {order : KeyOrder K} (lawful : IsLawful order) where
   within : (r : AnyRange K) → (¬ IsEmptyRange order r)
