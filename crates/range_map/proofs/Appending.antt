@@ -1,21 +1,9 @@
 -- One stored list after another: its form, and what it binds.
 use Rattle.std.proofs.Common.{◌≡◌, refl, ap, ◌↔◌, ◌+◌, ◌-◌, ◌≤◌, ℕ, zero, suc, Bool, true, false, IsTrue, List, [], ◌∷◌, ◌++◌, length, get_or, inl, inr, arith}
 use Rattle.std.specs.Prelude.{◌&&◌, if◌then◌else◌, slice_set}
-use Rattle.std.specs.Cmp.{IsEquivalence}
-use Rattle.range_keys.specs.Order.{KeyOrder, IsLawful}
-use Rattle.range_keys.specs.PositionOrder.{position_total}
-use Rattle.range_keys.specs.declared.inner.position.Position.{Position}
-use Rattle.range_algebra.specs.Intervals.{Le, Lt, Every}
-use Rattle.range_algebra.specs.Orders.{le_refl, lt_le, le_trans, le_lt_trans, lt_trans, both, cases}
-use Rattle.range_algebra.specs.Range.{IsKnownRange}
-use Rattle.range_algebra.specs.Relations.{LiesBefore}
-use Rattle.range_algebra.specs.declared.any.AnyRange.{AnyRange}
-use Rattle.range_algebra.proofs.Lists.{every_append, every_right, every_weaker}
-use Rattle.range_store.specs.declared.storage.Item.{Item}
+use Rattle.range_map.proofs.Common.{IsEquivalence, KeyOrder, IsLawful, Position, Le, Lt, Every, IsKnownRange, LiesBefore, AnyRange, every_append, every_right, every_weaker, Item, BindAlike, line_of, Leads, Follows, Respects, IsStored, item_lower, item_upper}
+use Rattle.range_map.proofs.PlaceOrder.{le_refl, lt_le, le_trans, le_lt_trans, lt_trans, both, cases}
 use Rattle.range_map.specs.Appending.{IsApartFromLast, LieBefore, appended, are_one, as_one, joined}
-use Rattle.range_change.specs.Bindings.{BindAlike}
-use Rattle.range_change.specs.Chains.{line_of, Leads, Follows, Respects}
-use Rattle.range_change.specs.Stored.{IsStored, item_lower, item_upper}
 use Rattle.range_change.proofs.Chains.{same_is_symmetric, follows_like, chain_before, chain_right, chain_above}
 use Rattle.range_change.proofs.Forms.{places, Known, Chained, Hold, before_is, touches_is, stored_chain, stored_known, chain_stored, same_binds}
 
@@ -123,25 +111,17 @@ module _ {K : Type 0} (order : KeyOrder K) (lawful : IsLawful order) {V : Type 0
     )
 
     one_good : Lt (places order lawful) (item_lower order i) (item_upper order j)
-    one_good =
-        let total = position_total order.cmp lawful.total in
-        lt_trans (places order lawful) total (item_lower order i) (item_upper order i)
-        (item_upper order j) good
-        (le_lt_trans (places order lawful) total (item_upper order i) (item_lower order j)
-        (item_upper order j) upto other_good)
+    one_good = lt_trans lawful _ _ _ good (le_lt_trans lawful _ _ _ upto other_good)
 
     one_chain : (b : Bool) → are_one order same i j ≡ b → (rest : List (Item (AnyRange K) V))
         → Follows (line_of order lawful same equal) j rest
         → Chained order lawful same equal
         ((if b then joined i j ∷ [] else i ∷ j ∷ []) ++ rest)
     one_chain true one rest follows =
-        let total = position_total order.cmp lawful.total in
-        let same_end = le_refl (places order lawful) total (item_upper order j) in (
+        let same_end = le_refl lawful _ in (
           one_good,
           follows_like (line_of order lawful same equal) j (joined i j) rest
-              (both (places order lawful) total (item_upper order j) (item_upper order j)
-              same_end same_end)
-              (alike one) follows,
+              (both lawful _ _ same_end same_end) (alike one) follows,
         )
     one_chain false apart rest follows = (good, (leads apart, (other_good, follows)))
 
@@ -156,16 +136,14 @@ module _ {K : Type 0} (order : KeyOrder K) (lawful : IsLawful order) {V : Type 0
         ((if b then joined i j ∷ [] else i ∷ j ∷ []) ++ rest)
         ↔ Hold order lawful same equal W p (i ∷ j ∷ rest)
     one_holds true one rest W p respects =
-        let total = position_total order.cmp lawful.total in
         let line = line_of order lawful same equal in
-        let lo = item_lower order j in
         let hi = item_upper order i in (
           λ h. elim h [
-            | inl own ↦ elim (cases (places order lawful) total p hi) [
+            | inl own ↦ elim (cases lawful p hi) [
               | inl below ↦ inl ((own.0.0, below), own.1)
               | inr from ↦
                   inr (inl (
-                    (le_trans (places order lawful) total lo hi p (meets one) from, own.0.1),
+                    (le_trans lawful _ _ _ (meets one) from, own.0.1),
                     respects i.value j.value (alike one) own.1,
                   ))
             ]
@@ -176,9 +154,8 @@ module _ {K : Type 0} (order : KeyOrder K) (lawful : IsLawful order) {V : Type 0
                 inl (
                   (
                     own.0.0,
-                    lt_trans (places order lawful) total p hi (item_upper order j) own.0.1
-                        (le_lt_trans (places order lawful) total hi lo (item_upper order j) upto
-                        other_good),
+                    lt_trans lawful _ _ _ own.0.1
+                        (le_lt_trans lawful _ _ _ upto other_good),
                   ),
                   own.1,
                 )
@@ -186,10 +163,8 @@ module _ {K : Type 0} (order : KeyOrder K) (lawful : IsLawful order) {V : Type 0
               | inl own ↦
                   inl (
                     (
-                      le_trans (places order lawful) total (item_lower order i) lo p
-                          (le_trans (places order lawful) total (item_lower order i) hi lo
-                          (lt_le (places order lawful) total (item_lower order i) hi good) upto)
-                          own.0.0,
+                      le_trans lawful _ _ _
+                          (le_trans lawful _ _ _ (lt_le lawful _ _ good) upto) own.0.0,
                       own.0.1,
                     ),
                     respects j.value i.value
@@ -314,8 +289,7 @@ module _ {K : Type 0} (order : KeyOrder K) (lawful : IsLawful order) {V : Type 0
       each [] others_known starts = tt
       each (j ∷ others) others_known starts = (
         (before_is order lawful i.key.end j.key.start known.0.1 others_known.0.0).1
-            (le_trans (places order lawful) (position_total order.cmp lawful.total)
-            (item_upper order i) p (item_lower order j) ends.0 starts.0),
+            (le_trans lawful _ _ _ ends.0 starts.0),
         each others others_known.1 starts.1,
       )
 
@@ -324,7 +298,6 @@ module _ {K : Type 0} (order : KeyOrder K) (lawful : IsLawful order) {V : Type 0
       → IsStored order same (front ++ i ∷ []) → IsStored order same (j ∷ rest)
       → LiesBefore order i.key j.key ↔ LieBefore order (front ++ i ∷ []) (j ∷ rest)
   ends_tell front rest i j form others_form =
-      let total = position_total order.cmp lawful.total in
       let line = line_of order lawful same equal in
       let known = stored_known order lawful same equal (front ++ i ∷ []) form in
       let others_known = stored_known order lawful same equal (j ∷ rest) others_form in
@@ -334,13 +307,9 @@ module _ {K : Type 0} (order : KeyOrder K) (lawful : IsLawful order) {V : Type 0
       let last = chain_right line front (i ∷ []) chain in
       let hi = item_upper order i in
       let ends =
-      every_append _ front (i ∷ [])
-      (every_weaker _ (λ z. Le (places order lawful) (item_upper order z) hi) front
-      (λ z h.
-      le_trans (places order lawful) total (item_upper order z) (item_lower order i) hi h.0
-      (lt_le (places order lawful) total (item_lower order i) hi last.0))
-      (chain_before line front i [] chain))
-      (le_refl (places order lawful) total hi, tt) in (
+      every_append _ front (i ∷ []) (every_weaker _ _ front (λ z h.
+      le_trans lawful _ _ _ h.0 (lt_le lawful _ _ last.0)) (chain_before line front i [] chain))
+      (le_refl lawful _, tt) in (
         λ before. lie_before_from hi (front ++ i ∷ []) (j ∷ rest) known others_known ends
             (chain_above line hi j rest others_chain
             ((before_is order lawful i.key.end j.key.start last_known.1 others_known.0.0).0

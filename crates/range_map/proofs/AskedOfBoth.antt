@@ -1,13 +1,7 @@
 -- A closure that may be asked of the items of two lists one by one, of each item of either with
 -- none beside it, and of each two, may be asked what `combine` may ask.
 use Rattle.std.proofs.Common.{◌≡◌, refl, subst, List, Option, Some, None}
-use Rattle.std.specs.Fn.{Shared}
-use Rattle.std.specs.Option.{option_copied}
-use denote.Ref.{Bor}
-use Rattle.range_algebra.specs.Intervals.{Every}
-use Rattle.range_algebra.specs.declared.any.AnyRange.{AnyRange}
-use Rattle.range_store.specs.declared.storage.Item.{Item}
-use Rattle.range_map.specs.Combining.{AreValuesOf, MayBeAskedBoth, MayBeAskedOfBoth}
+use Rattle.range_map.proofs.Common.{Shared, option_copied, Bor, Every, AnyRange, Item, AreValuesOf, MayBeAskedBoth, MayBeAskedOfBoth}
 use Rattle.range_change.proofs.RangePieces.{any_use}
 
 module _ {K F V W A : Type 0} (calls : Shared F (Option (Bor V) × (Option (Bor W) × Unit {0})) A)
@@ -25,18 +19,14 @@ module _ {K F V W A : Type 0} (calls : Shared F (Option (Bor V) × (Option (Bor 
         → AreValuesOf items others left right → MayBeAskedBoth calls f left right
     asked_of_values each None None values = absurd (values.some refl refl)
     asked_of_values each (Some v) None values =
-        any_use (λ i. i.value ≡ v) (λ i. MayBeAskedBoth calls f (Some i.value) None) items
-        values.first each.left (λ i h may. subst (λ u. MayBeAskedBoth calls f (Some u) None) h may)
+        any_use _ _ items values.first each.left
+        (λ i h may. subst (λ u. MayBeAskedBoth calls f (Some u) None) h may)
     asked_of_values each None (Some w) values =
-        any_use (λ j. j.value ≡ w) (λ j. MayBeAskedBoth calls f None (Some j.value)) others
-        values.second each.right
+        any_use _ _ others values.second each.right
         (λ j h may. subst (λ u. MayBeAskedBoth calls f None (Some u)) h may)
     asked_of_values each (Some v) (Some w) values =
-        any_use (λ i. i.value ≡ v)
-        (λ i. Every (λ j. MayBeAskedBoth calls f (Some i.value) (Some j.value)) others) items
-        values.first each.both
-        (λ i h more. any_use (λ j. j.value ≡ w)
-        (λ j. MayBeAskedBoth calls f (Some i.value) (Some j.value)) others values.second more
+        any_use _ _ items values.first each.both
+        (λ i h more. any_use _ _ others values.second more
         (λ j same may. subst (λ u. MayBeAskedBoth calls f (Some u) (Some w)) h
         (subst (λ u. MayBeAskedBoth calls f (Some i.value) (Some u)) same may)))
 

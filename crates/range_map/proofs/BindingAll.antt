@@ -1,25 +1,11 @@
 -- Whether each key of a range is bound, and that an empty range has no piece.
 use Rattle.std.proofs.Common.{◌≡◌, List, [], ◌∷◌, ◌⊎◌, inl, inr, Option, Some, None}
-use Rattle.std.specs.declared.ops.Bound.TheVariants.{Included}
-use Rattle.range_keys.specs.Order.{KeyOrder, IsLawful, IsComplete}
-use Rattle.range_keys.specs.Position.{start_position, end_position, position_cmp}
-use Rattle.range_keys.specs.PositionOrder.{position_total}
-use Rattle.range_keys.specs.declared.inner.position.Position.TheVariants.{Beside}
-use Rattle.range_keys.specs.declared.inner.position.Side.TheVariants.{At}
+use Rattle.range_map.proofs.Common.{Included, KeyOrder, IsLawful, IsComplete, start_position, end_position, position_cmp, Beside, At, AnyRange, Every, Holds, IsEmptyRange, any_none, every_weaker, Item, IsBound, Overlap, BindsAllOf, AreGapsWithin, LiesIn, IsCommonPart, IsFreePart, IsPiece, ArePieces, later, earlier}
 use Rattle.range_keys.proofs.Orderings.{not_greater, not_both_greater_and_not}
-use Rattle.range_algebra.specs.declared.any.AnyRange.{AnyRange}
-use Rattle.range_algebra.specs.Intervals.{Every}
-use Rattle.range_algebra.specs.Orders.{le_refl, eq_le, eq_ge, le_trans, not_lt}
-use Rattle.range_algebra.specs.Range.{Holds, IsEmptyRange}
+use Rattle.range_map.proofs.PlaceOrder.{le_refl, eq_le, eq_ge, le_trans, not_lt}
 use Rattle.range_algebra.proofs.Completeness.{nonempty_holds}
 use Rattle.range_algebra.proofs.Holding.{holds_by_position}
-use Rattle.range_algebra.proofs.Lists.{any_none, every_weaker}
 use Rattle.range_algebra.proofs.Pieces.{start_decided, end_decided}
-use Rattle.range_store.specs.declared.storage.Item.{Item}
-use Rattle.range_change.specs.Bindings.{IsBound}
-use Rattle.range_change.specs.Lookups.{Overlap, BindsAllOf}
-use Rattle.range_map.specs.PieceLists.{AreGapsWithin}
-use Rattle.range_change.specs.Pieces.{LiesIn, IsCommonPart, IsFreePart, IsPiece, ArePieces, later, earlier}
 use Rattle.range_change.proofs.RangePieces.{any_use, later_over, earlier_under}
 use Rattle.range_change.proofs.Overlaps.{binding_meets}
 
@@ -30,31 +16,24 @@ module _ {K : Type 0} (order : KeyOrder K) (lawful : IsLawful order) {V : Type 0
       → IsEmptyRange order r → ⊥
   within_nonempty part within full empty =
       let cmp = position_cmp order.cmp in
-      let total = position_total order.cmp lawful.total in
       let a = start_position order r.start in
       let b = start_position order part.start in
       let c = end_position order part.end in
       let d = end_position order r.end in
       not_both_greater_and_not (cmp a d)
-      (le_trans cmp total a b d within.starts
-      (le_trans cmp total b c d (not_greater (cmp b c) full) within.ends)) empty
+      (le_trans lawful _ _ _ within.starts
+      (le_trans lawful _ _ _ (not_greater (cmp b c) full) within.ends)) empty
 
   common_lies_in : (i part : AnyRange K) → IsCommonPart order r i part → LiesIn order part r
   common_lies_in i part h =
-      let cmp = position_cmp order.cmp in
-      let total = position_total order.cmp lawful.total in
       let a = start_position order r.start in
-      let b = start_position order part.start in
-      let c = end_position order part.end in
       let d = end_position order r.end in
-      let s = later order a (start_position order i.start) in
-      let e = earlier order d (end_position order i.end) in
       record {
         starts =
-            le_trans cmp total a s b (later_over order lawful a (start_position order i.start)).0
-            (eq_ge cmp total b s h.starts);
+            le_trans lawful _ _ _ (later_over order lawful a (start_position order i.start)).0
+            (eq_ge lawful _ _ h.starts);
         ends =
-            le_trans cmp total c e d (eq_le cmp total c e h.ends)
+            le_trans lawful _ _ _ (eq_le lawful _ _ h.ends)
             (earlier_under order lawful d (end_position order i.end)).0;
       }
 
@@ -62,8 +41,7 @@ module _ {K : Type 0} (order : KeyOrder K) (lawful : IsLawful order) {V : Type 0
       → IsEmptyRange order r → ⊥
   piece_of_full part None h empty = within_nonempty part h.0.within h.0.nonempty empty
   piece_of_full part (Some v) h empty =
-      any_use (λ i. IsCommonPart order r i.key part × (i.value ≡ v)) (λ _. Unit {0}) items h.1
-      (every_unit items)
+      any_use _ _ items h.1 (every_unit items)
       (λ i c u. within_nonempty part (common_lies_in i.key part c.0) h.0 empty)
     where
       every_unit : (xs : List (Item (AnyRange K) V)) → Every (λ _. Unit {0}) xs
@@ -92,12 +70,7 @@ module _ {K : Type 0} (order : KeyOrder K) (lawful : IsLawful order) {V : Type 0
 
     met_by_point : (i : AnyRange K) → Overlap order i Point → Holds order i k
     met_by_point i h =
-        let cmp = position_cmp order.cmp in
-        let total = position_total order.cmp lawful.total in
-        (holds_by_position order lawful i k key).1 (
-          not_lt cmp total (start_position order i.start) (Beside k At) h.1,
-          not_lt cmp total (Beside k At) (end_position order i.end) h.0,
-        )
+        (holds_by_position order lawful i k key).1 (not_lt lawful _ _ h.1, not_lt lawful _ _ h.0)
 
     bound_or_not : (xs : List (Item (AnyRange K) V))
         → IsBound order xs k ⊎ Every (λ i. Holds order i.key k → ⊥) xs
@@ -120,18 +93,12 @@ module _ {K : Type 0} (order : KeyOrder K) (lawful : IsLawful order) {V : Type 0
     point_is_free : Holds order r k → Every (λ i. Holds order i.key k → ⊥) items
         → IsFreePart order items r Point
     point_is_free held none =
-        let cmp = position_cmp order.cmp in
-        let total = position_total order.cmp lawful.total in
         let within = (holds_by_position order lawful r k key).0 held in
         record {
           known = (key, key);
-          nonempty =
-              not_both_greater_and_not (cmp (Beside k At) (Beside k At))
-              (le_refl cmp total (Beside k At));
+          nonempty = not_both_greater_and_not _ (le_refl lawful (Beside k At));
           within = record { starts = within.0; ends = within.1 };
-          free =
-              every_weaker (λ i. Holds order i.key k → ⊥) (λ i. Overlap order i.key Point → ⊥) items
-              (λ i not_held h. not_held (met_by_point i.key h)) none;
+          free = every_weaker _ _ items (λ i not_held h. not_held (met_by_point i.key h)) none;
         }
 
   -- where no part is free, each key is bound
@@ -148,7 +115,6 @@ module _ {K : Type 0} (order : KeyOrder K) (lawful : IsLawful order) {V : Type 0
       → IsFreePart order items r part → ⊥
   bound_is_full complete bound part free =
       let cmp = position_cmp order.cmp in
-      let total = position_total order.cmp lawful.total in
       let a = start_position order part.start in
       let b = end_position order part.end in
       let found =
@@ -157,13 +123,12 @@ module _ {K : Type 0} (order : KeyOrder K) (lawful : IsLawful order) {V : Type 0
       let own = (holds_by_position order lawful part k found.1).0 found.2 in
       let held =
       (holds_by_position order lawful r k found.1).1 (
-        le_trans cmp total (start_position order r.start) a (Beside k At) free.within.starts own.0,
-        le_trans cmp total (Beside k At) b (end_position order r.end) own.1 free.within.ends,
+        le_trans lawful _ _ _ free.within.starts own.0,
+        le_trans lawful (Beside k At) b (end_position order r.end) own.1 free.within.ends,
       ) in
       let meets =
       (binding_meets order lawful items part (k, found.1, found.2, bound k found.1 held)).1 in
-      any_none (λ i. Overlap order i.key part) (λ i. Overlap order i.key part → ⊥) items free.free
-      (λ i none h. none h) meets
+      any_none _ _ items free.free (λ i none h. none h) meets
 
   pub shown_is_free : (gaps : List (AnyRange K)) (g : AnyRange K) (rest : List (AnyRange K))
       → gaps ≡ g ∷ rest → AreGapsWithin order items r gaps → IsFreePart order items r g

@@ -1,30 +1,19 @@
 -- A list of clones: equal item by item to its source, and in the same form.
-use Rattle.std.proofs.Common.{◌≡◌, refl, sym, ap, ◌∙◌, List, [], ◌∷◌, Option, Some, None, Bool, true, ◌&&◌}
-use Rattle.std.specs.List.{All, AllZip, AllByRecursion}
-use Rattle.std.specs.declared.cmp.Ordering.TheVariants.{Less, Equal, Greater}
-use Rattle.std.specs.Ordering.{is_eq}
-use Rattle.std.specs.Cmp.{IsEquivalence, alike_right, tied_back}
+use Rattle.std.proofs.Common.{◌≡◌, refl, sym, ap, ◌∙◌, List, [], ◌∷◌, Option, Some, None, Bool, true, ◌&&◌, IsTrue}
+use Rattle.range_map.proofs.Common.{All, AllZip, AllByRecursion, Less, Equal, Greater, is_eq, eq_by_cmp, Equal-is, Ordering, IsEquivalence, alike_right, tied_back, and_from, and_parts, KeyOrder, IsLawful, SameAnswer, start_position, end_position, position_cmp, at_told, position_total, Position, MinusInfinity, Beside, PlusInfinity, Before, At, After, IsBoundClone, range_clone, past, IsKnownRange, IsEmptyRange, range_cmp, range_total, AnyRange, Item, IsCopyOf, LiesBefore, Touches, IsStored}
 use Rattle.std.proofs.lemmas.List.Elements.{recursion_from_All}
-use Rattle.std.proofs.lemmas.Bool.{and_from, and_parts}
-use Rattle.range_keys.specs.Order.{KeyOrder, IsLawful, SameAnswer}
-use Rattle.range_keys.specs.Position.{start_position, end_position, position_cmp, at_told}
-use Rattle.range_keys.specs.PositionOrder.{position_total}
-use Rattle.range_keys.specs.declared.inner.position.Position.{Position}
-use Rattle.range_keys.specs.declared.inner.position.Position.TheVariants.{MinusInfinity, Beside, PlusInfinity}
-use Rattle.range_keys.specs.declared.inner.position.Side.TheVariants.{Before, At, After}
 use Rattle.range_keys.proofs.Orderings.{both_equal, equal_then_equal, eq_is_equal}
-use Rattle.range_algebra.specs.Clones.{IsBoundClone, range_clone}
-use Rattle.range_algebra.specs.Cuts.{past, lower, upper}
-use Rattle.range_algebra.specs.Orders.{eq_le, eq_ge, le_trans}
-use Rattle.range_algebra.specs.Range.{IsKnownRange, IsEmptyRange}
-use Rattle.range_algebra.specs.RangeOrder.{range_cmp, range_total}
-use Rattle.range_algebra.specs.declared.any.AnyRange.{AnyRange}
-use Rattle.range_store.specs.declared.storage.Item.{Item}
-use Rattle.range_map.specs.ListOrder.{IsCopyOf}
-use Rattle.range_algebra.specs.Relations.{LiesBefore, Touches}
-use Rattle.range_change.specs.Stored.{IsStored}
+use Rattle.range_map.proofs.PlaceOrder.{eq_le, eq_ge, le_trans}
 use Rattle.range_change.proofs.Forms.{before_is, nonempty_good, touches_is}
 use Rattle.range_change.proofs.Listed.{IsListed, stored_list_is_listed, stored_by}
+
+-- clones of keys are tied in their order where clones are equal
+pub clones_tied : {K : Type 0} {tell cmp : K → K → Ordering} {eq : K → K → Bool}
+    {is_clone : K → K → Type 0} → ((a b : K) → tell a b ≡ cmp a b)
+    → ((a b : K) → eq a b ≡ eq_by_cmp tell a b) → ((a b : K) → is_clone a b → IsTrue (eq a b))
+    → (a b : K) → is_clone a b → cmp a b ≡ Equal
+clones_tied told equal keys a b h =
+    sym (told a b) ∙ (Equal-is _).0 (sym (equal a b) ∙ keys a b h)
 
 module _ {K : Type 0} (order : KeyOrder K) (lawful : IsLawful order) where
   abbrev Same : Position K → Position K → Type 0
@@ -35,7 +24,7 @@ module _ {K : Type 0} (order : KeyOrder K) (lawful : IsLawful order) where
   told_same None None q r h e = e
   told_same None (Some y) q r h e = absurd h
   told_same (Some x) None q r h e = absurd h
-  told_same (Some x) (Some y) q r h e = equal_then_equal (order.cmp x y) Equal h refl
+  told_same (Some x) (Some y) q r h e = equal_then_equal _ Equal h refl
 
   -- the places past equal ends are equal
   past_same : (p q : Position K) → Same p q → Same (past order p) (past order q)
@@ -48,13 +37,13 @@ module _ {K : Type 0} (order : KeyOrder K) (lawful : IsLawful order) where
   past_same PlusInfinity (Beside b t) h = cc
   past_same PlusInfinity PlusInfinity h = refl
   past_same (Beside a Before) (Beside b Before) h =
-      equal_then_equal (order.cmp a b) Equal (both_equal (order.cmp a b) Equal h).0 refl
+      equal_then_equal _ Equal (both_equal (order.cmp a b) Equal h).0 refl
   past_same (Beside a At) (Beside b At) h =
       let e = (both_equal (order.cmp a b) Equal h).0 in
       told_same (order.succ a) (order.succ b) (Beside a After) (Beside b After)
-      (lawful.succ_congr a b e) (equal_then_equal (order.cmp a b) Equal e refl)
+      (lawful.succ_congr a b e) (equal_then_equal _ Equal e refl)
   past_same (Beside a After) (Beside b After) h =
-      equal_then_equal (order.cmp a b) Equal (both_equal (order.cmp a b) Equal h).0 refl
+      equal_then_equal _ Equal (both_equal (order.cmp a b) Equal h).0 refl
   past_same (Beside a Before) (Beside b At) h =
       absurd (let e = (both_equal (order.cmp a b) Less h).1 in cc)
   past_same (Beside a Before) (Beside b After) h =
@@ -109,22 +98,17 @@ module _ {K : Type 0} (order : KeyOrder K) (lawful : IsLawful order) where
       → range_cmp order r r' ≡ Equal → range_cmp order s s' ≡ Equal → Touches order r s
       → Touches order r' s'
   same_touches r s r' s' known others known' others' full full' before before' e f h =
-      let cmp = position_cmp order.cmp in
-      let total = position_total order.cmp lawful.total in
       let le = (before_is order lawful r.end s.start known.1 others.0).0 before in
       let le' = (before_is order lawful r'.end s'.start known'.1 others'.0).0 before' in
       let back =
       (touches_is order lawful r.end s others
       ((nonempty_good order lawful s others).0 full) le).0 h in
-      let start = eq_ge cmp total (lower order s) (lower order s') (starts_same s s' f) in
+      let start = eq_ge lawful _ _ (starts_same s s' f) in
       let end =
-      eq_le cmp total (upper order r) (upper order r')
-      (past_same (end_position order r.end) (end_position order r'.end) (ends_same r r' e))
-      in
-      (touches_is order lawful r'.end s' others'
-      ((nonempty_good order lawful s' others').0 full') le').1
-      (le_trans cmp total (lower order s') (lower order s) (upper order r') start
-      (le_trans cmp total (lower order s) (upper order r) (upper order r') back end))
+      eq_le lawful _ _
+      (past_same (end_position order r.end) (end_position order r'.end) (ends_same r r' e)) in
+      (touches_is order lawful r'.end s' others' ((nonempty_good order lawful s' others').0 full')
+      le').1 (le_trans lawful _ _ _ start (le_trans lawful _ _ _ back end))
 
   module _ {V : Type 0} (same : V → V → Bool) (equal : IsEquivalence same) where
     same_values : (v w v' w' : V) → same v v' ≡ true → same w w' ≡ true → same v w ≡ true
@@ -186,8 +170,8 @@ module _ {K : Type 0} (order : KeyOrder K) (lawful : IsLawful order) where
     equal_items_are_copy [] (y ∷ ys) zip = absurd zip
     equal_items_are_copy (x ∷ xs) [] zip = absurd zip
     equal_items_are_copy (x ∷ xs) (y ∷ ys) zip =
-        let both = and_parts (is_eq (range_cmp order y.key x.key)) (same y.value x.value) zip.0 in (
-          ((eq_is_equal (range_cmp order y.key x.key)).0 both.0, both.1),
+        let both = and_parts _ _ zip.0 in (
+          ((eq_is_equal _).0 both.0, both.1),
           equal_items_are_copy xs ys zip.1,
         )
 
@@ -199,7 +183,6 @@ module _ {K : Type 0} (order : KeyOrder K) (lawful : IsLawful order) where
         × IsBoundClone is_clone x.key.end y.key.end) → is_value_clone x.value y.value
         → (is_eq (range_cmp order y.key x.key) && same y.value x.value) ≡ true
     item_clone is_clone keys is_value_clone values x y key value =
-        and_from (is_eq (range_cmp order y.key x.key)) (same y.value x.value)
-        (ap is_eq (tied_back (range_total order lawful) x.key y.key
+        and_from _ _ (ap is_eq (tied_back (range_total order lawful) x.key y.key
         (range_clone order lawful is_clone keys x.key y.key key)))
         (equal.symm y.value x.value ∙ values x.value y.value value)

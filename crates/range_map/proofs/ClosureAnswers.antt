@@ -1,13 +1,7 @@
 -- What the closure of an update may answer, told by what its calls may.
 use Rattle.std.proofs.Common.{Bool, List, [], ◌∷◌, Option}
 use Rattle.std.specs.Prelude.{Result, Ok, Err}
-use denote.Ref.{Bor}
-use Rattle.std.specs.Fn.{Shared}
-use Rattle.range_keys.specs.Order.{KeyOrder}
-use Rattle.range_algebra.specs.Intervals.{Every}
-use Rattle.range_algebra.specs.declared.any.AnyRange.{AnyRange}
-use Rattle.range_store.specs.declared.storage.Item.{Item}
-use Rattle.range_change.specs.Answers.{Answered, MayAnswer, IsAnswered, IsUpdated, MayFail, FailsAt}
+use Rattle.range_map.proofs.Common.{Bor, Shared, KeyOrder, Every, AnyRange, Item, Answered, MayAnswer, IsAnswered, IsUpdated, MayFail, FailsAt}
 use Rattle.range_map.specs.Rebinding.{IsRebound, AreRebound}
 
 pub every_one : {X : Type 0} (P : X → Type 0) (xs : List X) → ((x : X) → P x) → Every P xs

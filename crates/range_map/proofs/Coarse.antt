@@ -1,21 +1,10 @@
 -- Coarse lists, by the keys alone: those with the same bindings are alike, and no list with these
 -- bindings is shorter.
 use Rattle.std.proofs.Common.{◌≡◌, refl, ap, ◌∙◌, ℕ, ◌+◌, ◌≤◌, ◌<◌, suc, List, [], ◌∷◌, length, ◌⊎◌, inl, inr, Bool, true, false, IsTrue, Some, arith}
-use Rattle.std.specs.declared.ops.Bound.{Bound}
-use Rattle.std.specs.declared.ops.Bound.TheVariants.{Included, Excluded, Unbounded}
-use Rattle.std.specs.declared.cmp.Ordering.{Ordering}
-use Rattle.std.specs.declared.cmp.Ordering.TheVariants.{Less, Equal, Greater}
-use Rattle.std.specs.Ordering.{is_gt, nat_cmp, MatchOrdering}
-use Rattle.std.specs.Cmp.{IsEquivalence, tied_itself, upto, ranks}
-use Rattle.range_keys.specs.Order.{KeyOrder, IsLawful, Below, NotAbove}
+use Rattle.range_map.proofs.Common.{Bound, Included, Excluded, Unbounded, Ordering, Less, Equal, Greater, is_gt, nat_cmp, MatchOrdering, IsEquivalence, tied_itself, upto, ranks, KeyOrder, IsLawful, Below, NotAbove, StartHolds, EndHolds, Holds, IsKeyless, AnyRange, Item, LiesBetween, IsBound, BindsTo, BindAlike, AreDisjoint, IsCoarse, AreAlike}
 use Rattle.range_keys.proofs.Orderings.{not_not_less}
-use Rattle.range_algebra.specs.Range.{StartHolds, EndHolds, Holds, IsKeyless}
-use Rattle.range_algebra.specs.declared.any.AnyRange.{AnyRange}
 use Rattle.range_algebra.proofs.Holding.{below_up, up_below}
 use Rattle.range_change.proofs.Overlaps.{binds_bound}
-use Rattle.range_store.specs.declared.storage.Item.{Item}
-use Rattle.range_algebra.specs.Relations.{LiesBetween}
-use Rattle.range_change.specs.Bindings.{IsBound, BindsTo, BindAlike, AreDisjoint, IsCoarse, AreAlike}
 
 -- what is decided may be shown by two denials
 

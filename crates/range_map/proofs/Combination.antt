@@ -1,32 +1,11 @@
 -- A merged pass over two lists: what the answers so far make of both.
 use Rattle.std.proofs.Common.{◌≡◌, refl, sym, ap, ◌∙◌, ◌↔◌, ◌⊎◌, inl, inr, Bool, true, Option, Some, None, Result, Ok, List, [], ◌∷◌, ◌++◌, map}
-use Rattle.std.specs.Cmp.{IsEquivalence}
-use Rattle.std.specs.Fn.{Shared}
-use denote.Ref.{Bor}
-use Rattle.std.specs.declared.ops.Bound.{Bound}
-use Rattle.range_keys.specs.Order.{KeyOrder, IsLawful}
-use Rattle.range_keys.specs.PositionOrder.{position_total}
-use Rattle.range_keys.specs.declared.inner.position.Position.{Position}
-use Rattle.range_keys.specs.declared.inner.position.Position.TheVariants.{Beside}
-use Rattle.range_keys.specs.declared.inner.position.Side.TheVariants.{At}
-use Rattle.range_algebra.specs.Clones.{IsBoundClone, SameBound}
-use Rattle.range_algebra.specs.Intervals.{Le, Lt, Any, Every}
-use Rattle.range_algebra.specs.Orders.{le_refl, lt_le, eq_ge, le_trans, lt_not_le}
-use Rattle.range_algebra.specs.Range.{Holds, IsKnownRange}
-use Rattle.range_algebra.specs.Relations.{LiesBefore}
-use Rattle.range_algebra.specs.declared.any.AnyRange.{AnyRange}
-use Rattle.range_algebra.proofs.Lists.{any_none, any_left, any_split, every_append, every_weaker}
+use Rattle.range_map.proofs.Common.{IsEquivalence, Shared, Bor, Bound, KeyOrder, IsLawful, position_total, Position, Beside, At, IsBoundClone, SameBound, Le, Lt, Any, Every, Holds, IsKnownRange, LiesBefore, AnyRange, any_none, any_left, any_split, every_append, every_weaker, Item, Answered, IsAsAnswered, IsBound, Binds, BindsTo, IsValueOf, MayBeAskedBoth, MayBeAskedOfBoth, Combined, IsConstantOn, IsSharedPart, AreCombined, IsCombination, full_range, LiesIn, IsStored}
+use Rattle.range_map.proofs.PlaceOrder.{le_refl, lt_le, eq_ge, le_trans, lt_not_le}
 use Rattle.range_algebra.proofs.Places.{held_between, unbounded_start, unbounded_end}
-use Rattle.range_store.specs.declared.storage.Item.{Item}
-use Rattle.range_change.specs.Answers.{Answered, IsAsAnswered}
 use Rattle.range_change.specs.Questions.{IsPut}
-use Rattle.range_change.specs.Bindings.{IsBound, Binds, BindsTo}
-use Rattle.range_map.specs.Combining.{IsValueOf, MayBeAskedBoth, MayBeAskedOfBoth, Combined, IsConstantOn, IsSharedPart, AreCombined, IsCombination}
-use Rattle.range_map.specs.FreeRanges.{full_range}
 use Rattle.range_map.specs.Merged.{IsCutFrom, IsFirstPiece}
 use Rattle.range_change.specs.Neighbours.{EachNext}
-use Rattle.range_change.specs.Pieces.{LiesIn}
-use Rattle.range_change.specs.Stored.{IsStored}
 use Rattle.range_change.specs.Window.{option_items}
 use Rattle.range_map.proofs.Combining.{cmp, Lo, Hi, HoldsAt, Gives, Alike, IsLeftFrom, IsFirstOf, all_left, left_past, left_seen, constant_on}
 use Rattle.range_change.proofs.RangePieces.{any_end, any_map, any_over, any_use, any_with, next_last}
@@ -90,9 +69,7 @@ module _ {K : Type 0} (order : KeyOrder K) (lawful : IsLawful order) {V W X : Ty
       → Every (λ i. IsKnownRange order i.key) xs
       → Every (λ x. Le (cmp order lawful) (Lo order lawful full_range) (Lo order lawful x.key)) xs
   from_least xs known =
-      every_weaker (λ i. IsKnownRange order i.key)
-      (λ x. Le (cmp order lawful) (Lo order lawful full_range) (Lo order lawful x.key)) xs
-      (λ x k. unbounded_start order lawful x.key.start k.0) known
+      every_weaker _ _ xs (λ x k. unbounded_start order lawful x.key.start k.0) known
 
   -- at first all is left
   pub combined_none : IsStored order same_left items → IsStored order same_right others
@@ -121,14 +98,14 @@ module _ {K : Type 0} (order : KeyOrder K) (lawful : IsLawful order) {V W X : Ty
   -- the next piece, and the lists of which it is the first
   module _ (stored : IsStored order same_left items)
       (stored_others : IsStored order same_right others)
-      (m : Position K) (middle : List (Item (AnyRange K) X))
-      (first : Option (Item (AnyRange K) V)) (rest : List (Item (AnyRange K) V))
-      (second : Option (Item (AnyRange K) W)) (others_rest : List (Item (AnyRange K) W))
+      {m : Position K} {middle : List (Item (AnyRange K) X)}
+      {first : Option (Item (AnyRange K) V)} {rest : List (Item (AnyRange K) V)}
+      {second : Option (Item (AnyRange K) W)} {others_rest : List (Item (AnyRange K) W)}
       (none : IsFirstOf order lawful same_left equal_left first rest)
       (none_other : IsFirstOf order lawful same_right equal_right second others_rest)
       (was : IsCombinedUpTo m (option_items first ++ rest) (option_items second ++ others_rest)
-      middle) (key : AnyRange K) (value : Option V) (other : Option W)
-      (last : Option (Item (AnyRange K) V)) (last_other : Option (Item (AnyRange K) W))
+      middle) {key : AnyRange K} {value : Option V} {other : Option W}
+      {last : Option (Item (AnyRange K) V)} {last_other : Option (Item (AnyRange K) W)}
       (piece : IsFirstPiece order first second key value other last last_other) where
     from_here : {U : Type 0} (i : Option (Item (AnyRange K) U)) (v : Option U)
         (j : Option (Item (AnyRange K) U)) (xs : List (Item (AnyRange K) U))
@@ -139,9 +116,7 @@ module _ {K : Type 0} (order : KeyOrder K) (lawful : IsLawful order) {V W X : Ty
     from_here None (Some v) j xs cut some from = absurd cut
     from_here (Some i) None j xs cut some from = absurd (some refl)
     from_here (Some i) (Some v) j xs cut some from =
-        let total = position_total order.cmp lawful.total in
-        le_trans (cmp order lawful) total m (Lo order lawful i.key) (Lo order lawful key) from.0
-        (eq_ge (cmp order lawful) total (Lo order lawful key) (Lo order lawful i.key) cut.1)
+        le_trans lawful _ _ _ from.0 (eq_ge lawful _ _ cut.1)
 
     starts_after : Le (cmp order lawful) m (Lo order lawful key)
     starts_after =
@@ -154,10 +129,8 @@ module _ {K : Type 0} (order : KeyOrder K) (lawful : IsLawful order) {V W X : Ty
     not_earlier : (p : Position K) → HoldsAt order lawful p key → (c : Answer)
         → Le (cmp order lawful) (Hi order lawful c.key) m → HoldsAt order lawful p c.key → ⊥
     not_earlier p at c below held =
-        let total = position_total order.cmp lawful.total in
-        lt_not_le (cmp order lawful) total p (Hi order lawful c.key) held.1
-        (le_trans (cmp order lawful) total (Hi order lawful c.key) m p below
-        (le_trans (cmp order lawful) total m (Lo order lawful key) p starts_after at.0))
+        lt_not_le lawful _ _ held.1
+        (le_trans lawful _ _ _ below (le_trans lawful _ _ _ starts_after at.0))
 
     -- both lists are constant on it
     pub is_shared : IsSharedPart order items others key value other
@@ -171,8 +144,7 @@ module _ {K : Type 0} (order : KeyOrder K) (lawful : IsLawful order) {V W X : Ty
           (λ p at held. elim ((was.first_seen p (λ u. true)).0 held) [
             | inl left ↦ left
             | inr done ↦
-                absurd (any_none (λ c. HoldsAt order lawful p c.key × Gives (λ u. true) c.left)
-                (λ c. Le (cmp order lawful) (Hi order lawful c.key) m) was.answers was.below
+                absurd (any_none _ _ was.answers was.below
                 (λ c below h. not_earlier p at c below h.0) done)
           ]);
       second =
@@ -184,8 +156,7 @@ module _ {K : Type 0} (order : KeyOrder K) (lawful : IsLawful order) {V W X : Ty
           (λ p at held. elim ((was.second_seen p (λ u. true)).0 held) [
             | inl left ↦ left
             | inr done ↦
-                absurd (any_none (λ c. HoldsAt order lawful p c.key × Gives (λ u. true) c.right)
-                (λ c. Le (cmp order lawful) (Hi order lawful c.key) m) was.answers was.below
+                absurd (any_none _ _ was.answers was.below
                 (λ c below h. not_earlier p at c below h.0) done)
           ]);
       bound = piece.bound;
@@ -206,8 +177,7 @@ module _ {K : Type 0} (order : KeyOrder K) (lawful : IsLawful order) {V W X : Ty
         → Le (cmp order lawful) (Hi order lawful c.key) m → LiesBefore order c.key key
     before_it c part below =
         (before_is order lawful c.key.end key.start part.known.1 piece.placed.known.0).1
-        (le_trans (cmp order lawful) (position_total order.cmp lawful.total)
-        (Hi order lawful c.key) m (Lo order lawful key) below starts_after)
+        (le_trans lawful _ _ _ below starts_after)
 
     all_before : (cs : List Answer)
         → Every (λ c. IsSharedPart order items others c.key c.left c.right) cs
@@ -217,6 +187,31 @@ module _ {K : Type 0} (order : KeyOrder K) (lawful : IsLawful order) {V W X : Ty
     all_before (c ∷ cs) each below =
         (before_it c each.0 below.0, all_before cs each.1 below.1)
 
+    seen_more : {H L M : Type 0} (p : Position K) (P : Answer → Type 0) (c : Answer)
+        → H ↔ (L ⊎ Any (λ d. HoldsAt order lawful p d.key × P d) was.answers)
+        → L ↔ ((HoldsAt order lawful p c.key × P c) ⊎ M)
+        → H ↔ (M ⊎ Any (λ d. HoldsAt order lawful p d.key × P d) (was.answers ++ c ∷ []))
+    seen_more p P c old step =
+        let Q = λ (d : Answer). HoldsAt order lawful p d.key × P d in (
+          λ h. elim (old.0 h) [
+            | inl left ↦ elim (step.0 left) [
+              | inl here ↦ inr (any_end Q was.answers c here)
+              | inr later ↦ inl later
+            ]
+            | inr done ↦ inr (any_left Q was.answers (c ∷ []) done)
+          ],
+          λ h. elim h [
+            | inl later ↦ old.1 (inl (step.1 (inr later)))
+            | inr done ↦ elim (any_split Q was.answers (c ∷ []) done) [
+              | inl before ↦ old.1 (inr before)
+              | inr it ↦ elim it [
+                | inl here ↦ old.1 (inl (step.1 (inl here)))
+                | inr nowhere ↦ absurd nowhere
+              ]
+            ]
+          ],
+        )
+
     -- one answer more
     pub combined_more : (answer : Option X) (new : List (Item (AnyRange K) X))
         (is_clone : K → K → Type 0)
@@ -225,13 +220,9 @@ module _ {K : Type 0} (order : KeyOrder K) (lawful : IsLawful order) {V W X : Ty
         → IsCombinedUpTo (Hi order lawful key) (option_items last ++ rest)
         (option_items last_other ++ others_rest) new
     combined_more answer new is_clone clones says put =
-        let total = position_total order.cmp lawful.total in
         let c : Answer = record { key = key; left = value; right = other; answer = answer } in
-        let upto = lt_le (cmp order lawful) total (Lo order lawful key) (Hi order lawful key)
-        piece.placed.good in
-        let m_upto =
-        le_trans (cmp order lawful) total m (Lo order lawful key) (Hi order lawful key) starts_after
-        upto in
+        let upto = lt_le lawful _ _ piece.placed.good in
+        let m_upto = le_trans lawful _ _ _ starts_after upto in
         record {
           answers = was.answers ++ c ∷ [];
           first =
@@ -240,77 +231,26 @@ module _ {K : Type 0} (order : KeyOrder K) (lawful : IsLawful order) {V W X : Ty
           second =
               left_past order lawful same_right equal_right others m key piece.placed second other
               last_other others_rest none_other piece.second was.second;
-          each =
-              every_append (λ d. IsSharedPart order items others d.key d.left d.right) was.answers
-              (c ∷ []) was.each (is_shared, tt);
+          each = every_append _ was.answers (c ∷ []) was.each (is_shared, tt);
           rising =
               next_last (λ b d. LiesBefore order b.key d.key) was.answers c was.rising
               (all_before was.answers was.each was.below);
           below =
-              every_append (λ d. Le (cmp order lawful) (Hi order lawful d.key)
-              (Hi order lawful key)) was.answers (c ∷ [])
-              (every_weaker (λ d. Le (cmp order lawful) (Hi order lawful d.key) m)
-              (λ d. Le (cmp order lawful) (Hi order lawful d.key) (Hi order lawful key)) was.answers
-              (λ d le. le_trans (cmp order lawful) total (Hi order lawful d.key) m
-              (Hi order lawful key) le m_upto) was.below)
-              (le_refl (cmp order lawful) total (Hi order lawful key), tt);
-          given =
-              every_append (λ d. may d.left d.right (Ok d.answer)) was.answers (c ∷ []) was.given
-              (says, tt);
-          first_seen = λ p U.
-              let old = was.first_seen p U in
-              let step =
-              left_seen order lawful same_left equal_left items m key piece.placed first value last
-              rest piece.first p U in
-              let P = λ (d : Answer). HoldsAt order lawful p d.key × Gives U d.left in (
-                λ h. elim (old.0 h) [
-                  | inl left ↦ elim (step.0 left) [
-                    | inl here ↦ inr (any_end P was.answers c here)
-                    | inr later ↦ inl later
-                  ]
-                  | inr done ↦ inr (any_left P was.answers (c ∷ []) done)
-                ],
-                λ h. elim h [
-                  | inl later ↦ old.1 (inl (step.1 (inr later)))
-                  | inr done ↦ elim (any_split P was.answers (c ∷ []) done) [
-                    | inl before ↦ old.1 (inr before)
-                    | inr it ↦ elim it [
-                      | inl here ↦ old.1 (inl (step.1 (inl here)))
-                      | inr nowhere ↦ absurd nowhere
-                    ]
-                  ]
-                ],
-              );
-          second_seen = λ p U.
-              let old = was.second_seen p U in
-              let step =
-              left_seen order lawful same_right equal_right others m key piece.placed second other
-              last_other others_rest piece.second p U in
-              let P = λ (d : Answer). HoldsAt order lawful p d.key × Gives U d.right in (
-                λ h. elim (old.0 h) [
-                  | inl left ↦ elim (step.0 left) [
-                    | inl here ↦ inr (any_end P was.answers c here)
-                    | inr later ↦ inl later
-                  ]
-                  | inr done ↦ inr (any_left P was.answers (c ∷ []) done)
-                ],
-                λ h. elim h [
-                  | inl later ↦ old.1 (inl (step.1 (inr later)))
-                  | inr done ↦ elim (any_split P was.answers (c ∷ []) done) [
-                    | inl before ↦ old.1 (inr before)
-                    | inr it ↦ elim it [
-                      | inl here ↦ old.1 (inl (step.1 (inl here)))
-                      | inr nowhere ↦ absurd nowhere
-                    ]
-                  ]
-                ],
-              );
+              every_append _ was.answers (c ∷ [])
+              (every_weaker _ _ was.answers (λ d le. le_trans lawful _ _ _ le m_upto) was.below)
+              (le_refl lawful _, tt);
+          given = every_append _ was.answers (c ∷ []) was.given (says, tt);
+          first_seen = λ p U. seen_more p (λ d. Gives U d.left) c (was.first_seen p U)
+              (left_seen order lawful same_left equal_left items m key piece.placed first value last
+              rest piece.first p U);
+          second_seen = λ p U. seen_more p (λ d. Gives U d.right) c (was.second_seen p U)
+              (left_seen order lawful same_right equal_right others m key piece.placed second other
+              last_other others_rest piece.second p U);
           filled =
               rw (map_end answer_of was.answers c)
-              (fill_more order lawful same equal full_range m (Hi order lawful key)
-              (map answer_of was.answers) key within_all starts_after
-              (le_refl (cmp order lawful) total (Hi order lawful key)) is_clone clones None answer
-              middle new was.filled put);
+              (fill_more order lawful same equal full_range m (Hi order lawful key) _ key within_all
+              starts_after (le_refl lawful _) is_clone clones None answer middle new was.filled
+              put);
         }
 
   -- among ranges that rise, a place lies in one alone
@@ -321,18 +261,17 @@ module _ {K : Type 0} (order : KeyOrder K) (lawful : IsLawful order) {V W X : Ty
       → Every (λ d. Le (cmp order lawful) low (Lo order lawful d.key)) cs
   above low c [] le each rising = tt
   above low c (d ∷ cs) le each rising =
-      let total = position_total order.cmp lawful.total in
       let from =
       (before_is order lawful c.key.end d.key.start each.0.known.1 each.1.0.known.0).0 rising.0 in
       let here =
-      le_trans (cmp order lawful) total low (Hi order lawful c.key) (Lo order lawful d.key) le from
+      le_trans lawful _ _ _ le from
       in (
         here,
         above low d cs
-            (le_trans (cmp order lawful) total low (Lo order lawful d.key) (Hi order lawful d.key)
-            here (lt_le (cmp order lawful) total (Lo order lawful d.key) (Hi order lawful d.key)
-            ((nonempty_good order lawful d.key each.1.0.known).0 each.1.0.nonempty)))
-            each.1 rising.1,
+            (le_trans lawful _ _ _ here
+            (lt_le lawful _ _
+            ((nonempty_good order lawful d.key each.1.0.known).0 each.1.0.nonempty))) each.1
+            rising.1,
       )
 
   -- what a range that holds the place answers, and no other does
@@ -347,43 +286,26 @@ module _ {K : Type 0} (order : KeyOrder K) (lawful : IsLawful order) {V W X : Ty
       → Any (λ c. HoldsAt order lawful p c.key × IsOnly p c cs) cs
   one_alone p [] each rising h = h
   one_alone p (c ∷ cs) each rising (inl h) =
-      let total = position_total order.cmp lawful.total in
-      let later =
-      above (Hi order lawful c.key) c cs (le_refl (cmp order lawful) total (Hi order lawful c.key))
-      each rising in
+      let later = above (Hi order lawful c.key) c cs (le_refl lawful _) each rising in
       inl (
         h,
         λ U. (
           λ g. elim g [
             | inl e ↦ e.1
             | inr e ↦
-                absurd (any_none (λ d. HoldsAt order lawful p d.key × Answers U d.answer)
-                (λ d. Le (cmp order lawful) (Hi order lawful c.key) (Lo order lawful d.key)) cs
-                later
-                (λ d le f. lt_not_le (cmp order lawful) total p (Hi order lawful c.key) h.1
-                (le_trans (cmp order lawful) total (Hi order lawful c.key) (Lo order lawful d.key) p
-                le f.0.0)) e)
+                absurd (any_none _ _ cs later
+                (λ d le f. lt_not_le lawful _ _ h.1 (le_trans lawful _ _ _ le f.0.0)) e)
           ],
           λ g. inl (h, g),
         ),
       )
   one_alone p (c ∷ cs) each rising (inr h) =
-      let total = position_total order.cmp lawful.total in
-      let later =
-      above (Hi order lawful c.key) c cs (le_refl (cmp order lawful) total (Hi order lawful c.key))
-      each rising in
-      inr (any_with (λ d. HoldsAt order lawful p d.key × IsOnly p d cs)
-      (λ d. Le (cmp order lawful) (Hi order lawful c.key) (Lo order lawful d.key))
-      (λ d. HoldsAt order lawful p d.key × IsOnly p d (c ∷ cs)) cs
-      (one_alone p cs each.1 rising.1 h) later
-      (λ d only le. (
+      let later = above (Hi order lawful c.key) c cs (le_refl lawful _) each rising in
+      inr (any_with _ _ _ cs (one_alone p cs each.1 rising.1 h) later (λ d only le. (
         only.0,
         λ U. (
           λ g. elim g [
-            | inl e ↦
-                absurd (lt_not_le (cmp order lawful) total p (Hi order lawful c.key) e.0.1
-                (le_trans (cmp order lawful) total (Hi order lawful c.key) (Lo order lawful d.key) p
-                le only.0.0))
+            | inl e ↦ absurd (lt_not_le lawful _ _ e.0.1 (le_trans lawful _ _ _ le only.0.0))
             | inr e ↦ (only.1 U).0 e
           ],
           λ g. inr ((only.1 U).1 g),
@@ -420,9 +342,7 @@ module _ {K : Type 0} (order : KeyOrder K) (lawful : IsLawful order) {V W X : Ty
       → (v ≡ None → ⊥) → IsBound order xs k
   constant_bound xs r None k key held constant some = absurd (some refl)
   constant_bound xs r (Some v) k key held constant some =
-      inside_holds order lawful r xs k key held
-      (any_over (λ i. LiesIn order r i.key × (i.value ≡ v)) (λ i. LiesIn order r i.key) xs
-      (λ i h. h.0) constant)
+      inside_holds order lawful r xs k key held (any_over _ _ xs (λ i h. h.0) constant)
 
   -- a key of one of the ranges is bound by one of the lists
   part_bound : (c : Answer) → IsSharedPart order items others c.key c.left c.right → (k : K)
@@ -463,26 +383,18 @@ module _ {K : Type 0} (order : KeyOrder K) (lawful : IsLawful order) {V W X : Ty
                     elim ((was.first_seen p (λ u. true)).0
                     ((bound_hold order lawful same_left equal_left items k known key).0 b)) [
                       | inl l ↦ absurd (none p (λ u. true) l)
-                      | inr done ↦
-                          any_over (λ c. HoldsAt order lawful p c.key × Gives (λ u. true) c.left)
-                          (λ c. HoldsAt order lawful p c.key) was.answers (λ c h. h.0) done
+                      | inr done ↦ any_over _ _ was.answers (λ c h. h.0) done
                     ]
                 | inr b ↦
                     elim ((was.second_seen p (λ u. true)).0
                     ((bound_hold order lawful same_right equal_right others k known_others key).0
                     b)) [
                       | inl l ↦ absurd (none_other p (λ u. true) l)
-                      | inr done ↦
-                          any_over (λ c. HoldsAt order lawful p c.key × Gives (λ u. true) c.right)
-                          (λ c. HoldsAt order lawful p c.key) was.answers (λ c h. h.0) done
+                      | inr done ↦ any_over _ _ was.answers (λ c h. h.0) done
                     ]
               ] in
-              any_with (λ c. HoldsAt order lawful p c.key × IsOnly p c was.answers)
-              (λ c. IsSharedPart order items others c.key c.left c.right)
-              (λ c. Holds order c.key k
-              × ((b : Option X) → Binds order same new k b ↔ IsAsAnswered same c.answer b))
-              was.answers (one_alone p was.answers was.each was.rising there) was.each
-              (λ c only part. (
+              any_with _ _ _ was.answers (one_alone p was.answers was.each was.rising there)
+              was.each (λ c only part. (
                 (held_between order lawful c.key k part.known key).1 only.0,
                 λ b. as_answered new k was.filled.known key c.answer b
                     (λ U alike.
@@ -499,13 +411,10 @@ module _ {K : Type 0} (order : KeyOrder K) (lawful : IsLawful order) {V W X : Ty
               let says = was.filled.has p (λ u. true) (λ a b s t. t) in
               let P = λ (a : Answered K X). HoldsAt order lawful p a.key
               × Answers (λ u. true) a.answer in
-              any_use (λ c. HoldsAt order lawful p c.key × Answers (λ u. true) c.answer)
-              (λ c. IsSharedPart order items others c.key c.left c.right) was.answers
-              (any_unmap answer_of P was.answers
+              any_use _ _ was.answers (any_unmap answer_of P was.answers
               (says.0 ((bound_hold order lawful same equal new k was.filled.known key).0 bound)))
-              was.each
-              (λ c h part. elim (part_bound c part k key
-              ((held_between order lawful c.key k part.known key).1 h.0)) [
+              was.each (λ c h part. elim
+              (part_bound c part k key ((held_between order lawful c.key k part.known key).1 h.0)) [
                 | inl b ↦ unbound b
                 | inr b ↦ unbound_other b
               ]);
@@ -517,9 +426,7 @@ module _ {K : Type 0} (order : KeyOrder K) where
   constant_value : {V : Type 0} (items : List (Item (AnyRange K) V)) (part : AnyRange K)
       (v : Option V) → IsConstantOn order items part v → IsValueOf items v
   constant_value items part None h = tt
-  constant_value items part (Some v) h =
-      any_over (λ i. LiesIn order part i.key × (i.value ≡ v)) (λ i. i.value ≡ v) items
-      (λ i inside. inside.1) h
+  constant_value items part (Some v) h = any_over _ _ items (λ i inside. inside.1) h
 
   pub asked_of_part : {F V W A : Type 0}
       (calls : Shared F (Option (Bor V) × (Option (Bor W) × Unit {0})) A) (f : F)

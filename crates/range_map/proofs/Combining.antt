@@ -1,27 +1,8 @@
 -- One side of a merged pass: what is left of a list, and what the pieces so far say of it.
 use Rattle.std.proofs.Common.{◌≡◌, refl, sym, ap, subst, append_assoc, ◌∙◌, ◌↔◌, ◌⊎◌, inl, inr, ℕ, ◌+◌, ◌*◌, ◌<◌, ◌≤◌, length, arith, Bool, true, Option, Some, None, List, [], ◌∷◌, ◌++◌, if◌then◌else◌}
-use Rattle.std.specs.Ordering.{is_eq}
-use Rattle.std.specs.Option.{option_map}
-use Rattle.std.specs.declared.cmp.Ordering.{Ordering}
-use Rattle.std.specs.declared.cmp.Ordering.TheVariants.{Less, Equal, Greater}
-use Rattle.std.specs.Cmp.{IsEquivalence}
-use Rattle.range_keys.specs.Order.{KeyOrder, IsLawful}
-use Rattle.range_keys.specs.Position.{position_cmp}
-use Rattle.range_keys.specs.PositionOrder.{position_total}
-use Rattle.range_keys.specs.declared.inner.position.Position.{Position}
-use Rattle.range_algebra.specs.Cuts.{lower, upper}
-use Rattle.range_algebra.specs.Intervals.{Le, Lt, Any, Every}
-use Rattle.range_algebra.specs.Orders.{le_refl, lt_le, eq_le, eq_ge, le_trans, lt_not_le, cases, lt_le_trans}
-use Rattle.range_algebra.specs.Range.{IsKnownRange}
-use Rattle.range_algebra.specs.declared.any.AnyRange.{AnyRange}
-use Rattle.range_algebra.proofs.Lists.{any_none, every_left, every_weaker}
-use Rattle.range_store.specs.declared.storage.Item.{Item}
-use Rattle.range_change.specs.Chains.{line_of, Respects}
-use Rattle.range_map.specs.Combining.{IsConstantOn}
-use Rattle.range_change.specs.Lookups.{MeetsSome}
+use Rattle.range_map.proofs.Common.{is_eq, option_map, Ordering, Less, Equal, Greater, IsEquivalence, KeyOrder, IsLawful, position_cmp, position_total, Position, lower, upper, Le, Lt, Any, Every, IsKnownRange, AnyRange, any_none, every_left, every_weaker, Item, line_of, Respects, IsConstantOn, MeetsSome, LiesIn, IsStored, item_lower}
+use Rattle.range_map.proofs.PlaceOrder.{le_refl, lt_le, eq_le, eq_ge, le_trans, lt_not_le, cases, lt_le_trans}
 use Rattle.range_map.specs.Merged.{IsPlaced, IsPlacedIn, IsCutFrom, IsUsedUp, StartAlike, IsFirstPiece}
-use Rattle.range_change.specs.Pieces.{LiesIn}
-use Rattle.range_change.specs.Stored.{IsStored, item_lower}
 use Rattle.range_change.specs.Window.{option_items}
 use Rattle.range_change.proofs.Chains.{chain_left, chain_above, chain_tail, follows_above, follows_like}
 use Rattle.range_change.proofs.CoveredPlaces.{met_range_is_covered, chained_items_have_places}
@@ -69,14 +50,11 @@ module _ {K : Type 0} (order : KeyOrder K) (lawful : IsLawful order) where
         → ((x : Item (AnyRange K) V) → Any (λ i. i ≡ x) xs → Any (λ i. i ≡ x) items)
         → Every (IsTailIn items) xs
     all_tails items [] within = tt
-    all_tails items (x ∷ xs) within =
-        let total = position_total order.cmp lawful.total in (
-          any_over (λ i. i ≡ x) (λ i. (i.value ≡ x.value) × Le cmp (Lo i.key) (Lo x.key)
-              × Le cmp (Hi x.key) (Hi i.key)) items
-              (λ i e. rw e (refl, le_refl cmp total (Lo x.key), le_refl cmp total (Hi x.key)))
-              (within x (inl refl)),
-          all_tails items xs (λ y h. within y (inr h)),
-        )
+    all_tails items (x ∷ xs) within = (
+      any_over _ _ items (λ i e. rw e
+          (refl, le_refl lawful _, le_refl lawful _)) (within x (inl refl)),
+      all_tails items xs (λ y h. within y (inr h)),
+    )
 
     -- at first the whole list is left
     pub all_left : (items : List (Item (AnyRange K) V)) (m : Position K)
@@ -104,7 +82,7 @@ module _ {K : Type 0} (order : KeyOrder K) (lawful : IsLawful order) where
     module _ (items : List (Item (AnyRange K) V)) (m : Position K) (key : AnyRange K)
         (placed : IsPlaced order key) where
       low_high : Le cmp (Lo key) (Hi key)
-      low_high = lt_le cmp (position_total order.cmp lawful.total) (Lo key) (Hi key) placed.good
+      low_high = lt_le lawful _ _ placed.good
 
       -- what is left past the piece
       pub left_past : (first : Option (Item (AnyRange K) V)) (value : Option V)
@@ -123,20 +101,15 @@ module _ {K : Type 0} (order : KeyOrder K) (lawful : IsLawful order) where
             tails = was.tails;
           })
       left_past (Some i) (Some v) None rest none cut was =
-          let total = position_total order.cmp lawful.total in
           record {
             known = was.known.1;
             chain = chain_tail (line_of order lawful same equal) i rest was.chain.1;
             from =
-                every_weaker (λ x. Le cmp (Hi i.key) (Lo x.key)) (λ x. Le cmp (Hi key) (Lo x.key))
-                rest
-                (λ x le. le_trans cmp total (Hi key) (Hi i.key) (Lo x.key)
-                (eq_le cmp total (Hi key) (Hi i.key) cut.2) le)
+                every_weaker _ _ rest (λ x le. le_trans lawful _ _ _ (eq_le lawful _ _ cut.2) le)
                 (follows_above (line_of order lawful same equal) i rest was.chain.1);
             tails = was.tails.1;
           }
       left_past (Some i) (Some v) (Some j) rest none cut was =
-          let total = position_total order.cmp lawful.total in
           let chain : Chained order lawful same equal (j ∷ rest) = (
             cut.2.placed.good,
             follows_like (line_of order lawful same equal) i j rest cut.2.upto
@@ -147,73 +120,58 @@ module _ {K : Type 0} (order : KeyOrder K) (lawful : IsLawful order) where
             chain = chain;
             from =
                 chain_above (line_of order lawful same equal) (Hi key) j rest chain
-                (eq_le cmp total (Hi key) (Lo j.key) cut.2.from);
+                (eq_le lawful _ _ cut.2.from);
             tails = (
-              any_over (λ o. (o.value ≡ i.value) × Le cmp (Lo o.key) (Lo i.key)
-                  × Le cmp (Hi i.key) (Hi o.key))
-                  (λ o. (o.value ≡ j.value) × Le cmp (Lo o.key) (Lo j.key)
-                  × Le cmp (Hi j.key) (Hi o.key)) items
-                  (λ o t. (
-                    t.0 ∙ sym cut.2.value,
-                    le_trans cmp total (Lo o.key) (Lo i.key) (Lo j.key) t.1
-                        (le_trans cmp total (Lo i.key) (Lo key) (Lo j.key)
-                        (eq_ge cmp total (Lo key) (Lo i.key) cut.1)
-                        (le_trans cmp total (Lo key) (Hi key) (Lo j.key) low_high
-                        (eq_le cmp total (Hi key) (Lo j.key) cut.2.from))),
-                    le_trans cmp total (Hi j.key) (Hi i.key) (Hi o.key)
-                        (eq_le cmp total (Hi j.key) (Hi i.key) cut.2.upto) t.2,
-                  )) was.tails.0,
+              any_over _ _ items (λ o t. (
+                t.0 ∙ sym cut.2.value,
+                le_trans lawful _ _ _ t.1
+                    (le_trans lawful _ _ _ (eq_ge lawful _ _ cut.1)
+                    (le_trans lawful _ _ _ low_high (eq_le lawful _ _ cut.2.from))),
+                le_trans lawful _ _ _ (eq_le lawful _ _ cut.2.upto) t.2,
+              )) was.tails.0,
               was.tails.1,
             );
           }
 
       front_held : (i : AnyRange K) (p : Position K) → cmp (Lo key) (Lo i) ≡ Equal
           → cmp (Hi key) (Hi i) ≡ Equal → HoldsAt p i ↔ HoldsAt p key
-      front_held i p starts ends =
-          let total = position_total order.cmp lawful.total in (
-            λ h. (
-              le_trans cmp total (Lo key) (Lo i) p (eq_le cmp total (Lo key) (Lo i) starts) h.0,
-              lt_le_trans cmp total p (Hi i) (Hi key) h.1 (eq_ge cmp total (Hi key) (Hi i) ends),
-            ),
-            λ h. (
-              le_trans cmp total (Lo i) (Lo key) p (eq_ge cmp total (Lo key) (Lo i) starts) h.0,
-              lt_le_trans cmp total p (Hi key) (Hi i) h.1 (eq_le cmp total (Hi key) (Hi i) ends),
-            ),
-          )
+      front_held i p starts ends = (
+        λ h. (
+          le_trans lawful _ _ _ (eq_le lawful _ _ starts) h.0,
+          lt_le_trans lawful _ _ _ h.1 (eq_ge lawful _ _ ends),
+        ),
+        λ h. (
+          le_trans lawful _ _ _ (eq_ge lawful _ _ starts) h.0,
+          lt_le_trans lawful _ _ _ h.1 (eq_le lawful _ _ ends),
+        ),
+      )
 
       both_held : (i j : AnyRange K) (p : Position K) → cmp (Lo key) (Lo i) ≡ Equal
           → Lt cmp (Lo j) (Hi j) → cmp (Hi key) (Lo j) ≡ Equal → cmp (Hi j) (Hi i) ≡ Equal
           → HoldsAt p i ↔ (HoldsAt p key ⊎ HoldsAt p j)
-      both_held i j p starts good middle ends =
-          let total = position_total order.cmp lawful.total in (
-            λ h. elim (cases cmp total p (Hi key)) [
-              | inl l ↦ inl (
-                le_trans cmp total (Lo key) (Lo i) p (eq_le cmp total (Lo key) (Lo i) starts) h.0,
-                l,
-              )
-              | inr g ↦ inr (
-                le_trans cmp total (Lo j) (Hi key) p (eq_ge cmp total (Hi key) (Lo j) middle) g,
-                lt_le_trans cmp total p (Hi i) (Hi j) h.1 (eq_ge cmp total (Hi j) (Hi i) ends),
-              )
-            ],
-            λ h. elim h [
-              | inl e ↦ (
-                le_trans cmp total (Lo i) (Lo key) p (eq_ge cmp total (Lo key) (Lo i) starts) e.0,
-                lt_le_trans cmp total p (Hi key) (Hi i) e.1
-                    (le_trans cmp total (Hi key) (Lo j) (Hi i)
-                    (eq_le cmp total (Hi key) (Lo j) middle)
-                    (le_trans cmp total (Lo j) (Hi j) (Hi i) (lt_le cmp total (Lo j) (Hi j) good)
-                    (eq_le cmp total (Hi j) (Hi i) ends))),
-              )
-              | inr e ↦ (
-                le_trans cmp total (Lo i) (Lo key) p (eq_ge cmp total (Lo key) (Lo i) starts)
-                    (le_trans cmp total (Lo key) (Hi key) p low_high
-                    (le_trans cmp total (Hi key) (Lo j) p
-                    (eq_le cmp total (Hi key) (Lo j) middle) e.0)),
-                lt_le_trans cmp total p (Hi j) (Hi i) e.1 (eq_le cmp total (Hi j) (Hi i) ends),
-              )
-            ],
+      both_held i j p starts good middle ends = (
+        λ h. elim (cases lawful p (Hi key)) [
+          | inl l ↦ inl (le_trans lawful _ _ _ (eq_le lawful _ _ starts) h.0, l)
+          | inr g ↦ inr (
+            le_trans lawful _ _ _ (eq_ge lawful _ _ middle) g,
+            lt_le_trans lawful _ _ _ h.1 (eq_ge lawful _ _ ends),
           )
+        ],
+        λ h. elim h [
+          | inl e ↦ (
+            le_trans lawful _ _ _ (eq_ge lawful _ _ starts) e.0,
+            lt_le_trans lawful _ _ _ e.1
+                (le_trans lawful _ _ _ (eq_le lawful _ _ middle)
+                (le_trans lawful _ _ _ (lt_le lawful _ _ good) (eq_le lawful _ _ ends))),
+          )
+          | inr e ↦ (
+            le_trans lawful _ _ _ (eq_ge lawful _ _ starts)
+                (le_trans lawful _ _ _ low_high
+                (le_trans lawful _ _ _ (eq_le lawful _ _ middle) e.0)),
+            lt_le_trans lawful _ _ _ e.1 (eq_le lawful _ _ ends),
+          )
+        ],
+      )
 
       -- the places of what was left are those of the piece, with its value, and of what is left
       pub left_seen : (first : Option (Item (AnyRange K) V)) (value : Option V)
@@ -264,17 +222,13 @@ module _ {K : Type 0} (order : KeyOrder K) (lawful : IsLawful order) where
           → IsCutFrom order (Some i) key (Some v) last
           → Le cmp (Lo i.key) (Lo key) × Le cmp (Hi key) (Hi i.key)
       part_inside i v None cut =
-          let total = position_total order.cmp lawful.total in
-          (eq_ge cmp total (Lo key) (Lo i.key) cut.1, eq_le cmp total (Hi key) (Hi i.key) cut.2)
-      part_inside i v (Some j) cut =
-          let total = position_total order.cmp lawful.total in (
-            eq_ge cmp total (Lo key) (Lo i.key) cut.1,
-            le_trans cmp total (Hi key) (Lo j.key) (Hi i.key)
-                (eq_le cmp total (Hi key) (Lo j.key) cut.2.from)
-                (le_trans cmp total (Lo j.key) (Hi j.key) (Hi i.key)
-                (lt_le cmp total (Lo j.key) (Hi j.key) cut.2.placed.good)
-                (eq_le cmp total (Hi j.key) (Hi i.key) cut.2.upto)),
-          )
+          (eq_ge lawful _ _ cut.1, eq_le lawful _ _ cut.2)
+      part_inside i v (Some j) cut = (
+        eq_ge lawful _ _ cut.1,
+        le_trans lawful _ _ _ (eq_le lawful _ _ cut.2.from)
+            (le_trans lawful _ _ _ (lt_le lawful _ _ cut.2.placed.good)
+            (eq_le lawful _ _ cut.2.upto)),
+      )
 
       nothing_left : (rest : List (Item (AnyRange K) V)) → rest ≡ [] → (p : Position K)
           → ¬ Hold order lawful same equal (λ u. true) p rest
@@ -294,24 +248,15 @@ module _ {K : Type 0} (order : KeyOrder K) (lawful : IsLawful order) where
           none_there known chain (λ p at held. nothing_left rest (none refl) p (seen p at held))
       constant_on None (Some v) last rest known chain none cut was seen = absurd cut
       constant_on (Some i) None last rest known chain none cut was seen =
-          let total = position_total order.cmp lawful.total in
           let above =
           chain_above (line_of order lawful same equal) (Hi key) i rest was.chain cut.1 in
-          none_there known chain
-          (λ p at held. any_none (λ x. HoldsAt p x.key × (true ≡ true))
-          (λ x. Le cmp (Hi key) (Lo x.key)) (i ∷ rest) above
-          (λ x le h. lt_not_le cmp total p (Hi key) at.1
-          (le_trans cmp total (Hi key) (Lo x.key) p le h.0.0)) (seen p at held))
+          none_there known chain (λ p at held. any_none _ _ (i ∷ rest) above
+          (λ x le h. lt_not_le lawful _ _ at.1 (le_trans lawful _ _ _ le h.0.0)) (seen p at held))
       constant_on (Some i) (Some v) last rest known chain none cut was seen =
-          let total = position_total order.cmp lawful.total in
           let inside = part_inside i v last cut in
-          any_with (λ o. (o.value ≡ i.value) × Le cmp (Lo o.key) (Lo i.key)
-          × Le cmp (Hi i.key) (Hi o.key)) (λ o. IsKnownRange order o.key)
-          (λ o. LiesIn order key o.key × (o.value ≡ v)) items was.tails.0 known
-          (λ o t known_o. (
+          any_with _ _ _ items was.tails.0 known (λ o t known_o. (
             lies_in order lawful key o.key placed.known known_o
-                (le_trans cmp total (Lo o.key) (Lo i.key) (Lo key) t.1 inside.0)
-                (le_trans cmp total (Hi key) (Hi i.key) (Hi o.key) inside.1 t.2),
+                (le_trans lawful _ _ _ t.1 inside.0) (le_trans lawful _ _ _ inside.1 t.2),
             t.0 ∙ cut.0,
           ))
 
@@ -419,16 +364,16 @@ module _ {K : Type 0} (order : KeyOrder K) where
         ]
       ]
 
-  pub fewer_steps_at : {V W : Type 0} (left left_rest : Option (Item (AnyRange K) V))
-      (right right_rest : Option (Item (AnyRange K) W)) (xs : List (Item (AnyRange K) V))
-      (ys : List (Item (AnyRange K) W)) (key : AnyRange K) (value : Option V) (other : Option W)
-      (after : List (Item (AnyRange K) V)) (others_after : List (Item (AnyRange K) W))
+  pub fewer_steps_at : {V W : Type 0} {left left_rest : Option (Item (AnyRange K) V)}
+      {right right_rest : Option (Item (AnyRange K) W)} (xs : List (Item (AnyRange K) V))
+      (ys : List (Item (AnyRange K) W)) {key : AnyRange K} {value : Option V} {other : Option W}
+      {after : List (Item (AnyRange K) V)} {others_after : List (Item (AnyRange K) W)}
       → after ≡ option_items left_rest ++ xs → others_after ≡ option_items right_rest ++ ys
       → IsFirstPiece order left right key value other left_rest right_rest
       → steps_left after others_after
       < steps_left (option_items left ++ xs) (option_items right ++ ys)
-  fewer_steps_at left left_rest right right_rest xs ys key value other after others_after e f piece
-      =
+  fewer_steps_at {left = left} {left_rest = left_rest} {right = right} {right_rest = right_rest}
+      xs ys {key = key} {value = value} {other = other} e f piece =
       rw (e, f) (fewer_steps left left_rest right right_rest xs ys key value other piece)
 
 pub unmapped : {A B : Type 0} (f : A → B) (o : Option A) → option_map f o ≡ None → o ≡ None
@@ -450,8 +395,8 @@ next_stored order lawful same equal all done rest others listed item stored part
     append_assoc done (item ∷ []) others ∙ (ap (λ l. done ++ l) (sym next) ∙ parted) in
     let form : IsStored order same ((done ++ item ∷ []) ++ others) =
     subst (λ l. IsStored order same l) (sym whole) stored in
-    rw is (chain_stored order lawful same equal (done ++ item ∷ [])
-    (every_left (λ i. IsKnownRange order i.key) (done ++ item ∷ []) others
+    rw is (chain_stored order lawful same equal _
+    (every_left _ _ others
     (stored_known order lawful same equal ((done ++ item ∷ []) ++ others) form))
-    (chain_left (line_of order lawful same equal) (done ++ item ∷ []) others
+    (chain_left (line_of order lawful same equal) _ others
     (stored_chain order lawful same equal ((done ++ item ∷ []) ++ others) form)))

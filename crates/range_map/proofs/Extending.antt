@@ -1,11 +1,6 @@
 -- One item more that is bound after others.
 use Rattle.std.proofs.Common.{◌≡◌, ◌∙◌, sym, ap, Bool, List, [], ◌∷◌, ◌++◌, ◌↔◌, ◌⊎◌, inl, inr, Option, subst}
-use Rattle.range_keys.specs.Order.{KeyOrder}
-use Rattle.range_algebra.specs.Range.{Holds}
-use Rattle.range_algebra.specs.declared.any.AnyRange.{AnyRange}
-use Rattle.range_store.specs.declared.storage.Item.{Item}
-use Rattle.range_change.specs.Bindings.{Binds, IsBound, IsBoundAfter, IsSomeOf}
-use Rattle.range_map.specs.Extending.{AreBoundAfter}
+use Rattle.range_map.proofs.Common.{KeyOrder, Holds, AnyRange, Item, Binds, IsBound, IsBoundAfter, IsSomeOf, AreBoundAfter}
 
 -- where the last of a list stands, that is parted at an item
 record PartsBefore {X : Type 0} (xs front rest : List X) (x i : X) : Type 0 where

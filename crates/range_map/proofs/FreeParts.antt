@@ -1,33 +1,12 @@
 -- What stands free between the items of a stored list is all of its gaps.
 use Rattle.std.proofs.Common.{◌≡◌, refl, sym, subst, ◌∙◌, ◌↔◌, Option, Some, None, Bool, true, false, List, [], ◌∷◌, ◌++◌, ◌⊎◌, inl, inr, if◌then◌else◌, ◌+◌, ◌≤◌, arith, length, length-append}
-use Rattle.std.specs.declared.ops.Bound.{Bound}
-use Rattle.std.specs.declared.ops.Bound.TheVariants.{Included, Excluded, Unbounded}
-use Rattle.std.specs.declared.cmp.Ordering.TheVariants.{Equal}
-use Rattle.range_keys.specs.Order.{KeyOrder, IsLawful}
-use Rattle.range_keys.specs.Position.{start_position, end_position, position_cmp}
-use Rattle.range_keys.specs.PositionOrder.{position_total}
-use Rattle.range_keys.specs.declared.inner.position.Position.{Position}
-use Rattle.range_keys.specs.declared.inner.position.Position.TheVariants.{Beside}
-use Rattle.range_keys.specs.declared.inner.position.Side.TheVariants.{At}
+use Rattle.range_map.proofs.Common.{Bound, Included, Excluded, Unbounded, Equal, KeyOrder, IsLawful, start_position, end_position, position_cmp, Position, AnyRange, any_left, any_right, every_append, every_left, every_right, every_weaker, flipped, starts_past_end, Le, Lt, Any, Every, StartHolds, EndHolds, Holds, IsKnownBound, IsKnownRange, range_cmp, LiesBefore, Item, full_range, item_ranges, IsHeldOnce, AreGaps, between, free_from, LiesIn, IsFreePart, IsPiece, Overlap, IsStored}
 use Rattle.range_keys.proofs.Orderings.{equal_then_equal, not_both_greater_and_not, not_greater}
-use Rattle.range_algebra.specs.declared.any.AnyRange.{AnyRange}
-use Rattle.range_algebra.proofs.Lists.{any_left, any_right, every_append, every_left, every_right, every_weaker}
-use Rattle.range_algebra.specs.Compared.{flipped, starts_past_end}
-use Rattle.range_algebra.specs.Cuts.{past}
-use Rattle.range_algebra.specs.Intervals.{Le, Lt, Any, Every}
-use Rattle.range_algebra.specs.Orders.{eq_le, eq_ge, le_refl, lt_le, le_trans, lt_not_le, cases, lt_le_trans, le_lt_trans, lt_trans, both}
-use Rattle.range_algebra.specs.Range.{StartHolds, EndHolds, Holds, IsKnownBound, IsKnownRange}
-use Rattle.range_algebra.specs.RangeOrder.{range_cmp}
-use Rattle.range_algebra.specs.Relations.{LiesBefore}
+use Rattle.range_map.proofs.PlaceOrder.{eq_le, eq_ge, le_refl, lt_le, le_trans, lt_not_le, cases, lt_le_trans, le_lt_trans, lt_trans, both}
 use Rattle.range_algebra.proofs.Holding.{start_holds, end_holds}
 use Rattle.range_algebra.proofs.Pieces.{start_decided, end_decided, flipped_end, flipped_start}
 use Rattle.range_algebra.proofs.Places.{flipped_bound_is_past, flipped_back, flipped_known, unbounded_start}
-use Rattle.range_store.specs.declared.storage.Item.{Item}
-use Rattle.range_map.specs.FreeRanges.{full_range, item_ranges, IsHeldOnce, AreGaps, between, free_from}
 use Rattle.range_change.specs.Neighbours.{BeforeFirst, EachNext}
-use Rattle.range_change.specs.Pieces.{LiesIn, IsFreePart, IsPiece}
-use Rattle.range_change.specs.Lookups.{Overlap}
-use Rattle.range_change.specs.Stored.{IsStored}
 use Rattle.range_change.proofs.RangePieces.{every_with}
 use Rattle.range_change.proofs.Forms.{before_is}
 use Rattle.range_map.proofs.JustBefore.{ends_before, ends_full}
@@ -94,24 +73,15 @@ module _ {K : Type 0} (order : KeyOrder K) (lawful : IsLawful order) where
       → flipped e ≡ Some i → IsKnownBound order r.start → PLt (End e) (Start r.start)
       ↔ PLe (Start i) (Start r.start)
   after_end_is_from_turned e i r known turns full =
-      let total = position_total order.cmp lawful.total in
-      let cmp = position_cmp order.cmp in
       let at = flipped_bound_is_past order lawful e i turns in
       let by = before_is order lawful e r.start known full in (
-        λ h. le_trans cmp total (Start i) (past order (End e)) (Start r.start)
-            (eq_ge cmp total (past order (End e)) (Start i) at) (by.0 h),
-        λ h.
-            by.1 (le_trans cmp total (past order (End e)) (Start i) (Start r.start)
-            (eq_le cmp total (past order (End e)) (Start i) at) h),
+        λ h. le_trans lawful _ _ _ (eq_ge lawful _ _ at) (by.0 h),
+        λ h. by.1 (le_trans lawful _ _ _ (eq_le lawful _ _ at) h),
       )
 
   beyond_all : (r : AnyRange K) → IsFull r → PLt (End Unbounded) (Start r.start) → ⊥
   beyond_all r full h =
-      let total = position_total order.cmp lawful.total in
-      let cmp = position_cmp order.cmp in
-      lt_not_le cmp total (End Unbounded) (Start r.start) h
-      (le_trans cmp total (Start r.start) (End r.end) (End Unbounded) full.1
-      (ends_full order lawful r.end full.0.1))
+      lt_not_le lawful _ _ h (le_trans lawful _ _ _ full.1 (ends_full order lawful r.end full.0.1))
 
   after_end_is_from : (e : Bound K) (r : AnyRange K) → IsKnownBound order e → IsFull r
       → PLt (End e) (Start r.start) ↔ From (flipped e) r
@@ -125,10 +95,8 @@ module _ {K : Type 0} (order : KeyOrder K) (lawful : IsLawful order) where
   ends_just_before : (s i : Bound K) → IsKnownBound order s → flipped s ≡ Some i
       → PLt (End i) (Start s)
   ends_just_before s i known turns =
-      let total = position_total order.cmp lawful.total in
-      let cmp = position_cmp order.cmp in
       (before_is order lawful i s (flipped_known order lawful s i turns known) known).1
-      (eq_le cmp total (past order (End i)) (Start s)
+      (eq_le lawful _ _
       (flipped_bound_is_past order lawful i s (flipped_back order lawful s i turns)))
 
   -- what holds of each range that may stand between two bounds holds of the one that does
@@ -160,18 +128,13 @@ module _ {K : Type 0} (order : KeyOrder K) (lawful : IsLawful order) where
 
   lies_by : (r s : AnyRange K) → (¬ Overlap order r s) → LiesBefore order r s ⊎ LiesBefore order s r
   lies_by r s apart =
-      let total = position_total order.cmp lawful.total in
-      let cmp = position_cmp order.cmp in
-      elim (cases cmp total (End r.end) (Start s.start)) [
+      elim (cases lawful (End r.end) (Start s.start)) [
         | inl l ↦ inl l
-        | inr g ↦ elim (cases cmp total (End s.end) (Start r.start)) [
+        | inr g ↦ elim (cases lawful (End s.end) (Start r.start)) [
           | inl l ↦ inr l
           | inr h ↦
               absurd
-              (apart (
-                λ l. lt_not_le cmp total (End r.end) (Start s.start) l g,
-                λ l. lt_not_le cmp total (End s.end) (Start r.start) l h,
-              ))
+              (apart (λ l. lt_not_le lawful _ _ l g, λ l. lt_not_le lawful _ _ l h))
         ]
       ]
 
@@ -188,12 +151,9 @@ module _ {K : Type 0} (order : KeyOrder K) (lawful : IsLawful order) where
     wide_last : (s : Option (Bound K)) → Bars F s
         → Every (IsWide F) (between order s (Some Unbounded))
     wide_last s bars = each_between (IsWide F) s (Some Unbounded) (λ a b e f le r such within.
-        let total = position_total order.cmp lawful.total in
-        let cmp = position_cmp order.cmp in
         let unbounded : Unbounded ≡ b = same_some (Some Unbounded) Unbounded b refl f in
         record {
-          starts =
-              bars a e r such (le_trans cmp total (Start a) (End b) (End r.end) le within.ends);
+          starts = bars a e r such (le_trans lawful _ _ _ le within.ends);
           ends =
               subst (λ x. PLe (End r.end) (End x)) unbounded
               (ends_full order lawful r.end (full r such).0.1);
@@ -202,11 +162,7 @@ module _ {K : Type 0} (order : KeyOrder K) (lawful : IsLawful order) where
   pub same_range : (r s : AnyRange K) → LiesIn order r s → LiesIn order s r
       → range_cmp order r s ≡ Equal
   same_range r s h k =
-      let total = position_total order.cmp lawful.total in
-      let cmp = position_cmp order.cmp in
-      equal_then_equal (cmp (Start r.start) (Start s.start)) (cmp (End r.end) (End s.end))
-      (both cmp total (Start r.start) (Start s.start) k.starts h.starts)
-      (both cmp total (End r.end) (End s.end) h.ends k.ends)
+      equal_then_equal _ _ (both lawful _ _ k.starts h.starts) (both lawful _ _ h.ends k.ends)
 
   module _ (F : AnyRange K → Type 0) (part : AnyRange K) (full : IsFull part)
       (wide : (g : AnyRange K) → F g → LiesIn order part g → LiesIn order g part) where
@@ -216,12 +172,8 @@ module _ {K : Type 0} (order : KeyOrder K) (lawful : IsLawful order) where
     found_at : (a b : Bound K) → PLe (Start a) (Start part.start) → PLe (End part.end) (End b)
         → IsFound (between order (Some a) (Some b))
     found_at a b starts ends =
-        let total = position_total order.cmp lawful.total in
-        let cmp = position_cmp order.cmp in
         let g : AnyRange K = record { start = a; end = b } in
-        let le =
-        le_trans cmp total (Start a) (Start part.start) (End b) starts
-        (le_trans cmp total (Start part.start) (End part.end) (End b) full.1 ends) in
+        let le = le_trans lawful _ _ _ starts (le_trans lawful _ _ _ full.1 ends) in
         let within : LiesIn order part g = record { starts = starts; ends = ends } in
         between_is IsFound a b le (λ such. inl (same_range g part (wide g such.0 within) within))
 
@@ -232,18 +184,14 @@ module _ {K : Type 0} (order : KeyOrder K) (lawful : IsLawful order) where
     found_between None e gaps from ends some such = absurd from
     found_between (Some a) None gaps from ends some such = absurd (some refl)
     found_between (Some a) (Some b) gaps from ends some such =
-        any_left (λ g. range_cmp order g part ≡ Equal) (between order (Some a) (Some b)) gaps
-        (found_at a b from (ends b refl) (every_left F (between order (Some a) (Some b)) gaps such))
+        any_left _ _ gaps (found_at a b from (ends b refl) (every_left F _ gaps such))
 
     bounded_start : (b : Bound K) → PLt (End part.end) (Start b) → flipped b ≡ None → ⊥
     bounded_start (Included a) l e = cc
     bounded_start (Excluded a) l e = cc
     bounded_start Unbounded l e =
-        let total = position_total order.cmp lawful.total in
-        let cmp = position_cmp order.cmp in
-        lt_not_le cmp total (End part.end) (Start Unbounded) l
-        (le_trans cmp total (Start Unbounded) (Start part.start) (End part.end)
-        (unbounded_start order lawful part.start full.0.0) full.1)
+        lt_not_le lawful _ _ l
+        (le_trans lawful _ _ _ (unbounded_start order lawful part.start full.0.0) full.1)
 
   -- a bound that holds the key
   abbrev HoldsFrom : Option (Bound K) → K → Type 0
@@ -256,8 +204,7 @@ module _ {K : Type 0} (order : KeyOrder K) (lawful : IsLawful order) where
   held_reach : (a b : Bound K) (k : K) → order.is_key k → StartHolds order a k → EndHolds order b k
       → PLe (Start a) (End b)
   held_reach a b k key h g =
-      le_trans (position_cmp order.cmp) (position_total order.cmp lawful.total) (Start a)
-      (Beside k At) (End b) ((start_holds order lawful a k key).0 h)
+      le_trans lawful _ _ _ ((start_holds order lawful a k key).0 h)
       ((end_holds order lawful b k key).0 g)
 
   held_between : (s e : Option (Bound K)) (k : K) → order.is_key k → HoldsFrom s k
@@ -284,10 +231,7 @@ module _ {K : Type 0} (order : KeyOrder K) (lawful : IsLawful order) where
   before_not_both : (r s : AnyRange K) (k : K) → order.is_key k → LiesBefore order r s
       → Holds order r k → Holds order s k → ⊥
   before_not_both r s k key l h g =
-      lt_not_le (position_cmp order.cmp) (position_total order.cmp lawful.total) (End r.end)
-      (Start s.start) l
-      (le_trans (position_cmp order.cmp) (position_total order.cmp lawful.total) (Start s.start)
-      (Beside k At) (End r.end) ((start_holds order lawful s.start k key).0 g.0)
+      lt_not_le lawful _ _ l (le_trans lawful _ _ _ ((start_holds order lawful s.start k key).0 g.0)
       ((end_holds order lawful r.end k key).0 h.1))
 
   missed_not_both : (r s : AnyRange K) (k : K) → order.is_key k → (¬ Overlap order r s)
@@ -301,8 +245,7 @@ module _ {K : Type 0} (order : KeyOrder K) (lawful : IsLawful order) where
   key_is_held_once : (k : K) (ranges : List (AnyRange K)) → Pairs (NotBoth k) ranges
       → HeldBy k ranges → IsHeldOnce order ranges k
   key_is_held_once k [] pairs h = absurd h
-  key_is_held_once k (r ∷ rest) pairs (inl h) =
-      inl (h, every_weaker (NotBoth k r) (λ s. ¬ Holds order s k) rest (λ s f. f h) pairs.0)
+  key_is_held_once k (r ∷ rest) pairs (inl h) = inl (h, every_weaker _ _ rest (λ s f. f h) pairs.0)
   key_is_held_once k (r ∷ rest) pairs (inr h) =
       inr (λ g. none rest pairs.0 g h, key_is_held_once k rest pairs.1 h)
     where
@@ -311,6 +254,16 @@ module _ {K : Type 0} (order : KeyOrder K) (lawful : IsLawful order) where
       none [] all g h = h
       none (s ∷ others) all g (inl h) = all.0 g h
       none (s ∷ others) all g (inr h) = none others all.1 g h
+
+  alone_by : (t : Bool) (r : AnyRange K) → Pairs (LiesBefore order) (if t then [] else r ∷ [])
+  alone_by true r = tt
+  alone_by false r = (tt, tt)
+
+  range_between_is_alone : (s e : Option (Bound K))
+      → Pairs (LiesBefore order) (between order s e)
+  range_between_is_alone None e = tt
+  range_between_is_alone (Some a) None = tt
+  range_between_is_alone (Some a) (Some b) = alone_by (starts_past_end order a b) _
 
   module _ {V : Type 0} where
     -- known, nonempty, each before all after it
@@ -326,31 +279,22 @@ module _ {K : Type 0} (order : KeyOrder K) (lawful : IsLawful order) where
       listed_full : (items : List (Item (AnyRange K) V)) → IsListed order lawful same items
           → Every (λ i. IsFull i.key) items
       listed_full [] h = tt
-      listed_full (i ∷ []) h =
-          ((h.0, not_greater (position_cmp order.cmp (Start i.key.start) (End i.key.end)) h.1), tt)
-      listed_full (i ∷ j ∷ rest) h = (
-        (h.0, not_greater (position_cmp order.cmp (Start i.key.start) (End i.key.end)) h.1),
-        listed_full (j ∷ rest) h.4,
-      )
+      listed_full (i ∷ []) h = ((h.0, not_greater _ h.1), tt)
+      listed_full (i ∷ j ∷ rest) h = ((h.0, not_greater _ h.1), listed_full (j ∷ rest) h.4)
 
       listed_pairs : (items : List (Item (AnyRange K) V)) → IsListed order lawful same items
           → Pairs (λ i j. LiesBefore order i.key j.key) items
       listed_pairs [] h = tt
       listed_pairs (i ∷ []) h = (tt, tt)
       listed_pairs (i ∷ j ∷ rest) h =
-          let total = position_total order.cmp lawful.total in
-          let cmp = position_cmp order.cmp in
           let full = listed_full (j ∷ rest) h.4 in
           let others = listed_pairs (j ∷ rest) h.4 in
           let over =
-          λ (k : Item (AnyRange K) V) (l : LiesBefore order j.key k.key). lt_trans cmp total
-          (End i.key.end) (End j.key.end) (Start k.key.start)
-          (lt_le_trans cmp total (End i.key.end) (Start j.key.start)
-          (End j.key.end) h.2 full.0.1) l in (
+          λ (k : Item (AnyRange K) V) (l : LiesBefore order j.key k.key). lt_trans lawful _ _ _
+          (lt_le_trans lawful _ _ _ h.2 full.0.1) l in (
             (
               h.2,
-              every_weaker (λ k. LiesBefore order j.key k.key)
-                  (λ k. LiesBefore order i.key k.key) rest over others.0,
+              every_weaker _ _ rest over others.0,
             ),
             others,
           )
@@ -370,8 +314,7 @@ module _ {K : Type 0} (order : KeyOrder K) (lawful : IsLawful order) where
     ahead_next : (i : Item (AnyRange K) V) (rest : List (Item (AnyRange K) V)) → IsRow (i ∷ rest)
         → Ahead (flipped i.key.end) rest
     ahead_next i rest row =
-        every_with (λ j. IsFull j.key) (λ j. LiesBefore order i.key j.key)
-        (λ j. From (flipped i.key.end) j.key) rest row.full.1 row.pairs.0
+        every_with _ _ _ rest row.full.1 row.pairs.0
         (λ j full l. (after_end_is_from i.key.end j.key row.full.0.0.1 full).0 l)
 
     -- free ranges are known and nonempty
@@ -381,10 +324,7 @@ module _ {K : Type 0} (order : KeyOrder K) (lawful : IsLawful order) where
         each_between IsFull s (Some Unbounded)
         (λ a b e f le. ((subst KnownCut e known, subst KnownCut f tt), le))
     free_full s (i ∷ rest) known full =
-        every_append IsFull (between order s (flipped i.key.start))
-        (free_from order (flipped i.key.end) rest)
-        (each_between IsFull s (flipped i.key.start)
-        (λ a b e f le. (
+        every_append IsFull _ _ (each_between IsFull s (flipped i.key.start) (λ a b e f le. (
           (subst KnownCut e known, subst KnownCut f (known_inverted i.key.start full.0.0.0)),
           le,
         )))
@@ -395,19 +335,14 @@ module _ {K : Type 0} (order : KeyOrder K) (lawful : IsLawful order) where
         → IsFull i.key → IsFull r → From s i.key → From (flipped i.key.end) r → From s r
     from_end_is_from_start None i r full full_r ahead h = ahead
     from_end_is_from_start (Some b) i r full full_r ahead h =
-        let total = position_total order.cmp lawful.total in
-        let cmp = position_cmp order.cmp in
         let past = (after_end_is_from i.key.end r full.0.1 full_r).1 h in
-        le_trans cmp total (Start b) (Start i.key.start) (Start r.start) ahead
-        (lt_le cmp total (Start i.key.start) (Start r.start)
-        (le_lt_trans cmp total (Start i.key.start) (End i.key.end) (Start r.start) full.1 past))
+        le_trans lawful _ _ _ ahead (lt_le lawful _ _ (le_lt_trans lawful _ _ _ full.1 past))
 
     free_ranges_are_from : (s : Option (Bound K)) (items : List (Item (AnyRange K) V)) → IsRow items
         → Ahead s items → Every (From s) (free_from order s items)
     free_ranges_are_from s [] row ahead =
         each_between (From s) s (Some Unbounded)
-        (λ a b e f le. (from_is s a (record { start = a; end = b }) e).1
-        (le_refl (position_cmp order.cmp) (position_total order.cmp lawful.total) (Start a)))
+        (λ a b e f le. (from_is s a _ e).1 (le_refl lawful _))
     free_ranges_are_from s (i ∷ rest) row ahead =
         let gaps = free_from order (flipped i.key.end) rest in
         let full =
@@ -416,11 +351,10 @@ module _ {K : Type 0} (order : KeyOrder K) (lawful : IsLawful order) where
         let others =
         free_ranges_are_from (flipped i.key.end) rest (rest_row i rest row)
         (ahead_next i rest row) in
-        every_append (From s) (between order s (flipped i.key.start)) gaps
+        every_append (From s) _ gaps
         (each_between (From s) s (flipped i.key.start)
-        (λ a b e f le. (from_is s a (record { start = a; end = b }) e).1
-        (le_refl (position_cmp order.cmp) (position_total order.cmp lawful.total) (Start a))))
-        (every_with IsFull (From (flipped i.key.end)) (From s) gaps full others
+        (λ a b e f le. (from_is s a _ e).1 (le_refl lawful _)))
+        (every_with IsFull _ (From s) gaps full others
         (λ r full_r h. from_end_is_from_start s i r row.full.0 full_r ahead.0 h))
 
     abbrev Misses : List (Item (AnyRange K) V) → AnyRange K → Type 0
@@ -430,17 +364,12 @@ module _ {K : Type 0} (order : KeyOrder K) (lawful : IsLawful order) where
     misses_before : (i : Item (AnyRange K) V) (rest : List (Item (AnyRange K) V)) (r : AnyRange K)
         → IsRow (i ∷ rest) → PLt (End r.end) (Start i.key.start) → Misses (i ∷ rest) r
     misses_before i rest r row l =
-        let total = position_total order.cmp lawful.total in
-        let cmp = position_cmp order.cmp in
         let over =
         λ (j : Item (AnyRange K) V) (before : LiesBefore order i.key j.key)
         (meets : Overlap order j.key r). meets.1
-        (lt_trans cmp total (End r.end) (End i.key.end) (Start j.key.start)
-        (lt_le_trans cmp total (End r.end) (Start i.key.start)
-        (End i.key.end) l row.full.0.1) before) in (
+        (lt_trans lawful _ _ _ (lt_le_trans lawful _ _ _ l row.full.0.1) before) in (
           λ meets. meets.1 l,
-          every_weaker (λ j. LiesBefore order i.key j.key)
-              (λ j. ¬ Overlap order j.key r) rest over row.pairs.0,
+          every_weaker _ _ rest over row.pairs.0,
         )
 
     free_misses : (s : Option (Bound K)) (items : List (Item (AnyRange K) V)) → IsRow items
@@ -455,34 +384,18 @@ module _ {K : Type 0} (order : KeyOrder K) (lawful : IsLawful order) where
         free_ranges_are_from (flipped i.key.end) rest (rest_row i rest row)
         (ahead_next i rest row) in
         let past =
-        every_with IsFull (From (flipped i.key.end))
-        (λ r. LiesBefore order i.key r) gaps full after
+        every_with IsFull _ _ gaps full after
         (λ r full_r h. (after_end_is_from i.key.end r row.full.0.0.1 full_r).1 h) in
-        every_append (Misses (i ∷ rest)) (between order s (flipped i.key.start)) gaps
-        (each_between (Misses (i ∷ rest)) s (flipped i.key.start)
-        (λ a b e f le. misses_before i rest (record { start = a; end = b }) row
+        every_append _ _ gaps (each_between (Misses (i ∷ rest)) s (flipped i.key.start)
+        (λ a b e f le. misses_before i rest _ row
         (ends_just_before i.key.start b row.full.0.0.0 f)))
-        (every_with (λ r. LiesBefore order i.key r) (Misses rest) (Misses (i ∷ rest)) gaps past
-        (free_misses (flipped i.key.end) rest (rest_row i rest row))
+        (every_with _ _ _ gaps past (free_misses (flipped i.key.end) rest (rest_row i rest row))
         (λ r l h. (λ meets. meets.0 l, h)))
 
     free_pairs : (s : Option (Bound K)) (items : List (Item (AnyRange K) V)) → IsRow items
         → Pairs (LiesBefore order) (free_from order s items)
     free_pairs s [] row = range_between_is_alone s (Some Unbounded)
-      where
-        alone_by : (t : Bool) (r : AnyRange K) → Pairs (LiesBefore order) (if t then [] else r ∷ [])
-        alone_by true r = tt
-        alone_by false r = (tt, tt)
-
-        range_between_is_alone : (s e : Option (Bound K))
-            → Pairs (LiesBefore order) (between order s e)
-        range_between_is_alone None e = tt
-        range_between_is_alone (Some a) None = tt
-        range_between_is_alone (Some a) (Some b) =
-            alone_by (starts_past_end order a b) (record { start = a; end = b })
     free_pairs s (i ∷ rest) row =
-        let total = position_total order.cmp lawful.total in
-        let cmp = position_cmp order.cmp in
         let gaps = free_from order (flipped i.key.end) rest in
         let full =
         free_full (flipped i.key.end) rest
@@ -491,51 +404,29 @@ module _ {K : Type 0} (order : KeyOrder K) (lawful : IsLawful order) where
         free_ranges_are_from (flipped i.key.end) rest (rest_row i rest row)
         (ahead_next i rest row) in
         let past =
-        every_with IsFull (From (flipped i.key.end))
-        (λ r. LiesBefore order i.key r) gaps full after
+        every_with IsFull _ _ gaps full after
         (λ r full_r h. (after_end_is_from i.key.end r row.full.0.0.1 full_r).1 h) in
-        pairs_append (LiesBefore order) (between order s (flipped i.key.start)) gaps
-        (range_between_is_alone s (flipped i.key.start))
+        pairs_append (LiesBefore order) _ gaps (range_between_is_alone s (flipped i.key.start))
         (free_pairs (flipped i.key.end) rest (rest_row i rest row))
         (each_between (λ g. Every (LiesBefore order g) gaps) s (flipped i.key.start) (λ a b e f le.
         let first = ends_just_before i.key.start b row.full.0.0.0 f in
-        every_weaker (λ r. LiesBefore order i.key r) (λ r. PLt (End b) (Start r.start)) gaps
-        (λ r l. lt_trans cmp total (End b) (End i.key.end) (Start r.start)
-        (lt_le_trans cmp total (End b) (Start i.key.start) (End i.key.end) first row.full.0.1)
-        l) past))
-      where
-        alone_by : (t : Bool) (r : AnyRange K) → Pairs (LiesBefore order) (if t then [] else r ∷ [])
-        alone_by true r = tt
-        alone_by false r = (tt, tt)
-
-        range_between_is_alone : (s e : Option (Bound K))
-            → Pairs (LiesBefore order) (between order s e)
-        range_between_is_alone None e = tt
-        range_between_is_alone (Some a) None = tt
-        range_between_is_alone (Some a) (Some b) =
-            alone_by (starts_past_end order a b) (record { start = a; end = b })
+        every_weaker _ _ gaps
+        (λ r l. lt_trans lawful _ _ _ (lt_le_trans lawful _ _ _ first row.full.0.1) l) past))
 
     module _ (F : AnyRange K → Type 0) (full : (r : AnyRange K) → F r → IsFull r) where
       item_bars_after_end : (i : Item (AnyRange K) V) → IsFull i.key
           → ((r : AnyRange K) → F r → ¬ Overlap order i.key r) → Bars F (flipped i.key.end)
       item_bars_after_end i known apart b e r such reach =
-          let total = position_total order.cmp lawful.total in
-          let cmp = position_cmp order.cmp in
           elim (lies_by i.key r (apart r such)) [
             | inl l ↦
                 (from_is (flipped i.key.end) b r e).0
                 ((after_end_is_from i.key.end r known.0.1 (full r such)).0 l)
             | inr l ↦
                 let over =
-                (after_end_is_from_turned i.key.end b
-                (record { start = b; end = b }) known.0.1 e
-                (subst KnownCut e (known_inverted i.key.end known.0.1))).1
-                (le_refl cmp total (Start b)) in
-                let below =
-                lt_trans cmp total (End r.end) (End i.key.end) (Start b)
-                (lt_le_trans cmp total (End r.end) (Start i.key.start)
-                (End i.key.end) l known.1) over in
-                absurd (lt_not_le cmp total (End r.end) (Start b) below reach)
+                (after_end_is_from_turned i.key.end b (record { start = b; end = b }) known.0.1 e
+                (subst KnownCut e (known_inverted i.key.end known.0.1))).1 (le_refl lawful _) in
+                let below = lt_trans lawful _ _ _ (lt_le_trans lawful _ _ _ l known.1) over in
+                absurd (lt_not_le lawful _ _ below reach)
           ]
 
       wide_between : (s : Option (Bound K)) (i : Item (AnyRange K) V) → Bars F s → IsFull i.key
@@ -543,23 +434,14 @@ module _ {K : Type 0} (order : KeyOrder K) (lawful : IsLawful order) where
           → Every (IsWide F) (between order s (flipped i.key.start))
       wide_between s i bars known apart =
           each_between (IsWide F) s (flipped i.key.start) (λ a b e f le r such within.
-          let total = position_total order.cmp lawful.total in
-          let cmp = position_cmp order.cmp in
           let first = ends_just_before i.key.start b known.0.0 f in
-          let starts =
-          bars a e r such (le_trans cmp total (Start a) (End b) (End r.end) le within.ends)
-          in
+          let starts = bars a e r such (le_trans lawful _ _ _ le within.ends) in
           let before : PLt (End r.end) (Start i.key.start) = elim (lies_by i.key r (apart r such)) [
             | inl l ↦
-                let up =
-                le_lt_trans cmp total (Start i.key.start) (End i.key.end)
-                (Start r.start) known.1 l in
+                let up = le_lt_trans lawful _ _ _ known.1 l in
                 let down =
-                le_lt_trans cmp total (Start r.start) (End b) (Start i.key.start)
-                (le_trans cmp total (Start r.start) (Start a) (End b) within.starts le)
-                first in
-                absurd (lt_not_le cmp total (Start i.key.start) (Start r.start) up
-                (lt_le cmp total (Start r.start) (Start i.key.start) down))
+                le_lt_trans lawful _ _ _ (le_trans lawful _ _ _ within.starts le) first in
+                absurd (lt_not_le lawful _ _ up (lt_le lawful _ _ down))
             | inr l ↦ l
           ] in
           record {
@@ -572,9 +454,7 @@ module _ {K : Type 0} (order : KeyOrder K) (lawful : IsLawful order) where
           → Every (IsWide F) (free_from order s items)
       free_wide s [] known apart bars = wide_last F full s bars
       free_wide s (i ∷ rest) known apart bars =
-          every_append (IsWide F) (between order s (flipped i.key.start))
-          (free_from order (flipped i.key.end) rest)
-          (wide_between s i bars known.0 (λ r such. (apart r such).0))
+          every_append (IsWide F) _ _ (wide_between s i bars known.0 (λ r such. (apart r such).0))
           (free_wide (flipped i.key.end) rest known.1 (λ r such. (apart r such).1)
           (item_bars_after_end i known.0 (λ r such. (apart r such).0)))
 
@@ -590,17 +470,11 @@ module _ {K : Type 0} (order : KeyOrder K) (lawful : IsLawful order) where
       free_found s (i ∷ rest) known apart from such =
           elim (lies_by i.key part apart.0) [
             | inl l ↦
-                any_right (λ g. range_cmp order g part ≡ Equal)
-                (between order s (flipped i.key.start))
-                (free_from order (flipped i.key.end) rest)
-                (free_found (flipped i.key.end) rest known.1 apart.1
-                ((after_end_is_from i.key.end part known.0.0.1 full).0 l)
-                (every_right F (between order s (flipped i.key.start))
-                (free_from order (flipped i.key.end) rest) such))
+                any_right _ _ _ (free_found (flipped i.key.end) rest known.1 apart.1
+                ((after_end_is_from i.key.end part known.0.0.1 full).0 l) (every_right F _ _ such))
             | inr l ↦
-                found_between F part full wide s (flipped i.key.start)
-                (free_from order (flipped i.key.end) rest)
-                from (λ b e. ends_before order lawful part.end i.key.start b full.0.1 e l)
+                found_between F part full wide s (flipped i.key.start) _ from
+                (λ b e. ends_before order lawful part.end i.key.start b full.0.1 e l)
                 (bounded_start F part full wide i.key.start l) such
           ]
 
@@ -609,14 +483,12 @@ module _ {K : Type 0} (order : KeyOrder K) (lawful : IsLawful order) where
       IsFree r = IsFreePart order items full_range r
 
       is_full : (r : AnyRange K) → IsFree r → IsFull r
-      is_full r h =
-          (h.known, not_greater (position_cmp order.cmp (Start r.start) (End r.end)) h.nonempty)
+      is_full r h = (h.known, not_greater _ h.nonempty)
 
       is_free : (r : AnyRange K) → IsFull r → Misses items r → IsFree r
       is_free r full misses = record {
         known = full.0;
-        nonempty =
-            not_both_greater_and_not (position_cmp order.cmp (Start r.start) (End r.end)) full.1;
+        nonempty = not_both_greater_and_not _ full.1;
         within =
             record {
               starts = unbounded_start order lawful r.start full.0.0;
@@ -627,8 +499,7 @@ module _ {K : Type 0} (order : KeyOrder K) (lawful : IsLawful order) where
 
       gaps_free : Every IsFree (free_from order (Some Unbounded) items)
       gaps_free =
-          every_with IsFull (Misses items) IsFree (free_from order (Some Unbounded) items)
-          (free_full (Some Unbounded) items tt row.full)
+          every_with IsFull _ IsFree _ (free_full (Some Unbounded) items tt row.full)
           (free_misses (Some Unbounded) items row) is_free
 
       from_first : (r : AnyRange K) → IsFull r → From (Some Unbounded) r
@@ -643,13 +514,10 @@ module _ {K : Type 0} (order : KeyOrder K) (lawful : IsLawful order) where
       pub gaps_are : AreGaps order items (free_from order (Some Unbounded) items)
       gaps_are = record {
         each =
-            every_with IsFree (IsWide IsFree) (λ g. IsPiece order items full_range g None)
-            (free_from order (Some Unbounded) items) gaps_free
-            (free_wide IsFree is_full (Some Unbounded) items row.full
-            (λ r such. such.free) bars_first) (λ g h k. (h, k));
-        rising =
-            each_next (LiesBefore order) (free_from order (Some Unbounded) items)
-            (free_pairs (Some Unbounded) items row);
+            every_with IsFree _ _ _ gaps_free
+            (free_wide IsFree is_full (Some Unbounded) items row.full (λ r such. such.free)
+            bars_first) (λ g h k. (h, k));
+        rising = each_next (LiesBefore order) _ (free_pairs (Some Unbounded) items row);
         all =
             λ part known piece. free_found IsFree part (is_full part piece.0) piece.1
             (Some Unbounded) items row.full piece.0.free
@@ -674,11 +542,11 @@ module _ {K : Type 0} (order : KeyOrder K) (lawful : IsLawful order) where
                 elim (key_is_held_or_free (flipped i.key.end) rest k key
                 (unheld_end_holds_from i.key.end k over)) [
                   | inl g ↦ inl (inr g)
-                  | inr g ↦ inr (any_right (λ r. Holds order r k) first gaps g)
+                  | inr g ↦ inr (any_right _ first gaps g)
                 ]
           ]
           | inr under ↦
-              inr (any_left (λ r. Holds order r k) first gaps
+              inr (any_left _ first gaps
               (held_between s (flipped i.key.start) k key h
               (λ b e. (flipped_end order lawful i.key.start b k e).1 under)
               (unheld_start i.key.start k under)))
@@ -699,8 +567,8 @@ module _ {K : Type 0} (order : KeyOrder K) (lawful : IsLawful order) where
         → Every (Misses items) gaps → Every (λ i. Every (λ g. ¬ Overlap order i.key g) gaps) items
     turned_round [] gaps h = tt
     turned_round (i ∷ rest) gaps h = (
-      every_weaker (Misses (i ∷ rest)) (λ g. ¬ Overlap order i.key g) gaps (λ g m. m.0) h,
-      turned_round rest gaps (every_weaker (Misses (i ∷ rest)) (Misses rest) gaps (λ g m. m.1) h),
+      every_weaker _ _ gaps (λ g m. m.0) h,
+      turned_round rest gaps (every_weaker _ _ gaps (λ g m. m.1) h),
     )
 
     -- the ranges and the gaps together hold each key exactly once
@@ -720,14 +588,12 @@ module _ {K : Type 0} (order : KeyOrder K) (lawful : IsLawful order) where
         let missed = turned_round items gaps (free_misses (Some Unbounded) items row) in
         let across =
         range_every (λ r. Every (NotBoth k r) gaps) items
-        (every_weaker (λ i. Every (λ g. ¬ Overlap order i.key g) gaps)
-        (λ i. Every (NotBoth k i.key) gaps) items
-        (λ i m. every_weaker (λ g. ¬ Overlap order i.key g) (NotBoth k i.key) gaps
-        (λ g apart. missed_not_both i.key g k key apart) m) missed) in
+        (every_weaker _ _ items
+        (λ i m. every_weaker _ _ gaps (λ g apart. missed_not_both i.key g k key apart) m) missed) in
         key_is_held_once k (ranges ++ gaps) (pairs_append (NotBoth k) ranges gaps own others across)
         (elim (key_is_held_or_free (Some Unbounded) items k key tt) [
-          | inl h ↦ any_left (λ r. Holds order r k) ranges gaps h
-          | inr h ↦ any_right (λ r. Holds order r k) ranges gaps h
+          | inl h ↦ any_left _ ranges gaps h
+          | inr h ↦ any_right _ ranges gaps h
         ])
 
 none_or_one : {X : Type 0} (t : Bool) (x : X) → length (if t then [] else x ∷ []) ≤ 1
@@ -739,8 +605,7 @@ module _ {K : Type 0} (order : KeyOrder K) where
   one_between : (s e : Option (Bound K)) → length (between order s e) ≤ 1
   one_between None e = omega arith
   one_between (Some a) None = omega arith
-  one_between (Some a) (Some b) =
-      none_or_one (starts_past_end order a b) (record { start = a; end = b })
+  one_between (Some a) (Some b) = none_or_one (starts_past_end order a b) _
 
   pub few_free : {V : Type 0} (s : Option (Bound K)) (items : List (Item (AnyRange K) V))
       → length (free_from order s items) ≤ length items + 1

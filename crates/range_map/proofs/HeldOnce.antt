@@ -1,13 +1,6 @@
 -- A key that the ranges of a list and its gaps share out.
 use Rattle.std.proofs.Common.{◌⊎◌, inl, inr, List, [], ◌∷◌, ◌++◌}
-use Rattle.range_keys.specs.Order.{KeyOrder}
-use Rattle.range_algebra.specs.Intervals.{Any}
-use Rattle.range_algebra.specs.Range.{Holds}
-use Rattle.range_algebra.specs.declared.any.AnyRange.{AnyRange}
-use Rattle.range_algebra.proofs.Lists.{any_none, every_right}
-use Rattle.range_store.specs.declared.storage.Item.{Item}
-use Rattle.range_change.specs.Bindings.{IsBound}
-use Rattle.range_map.specs.FreeRanges.{item_ranges, IsHeldOnce}
+use Rattle.range_map.proofs.Common.{KeyOrder, Any, Holds, AnyRange, any_none, every_right, Item, IsBound, item_ranges, IsHeldOnce}
 
 module _ {K : Type 0} (order : KeyOrder K) where
   some_once : (ranges : List (AnyRange K)) (k : K) → IsHeldOnce order ranges k
@@ -26,9 +19,8 @@ module _ {K : Type 0} (order : KeyOrder K) where
     | inl held ↦
         inl (
           inl held.0,
-          any_none (λ r. Holds order r k) (λ r. ¬ Holds order r k) gaps
-              (every_right (λ r. ¬ Holds order r k) (item_ranges items) gaps held.1)
-              (λ r out held. out held),
+          any_none _ _ gaps
+              (every_right _ (item_ranges items) gaps held.1) (λ r out held. out held),
         )
     | inr later ↦ elim (one_of_two items gaps k later.1) [
       | inl both ↦ inl (inr both.0, both.1)

@@ -1,20 +1,8 @@
 -- The items of a list that are bound one after the other, and ranges that are unbound so.
 use Rattle.std.proofs.Common.{◌≡◌, refl, sym, subst, ◌∙◌, ◌↔◌, ◌⊎◌, inl, inr, Bool, true, List, [], ◌∷◌, ◌++◌, Option, Some, None}
-use Rattle.std.specs.Cmp.{IsEquivalence}
-use Rattle.std.specs.declared.cmp.Ordering.TheVariants.{Equal}
-use Rattle.range_keys.specs.Order.{KeyOrder, IsLawful}
-use Rattle.range_algebra.specs.Intervals.{Any}
-use Rattle.range_algebra.specs.Range.{Holds}
-use Rattle.range_algebra.specs.RangeOrder.{range_cmp}
-use Rattle.range_algebra.specs.declared.any.AnyRange.{AnyRange}
+use Rattle.range_map.proofs.Common.{IsEquivalence, Equal, KeyOrder, IsLawful, Any, Holds, range_cmp, AnyRange, any_left, any_right, any_split, Item, IsBound, BindsTo, Binds, IsSomeOf, IsBoundAfter, IsUnboundAfter, IsStored, item_ranges, IsHeldOnce, IsOverlaid, IsRestricted, IsWithout}
 use Rattle.range_algebra.proofs.Canonical.{equal_is_same}
-use Rattle.range_algebra.proofs.Lists.{any_left, any_right, any_split}
 use Rattle.range_algebra.proofs.Meeting.{held_or_not}
-use Rattle.range_store.specs.declared.storage.Item.{Item}
-use Rattle.range_change.specs.Bindings.{IsBound, BindsTo, Binds, IsSomeOf, IsBoundAfter, IsUnboundAfter}
-use Rattle.range_change.specs.Stored.{IsStored}
-use Rattle.range_map.specs.FreeRanges.{item_ranges, IsHeldOnce}
-use Rattle.range_map.specs.Overlays.{IsOverlaid, IsRestricted, IsWithout}
 use Rattle.range_map.specs.PartWay.{AreUnboundAfter}
 use Rattle.range_map.proofs.HeldOnce.{one_of_two}
 use Rattle.range_map.proofs.Once.{bound_once}
@@ -110,13 +98,13 @@ module _ {K : Type 0} (order : KeyOrder K) where
             → Any (λ s. Holds order s k) (done ++ g ∷ [])
             ↔ (Any (λ s. Holds order s k) done ⊎ Holds order r k)
         some_with k alike = (
-          λ h. elim (any_split (λ s. Holds order s k) done (g ∷ []) h) [
+          λ h. elim (any_split _ done (g ∷ []) h) [
             | inl some ↦ inl some
             | inr last ↦ elim last [ inl held ↦ inr (alike.1 held) | inr none ↦ absurd none ]
           ],
           λ h. elim h [
-            | inl some ↦ any_left (λ s. Holds order s k) done (g ∷ []) some
-            | inr held ↦ any_right (λ s. Holds order s k) done (g ∷ []) (inl (alike.0 held))
+            | inl some ↦ any_left _ done (g ∷ []) some
+            | inr held ↦ any_right _ done (g ∷ []) (inl (alike.0 held))
           ],
         )
 
@@ -196,13 +184,13 @@ module _ {K : Type 0} (order : KeyOrder K) where
             let bound = λ (w : V) (h : BindsTo order same (done ++ i ∷ rest) k w).
             subst (λ l. BindsTo order same l k w) split h in (
               λ h.
-                  let own = binds_right done (i ∷ rest) k i.value (inl (held, equal.refl i.value)) in
+                  let own = binds_right done _ k i.value (inl (held, equal.refl i.value)) in
                   bound_once order lawful same equal others stored k key i.value v
                   (bound i.value own)
                   (bound v (elim (binds_split done (i ∷ []) k v h) [
-                    | inl was ↦ binds_left done (i ∷ rest) k v was
+                    | inl was ↦ binds_left done _ k v was
                     | inr last ↦ elim last [
-                      | inl to ↦ binds_right done (i ∷ rest) k v (inl to)
+                      | inl to ↦ binds_right done _ k v (inl to)
                       | inr none ↦ absurd none
                     ]
                   ])),

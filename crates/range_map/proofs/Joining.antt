@@ -1,27 +1,11 @@
 -- Items put one after the other, where two that touch with equal values become one.
 use Rattle.std.proofs.Common.{◌⊎◌, inl, inr, Bool, true, false, Some, None, List, [], ◌∷◌, ◌++◌}
 use Rattle.std.specs.Prelude.{if◌then◌else◌}
-use Rattle.std.specs.Cmp.{IsEquivalence}
-use Rattle.range_keys.specs.Order.{KeyOrder, IsLawful}
-use Rattle.range_keys.specs.Position.{position_cmp}
-use Rattle.range_keys.specs.PositionOrder.{position_total}
-use Rattle.range_keys.specs.declared.inner.position.Position.{Position}
-use Rattle.range_keys.specs.declared.inner.position.Position.TheVariants.{Beside}
-use Rattle.range_keys.specs.declared.inner.position.Side.TheVariants.{At}
-use Rattle.range_algebra.specs.Cuts.{lower}
-use Rattle.range_algebra.specs.Intervals.{Le, Lt, Every}
-use Rattle.range_algebra.specs.Orders.{lt_le, le_trans, lt_not_le, lt_le_trans}
-use Rattle.range_algebra.specs.Range.{Holds, IsEmptyRange, IsKnownRange}
-use Rattle.range_algebra.specs.declared.any.AnyRange.{AnyRange}
-use Rattle.range_algebra.proofs.Lists.{every_weaker}
+use Rattle.range_map.proofs.Common.{IsEquivalence, KeyOrder, IsLawful, position_cmp, position_total, Position, Beside, At, lower, Le, Lt, Every, Holds, IsEmptyRange, IsKnownRange, AnyRange, every_weaker, Item, BindAlike, BindsTo, IsBound, line_of, Follows, IsStored, item_lower, item_upper, full_range}
+use Rattle.range_map.proofs.PlaceOrder.{lt_le, le_trans, lt_not_le, lt_le_trans}
 use Rattle.range_algebra.proofs.Places.{held_between, unbounded_start}
-use Rattle.range_store.specs.declared.storage.Item.{Item}
-use Rattle.range_change.specs.Bindings.{BindAlike, BindsTo, IsBound}
-use Rattle.range_change.specs.Chains.{line_of, Follows}
-use Rattle.range_change.specs.Stored.{IsStored, item_lower, item_upper}
 use Rattle.range_change.proofs.Forms.{Known, nonempty_good, stored_chain, stored_known}
 use Rattle.range_map.specs.Appending.{LieBefore, appended, are_one, joined}
-use Rattle.range_map.specs.FreeRanges.{full_range}
 use Rattle.range_map.proofs.Appending.{appended_binds, appended_stored, lie_before_from}
 
 module _ {K : Type 0} (order : KeyOrder K) {V : Type 0} where
@@ -129,8 +113,8 @@ module _ {K : Type 0} (order : KeyOrder K) (lawful : IsLawful order) {V : Type 0
       → RisesFrom order (lower order full_range) items
   stored_rises [] stored = tt
   stored_rises (i ∷ rest) stored =
-      let known = stored_known order lawful same equal (i ∷ rest) stored in
-      let chain = stored_chain order lawful same equal (i ∷ rest) stored in (
+      let known = stored_known order lawful same equal _ stored in
+      let chain = stored_chain order lawful same equal _ stored in (
         known.0,
         (nonempty_good order lawful i.key known.0).1 chain.0,
         unbounded_start order lawful i.key.start known.0.0,
@@ -162,16 +146,11 @@ module _ {K : Type 0} (order : KeyOrder K) (lawful : IsLawful order) {V : Type 0
       → IsBuilt order same n (given ++ j ∷ []) (appended order same built (j ∷ []))
   built_more m n given built j known nonempty from upto was =
       let cmp = position_cmp order.cmp in
-      let total = position_total order.cmp lawful.total in
       let last = j ∷ [] in
       let form : IsStored order same last =
       record { known = (known, tt); nonempty = (nonempty, tt); rising = (tt, tt) } in
-      let good =
-      lt_le cmp total (item_lower order j) (item_upper order j)
-      ((nonempty_good order lawful j.key known).0 nonempty) in
-      let later : Le cmp m n =
-      le_trans cmp total m (item_lower order j) n from
-      (le_trans cmp total (item_lower order j) (item_upper order j) n good upto) in
+      let good = lt_le lawful _ _ ((nonempty_good order lawful j.key known).0 nonempty) in
+      let later : Le cmp m n = le_trans lawful _ _ _ from (le_trans lawful _ _ _ good upto) in
       let before : LieBefore order built last =
       lie_before_from order lawful same equal m built last
       (stored_known order lawful same equal built was.stored) (known, tt) was.upto (from, tt) in
@@ -179,9 +158,7 @@ module _ {K : Type 0} (order : KeyOrder K) (lawful : IsLawful order) {V : Type 0
         stored = appended_stored order lawful same equal built last was.stored form before;
         upto =
             appended_upto n built j
-            (every_weaker (λ x. Le cmp (item_upper order x) m)
-            (λ x. Le cmp (item_upper order x) n) built
-            (λ x le. le_trans cmp total (item_upper order x) m n le later) was.upto) upto;
+            (every_weaker _ _ built (λ x le. le_trans lawful _ _ _ le later) was.upto) upto;
         bound = λ k key b.
             let one = appended_binds order lawful same equal built last was.stored form before k key b in
             let more = alike_more order same built given last was.bound k key b in
@@ -194,20 +171,13 @@ module _ {K : Type 0} (order : KeyOrder K) (lawful : IsLawful order) {V : Type 0
       → RisesFrom order m xs → Lt (position_cmp order.cmp) (Beside k At) m → ¬ IsBound order xs k
   none_before k key m [] rises before bound = bound
   none_before k key m (x ∷ xs) rises before (inl held) =
-      let cmp = position_cmp order.cmp in
-      let total = position_total order.cmp lawful.total in
       let at = (held_between order lawful x.key k rises.0 key).0 held in
-      lt_not_le cmp total (Beside k At) m before
-      (le_trans cmp total m (item_lower order x) (Beside k At) rises.2 at.0)
+      lt_not_le lawful _ _ before (le_trans lawful _ _ _ rises.2 at.0)
   none_before k key m (x ∷ xs) rises before (inr later) =
-      let cmp = position_cmp order.cmp in
-      let total = position_total order.cmp lawful.total in
-      let good =
-      lt_le cmp total (item_lower order x) (item_upper order x)
-      ((nonempty_good order lawful x.key rises.0).0 rises.1) in
+      let good = lt_le lawful _ _ ((nonempty_good order lawful x.key rises.0).0 rises.1) in
       none_before k key (item_upper order x) xs rises.3
-      (lt_le_trans cmp total (Beside k At) m (item_upper order x) before
-      (le_trans cmp total m (item_lower order x) (item_upper order x) rises.2 good)) later
+      (lt_le_trans lawful (Beside k At) m (item_upper order x) before
+      (le_trans lawful _ _ _ rises.2 good)) later
 
   -- a key of the first of what rises is bound by no other
   pub first_alone : (k : K) → order.is_key k → (m : Position K) (x : Item (AnyRange K) V)

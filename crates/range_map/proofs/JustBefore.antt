@@ -1,19 +1,9 @@
 -- The last end before a start, and the last end of all.
 use Rattle.std.proofs.Common.{◌≡◌, refl, sym, ap, ◌∙◌, Option, Some, None}
-use Rattle.std.specs.declared.ops.Bound.{Bound}
-use Rattle.std.specs.declared.ops.Bound.TheVariants.{Included, Excluded, Unbounded}
-use Rattle.std.specs.Ordering.{is_gt}
-use Rattle.range_keys.specs.Order.{KeyOrder, IsLawful, Below, NotAbove, Tells, SameAnswer}
-use Rattle.range_keys.specs.Position.{start_position, end_position, position_cmp, at_told}
-use Rattle.range_keys.specs.declared.inner.position.Position.{Position}
-use Rattle.range_keys.specs.declared.inner.position.Position.TheVariants.{MinusInfinity, Beside, PlusInfinity}
-use Rattle.range_keys.specs.declared.inner.position.Side.TheVariants.{Before, At, After}
+use Rattle.range_map.proofs.Common.{Bound, Included, Excluded, Unbounded, is_gt, KeyOrder, IsLawful, Below, NotAbove, Tells, SameAnswer, start_position, end_position, position_cmp, at_told, Position, MinusInfinity, Beside, PlusInfinity, Before, At, After, flipped, Le, Lt, IsKnownBound}
 use Rattle.range_keys.proofs.BoundPositions.{IsEnd, ends_lie_at_ends}
 use Rattle.range_keys.proofs.Orderings.{less_then_greater, any_then_equal, less_unless_less}
-use Rattle.range_algebra.specs.Compared.{flipped}
-use Rattle.range_algebra.specs.Intervals.{Le, Lt}
 use Rattle.range_algebra.specs.Orders.{eq_ge, lt_not_le, lt_le_trans, not_le, not_lt, both}
-use Rattle.range_algebra.specs.Range.{IsKnownBound}
 
 module _ {K : Type 0} (order : KeyOrder K) (lawful : IsLawful order) where
   abbrev PLe : Position K → Position K → Type 0

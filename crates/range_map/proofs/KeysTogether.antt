@@ -1,34 +1,14 @@
 -- Two lists of ranges, by the keys that they bind: where they share none, and where the one binds
 -- all of the other.
 use Rattle.std.proofs.Common.{◌≡◌, refl, inl, inr, Bool, true, Some, List, [], ◌∷◌}
-use Rattle.std.specs.declared.ops.Bound.{Bound}
-use Rattle.std.specs.declared.ops.Bound.TheVariants.{Included, Excluded, Unbounded}
-use Rattle.std.specs.declared.cmp.Ordering.{Ordering}
-use Rattle.std.specs.Cmp.{IsEquivalence}
-use Rattle.std.specs.List.{AllByRecursion}
-use Rattle.range_keys.specs.Order.{KeyOrder, IsLawful, IsComplete}
-use Rattle.range_keys.specs.Position.{start_position, end_position, position_cmp}
-use Rattle.range_keys.specs.PositionOrder.{position_total}
-use Rattle.range_keys.specs.declared.inner.position.Position.{Position}
-use Rattle.range_keys.specs.declared.inner.position.Position.TheVariants.{Beside}
-use Rattle.range_keys.specs.declared.inner.position.Side.TheVariants.{At}
+use Rattle.range_map.proofs.Common.{Bound, Included, Excluded, Unbounded, Ordering, IsEquivalence, AllByRecursion, KeyOrder, IsLawful, IsComplete, start_position, end_position, position_cmp, Position, Beside, At, flipped, lower, upper, past, Le, Lt, Any, Every, Holds, IsKnownRange, IsKnownBound, IsEmptyRange, AnyRange, Item, IsBound, line_of, LiesIn, IsStored, item_lower}
 use Rattle.range_keys.proofs.BoundPositions.{starts_lie_at_starts, ends_lie_at_ends}
-use Rattle.range_algebra.specs.Compared.{flipped}
-use Rattle.range_algebra.specs.Cuts.{lower, upper, past}
-use Rattle.range_algebra.specs.Intervals.{Le, Lt, Any, Every}
-use Rattle.range_algebra.specs.Orders.{le_refl, lt_le, eq_le, eq_ge, le_trans, lt_not_le, lt_trans, cases, le_lt_trans, lt_le_trans, not_le}
-use Rattle.range_algebra.specs.Range.{Holds, IsKnownRange, IsKnownBound, IsEmptyRange}
-use Rattle.range_algebra.specs.declared.any.AnyRange.{AnyRange}
+use Rattle.range_map.proofs.PlaceOrder.{le_refl, lt_le, eq_le, eq_ge, le_trans, lt_not_le, lt_trans, cases, le_lt_trans, lt_le_trans, not_le}
 use Rattle.range_algebra.proofs.Canonical.{NotPast, IsBefore, KeyFrom, key_from}
 use Rattle.range_algebra.proofs.Completeness.{nonempty_holds}
 use Rattle.range_algebra.proofs.Holding.{holds_by_position}
 use Rattle.range_algebra.proofs.Meeting.{past_is_start}
 use Rattle.range_algebra.proofs.Places.{held_between, flipped_bound_is_past, reaching_is_before_past, flipped_known, unbounded_end}
-use Rattle.range_store.specs.declared.storage.Item.{Item}
-use Rattle.range_change.specs.Bindings.{IsBound}
-use Rattle.range_change.specs.Chains.{line_of}
-use Rattle.range_change.specs.Pieces.{LiesIn}
-use Rattle.range_change.specs.Stored.{IsStored, item_lower}
 use Rattle.range_map.specs.Together.{MeetNowhere, LieInside, ShareNoKey, BindKeysOf}
 use Rattle.range_change.proofs.Chains.{chain_above}
 use Rattle.range_change.proofs.RangePieces.{lies_in}
@@ -60,12 +40,10 @@ module _ {K : Type 0} (order : KeyOrder K) (lawful : IsLawful order) where
     inside_holds i (j ∷ others) k key held (inr inside) =
         inr (inside_holds i others k key held inside)
     inside_holds i (j ∷ others) k key held (inl inside) =
-        let total = position_total order.cmp lawful.total in
         let at = (holds_by_position order lawful i k key).0 held in
         inl ((holds_by_position order lawful j.key k key).1 (
-          le_trans cmp total (start_position order j.key.start) (start_position order i.start)
-              (Beside k At) inside.starts at.0,
-          le_trans cmp total (Beside k At) (end_position order i.end)
+          le_trans lawful _ _ _ inside.starts at.0,
+          le_trans lawful (Beside k At) (end_position order i.end)
               (end_position order j.key.end) at.1 inside.ends,
         ))
 
@@ -108,10 +86,8 @@ module _ {K : Type 0} (order : KeyOrder K) (lawful : IsLawful order) where
         → Every (λ j. Le cmp p (item_lower order j)) items → ¬ IsBound order items k
     below_all [] p k key below known above bound = bound
     below_all (j ∷ items) p k key below known above (inl held) =
-        let total = position_total order.cmp lawful.total in
         let at = (held_between order lawful j.key k known.0 key).0 held in
-        lt_not_le cmp total (Beside k At) p below
-        (le_trans cmp total p (Lo j.key) (Beside k At) above.0 at.0)
+        lt_not_le lawful _ _ below (le_trans lawful _ _ _ above.0 at.0)
     below_all (j ∷ items) p k key below known above (inr bound) =
         below_all items p k key below known.1 above.1 bound
 
@@ -126,7 +102,6 @@ module _ {K : Type 0} (order : KeyOrder K) (lawful : IsLawful order) where
         → Le cmp (Lo r) (start_position order b) → Lt cmp (start_position order b) (Hi r)
         → HasKeyIn r (start_position order b)
     from_bound r b known known_b from upto =
-        let total = position_total order.cmp lawful.total in
         let part : AnyRange K = record { start = b; end = r.end } in
         let found =
         nonempty_holds order lawful complete part (known_b, known.1)
@@ -136,7 +111,7 @@ module _ {K : Type 0} (order : KeyOrder K) (lawful : IsLawful order) where
           found.0,
           found.1,
           (held_between order lawful r found.0 known found.1).1 (
-            le_trans cmp total (Lo r) (start_position order b) (Beside found.0 At) from at.0,
+            le_trans lawful _ _ _ from at.0,
             at.1,
           ),
           at.0,
@@ -147,18 +122,15 @@ module _ {K : Type 0} (order : KeyOrder K) (lawful : IsLawful order) where
         → Lt cmp (past order (end_position order e)) (Hi r)
         → HasKeyIn r (past order (end_position order e))
     end_is_flipped r e b turns known known_e from upto =
-        let total = position_total order.cmp lawful.total in
-        let p = past order (end_position order e) in
-        let q = start_position order b in
         let at = flipped_bound_is_past order lawful e b turns in
         let found =
         from_bound r b known (flipped_known order lawful e b turns known_e)
-        (le_trans cmp total (Lo r) p q from (eq_le cmp total p q at))
-        (le_lt_trans cmp total q p (Hi r) (eq_ge cmp total p q at) upto) in (
+        (le_trans lawful _ _ _ from (eq_le lawful _ _ at))
+        (le_lt_trans lawful _ _ _ (eq_ge lawful _ _ at) upto) in (
           found.0,
           found.1,
           found.2,
-          le_trans cmp total p q (Beside found.0 At) (eq_le cmp total p q at) found.3,
+          le_trans lawful _ _ _ (eq_le lawful _ _ at) found.3,
         )
 
     past_end : (r : AnyRange K) (e : Bound K) → IsKnownRange order r → IsKnownBound order e
@@ -166,9 +138,7 @@ module _ {K : Type 0} (order : KeyOrder K) (lawful : IsLawful order) where
         → Lt cmp (past order (end_position order e)) (Hi r)
         → HasKeyIn r (past order (end_position order e))
     past_end r Unbounded known known_e from upto =
-        absurd (lt_not_le cmp (position_total order.cmp lawful.total)
-        (past order (end_position order Unbounded)) (Hi r) upto
-        (unbounded_end order lawful r.end known.1))
+        absurd (lt_not_le lawful _ _ upto (unbounded_end order lawful r.end known.1))
     past_end r (Included a) known known_e from upto =
         end_is_flipped r (Included a) (Excluded a) refl known known_e from upto
     past_end r (Excluded a) known known_e from upto =
@@ -185,19 +155,18 @@ module _ {K : Type 0} (order : KeyOrder K) (lawful : IsLawful order) where
           → Le cmp (Lo i.key) p → ⊥
       unfolding NotPast IsBefore KeyFrom
       before_start p b none found key from =
-          let total = position_total order.cmp lawful.total in
-          elim (cases cmp total (start_position order b) (Hi i.key)) [
+          elim (cases lawful (start_position order b) (Hi i.key)) [
             | inl l ↦
                 none key.0 key.1 key.2 key.3
                 ((held_between order lawful i.key key.0 known key.1).1 (
-                  le_trans cmp total (Lo i.key) p (Beside key.0 At) from key.2,
-                  lt_trans cmp total (Beside key.0 At) (start_position order b) (Hi i.key) key.3 l,
+                  le_trans lawful _ _ _ from key.2,
+                  lt_trans lawful (Beside key.0 At) (start_position order b) (Hi i.key) key.3 l,
                 ))
             | inr g ↦
                 let at = (held_between order lawful i.key found.0 known found.1).0 found.2 in
                 none found.0 found.1 found.3
-                (lt_le_trans cmp total (Beside found.0 At) (Hi i.key)
-                (start_position order b) at.1 g) found.2
+                (lt_le_trans lawful (Beside found.0 At) (Hi i.key) (start_position order b) at.1 g)
+                found.2
           ]
 
       module _ {W : Type 0} where
@@ -211,23 +180,21 @@ module _ {K : Type 0} (order : KeyOrder K) (lawful : IsLawful order) where
             → Lt cmp (Lo i.key) (Lo y.key) → ⊥
         unfolding IsBefore
         starts_late y ys known_ys chain each late =
-            let total = position_total order.cmp lawful.total in
             before_start (Lo i.key) y.key.start
             (λ k key from upto held. below_all (y ∷ ys) (Lo y.key) k key upto known_ys
             (chain_above (line_of order lawful any_same all_same) (Lo y.key) y ys chain
-            (le_refl cmp total (Lo y.key))) (each k key held))
-            (from_bound i.key i.key.start known known.0 (le_refl cmp total (Lo i.key)) full)
+            (le_refl lawful _)) (each k key held))
+            (from_bound i.key i.key.start known known.0 (le_refl lawful _) full)
             (key_from order lawful complete (Lo i.key) (Lo y.key)
             (starts_lie_at_starts order lawful i.key.start known.0)
-            (starts_lie_at_starts order lawful y.key.start known_ys.0.0) late)
-            (le_refl cmp total (Lo i.key))
+            (starts_lie_at_starts order lawful y.key.start known_ys.0.0) late) (le_refl lawful _)
 
         not_by_first : (y : Item (AnyRange K) W) (ys : List (Item (AnyRange K) W)) (k : K)
             → IsKnownRange order y.key → order.is_key k → Le cmp (Hi y.key) (Beside k At)
             → IsBound order (y ∷ ys) k → IsBound order ys k
         not_by_first y ys k known_y key over (inl held) =
-            absurd (lt_not_le cmp (position_total order.cmp lawful.total) (Beside k At)
-            (Hi y.key) ((held_between order lawful y.key k known_y key).0 held).1 over)
+            absurd (lt_not_le lawful _ _
+            ((held_between order lawful y.key k known_y key).0 held).1 over)
         not_by_first y ys k known_y key over (inr bound) = bound
 
         -- the first ends within the range
@@ -240,14 +207,12 @@ module _ {K : Type 0} (order : KeyOrder K) (lawful : IsLawful order) where
             let found = past_end i.key y.key.end known known_ys.0.1 from early in
             not_by_first y [] found.0 known_ys.0 found.1 found.3 (each found.0 found.1 found.2)
         ends_early y (z ∷ zs) known_ys chain each from early =
-            let total = position_total order.cmp lawful.total in
             let apart : Lt cmp (Hi y.key) (Lo z.key) =
-            not_le cmp total (Hi y.key) (Lo z.key) (λ le. chain.1.0.1 le refl) in
+            not_le lawful _ _ (λ le. chain.1.0.1 le refl) in
             before_start (Hi y.key) z.key.start
             (λ k key over upto held. below_all (z ∷ zs) (Lo z.key) k key upto known_ys.1
             (chain_above (line_of order lawful any_same all_same) (Lo z.key) z zs chain.1.1
-            (le_refl cmp total (Lo z.key)))
-            (not_by_first y (z ∷ zs) k known_ys.0 key over (each k key held)))
+            (le_refl lawful _)) (not_by_first y (z ∷ zs) k known_ys.0 key over (each k key held)))
             (past_end i.key y.key.end known known_ys.0.1 from early)
             (key_from order lawful complete (Hi y.key) (Lo z.key)
             (past_is_start order lawful (end_position order y.key.end) (Lo z.key) complete
@@ -265,24 +230,20 @@ module _ {K : Type 0} (order : KeyOrder K) (lawful : IsLawful order) where
             → Chained order lawful any_same all_same ys → Each ys
             → Any (λ y. LiesIn order i.key y.key) ys
         inside_some [] known_ys chain each =
-            let found =
-            from_bound i.key i.key.start known known.0
-            (le_refl cmp (position_total order.cmp lawful.total) (Lo i.key)) full in
+            let found = from_bound i.key i.key.start known known.0 (le_refl lawful _) full in
             each found.0 found.1 found.2
         inside_some (y ∷ ys) known_ys chain each =
-            let total = position_total order.cmp lawful.total in
-            elim (cases cmp total (Lo i.key) (Hi y.key)) [
+            elim (cases lawful (Lo i.key) (Hi y.key)) [
               | inr past_it ↦
                   inr (inside_some ys known_ys.1 (chain_rest y ys chain) (λ k key held.
                   not_by_first y ys k known_ys.0 key
-                  (le_trans cmp total (Hi y.key) (Lo i.key) (Beside k At) past_it
+                  (le_trans lawful _ _ _ past_it
                   ((held_between order lawful i.key k known key).0 held).0) (each k key held)))
-              | inl reaches ↦ elim (cases cmp total (Lo i.key) (Lo y.key)) [
+              | inl reaches ↦ elim (cases lawful (Lo i.key) (Lo y.key)) [
                 | inl late ↦ absurd (starts_late y ys known_ys chain each late)
-                | inr from ↦ elim (cases cmp total (Hi y.key) (Hi i.key)) [
+                | inr from ↦ elim (cases lawful (Hi y.key) (Hi i.key)) [
                   | inl early ↦
-                      absurd (ends_early y ys known_ys chain each
-                      (lt_le cmp total (Lo i.key) (Hi y.key) reaches) early)
+                      absurd (ends_early y ys known_ys chain each (lt_le lawful _ _ reaches) early)
                   | inr upto ↦ inl (lies_in order lawful i.key y.key known known_ys.0 from upto)
                 ]
               ]

@@ -1,3 +1,4 @@
+mod Common
 pub mod Appending
 pub mod AskedOfBoth
 pub mod BindingAll
@@ -24,6 +25,7 @@ pub mod Overlays
 pub mod PartWay
 pub mod PieceLists
 pub mod PieceSteps
+mod PlaceOrder
 pub mod ReboundKeys
 pub mod Retaining
 pub mod Scans

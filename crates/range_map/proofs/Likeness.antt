@@ -1,32 +1,10 @@
 -- A clone of a range in the place of the range.
 use Rattle.std.proofs.Common.{◌≡◌, refl, ◌∙◌, Option, Some, None, Bool, false, IsTrue, List, ◌⊎◌, inl, inr, Result, map}
-use Rattle.std.specs.Fn.{Shared}
-use denote.Ref.{Bor}
-use Rattle.std.specs.declared.ops.Bound.{Bound}
-use Rattle.std.specs.declared.ops.Bound.TheVariants.{Included, Excluded, Unbounded}
-use Rattle.std.specs.declared.cmp.Ordering.{Ordering}
-use Rattle.std.specs.declared.cmp.Ordering.TheVariants.{Less, Equal, Greater}
-use Rattle.std.specs.Ordering.{is_gt}
-use Rattle.std.specs.Cmp.{tied_back}
-use Rattle.range_keys.specs.Order.{KeyOrder, IsLawful}
-use Rattle.range_keys.specs.Position.{start_position, end_position, position_cmp}
-use Rattle.range_keys.specs.PositionOrder.{position_total}
-use Rattle.range_keys.specs.declared.inner.position.Position.{Position}
-use Rattle.range_keys.specs.declared.inner.position.Position.TheVariants.{Beside}
-use Rattle.range_keys.specs.declared.inner.position.Side.TheVariants.{At}
+use Rattle.range_map.proofs.Common.{Shared, Bor, Bound, Included, Excluded, Unbounded, Ordering, Less, Equal, Greater, is_gt, tied_back, KeyOrder, IsLawful, start_position, end_position, position_cmp, position_total, Position, Beside, At, AnyRange, SameBound, same_start, same_end, starts_at_end, Holds, IsEmptyRange, every_weaker, Item, piece_of, FailsAt, IsUpdated, later, earlier, IsCommonPart, LiesIn, IsFreePart, IsPiece, Overlap}
 use Rattle.range_keys.proofs.Orderings.{eq_is_equal, not_both_greater_and_not}
-use Rattle.range_algebra.specs.declared.any.AnyRange.{AnyRange}
-use Rattle.range_algebra.specs.Clones.{SameBound, same_start, same_end}
-use Rattle.range_algebra.specs.Compared.{starts_at_end}
-use Rattle.range_algebra.specs.Range.{Holds, IsEmptyRange}
-use Rattle.range_algebra.specs.Orders.{eq_le, eq_ge, le_trans, lt_le_trans, le_lt_trans, both}
-use Rattle.range_algebra.proofs.Lists.{every_weaker}
+use Rattle.range_map.proofs.PlaceOrder.{eq_le, eq_ge, le_trans, lt_le_trans, le_lt_trans, both}
 use Rattle.range_algebra.proofs.Holding.{holds_by_position}
-use Rattle.range_store.specs.declared.storage.Item.{Item}
-use Rattle.range_change.specs.Answers.{piece_of, FailsAt, IsUpdated}
 use Rattle.range_change.specs.Frames.{IsMergedInto}
-use Rattle.range_change.specs.Pieces.{later, earlier, IsCommonPart, LiesIn, IsFreePart, IsPiece}
-use Rattle.range_change.specs.Lookups.{Overlap}
 use Rattle.range_change.proofs.RangePieces.{PLe, any_over, later_over, earlier_under, either_choice_holds}
 use Rattle.range_change.proofs.MergedItems.{way_follows}
 
@@ -49,18 +27,14 @@ module _ {K : Type 0} (order : KeyOrder K) (lawful : IsLawful order) where
   later_under p q u le =
       let over = later_over order lawful p u in
       either_choice_holds order lawful (λ y. PLe order lawful y (later order p u))
-      (is_gt (position_cmp order.cmp q u)) q u
-      (le_trans (position_cmp order.cmp) (position_total order.cmp lawful.total) q p
-      (later order p u) le over.0) over.1
+      (is_gt (position_cmp order.cmp q u)) q u (le_trans lawful _ _ _ le over.0) over.1
 
   earlier_over : (p q u : Position K) → PLe order lawful p q
       → PLe order lawful (earlier order p u) (earlier order q u)
   earlier_over p q u le =
       let under = earlier_under order lawful p u in
       either_choice_holds order lawful (λ y. PLe order lawful (earlier order p u) y)
-      (is_gt (position_cmp order.cmp q u)) u q under.1
-      (le_trans (position_cmp order.cmp) (position_total order.cmp lawful.total)
-      (earlier order p u) p q under.0 le)
+      (is_gt (position_cmp order.cmp q u)) u q under.1 (le_trans lawful _ _ _ under.0 le)
 
   module _ (r s : AnyRange K)
       (starts : position_cmp order.cmp (start_position order r.start) (start_position order s.start)
@@ -68,22 +42,15 @@ module _ {K : Type 0} (order : KeyOrder K) (lawful : IsLawful order) where
       ≡ Equal) where
     pub holds_too : (k : K) → order.is_key k → Holds order r k → Holds order s k
     holds_too k key h =
-        let cmp = position_cmp order.cmp in
-        let total = position_total order.cmp lawful.total in
         let at = (holds_by_position order lawful r k key).0 h in
         (holds_by_position order lawful s k key).1 (
-          le_trans cmp total (start_position order s.start) (start_position order r.start)
-              (Beside k At) (eq_ge cmp total (start_position order r.start)
-              (start_position order s.start) starts) at.0,
-          le_trans cmp total (Beside k At) (end_position order r.end)
-              (end_position order s.end) at.1
-              (eq_le cmp total (end_position order r.end) (end_position order s.end) ends),
+          le_trans lawful _ _ _ (eq_ge lawful _ _ starts) at.0,
+          le_trans lawful (Beside k At) (end_position order r.end)
+              (end_position order s.end) at.1 (eq_le lawful _ _ ends),
         )
 
     common_too : (i part : AnyRange K) → IsCommonPart order r i part → IsCommonPart order s i part
     common_too i part h =
-        let cmp = position_cmp order.cmp in
-        let total = position_total order.cmp lawful.total in
         let p = start_position order r.start in
         let q = start_position order s.start in
         let u = start_position order i.start in
@@ -92,33 +59,20 @@ module _ {K : Type 0} (order : KeyOrder K) (lawful : IsLawful order) where
         let v = end_position order i.end in
         record {
           starts =
-              equal_positions_chain (start_position order part.start) (later order p u)
-              (later order q u) h.starts
-              (both cmp total (later order p u) (later order q u)
-              (later_under q p u (eq_le cmp total p q starts))
-              (later_under p q u (eq_ge cmp total p q starts)));
+              equal_positions_chain _ _ _ h.starts
+              (both lawful _ _ (later_under q p u (eq_le lawful _ _ starts))
+              (later_under p q u (eq_ge lawful _ _ starts)));
           ends =
-              equal_positions_chain (end_position order part.end) (earlier order a v)
-              (earlier order b v) h.ends
-              (both cmp total (earlier order a v) (earlier order b v)
-              (earlier_over a b v (eq_le cmp total a b ends))
-              (earlier_over b a v (eq_ge cmp total a b ends)));
+              equal_positions_chain _ _ _ h.ends
+              (both lawful _ _ (earlier_over a b v (eq_le lawful _ _ ends))
+              (earlier_over b a v (eq_ge lawful _ _ ends)));
         }
 
     lies_too : (part : AnyRange K) → LiesIn order part r → LiesIn order part s
     lies_too part h =
-        let cmp = position_cmp order.cmp in
-        let total = position_total order.cmp lawful.total in
         record {
-          starts =
-              le_trans cmp total (start_position order s.start) (start_position order r.start)
-              (start_position order part.start)
-              (eq_ge cmp total (start_position order r.start) (start_position order s.start) starts)
-              h.starts;
-          ends =
-              le_trans cmp total (end_position order part.end) (end_position order r.end)
-              (end_position order s.end) h.ends
-              (eq_le cmp total (end_position order r.end) (end_position order s.end) ends);
+          starts = le_trans lawful _ _ _ (eq_ge lawful _ _ starts) h.starts;
+          ends = le_trans lawful _ _ _ h.ends (eq_le lawful _ _ ends);
         }
 
     free_too : {V : Type 0} (items : List (Item (AnyRange K) V)) (part : AnyRange K)
@@ -132,19 +86,10 @@ module _ {K : Type 0} (order : KeyOrder K) (lawful : IsLawful order) where
         }
 
     overlap_too : (i : AnyRange K) → Overlap order i r → Overlap order i s
-    overlap_too i h =
-        let cmp = position_cmp order.cmp in
-        let total = position_total order.cmp lawful.total in (
-          λ l.
-              h.0 (lt_le_trans cmp total (end_position order i.end) (start_position order s.start)
-              (start_position order r.start) l
-              (eq_ge cmp total (start_position order r.start)
-              (start_position order s.start) starts)),
-          λ l.
-              h.1 (le_lt_trans cmp total (end_position order r.end) (end_position order s.end)
-              (start_position order i.start)
-              (eq_le cmp total (end_position order r.end) (end_position order s.end) ends) l),
-        )
+    overlap_too i h = (
+      λ l. h.0 (lt_le_trans lawful _ _ _ l (eq_ge lawful _ _ starts)),
+      λ l. h.1 (le_lt_trans lawful _ _ _ (eq_le lawful _ _ ends) l),
+    )
 
   -- equal ranges have the same pieces
   pub piece_too : {V : Type 0} (items : List (Item (AnyRange K) V)) (r s : AnyRange K)
@@ -153,19 +98,15 @@ module _ {K : Type 0} (order : KeyOrder K) (lawful : IsLawful order) where
       → (part : AnyRange K) (value : Option V) → IsPiece order items r part value
       → IsPiece order items s part value
   piece_too items r s starts ends part None h =
-      let start_back =
-      equal_positions_turn (start_position order r.start)
-      (start_position order s.start) starts in
+      let start_back = equal_positions_turn _ _ starts in
       let end_back =
-      equal_positions_turn (end_position order r.end) (end_position order s.end) ends in (
+      equal_positions_turn _ _ ends in (
         free_too r s starts ends items part h.0,
         λ other free wide. h.1 other (free_too s r start_back end_back items other free) wide,
       )
   piece_too items r s starts ends part (Some v) h = (
     h.0,
-    any_over (λ i. IsCommonPart order r i.key part × (i.value ≡ v))
-        (λ i. IsCommonPart order s i.key part × (i.value ≡ v)) items
-        (λ i t. (common_too r s starts ends i.key part t.0, t.1)) h.1,
+    any_over _ _ items (λ i t. (common_too r s starts ends i.key part t.0, t.1)) h.1,
   )
 
   touches_start : (e : Bound K) (r s : AnyRange K)
@@ -213,28 +154,23 @@ module _ {K : Type 0} (order : KeyOrder K) (lawful : IsLawful order) where
       (end : SameBound order r.end s.end) where
     starts_alike : position_cmp order.cmp (start_position order s.start)
         (start_position order r.start) ≡ Equal
-    starts_alike =
-        equal_positions_turn (start_position order r.start) (start_position order s.start)
-        (same_start order lawful r.start s.start start)
+    starts_alike = equal_positions_turn _ _ (same_start order lawful r.start s.start start)
 
     ends_alike : position_cmp order.cmp (end_position order s.end) (end_position order r.end)
         ≡ Equal
-    ends_alike =
-        equal_positions_turn (end_position order r.end) (end_position order s.end)
-        (same_end order lawful r.end s.end end)
+    ends_alike = equal_positions_turn _ _ (same_end order lawful r.end s.end end)
 
     pub clone_empty : IsEmptyRange order s → IsEmptyRange order r
     clone_empty h =
         let cmp = position_cmp order.cmp in
-        let total = position_total order.cmp lawful.total in
         let p = start_position order r.start in
         let q = end_position order r.end in
         let p' = start_position order s.start in
         let q' = end_position order s.end in
         not_false_is_greater (cmp p q)
         (λ le. not_both_greater_and_not (cmp p' q')
-        (le_trans cmp total p' p q' (eq_le cmp total p' p starts_alike)
-        (le_trans cmp total p q q' le (eq_ge cmp total q' q ends_alike))) h)
+        (le_trans lawful _ _ _ (eq_le lawful _ _ starts_alike)
+        (le_trans lawful _ _ _ le (eq_ge lawful _ _ ends_alike))) h)
 
     module _ {V : Type 0} (same : V → V → Bool) (others : List (Item (AnyRange K) V)) where
       concerned_too : (i : Item (AnyRange K) V)
@@ -279,8 +215,7 @@ module _ {K : Type 0} (order : KeyOrder K) (lawful : IsLawful order) where
           answers = h.answered.answers;
           pieces = record {
             each =
-                every_weaker (λ p. IsPiece order items s p.key p.value)
-                (λ p. IsPiece order items r p.key p.value) (map piece_of h.answered.answers)
+                every_weaker _ _ _
                 (λ p t. piece_too items s r starts_alike ends_alike p.key p.value t)
                 h.answered.pieces.each;
             rising = h.answered.pieces.rising;

@@ -1,24 +1,8 @@
 -- Answers to the values of a list, put one after the other.
 use Rattle.std.proofs.Common.{◌≡◌, refl, ◌∙◌, ◌↔◌, inl, inr, Bool, Option, Some, None, Result, Ok, List, [], ◌∷◌, ◌++◌, append_assoc}
-use Rattle.std.proofs.lemmas.List.{append-nil}
-use Rattle.std.specs.Fn.{Shared, FnReturnsAt}
-use Rattle.std.specs.List.{AllZip}
-use Rattle.std.specs.Cmp.{IsEquivalence}
-use Rattle.std.specs.declared.cmp.Ordering.TheVariants.{Equal}
-use denote.Ref.{Bor}
-use Rattle.range_keys.specs.Order.{KeyOrder, IsLawful}
-use Rattle.range_keys.specs.Position.{position_cmp}
-use Rattle.range_keys.specs.PositionOrder.{position_total}
-use Rattle.range_keys.specs.declared.inner.position.Position.{Position}
-use Rattle.range_algebra.specs.Clones.{IsRangeClone, bound_clone, range_clone, same_start}
-use Rattle.range_algebra.specs.Intervals.{Any}
-use Rattle.range_algebra.specs.Orders.{eq_le, eq_ge, le_trans, lt_le_trans, le_lt_trans}
-use Rattle.range_algebra.specs.Range.{Holds, HoldSame, IsKnownRange}
-use Rattle.range_algebra.specs.declared.any.AnyRange.{AnyRange}
+use Rattle.range_map.proofs.Common.{append-nil, Shared, FnReturnsAt, AllZip, IsEquivalence, Equal, Bor, KeyOrder, IsLawful, position_cmp, Position, IsRangeClone, bound_clone, range_clone, same_start, Any, Holds, HoldSame, IsKnownRange, AnyRange, Item, Binds, IsBound, IsSomeOf, IsStored, item_lower, item_upper}
+use Rattle.range_map.proofs.PlaceOrder.{eq_le, eq_ge, le_trans, lt_le_trans, le_lt_trans}
 use Rattle.range_algebra.proofs.Canonical.{equal_is_same}
-use Rattle.range_store.specs.declared.storage.Item.{Item}
-use Rattle.range_change.specs.Bindings.{Binds, IsBound, IsSomeOf}
-use Rattle.range_change.specs.Stored.{IsStored, item_lower, item_upper}
 use Rattle.range_change.proofs.CutParts.{same_past}
 use Rattle.range_change.proofs.Forms.{nonempty_good}
 use Rattle.range_change.proofs.Overlaps.{binds_bound}
@@ -77,7 +61,6 @@ module _ {K : Type 0} (order : KeyOrder K) {F V W E : Type 0}
         → IsMappedUpTo left (appended order same built (j ∷ []))
     mapped_more i left built j is_clone keys clone known given was =
         let cmp = position_cmp order.cmp in
-        let total = position_total order.cmp lawful.total in
         let lo = item_lower order i in
         let hi = item_upper order i in
         let lo' = item_lower order j in
@@ -89,10 +72,8 @@ module _ {K : Type 0} (order : KeyOrder K) {F V W E : Type 0}
         same_past order lawful i.key.end j.key.end
         (bound_clone order lawful is_clone keys i.key.end j.key.end clone.1) in
         let good =
-        lt_le_trans cmp total lo' hi hi'
-        (le_lt_trans cmp total lo' lo hi (eq_ge cmp total lo lo' starts)
-        ((nonempty_good order lawful i.key was.rises.0).0 was.rises.1))
-        (eq_le cmp total hi hi' ends) in
+        lt_le_trans lawful _ _ _ (le_lt_trans lawful _ _ _ (eq_ge lawful _ _ starts)
+        ((nonempty_good order lawful i.key was.rises.0).0 was.rises.1)) (eq_le lawful _ _ ends) in
         record {
           done = was.done ++ i ∷ [];
           answers = was.answers ++ j ∷ [];
@@ -108,8 +89,8 @@ module _ {K : Type 0} (order : KeyOrder K) {F V W E : Type 0}
           form =
               built_more order lawful same equal was.place hi was.answers built j known
               ((nonempty_good order lawful j.key known).1 good)
-              (le_trans cmp total was.place lo lo' was.rises.2 (eq_le cmp total lo lo' starts))
-              (eq_ge cmp total hi hi' ends) was.form;
+              (le_trans lawful _ _ _ was.rises.2 (eq_le lawful _ _ starts)) (eq_ge lawful _ _ ends)
+              was.form;
           rises = was.rises.3;
         }
 

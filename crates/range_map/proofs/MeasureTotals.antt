@@ -1,23 +1,13 @@
 -- The measures of ranges in order, added up from the front.
 use Rattle.std.proofs.Common.{◌≡◌, ℕ, ◌+◌, ◌<◌, ◌^◌, inl, inr, ◌⊎◌, ◌↔◌, refl, sym, ap, subst, ◌∙◌, arith, Option, Some, None, Bool, List, [], ◌∷◌, ◌++◌, append_assoc}
 use Rattle.std.specs.Prelude.{IsNone, IsSome}
-use Rattle.std.specs.Option.{IsSomeAnd}
-use Rattle.std.specs.declared.ops.Bound.{Bound}
-use Rattle.std.specs.declared.ops.Bound.TheVariants.{Included, Excluded, Unbounded}
-use Rattle.range_keys.specs.Order.{KeyOrder, IsLawful, IsMeasure}
+use Rattle.range_map.proofs.Common.{IsSomeAnd, Bound, Included, Excluded, Unbounded, KeyOrder, IsLawful, IsMeasure, AnyRange, Any, Holds, IsEmptyRange, Item, IsBound, item_ranges, IsStored}
 use Rattle.range_keys.specs.Counted.{IsCountedMeasure}
-use Rattle.range_algebra.specs.declared.any.AnyRange.{AnyRange}
-use Rattle.range_algebra.specs.Intervals.{Any}
 use Rattle.range_algebra.specs.Measures.{HasUntoldEnd, told_bound, measure_between, measure_sum, range_measure, list_measure, AreInOrder}
 use Rattle.range_algebra.specs.Numbers.{IsNumberOfKeys}
-use Rattle.range_algebra.specs.Range.{Holds, IsEmptyRange}
 use Rattle.range_algebra.proofs.MeasureSums.{list_measure_fits, list_measure_is_number, first_known, rest_in_order}
 use Rattle.range_algebra.proofs.Measuring.{full_measure}
 use Rattle.range_algebra.proofs.Numbers.{number_same}
-use Rattle.range_store.specs.declared.storage.Item.{Item}
-use Rattle.range_change.specs.Bindings.{IsBound}
-use Rattle.range_map.specs.FreeRanges.{item_ranges}
-use Rattle.range_change.specs.Stored.{IsStored}
 use Rattle.range_change.proofs.Listed.{IsListed, stored_list_is_listed}
 
 zero_sum : (o : Option ℕ) → o ≡ measure_sum (Some 0) o

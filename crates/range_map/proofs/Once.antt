@@ -1,21 +1,9 @@
 -- A list in stored form binds a key once.
 use Rattle.std.proofs.Common.{sym, ◌∙◌, Bool, IsTrue, List, [], ◌∷◌, inl, inr}
-use Rattle.std.specs.Cmp.{IsEquivalence}
-use Rattle.range_keys.specs.Order.{KeyOrder, IsLawful}
-use Rattle.range_keys.specs.PositionOrder.{position_total}
-use Rattle.range_keys.specs.declared.inner.position.Position.{Position}
-use Rattle.range_keys.specs.declared.inner.position.Position.TheVariants.{Beside}
-use Rattle.range_keys.specs.declared.inner.position.Side.TheVariants.{At}
-use Rattle.range_change.specs.Chains.{line_of}
+use Rattle.range_map.proofs.Common.{IsEquivalence, KeyOrder, IsLawful, Position, Beside, At, line_of, Le, Lt, Every, Holds, AnyRange, Item, BindsTo, item_lower, item_upper, IsStored}
 use Rattle.range_change.proofs.Chains.{chain_above, chain_tail}
-use Rattle.range_algebra.specs.Intervals.{Le, Lt, Every}
-use Rattle.range_algebra.specs.Orders.{lt_not_le, le_trans}
-use Rattle.range_algebra.specs.Range.{Holds}
-use Rattle.range_algebra.specs.declared.any.AnyRange.{AnyRange}
+use Rattle.range_map.proofs.PlaceOrder.{lt_not_le, le_trans}
 use Rattle.range_algebra.proofs.Places.{held_between}
-use Rattle.range_store.specs.declared.storage.Item.{Item}
-use Rattle.range_change.specs.Bindings.{BindsTo}
-use Rattle.range_change.specs.Stored.{item_lower, item_upper, IsStored}
 use Rattle.range_change.proofs.Forms.{places, Known, Chained, stored_known, stored_chain}
 
 module _ {K : Type 0} (order : KeyOrder K) (lawful : IsLawful order) {V : Type 0}
@@ -34,10 +22,8 @@ module _ {K : Type 0} (order : KeyOrder K) (lawful : IsLawful order) {V : Type 0
         → ¬ BindsTo order same items k v
     later_not v end [] below known above h = h
     later_not v end (i ∷ rest) below known above (inl h) =
-        let total = position_total order.cmp lawful.total in
         let held = (held_between order lawful i.key k known.0 key).0 h.0 in
-        lt_not_le (places order lawful) total here end below
-        (le_trans (places order lawful) total end (item_lower order i) here above.0 held.0)
+        lt_not_le lawful _ _ below (le_trans lawful _ _ _ above.0 held.0)
     later_not v end (i ∷ rest) below known above (inr h) =
         later_not v end rest below known.1 above.1 h
 
@@ -47,7 +33,6 @@ module _ {K : Type 0} (order : KeyOrder K) (lawful : IsLawful order) {V : Type 0
         → Holds order i.key k → ¬ BindsTo order same rest k v
     only_first v i [] known chain held h = h
     only_first v i (j ∷ rest) known chain held h =
-        let total = position_total order.cmp lawful.total in
         let own = (held_between order lawful i.key k known.0 key).0 held in
         later_not v (item_upper order i) (j ∷ rest) own.1 known.1
         (chain_above (line_of order lawful same equal)

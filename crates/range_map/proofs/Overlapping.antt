@@ -1,26 +1,11 @@
 -- The items that a range meets are one run of a stored list.
 use Rattle.std.proofs.Common.{◌≡◌, refl, sym, ap, subst, ◌∙◌, ℕ, zero, suc, ◌+◌, ◌-◌, ◌<◌, ◌≤◌, Bool, true, false, List, [], ◌∷◌, ◌++◌, length, take, drop, get_or, arith, Option, Some, None, inl, inr, length-drop}
 use Rattle.std.specs.Prelude.{MatchOption}
-use Rattle.std.specs.List.{AllByRecursion}
-use Rattle.std.specs.Ordering.{is_gt}
-use Rattle.std.specs.declared.ops.Bound.TheVariants.{Included, Unbounded}
-use Rattle.std.proofs.lemmas.List.{get_or-take, get_or-drop, drop-drop, length-take-le}
+use Rattle.range_map.proofs.Common.{AllByRecursion, is_gt, Included, Unbounded, drop_more, get_or-take, get_or-drop, drop-drop, length-take-le, KeyOrder, IsLawful, start_position, end_position, position_cmp, position_total, Position, AnyRange, Le, Lt, Any, Every, IsEmptyRange, IsKnownRange, with_bounds, any_none, any_left, any_right, any_split, every_at, every_append, every_left, every_right, every_weaker, list_is_take_and_drop, drop_all, Item, place_before, MeetsSome, Overlap, IsStored}
 use Rattle.std.proofs.Math.Seq.{take-add}
-use Rattle.range_keys.specs.Order.{KeyOrder, IsLawful}
-use Rattle.range_keys.specs.Position.{start_position, end_position, position_cmp}
-use Rattle.range_keys.specs.PositionOrder.{position_total}
-use Rattle.range_keys.specs.declared.inner.position.Position.{Position}
 use Rattle.range_keys.proofs.Orderings.{not_greater, not_both_greater_and_not}
-use Rattle.range_algebra.specs.declared.any.AnyRange.{AnyRange}
-use Rattle.range_algebra.specs.Intervals.{Le, Lt, Any, Every}
-use Rattle.range_algebra.specs.Orders.{le_refl, lt_le, le_trans, lt_not_le, le_lt_trans, lt_trans}
-use Rattle.range_algebra.specs.Range.{IsEmptyRange, IsKnownRange, with_bounds}
-use Rattle.range_algebra.proofs.Lists.{any_none, any_left, any_right, any_split, every_at, every_left, every_right, every_weaker, list_is_take_and_drop, drop_all}
-use Rattle.range_store.specs.declared.storage.Item.{Item}
-use Rattle.range_store.specs.Places.{place_before}
-use Rattle.range_change.specs.Lookups.{MeetsSome, Overlap}
+use Rattle.range_map.proofs.PlaceOrder.{le_refl, lt_le, le_trans, lt_not_le, not_le, le_lt_trans, lt_trans}
 use Rattle.range_map.specs.Overlapping.{AreOverlapping}
-use Rattle.range_change.specs.Stored.{IsStored}
 use Rattle.range_change.specs.Window.{IsFound, IsLastStarting, place_after}
 use Rattle.range_change.proofs.RangePieces.{every_with}
 use Rattle.range_change.proofs.Found.{starts_rise, stored_tail, every_nonempty}
@@ -45,11 +30,8 @@ module _ {K : Type 0} (order : KeyOrder K) (lawful : IsLawful order) where
     first_rises : (i : Item (AnyRange K) V) (rest : List (Item (AnyRange K) V))
         → IsListed order lawful same (i ∷ rest) → Every (λ j. PLt (Start i) (Start j)) rest
     first_rises i rest h =
-        let cmp = position_cmp order.cmp in
-        let total = position_total order.cmp lawful.total in
-        every_weaker (λ j. PLt (End i) (Start j)) (λ j. PLt (Start i) (Start j)) rest
-        (λ j l. le_lt_trans cmp total (Start i) (End i) (Start j)
-        (every_nonempty order lawful same (i ∷ rest) h).0 l)
+        every_weaker _ _ rest
+        (λ j l. le_lt_trans lawful _ _ _ (every_nonempty order lawful same (i ∷ rest) h).0 l)
         (starts_rise order lawful same i rest h)
 
     first_starts_first : (i : Item (AnyRange K) V) (rest : List (Item (AnyRange K) V)) (n : ℕ)
@@ -57,7 +39,7 @@ module _ {K : Type 0} (order : KeyOrder K) (lawful : IsLawful order) where
         → y ≡ get_or rest n y → PLt (Start i) (Start y)
     first_starts_first i rest n y h within read =
         subst (λ z. PLt (Start i) (Start z)) (sym read)
-        (every_at (λ j. PLt (Start i) (Start j)) rest n y (first_rises i rest h) within)
+        (every_at _ rest n y (first_rises i rest h) within)
 
     -- the one item stands before the other where the other starts past its start
     listed_order : (items : List (Item (AnyRange K) V)) (m n : ℕ) (x y : Item (AnyRange K) V)
@@ -71,27 +53,22 @@ module _ {K : Type 0} (order : KeyOrder K) (lawful : IsLawful order) where
         let there : y ≡ i = read' in (
           λ e.
               let own : is_gt (position_cmp order.cmp (Start y) (Start x)) ≡ false =
-              rw (here, there) (le_refl (position_cmp order.cmp)
-              (position_total order.cmp lawful.total) (Start i)) in
+              rw (here, there) (le_refl lawful _) in
               let clash : true ≡ false = sym e ∙ own in
               absurd (cc),
           λ e. omega arith,
         )
     listed_order (i ∷ rest) zero (suc n) x y h in_m in_n read read' =
-        let cmp = position_cmp order.cmp in
-        let total = position_total order.cmp lawful.total in
         let here : x ≡ i = read in
         let rise : PLt (Start x) (Start y) =
         rw here (first_starts_first i rest n y h (omega (arith, in_n)) read') in
-        (λ e. omega arith, λ e. absurd (lt_not_le cmp total (Start x) (Start y) rise e))
+        (λ e. omega arith, λ e. absurd (lt_not_le lawful _ _ rise e))
     listed_order (i ∷ rest) (suc m) zero x y h in_m in_n read read' =
-        let cmp = position_cmp order.cmp in
-        let total = position_total order.cmp lawful.total in
         let here : y ≡ i = read' in
         let rise : PLt (Start y) (Start x) =
         rw here (first_starts_first i rest m x h (omega (arith, in_m)) read) in (
           λ e.
-              let clash : true ≡ false = sym e ∙ lt_le cmp total (Start y) (Start x) rise in
+              let clash : true ≡ false = sym e ∙ lt_le lawful _ _ rise in
               absurd (cc),
           λ e. omega arith,
         )
@@ -101,14 +78,13 @@ module _ {K : Type 0} (order : KeyOrder K) (lawful : IsLawful order) where
         (omega (arith, in_n)) read read' in
         (λ e. omega (arith, next.0 e), λ e. omega (arith, next.1 e))
 
-    pub stored_order : (items : List (Item (AnyRange K) V)) (m n : ℕ) (x y : Item (AnyRange K) V)
+    pub stored_order : {items : List (Item (AnyRange K) V)} {m n : ℕ} {x y : Item (AnyRange K) V}
         → IsStored order same items → m < length items → n < length items
         → x ≡ get_or items m x → y ≡ get_or items n y →
         (is_gt (position_cmp order.cmp (Start y) (Start x)) ≡ true → m < n)
         × (is_gt (position_cmp order.cmp (Start y) (Start x)) ≡ false → n ≤ m)
-    stored_order items m n x y stored in_m in_n read read' =
+    stored_order {items = items} {m = m} {n = n} {x = x} {y = y} stored =
         listed_order items m n x y (stored_list_is_listed order lawful same items stored)
-        in_m in_n read read'
 
     module _ (r : AnyRange K) (full : IsEmptyRange order r → ⊥) where
       abbrev Low : Position K
@@ -123,27 +99,21 @@ module _ {K : Type 0} (order : KeyOrder K) (lawful : IsLawful order) where
       not_behind [] a b stored fits below past behind = omega (arith, fits, behind)
       not_behind (i ∷ rest) a b stored fits below past behind =
           let cmp = position_cmp order.cmp in
-          let total = position_total order.cmp lawful.total in
           let items : List (Item (AnyRange K) V) = i ∷ rest in
           let x = get_or items b i in
           let none : b + 0 ≡ b = omega arith in
           let ends : PLt (End x) Low =
           subst (λ y. PLt (End y) Low) (get_or-take a items b i behind)
-          (every_at (λ j. PLt (End j) Low) (take a items) b i below
-          (omega (arith, fits, behind, length-take-le a items fits))) in
+          (every_at _ _ b i below (omega (arith, fits, behind, length-take-le a items fits))) in
           let starts : PLt High (Start x) =
           subst (λ y. PLt High (Start y))
           (get_or-drop b items 0 i ∙ ap (λ n. get_or items n i) none)
-          (every_at (λ j. PLt High (Start j)) (drop b items) 0 i past
-          (omega (arith, fits, behind, length-drop b items))) in
+          (every_at _ _ 0 i past (omega (arith, fits, behind, length-drop b items))) in
           let own : PLe (Start x) (End x) =
-          every_at (λ j. PLe (Start j) (End j)) items b i
-          (every_nonempty order lawful same items
-          (stored_list_is_listed order lawful same items stored))
-          (omega (arith, fits, behind)) in
-          lt_not_le cmp total High Low
-          (lt_trans cmp total High (Start x) Low starts (le_lt_trans cmp total (Start x) (End x) Low
-          own ends)) (not_greater (cmp Low High) full)
+          every_at _ items b i (every_nonempty order lawful same items
+          (stored_list_is_listed order lawful same items stored)) (omega (arith, fits, behind)) in
+          lt_not_le lawful _ _ (lt_trans lawful _ _ _ starts (le_lt_trans lawful _ _ _ own ends))
+          (not_greater _ full)
 
       -- the items from the first that does not end before the range to the last that starts within
       -- it at the latest
@@ -155,8 +125,6 @@ module _ {K : Type 0} (order : KeyOrder K) (lawful : IsLawful order) where
           → Every (λ i. PLt High (Start i)) (drop b items)
           → AreOverlapping order items r (take (b - a) (drop a items))
       overlapping_are items a b stored fits below above upto past =
-          let cmp = position_cmp order.cmp in
-          let total = position_total order.cmp lawful.total in
           let met = take (b - a) (drop a items) in
           let never : b < a → ⊥ = not_behind items a b stored fits below past in
           let in_order : a ≤ b = omega (arith, never) in
@@ -164,7 +132,7 @@ module _ {K : Type 0} (order : KeyOrder K) (lawful : IsLawful order) where
           let behind : drop (b - a) (drop a items) ≡ drop b items =
           drop-drop (b - a) a items ∙ ap (λ n. drop n items) (sym whole) in
           let rest : drop a items ≡ met ++ drop b items =
-          list_is_take_and_drop (drop a items) (b - a) ∙ ap (λ ys. met ++ ys) behind in
+          list_is_take_and_drop _ (b - a) ∙ ap (λ ys. met ++ ys) behind in
           let front : take b items ≡ take a items ++ met =
           ap (λ n. take n items) whole ∙ take-add a (b - a) items in
           record {
@@ -173,14 +141,9 @@ module _ {K : Type 0} (order : KeyOrder K) (lawful : IsLawful order) where
             split = list_is_take_and_drop items a ∙ ap (λ ys. take a items ++ ys) rest;
             below = below;
             meet =
-                every_with (λ i. PLe Low (End i)) (λ i. PLe (Start i) High)
-                (λ i. Overlap order i.key r) met
-                (every_left (λ i. PLe Low (End i)) met (drop b items) (rw rest at above))
-                (every_right (λ i. PLe (Start i) High) (take a items) met (rw front at upto))
-                (λ i h k. (
-                  λ l. lt_not_le cmp total (End i) Low l h,
-                  λ l. lt_not_le cmp total High (Start i) l k,
-                ));
+                every_with _ _ _ met (every_left _ met _ (rw rest at above))
+                (every_right _ _ met (rw front at upto))
+                (λ i h k. (λ l. lt_not_le lawful _ _ l h, λ l. lt_not_le lawful _ _ l k));
             above = past;
           }
 
@@ -191,14 +154,9 @@ module _ {K : Type 0} (order : KeyOrder K) (lawful : IsLawful order) where
   none_shown items r met are none h =
       let shown : Any (λ i. Overlap order i.key r) (are.before ++ (met ++ are.after)) =
       rw are.split at h in
-      elim (any_split (λ i. Overlap order i.key r) are.before (met ++ are.after) shown) [
-        | inl k ↦
-            any_none (λ i. Overlap order i.key r) (λ i. PLt (End i) (start_position order r.start))
-            are.before are.below (λ i l both. both.0 l) k
-        | inr k ↦
-            any_none (λ i. Overlap order i.key r) (λ i. PLt (end_position order r.end) (Start i))
-            are.after are.above (λ i l both. both.1 l)
-            (rw none at k)
+      elim (any_split _ are.before (met ++ are.after) shown) [
+        | inl k ↦ any_none _ _ are.before are.below (λ i l both. both.0 l) k
+        | inr k ↦ any_none _ _ are.after are.above (λ i l both. both.1 l) (rw none at k)
       ]
 
   -- where the range meets none, none is shown
@@ -208,8 +166,8 @@ module _ {K : Type 0} (order : KeyOrder K) (lawful : IsLawful order) where
   all_shown items r [] are none = refl
   all_shown items r (i ∷ rest) are none =
       let shown : MeetsSome order (are.before ++ ((i ∷ rest) ++ are.after)) r =
-      any_right (λ j. Overlap order j.key r) are.before ((i ∷ rest) ++ are.after)
-      (any_left (λ j. Overlap order j.key r) (i ∷ rest) are.after (inl are.meet.0)) in
+      any_right _ are.before ((i ∷ rest) ++ are.after)
+      (any_left _ (i ∷ rest) are.after (inl are.meet.0)) in
       absurd (none (rw are.split shown))
 
 module _ {K : Type 0} (order : KeyOrder K) (lawful : IsLawful order) {V : Type 0}
@@ -243,24 +201,18 @@ module _ {K : Type 0} (order : KeyOrder K) (lawful : IsLawful order) {V : Type 0
       (take (place_after rank last - place_before rank (length items) first)
       (drop (place_before rank (length items) first) items))
   found_from k key before first last found is_last =
-      let cmp = position_cmp order.cmp in
-      let total = position_total order.cmp lawful.total in
       let listed = stored_list_is_listed order lawful same items stored in
       let upper : Position K = end_position order Unbounded in
       let full : IsEmptyRange order (with_bounds (Included k) Unbounded) → ⊥ =
-      not_both_greater_and_not (cmp (start_position order (Included k)) upper)
-      (ends_full order lawful (Included k) key) in
+      not_both_greater_and_not _ (ends_full order lawful (Included k) key) in
       let all : Every (λ i. PLe order lawful (Start order lawful i) upper) items =
-      every_with (λ i. PLe order lawful (Start order lawful i) (End order lawful i))
-      (λ i. IsKnownRange order i.key) (λ i. PLe order lawful (Start order lawful i) upper) items
-      (every_nonempty order lawful same items listed) (all_known items stored.known)
-      (λ i own known. le_trans cmp total (Start order lawful i) (End order lawful i) upper own
-      (ends_full order lawful i.key.end known.1)) in
+      every_with _ _ _ items (every_nonempty order lawful same items listed)
+      (all_known items stored.known)
+      (λ i own known. le_trans lawful _ _ _ own (ends_full order lawful i.key.end known.1)) in
       let b = place_after rank last in
       overlapping_are order lawful same (with_bounds (Included k) Unbounded) full items
       (place_before rank (length items) first) b stored found.in_range found.below found.above
-      (every_left (λ i. PLe order lawful (Start order lawful i) upper) (take b items)
-      (drop b items) (rw (list_is_take_and_drop items b) at all))
+      (every_left _ _ _ (rw (list_is_take_and_drop items b) at all))
       (rw (drop_all items b (at_end last is_last)) tt)
     where
       all_known : (xs : List (Item (AnyRange K) V))
@@ -298,6 +250,5 @@ module _ {T : Type 0} (items : List T) (p q : ℕ) (x : T) (within : q < length 
   pub run_alone_first : p ≤ q → q ≤ p → x ≡ get_or items p x
       → take (q + 1 - p) (drop p items) ≡ x ∷ []
   run_alone_first le ge read =
-      let none : q + 1 - p - 1 ≡ 0 = omega (arith, le, ge) in
-      first_of_run items p (q + 1 - p) x (omega (arith, le)) (omega (arith, le, within)) read
-      ∙ ap (λ m. x ∷ take m (drop (p + 1) items)) none
+      let at : p ≡ q = omega (arith, le, ge) in
+      run_alone le ge (read ∙ ap (λ n. get_or items n x) at)

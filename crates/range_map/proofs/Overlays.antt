@@ -1,18 +1,7 @@
 -- What a copy of one of the two values of each key makes of two lists.
 use Rattle.std.proofs.Common.{◌≡◌, refl, sym, subst, ◌∙◌, ◌↔◌, ◌⊎◌, inl, inr, Bool, true, false, IsTrue, List, [], ◌∷◌, Option, Some, None, Result, Ok}
-use Rattle.std.specs.Cmp.{IsEquivalence}
-use Rattle.std.specs.Fn.{Shared, FnReturnsAt}
-use denote.Ref.{Bor}
-use Rattle.range_keys.specs.Order.{KeyOrder, IsLawful}
-use Rattle.range_algebra.specs.Range.{ClonesAreEqual}
-use Rattle.range_algebra.specs.declared.any.AnyRange.{AnyRange}
+use Rattle.range_map.proofs.Common.{IsEquivalence, Shared, FnReturnsAt, Bor, KeyOrder, IsLawful, ClonesAreEqual, AnyRange, Item, IsAsAnswered, IsBound, BindsTo, Binds, IsCombinedAt, AreCombined, IsSecondOrFirst, MayOverlay, first_where, IsCopyOfValue, IsOverlaid, IsRestricted, IsWithout, IsStored}
 use Rattle.range_algebra.proofs.Meeting.{held_or_not}
-use Rattle.range_store.specs.declared.storage.Item.{Item}
-use Rattle.range_change.specs.Answers.{IsAsAnswered}
-use Rattle.range_change.specs.Bindings.{IsBound, BindsTo, Binds}
-use Rattle.range_map.specs.Combining.{IsCombinedAt, AreCombined}
-use Rattle.range_map.specs.Overlays.{IsSecondOrFirst, MayOverlay, first_where, IsCopyOfValue, IsOverlaid, IsRestricted, IsWithout}
-use Rattle.range_change.specs.Stored.{IsStored}
 use Rattle.range_map.proofs.Once.{bound_once}
 use Rattle.range_change.proofs.Overlaps.{binds_bound}
 

@@ -1,10 +1,6 @@
 -- A list that is gone over, and what holds of the part of it that is done.
 use Rattle.std.proofs.Common.{◌≡◌, refl, sym, ap, subst, ◌∙◌, append_assoc, List, [], ◌∷◌, ◌++◌}
-use Rattle.std.proofs.lemmas.List.{append-nil}
-use Rattle.range_keys.specs.Order.{KeyOrder}
-use Rattle.range_algebra.specs.declared.any.AnyRange.{AnyRange}
-use Rattle.range_store.specs.declared.storage.Item.{Item}
-use Rattle.range_map.specs.FreeRanges.{AreGaps}
+use Rattle.range_map.proofs.Common.{append-nil, KeyOrder, AnyRange, Item, AreGaps}
 use Rattle.range_map.specs.PartWay.{BeforeOne, BeforeOneGap}
 
 module _ {A : Type 0} where
@@ -17,10 +13,10 @@ module _ {A : Type 0} where
   pub set_out : (P : List A → Type 0) (all : List A) → P [] → IsPartWay P all all
   set_out P all none = record { done = []; split = refl; so_far = none }
 
-  pub one_done : (P Q : List A → Type 0) (all rest others : List A) (x : A) → rest ≡ x ∷ others
+  pub one_done : {P Q : List A → Type 0} {all rest others : List A} {x : A} → rest ≡ x ∷ others
       → ((done : List A) → done ++ x ∷ others ≡ all → P done → Q (done ++ x ∷ []))
       → IsPartWay P all rest → IsPartWay Q all others
-  one_done P Q all rest others x came step way =
+  one_done {others = others} {x = x} came step way =
       let split = ap (λ l. way.done ++ l) (sym came) ∙ way.split in
       record {
         done = way.done ++ x ∷ [];
@@ -29,21 +25,20 @@ module _ {A : Type 0} where
       }
 
   -- where it stopped at the next element
-  pub stopped : (P : List A → Type 0) (all rest others : List A) (x : A) → rest ≡ x ∷ others
+  pub stopped : {P : List A → Type 0} {all rest others : List A} {x : A} → rest ≡ x ∷ others
       → IsPartWay P all rest → BeforeOne all P
-  stopped P all rest others x came way =
+  stopped {others = others} {x = x} came way =
       (way.done, x, others, ap (λ l. way.done ++ l) (sym came) ∙ way.split, way.so_far)
 
   -- where nothing is left
-  pub arrived : (P : List A → Type 0) (all rest : List A) → rest ≡ [] → IsPartWay P all rest
+  pub arrived : {P : List A → Type 0} {all rest : List A} → rest ≡ [] → IsPartWay P all rest
       → P all
-  arrived P all rest ended way =
+  arrived {P = P} ended way =
       subst P (sym (append-nil way.done) ∙ (ap (λ l. way.done ++ l) (sym ended) ∙ way.split))
       way.so_far
 
-pub stopped_at_gap : {K V : Type 0} (order : KeyOrder K) (P : List (AnyRange K) → Type 0)
-    (items : List (Item (AnyRange K) V)) (gaps rest others : List (AnyRange K)) (g : AnyRange K)
+pub stopped_at_gap : {K V : Type 0} {order : KeyOrder K} {P : List (AnyRange K) → Type 0}
+    {items : List (Item (AnyRange K) V)} {gaps rest others : List (AnyRange K)} {g : AnyRange K}
     → AreGaps order items gaps → rest ≡ g ∷ others → IsPartWay P gaps rest
     → BeforeOneGap order items P
-stopped_at_gap order P items gaps rest others g are came way =
-    (gaps, are, stopped P gaps rest others g came way)
+stopped_at_gap {gaps = gaps} are came way = (gaps, are, stopped came way)

@@ -1,33 +1,11 @@
 -- The pieces that are read off from the items that meet a range are its pieces.
 use Rattle.std.proofs.Common.{◌≡◌, refl, sym, ap, ◌∙◌, List, [], ◌∷◌, ◌++◌, ◌⊎◌, inl, inr, Option, Some, None, Bool, true, false, map, if◌then◌else◌, append_assoc}
-use Rattle.std.proofs.lemmas.List.{append-nil}
-use Rattle.std.specs.Cmp.{IsEquivalence, tied_itself, tied_back}
-use Rattle.std.specs.declared.ops.Bound.{Bound}
-use Rattle.std.specs.declared.ops.Bound.TheVariants.{Included, Excluded, Unbounded}
-use Rattle.std.specs.declared.cmp.Ordering.TheVariants.{Equal}
-use Rattle.range_keys.specs.Order.{KeyOrder, IsLawful}
-use Rattle.range_keys.specs.Position.{start_position, end_position, position_cmp}
-use Rattle.range_keys.specs.PositionOrder.{position_total}
-use Rattle.range_keys.specs.declared.inner.position.Position.{Position}
-use Rattle.range_algebra.specs.declared.any.AnyRange.{AnyRange}
+use Rattle.range_map.proofs.Common.{append-nil, IsEquivalence, tied_itself, tied_back, Bound, Included, Excluded, Unbounded, Equal, KeyOrder, IsLawful, start_position, end_position, position_cmp, position_total, Position, AnyRange, flipped, starts_past_end, past, Any, Every, IsEmptyRange, IsKnownBound, IsKnownRange, LiesBefore, any_left, any_right, every_weaker, every_append, every_left, every_right, Item, Answered, piece_of, line_of, Leads, Overlap, free_piece, bound_piece, free_between, pieces_from, IsCommonPart, IsFreePart, ArePieces, item_lower, IsStored}
 use Rattle.range_algebra.specs.Combined.{common}
-use Rattle.range_algebra.specs.Compared.{flipped, starts_past_end}
-use Rattle.range_algebra.specs.Cuts.{past}
-use Rattle.range_algebra.specs.Intervals.{Any, Every}
-use Rattle.range_algebra.specs.Orders.{le_refl, lt_le, eq_le, eq_ge, le_trans, cases, not_le, not_lt, lt_le_trans}
-use Rattle.range_algebra.specs.Range.{IsEmptyRange, IsKnownBound, IsKnownRange}
-use Rattle.range_algebra.specs.Relations.{LiesBefore}
+use Rattle.range_map.proofs.PlaceOrder.{le_refl, lt_le, eq_le, eq_ge, le_trans, cases, not_le, not_lt, lt_le_trans}
 use Rattle.range_algebra.proofs.Commons.{later_is, earlier_is}
-use Rattle.range_algebra.proofs.Lists.{any_left, any_right, every_weaker, every_append, every_left, every_right}
 use Rattle.range_algebra.proofs.Places.{reaching_is_before_past, flipped_bound_is_past, flipped_back, flipped_known, unbounded_start, unbounded_end}
-use Rattle.range_store.specs.declared.storage.Item.{Item}
-use Rattle.range_change.specs.Answers.{Answered, piece_of}
-use Rattle.range_change.specs.Chains.{line_of, Leads}
-use Rattle.range_change.specs.Lookups.{Overlap}
-use Rattle.range_map.specs.PieceLists.{free_piece, bound_piece, free_between, pieces_from}
 use Rattle.range_map.specs.Overlapping.{AreOverlapping}
-use Rattle.range_change.specs.Pieces.{IsCommonPart, IsFreePart, ArePieces}
-use Rattle.range_change.specs.Stored.{item_lower, IsStored}
 use Rattle.range_change.proofs.Chains.{chain_before, chain_right, follows_above}
 use Rattle.range_change.proofs.RangePieces.{PLe, PLt, Lo, Hi, IsFull, IsOpenPart, IsRight, IsInside, IsCutUpTo, cut_none, cut_more, cut_all, shared_is, common_within, any_end, any_with, any_use, every_with, free_apart, free_inside, common_place_is_not_clear}
 use Rattle.range_change.proofs.Forms.{Chained, before_is, stored_chain, stored_known, nonempty_good}
@@ -95,31 +73,21 @@ module _ {K : Type 0} (order : KeyOrder K) (lawful : IsLawful order) {V : Type 0
         (stops : position_cmp order.cmp (High gap) to ≡ Equal) (room : Lt' (Low gap) (High gap))
       where
         gap_from : Le' from (Low gap) × Le' (Low gap) from
-        gap_from = let total = position_total order.cmp lawful.total in (
-          eq_ge (position_cmp order.cmp) total (Low gap) from begins,
-          eq_le (position_cmp order.cmp) total (Low gap) from begins,
-        )
+        gap_from = (eq_ge lawful _ _ begins, eq_le lawful _ _ begins)
 
         gap_to : Le' to (High gap) × Le' (High gap) to
-        gap_to = let total = position_total order.cmp lawful.total in (
-          eq_ge (position_cmp order.cmp) total (High gap) to stops,
-          eq_le (position_cmp order.cmp) total (High gap) to stops,
-        )
+        gap_to = (eq_ge lawful _ _ stops, eq_le lawful _ _ stops)
 
         gap_inside : IsInside order lawful items r gap
-        gap_inside =
-            let cmp = position_cmp order.cmp in
-            let total = position_total order.cmp lawful.total in (
-              is_known,
-              le_trans cmp total (Low r) from (Low gap) ready.at_least gap_from.0,
-              room,
-              le_trans cmp total (High gap) to (High r) gap_to.1 within,
-            )
+        gap_inside = (
+          is_known,
+          le_trans lawful _ _ _ ready.at_least gap_from.0,
+          room,
+          le_trans lawful _ _ _ gap_to.1 within,
+        )
 
         gap_open : IsOpenPart order lawful items r gap
         gap_open =
-            let cmp = position_cmp order.cmp in
-            let total = position_total order.cmp lawful.total in
             let lo = Low gap in
             let hi = High gap in
             let Free = λ (i : Item (AnyRange K) V). Le' (High i.key) lo ⊎ Le' hi (Low i.key) in
@@ -128,47 +96,38 @@ module _ {K : Type 0} (order : KeyOrder K) (lawful : IsLawful order) {V : Type 0
             record {
               free =
                   rw list (every_append Free done tail
-                  (every_weaker (λ j. Le' (High j.key) from) Free done
-                  (λ j le. inl (le_trans cmp total (High j.key) from lo le gap_from.0)) ready.below)
-                  (every_weaker (λ i. Le' to (Low i.key)) Free tail
-                  (λ i le. inr (le_trans cmp total hi to (Low i.key) gap_to.1 le)) above));
+                  (every_weaker _ Free done (λ j le. inl (le_trans lawful _ _ _ le gap_from.0))
+                  ready.below) (every_weaker _ Free tail
+                  (λ i le. inr (le_trans lawful _ _ _ gap_to.1 le)) above));
               left = elim ready.edge [
-                | inl le ↦ inl (le_trans cmp total lo from (Low r) gap_from.1 le)
+                | inl le ↦ inl (le_trans lawful _ _ _ gap_from.1 le)
                 | inr some_item ↦
-                    inr
-                    (rw list (any_left Left done tail
-                    (any_with (λ j. Le' from (High j.key) × Le' (High j.key) from)
-                    (λ j. Le' (High j.key) from) Left done some_item ready.below
-                    (λ j h k. (
-                      le_trans cmp total lo from (High j.key) gap_from.1 h.0,
-                      le_trans cmp total (High j.key) from lo h.1 gap_from.0,
+                    inr (rw list (any_left Left done tail
+                    (any_with _ _ Left done some_item ready.below (λ j h k. (
+                      le_trans lawful _ _ _ gap_from.1 h.0,
+                      le_trans lawful _ _ _ h.1 gap_from.0,
                     )))))
               ];
               right = elim bounded [
-                | inl le ↦ inl (le_trans cmp total (High r) to hi le gap_to.0)
+                | inl le ↦ inl (le_trans lawful _ _ _ le gap_to.0)
                 | inr some_item ↦
-                    inr
-                    (rw list (any_right Right done tail
-                    (any_with (λ i. Le' to (Low i.key) × Le' (Low i.key) to)
-                    (λ i. Le' to (Low i.key)) Right tail some_item above
-                    (λ i h k. (
-                      le_trans cmp total hi to (Low i.key) gap_to.1 h.0,
-                      le_trans cmp total (Low i.key) to hi h.1 gap_to.0,
+                    inr (rw list
+                    (any_right Right done tail (any_with _ _ Right tail some_item above (λ i h k. (
+                      le_trans lawful _ _ _ gap_to.1 h.0,
+                      le_trans lawful _ _ _ h.1 gap_to.0,
                     )))))
               ];
             }
 
         add_gap : IsCutUpTo order lawful items r to (answers ++ told (free_piece gap) ∷ [])
         add_gap =
-            let cmp = position_cmp order.cmp in
-            let total = position_total order.cmp lawful.total in
             cut_more order lawful items r from to answers (told (free_piece gap)) was gap_inside
-            gap_open gap_from.0 gap_to.1 (λ p low high before. elim (cases cmp total p from) [
+            gap_open gap_from.0 gap_to.1 (λ p low high before. elim (cases lawful p from) [
               | inl l ↦ inl l
               | inr le ↦
                   inr (
-                    le_trans cmp total (Low gap) from p gap_from.1 le,
-                    lt_le_trans cmp total p to (High gap) before gap_to.0,
+                    le_trans lawful _ _ _ gap_from.1 le,
+                    lt_le_trans lawful _ _ _ before gap_to.0,
                   )
             ])
 
@@ -183,45 +142,33 @@ module _ {K : Type 0} (order : KeyOrder K) (lawful : IsLawful order) {V : Type 0
         → Reaches answers
         (map free_piece (if t then [] else record { start = a; end = b } ∷ [])) IsPast
     gap_by a b true e known_a known_b at upto =
-        let cmp = position_cmp order.cmp in
-        let total = position_total order.cmp lawful.total in
-        let p = start_position order a in
-        let q = past order (end_position order b) in
         let over =
-        not_lt cmp total q p (λ l.
+        not_lt lawful _ _ (λ l.
         let f = (reaching_is_before_past order lawful a b known_a known_b).1 l in
         let clash : true ≡ false = sym e ∙ f in cc) in
         as_they_were answers IsPast from was (
-          le_trans cmp total to q from (eq_ge cmp total q to upto)
-              (le_trans cmp total q p from over (eq_le cmp total p from at)),
-          inl (le_refl cmp total from),
+          le_trans lawful _ _ _ (eq_ge lawful _ _ upto)
+              (le_trans lawful _ _ _ over (eq_le lawful _ _ at)),
+          inl (le_refl lawful _),
         )
     gap_by a b false e known_a known_b at upto =
-        let cmp = position_cmp order.cmp in
-        let total = position_total order.cmp lawful.total in
         record {
           place = to;
           cut =
-              add_gap (record { start = a; end = b }) (known_a, known_b) at upto
+              add_gap _ (known_a, known_b) at upto
               ((reaching_is_before_past order lawful a b known_a known_b).0 e);
-          there = (le_refl cmp total to, inr (le_refl cmp total to));
+          there = (le_refl lawful _, inr (le_refl lawful _));
         }
 
     no_gap : Le' to from → Reaches answers [] IsPast
-    no_gap le =
-        as_they_were answers IsPast from was (
-          le,
-          inl (le_refl (position_cmp order.cmp) (position_total order.cmp lawful.total) from),
-        )
+    no_gap le = as_they_were answers IsPast from was (le, inl (le_refl lawful _))
 
     -- the gap from the place to the end bound, if there is one
     gap_step : (start end : Option (Bound K)) → Opens start from
         → ((b : Bound K) → end ≡ Some b → IsKnownBound order b
         × (position_cmp order.cmp (past order (end_position order b)) to ≡ Equal))
         → (end ≡ None → Le' to from) → Reaches answers (free_between order start end) IsPast
-    gap_step None end opens ends none =
-        no_gap (le_trans (position_cmp order.cmp) (position_total order.cmp lawful.total) to
-        (High r) from within opens)
+    gap_step None end opens ends none = no_gap (le_trans lawful _ _ _ within opens)
     gap_step (Some a) None opens ends none = no_gap (none refl)
     gap_step (Some a) (Some b) opens ends none =
         let at = ends b refl in
@@ -231,18 +178,16 @@ module _ {K : Type 0} (order : KeyOrder K) (lawful : IsLawful order) {V : Type 0
   module _ (done rest : List (Item (AnyRange K) V)) (x : Item (AnyRange K) V)
       (list : items ≡ done ++ x ∷ rest) (meets : Overlap order x.key r) where
     good_at : IsFull order lawful items r x
-    good_at = (every_right (IsFull order lawful items r) done (x ∷ rest) (rw list at full)).0
+    good_at = (every_right _ done _ (rw list at full)).0
 
     starts_at : Lt' (Low x.key) (High r)
     starts_at =
-        not_le (position_cmp order.cmp) (position_total order.cmp lawful.total) (Low x.key)
-        (High r)
+        not_le lawful _ _
         (λ le. meets.1 ((before_is order lawful r.end x.key.start known.1 good_at.0.0).1 le))
 
     ends_at : Lt' (Low r) (High x.key)
     ends_at =
-        not_le (position_cmp order.cmp) (position_total order.cmp lawful.total) (Low r)
-        (High x.key)
+        not_le lawful _ _
         (λ le. meets.0 ((before_is order lawful x.key.end r.start good_at.0.1 known.0).1 le))
 
     chain_at : Chained order lawful same equal (done ++ x ∷ rest)
@@ -250,18 +195,15 @@ module _ {K : Type 0} (order : KeyOrder K) (lawful : IsLawful order) {V : Type 0
 
     follow_it : Every (λ i. Le' (High x.key) (Low i.key)) rest
     follow_it =
-        let tail = chain_right (line_of order lawful same equal) done (x ∷ rest) chain_at in
+        let tail = chain_right (line_of order lawful same equal) done _ chain_at in
         follows_above (line_of order lawful same equal) x rest tail.1
 
     above_it : Every (λ i. Le' (Low x.key) (Low i.key)) (x ∷ rest)
-    above_it =
-        let cmp = position_cmp order.cmp in
-        let total = position_total order.cmp lawful.total in (
-          le_refl cmp total (Low x.key),
-          every_weaker (λ i. Le' (High x.key) (Low i.key)) (λ i. Le' (Low x.key) (Low i.key)) rest
-              (λ i le. le_trans cmp total (Low x.key) (High x.key) (Low i.key)
-              (lt_le cmp total (Low x.key) (High x.key) good_at.1) le) follow_it,
-        )
+    above_it = (
+      le_refl lawful _,
+      every_weaker _ _ rest
+          (λ i le. le_trans lawful _ _ _ (lt_le lawful _ _ good_at.1) le) follow_it,
+    )
 
     abbrev Part : AnyRange K
     Part = common order r x.key
@@ -293,27 +235,20 @@ module _ {K : Type 0} (order : KeyOrder K) (lawful : IsLawful order) {V : Type 0
         )
 
     part_right : IsRight order lawful items r Part (Some x.value)
-    part_right =
-        rw list
-        (any_right (λ i. IsCommonPart order r i.key Part × (i.value ≡ x.value)) done (x ∷ rest)
-        (inl (shared_is order lawful r x.key, refl)))
+    part_right = rw list (any_right _ done _ (inl (shared_is order lawful r x.key, refl)))
 
     add_part : (m : Position K) (answers : List (Answered K V))
         → IsCutUpTo order lawful items r m answers → Le' (Low x.key) m → Le' m (Low Part)
         → IsCutUpTo order lawful items r (High x.key)
         (answers ++ told (bound_piece order r x) ∷ [])
     add_part m answers was behind from =
-        let cmp = position_cmp order.cmp in
-        let total = position_total order.cmp lawful.total in
         cut_more order lawful items r m (High x.key) answers (told (bound_piece order r x)) was
-        part_inside part_right from part_within.3
-        (λ p low high before. elim (cases cmp total p m) [
+        part_inside part_right from part_within.3 (λ p low high before. elim (cases lawful p m) [
           | inl l ↦ inl l
           | inr le ↦
               inr (
                 later_is order lawful r.start x.key.start
-                    (λ b. Le' (start_position order b) p) low
-                    (le_trans cmp total (Low x.key) m p behind le),
+                    (λ b. Le' (start_position order b) p) low (le_trans lawful _ _ _ behind le),
                 earlier_is order lawful r.end x.key.end
                     (λ b. Lt' p (past order (end_position order b))) high before,
               )
@@ -321,38 +256,25 @@ module _ {K : Type 0} (order : KeyOrder K) (lawful : IsLawful order) {V : Type 0
 
     from_before_part : (from : Position K) → IsReady done from → Le' from (Low Part)
     from_before_part from ready =
-        let cmp = position_cmp order.cmp in
-        let total = position_total order.cmp lawful.total in
         elim ready.edge [
-          | inl le ↦ le_trans cmp total from (Low r) (Low Part) le part_within.0
+          | inl le ↦ le_trans lawful _ _ _ le part_within.0
           | inr some_item ↦
-              any_use (λ j. Le' from (High j.key) × Le' (High j.key) from)
-              (λ j. Leads (line_of order lawful same equal) j (item_lower order x) x.value) done
-              some_item (chain_before (line_of order lawful same equal) done x rest chain_at)
-              (λ j h leads.
-              le_trans cmp total from (High j.key) (Low Part) h.0
-              (le_trans cmp total (High j.key) (Low x.key) (Low Part) leads.0 part_within.1))
+              any_use _ _ done some_item
+              (chain_before (line_of order lawful same equal) done x rest chain_at) (λ j h leads.
+              le_trans lawful _ _ _ h.0 (le_trans lawful _ _ _ leads.0 part_within.1))
         ]
 
     ready_after : IsReady (done ++ x ∷ []) (High x.key)
     ready_after =
-        let cmp = position_cmp order.cmp in
-        let total = position_total order.cmp lawful.total in
         let hi = High x.key in
         record {
-          edge =
-              inr
-              (any_end (λ j. Le' hi (High j.key) × Le' (High j.key) hi) done x
-              (le_refl cmp total hi, le_refl cmp total hi));
-          at_least = lt_le cmp total (Low r) hi ends_at;
+          edge = inr (any_end _ done x (le_refl lawful _, le_refl lawful _));
+          at_least = lt_le lawful _ _ ends_at;
           below =
-              every_append (λ j. Le' (High j.key) hi) done (x ∷ [])
-              (every_weaker (λ j. Leads (line_of order lawful same equal) j
-              (item_lower order x) x.value) (λ j. Le' (High j.key) hi) done
-              (λ j l. le_trans cmp total (High j.key) (Low x.key) hi l.0
-              (lt_le cmp total (Low x.key) hi good_at.1))
+              every_append _ done (x ∷ [])
+              (every_weaker _ _ done (λ j l. le_trans lawful _ _ _ l.0 (lt_le lawful _ _ good_at.1))
               (chain_before (line_of order lawful same equal) done x rest chain_at))
-              (le_refl cmp total hi, tt);
+              (le_refl lawful _, tt);
         }
 
     opens_by : (e : Bound K) (i : Option (Bound K)) → IsKnownBound order e → flipped e ≡ i
@@ -380,9 +302,7 @@ module _ {K : Type 0} (order : KeyOrder K) (lawful : IsLawful order) {V : Type 0
     first_start (Included k) from turns le = absurd (cc)
     first_start (Excluded k) from turns le = absurd (cc)
     first_start Unbounded from turns le =
-        le_trans (position_cmp order.cmp) (position_total order.cmp lawful.total)
-        (start_position order Unbounded) (Low r) from (unbounded_start order lawful r.start known.0)
-        le
+        le_trans lawful _ _ _ (unbounded_start order lawful r.start known.0) le
 
     -- the gap before the item
     gap_before : (from : Position K) (start : Option (Bound K)) (answers : List (Answered K V))
@@ -390,13 +310,9 @@ module _ {K : Type 0} (order : KeyOrder K) (lawful : IsLawful order) {V : Type 0
         → Reaches answers (free_between order start (flipped x.key.start))
         (λ m. Le' (Low x.key) m × (Le' m from ⊎ Le' m (Low x.key)))
     gap_before from start answers ready opens was =
-        let cmp = position_cmp order.cmp in
-        let total = position_total order.cmp lawful.total in
-        let own = le_refl cmp total (Low x.key) in
-        gap_step done (x ∷ rest) list from (Low x.key) ready
-        (lt_le cmp total (Low x.key) (High r) starts_at) above_it (inr (inl (own, own))) answers was
-        start (flipped x.key.start) opens
-        (λ b turns. (
+        let own = le_refl lawful _ in
+        gap_step done _ list from (Low x.key) ready (lt_le lawful _ _ starts_at) above_it
+        (inr (inl (own, own))) answers was start (flipped x.key.start) opens (λ b turns. (
           flipped_known order lawful x.key.start b turns good_at.0.0,
           flipped_bound_is_past order lawful b x.key.start
               (flipped_back order lawful x.key.start b turns),
@@ -410,17 +326,13 @@ module _ {K : Type 0} (order : KeyOrder K) (lawful : IsLawful order) {V : Type 0
         ((answers ++ map told (free_between order start (flipped x.key.start)))
         ++ told (bound_piece order r x) ∷ [])
     add_item from start answers ready opens was =
-        let cmp = position_cmp order.cmp in
-        let total = position_total order.cmp lawful.total in
         let opened = gap_before from start answers ready opens was in
         add_part opened.place
         (answers ++ map told (free_between order start (flipped x.key.start))) opened.cut
         opened.there.0
         (elim opened.there.1 [
-          | inl le ↦
-              le_trans cmp total opened.place from (Low Part) le (from_before_part from ready)
-          | inr le ↦
-              le_trans cmp total opened.place (Low x.key) (Low Part) le part_within.1
+          | inl le ↦ le_trans lawful _ _ _ le (from_before_part from ready)
+          | inr le ↦ le_trans lawful _ _ _ le part_within.1
         ])
 
   told_append : (xs ys : List (Item (AnyRange K) (Option V)))
@@ -444,9 +356,8 @@ module _ {K : Type 0} (order : KeyOrder K) (lawful : IsLawful order) {V : Type 0
       → IsReady done from → Opens start from → IsCutUpTo order lawful items r from answers
       → Reaches answers (pieces_from order r start (Some r.end) rest) (λ m. Le' (High r) m)
   pieces_reach [] done after list meet behind from start answers ready opens was =
-      let cmp = position_cmp order.cmp in
       let total = position_total order.cmp lawful.total in
-      let own = le_refl cmp total (High r) in
+      let own = le_refl lawful _ in
       let end =
       gap_step done after list from (High r) ready own behind (inl own) answers was start
       (Some r.end) opens
@@ -455,15 +366,13 @@ module _ {K : Type 0} (order : KeyOrder K) (lawful : IsLawful order) {V : Type 0
       (λ none. absurd (cc)) in
       record { place = end.place; cut = end.cut; there = end.there.0 }
   pieces_reach (x ∷ rest) done after list meet behind from start answers ready opens was =
-      let next =
-      add_item done (rest ++ after) x list meet.0 from start answers ready opens was in
+      let next = add_item done (rest ++ after) x list meet.0 from start answers ready opens was in
       let gap = free_between order start (flipped x.key.start) in
       let more = pieces_from order r (flipped x.key.end) (Some r.end) rest in
       let so_far = (answers ++ map told gap) ++ told (bound_piece order r x) ∷ [] in
       let end =
-      pieces_reach rest (done ++ x ∷ []) after (list ∙ relist done rest after x) meet.1 behind
-      (High x.key) (flipped x.key.end) so_far
-      (ready_after done (rest ++ after) x list meet.0)
+      pieces_reach rest _ after (list ∙ relist done rest after x) meet.1 behind (High x.key)
+      (flipped x.key.end) so_far (ready_after done (rest ++ after) x list meet.0)
       (opens_after done (rest ++ after) x list meet.0) next in
       record {
         place = end.place;
@@ -496,17 +405,13 @@ module _ {K : Type 0} (order : KeyOrder K) (lawful : IsLawful order) {V : Type 0
 
   lie_below : Every (λ i. PLe order lawful (Hi order lawful i.key) (Lo order lawful r)) are.before
   lie_below =
-      every_with (λ i. LiesBefore order i.key r) (λ i. IsKnownRange order i.key)
-      (λ i. PLe order lawful (Hi order lawful i.key) (Lo order lawful r)) are.before are.below
-      (every_left (λ i. IsKnownRange order i.key) are.before (met ++ are.after) known_parts)
+      every_with _ _ _ are.before are.below (every_left _ are.before (met ++ are.after) known_parts)
       (λ i l k. (before_is order lawful i.key.end r.start k.1 known.0).0 l)
 
   lie_above : Every (λ i. PLe order lawful (Hi order lawful r) (Lo order lawful i.key)) are.after
   lie_above =
-      every_with (λ i. LiesBefore order r i.key) (λ i. IsKnownRange order i.key)
-      (λ i. PLe order lawful (Hi order lawful r) (Lo order lawful i.key)) are.after are.above
-      (every_right (λ i. IsKnownRange order i.key) met are.after
-      (every_right (λ i. IsKnownRange order i.key) are.before (met ++ are.after) known_parts))
+      every_with _ _ _ are.after are.above
+      (every_right _ met are.after (every_right _ are.before (met ++ are.after) known_parts))
       (λ i l k. (before_is order lawful r.end i.key.start known.1 k.0).0 l)
 
   reached : Reaches order lawful same equal items r known all_nonempty all_chained own_room []
@@ -514,7 +419,7 @@ module _ {K : Type 0} (order : KeyOrder K) (lawful : IsLawful order) {V : Type 0
       (λ m. PLe order lawful (Hi order lawful r) m)
   reached =
       let total = position_total order.cmp lawful.total in
-      let own = le_refl (position_cmp order.cmp) total (Lo order lawful r) in
+      let own = le_refl lawful _ in
       pieces_reach order lawful same equal items r known all_nonempty all_chained own_room met
       are.before are.after are.split are.meet lie_above (Lo order lawful r) (Some r.start) []
       (record { edge = inl own; at_least = own; below = lie_below })
@@ -523,9 +428,8 @@ module _ {K : Type 0} (order : KeyOrder K) (lawful : IsLawful order) {V : Type 0
   -- the list has all pieces of the range
   pub pieces_are : ArePieces order items r Pieces
   pieces_are =
-      rw (told_back Pieces)
-      at (cut_all order lawful items r known same equal all_nonempty all_chained reached.place
-      (map told Pieces) reached.cut reached.there)
+      rw (told_back Pieces) at (cut_all order lawful items r known same equal all_nonempty
+      all_chained reached.place _ reached.cut reached.there)
 
   told_some : (P : Item (AnyRange K) (Option V) → Type 0)
       (pieces : List (Item (AnyRange K) (Option V)))
@@ -546,42 +450,25 @@ module _ {K : Type 0} (order : KeyOrder K) (lawful : IsLawful order) {V : Type 0
       by_value (Some v) e h =
           let others = free_inside order lawful items r known all_nonempty part free in
           let apart =
-          every_weaker (λ i. IsFull order lawful items r i
-          × (PLe order lawful (Hi order lawful i.key) (Lo order lawful part)
-          ⊎ PLe order lawful (Hi order lawful part) (Lo order lawful i.key)))
-          (λ i. PLe order lawful (Hi order lawful i.key) (Lo order lawful part)
-          ⊎ PLe order lawful (Hi order lawful part) (Lo order lawful i.key)) items (λ i b. b.1)
+          every_weaker _ _ items (λ i b. b.1)
           (free_apart order lawful items r known all_nonempty part free) in
-          absurd
-          (common_place_is_not_clear order lawful items r known all_nonempty same equal
-          (Lo order lawful part) a.key part v is_known h over.0 over.1 apart
-          (le_refl (position_cmp order.cmp) (position_total order.cmp lawful.total)
-          (Lo order lawful part)) others.2)
+          absurd (common_place_is_not_clear order lawful items r known all_nonempty same equal
+          (Lo order lawful part) a.key part v is_known h over.0 over.1 apart (le_refl lawful _)
+          others.2)
 
   -- where a part of the range is free, some piece is
   pub free_shows : (part : AnyRange K) → IsFreePart order items r part
       → Any (λ p. p.value ≡ None) Pieces
   free_shows part free =
-      let cmp = position_cmp order.cmp in
-      let total = position_total order.cmp lawful.total in
       let inside = free_inside order lawful items r known all_nonempty part free in
-      let before_end =
-      lt_le_trans cmp total (Lo order lawful part) (Hi order lawful part)
-      (Hi order lawful r) inside.2 inside.3 in
+      let before_end = lt_le_trans lawful _ _ _ inside.2 inside.3 in
       let there =
       reached.cut.covered (Lo order lawful part) inside.1 before_end
-      (lt_le_trans cmp total (Lo order lawful part) (Hi order lawful r) reached.place before_end
-      reached.there) in
+      (lt_le_trans lawful _ _ _ before_end reached.there) in
       let Right =
       λ (a : Answered K V). IsInside order lawful items r a.key
       × IsRight order lawful items r a.key a.value in
       let each : Every Right (map told Pieces) =
-      every_with (λ a. IsInside order lawful items r a.key
-      × PLe order lawful (Hi order lawful a.key) reached.place)
-      (λ a. IsRight order lawful items r a.key a.value) Right (map told Pieces) reached.cut.inside
-      reached.cut.right (λ a h k. (h.0, k)) in
+      every_with _ _ Right _ reached.cut.inside reached.cut.right (λ a h k. (h.0, k)) in
       told_some (λ p. p.value ≡ None) Pieces
-      (any_with (λ a. PLe order lawful (Lo order lawful a.key) (Lo order lawful part)
-      × PLt order lawful (Lo order lawful part) (Hi order lawful a.key)) Right
-      (λ a. a.value ≡ None) (map told Pieces) there each
-      (λ a over h. free_is_listed part free a over h.0.0 h.1))
+      (any_with _ Right _ _ there each (λ a over h. free_is_listed part free a over h.0.0 h.1))

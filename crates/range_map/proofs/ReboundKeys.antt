@@ -1,42 +1,21 @@
 -- What the keys of a piece are bound to, and what they come to be bound to by an answer to it.
 use Rattle.std.proofs.Common.{◌≡◌, refl, Bool, true, false, List, [], ◌∷◌, map, Option, Some, None, ◌↔◌, inl, inr}
 use Rattle.std.specs.Prelude.{Result, Ok, if◌then◌else◌}
-use denote.Ref.{Bor}
-use Rattle.std.specs.Fn.{Shared}
-use Rattle.std.specs.Cmp.{IsEquivalence}
-use Rattle.std.specs.Ordering.{is_gt}
-use Rattle.range_keys.specs.Order.{KeyOrder, IsLawful}
-use Rattle.range_keys.specs.Position.{position_cmp, start_position, end_position}
-use Rattle.range_keys.specs.PositionOrder.{position_total}
-use Rattle.range_keys.specs.declared.inner.position.Position.{Position}
-use Rattle.range_keys.specs.declared.inner.position.Position.TheVariants.{Beside}
-use Rattle.range_keys.specs.declared.inner.position.Side.TheVariants.{At}
-use Rattle.range_algebra.specs.Intervals.{Le, Any, Every}
-use Rattle.range_algebra.specs.Orders.{eq_le, eq_ge, le_refl, le_trans, lt_not_le, not_lt}
-use Rattle.range_algebra.specs.Range.{Holds, IsEmptyRange}
-use Rattle.range_algebra.specs.declared.any.AnyRange.{AnyRange}
+use Rattle.range_map.proofs.Common.{Bor, Shared, IsEquivalence, is_gt, KeyOrder, IsLawful, position_cmp, start_position, end_position, Position, Beside, At, Le, Any, Every, Holds, IsEmptyRange, AnyRange, Item, Answered, IsAsAnswered, MayAnswer, IsUpdated, piece_of, Binds, BindsTo, IsBound, IsPiece, IsCommonPart, later, earlier, Overlap}
+use Rattle.range_map.proofs.PlaceOrder.{eq_le, eq_ge, le_refl, le_trans, lt_not_le, not_lt}
 use Rattle.range_algebra.proofs.Holding.{holds_by_position, empty_is_keyless}
-use Rattle.range_store.specs.declared.storage.Item.{Item}
-use Rattle.range_change.specs.Answers.{Answered, IsAsAnswered, MayAnswer, IsUpdated, piece_of}
-use Rattle.range_change.specs.Bindings.{Binds, BindsTo, IsBound}
-use Rattle.range_change.specs.Pieces.{IsPiece, IsCommonPart, later, earlier}
-use Rattle.range_change.specs.Lookups.{Overlap}
 use Rattle.range_map.specs.Rebinding.{IsRebound, AreRebound}
 
 module _ {K : Type 0} (order : KeyOrder K) (lawful : IsLawful order) (k : K)
     (key : order.is_key k) where
   later_reaches : (p q : Position K) (b : Bool) → is_gt (position_cmp order.cmp p q) ≡ b
       → Le (position_cmp order.cmp) q (if b then p else q)
-  later_reaches p q true e =
-      not_lt (position_cmp order.cmp) (position_total order.cmp lawful.total) q p
-      (λ less. let clash = rw less at e in cc)
-  later_reaches p q false e =
-      le_refl (position_cmp order.cmp) (position_total order.cmp lawful.total) q
+  later_reaches p q true e = not_lt lawful _ _ (λ less. let clash = rw less at e in cc)
+  later_reaches p q false e = le_refl lawful _
 
   earlier_stays : (p q : Position K) (b : Bool) → is_gt (position_cmp order.cmp p q) ≡ b
       → Le (position_cmp order.cmp) (if b then q else p) q
-  earlier_stays p q true e =
-      le_refl (position_cmp order.cmp) (position_total order.cmp lawful.total) q
+  earlier_stays p q true e = le_refl lawful _
   earlier_stays p q false e = e
 
   -- a key of a common part is held by both
@@ -44,43 +23,33 @@ module _ {K : Type 0} (order : KeyOrder K) (lawful : IsLawful order) (k : K)
       → Holds order s k
   common_holds r s part common held =
       let cmp = position_cmp order.cmp in
-      let total = position_total order.cmp lawful.total in
       let within = (holds_by_position order lawful part k key).0 held in
       let here : Position K = Beside k At in
-      let from : Position K =
-      later order (start_position order r.start) (start_position order s.start) in
-      let to : Position K = earlier order (end_position order r.end) (end_position order s.end) in
       let start : Position K = start_position order part.start in
       let end : Position K = end_position order part.end in
       let starts : Le cmp (start_position order s.start) start =
-      le_trans cmp total (start_position order s.start) from start
-      (later_reaches (start_position order r.start) (start_position order s.start)
+      le_trans lawful _ _ _ (later_reaches (start_position order r.start)
+      (start_position order s.start)
       (is_gt (cmp (start_position order r.start) (start_position order s.start))) refl)
-      (eq_ge cmp total start from common.starts) in
+      (eq_ge lawful _ _ common.starts) in
       let ends : Le cmp end (end_position order s.end) =
-      le_trans cmp total end to (end_position order s.end)
-      (eq_le cmp total end to common.ends)
+      le_trans lawful _ _ _ (eq_le lawful _ _ common.ends)
       (earlier_stays (end_position order r.end) (end_position order s.end)
       (is_gt (cmp (end_position order r.end) (end_position order s.end))) refl) in
       (holds_by_position order lawful s k key).1 (
-        le_trans cmp total (start_position order s.start) start here starts within.0,
-        le_trans cmp total here end (end_position order s.end) within.1 ends,
+        le_trans lawful _ _ _ starts within.0,
+        le_trans lawful here end (end_position order s.end) within.1 ends,
       )
 
   -- ranges that hold a key in common meet
   shared_key_is_overlap : (r s : AnyRange K) → Holds order r k → Holds order s k → Overlap order r s
   shared_key_is_overlap r s held other =
-      let cmp = position_cmp order.cmp in
-      let total = position_total order.cmp lawful.total in
-      let here : Position K = Beside k At in
       let first = (holds_by_position order lawful r k key).0 held in
       let second = (holds_by_position order lawful s k key).0 other in (
-        λ less. lt_not_le cmp total (end_position order r.end) (start_position order s.start) less
-            (le_trans cmp total (start_position order s.start) here
-            (end_position order r.end) second.0 first.1),
-        λ less. lt_not_le cmp total (end_position order s.end) (start_position order r.start) less
-            (le_trans cmp total (start_position order r.start) here
-            (end_position order s.end) first.0 second.1),
+        λ less. lt_not_le lawful _ _ less
+            (le_trans lawful _ _ _ second.0 first.1),
+        λ less. lt_not_le lawful _ _ less
+            (le_trans lawful _ _ _ first.0 second.1),
       )
 
   module _ {V : Type 0} (same : V → V → Bool) (equal : IsEquivalence same) where

@@ -1,20 +1,10 @@
 -- Which items of a list are kept, one answer after the other.
 use Rattle.std.proofs.Common.{◌≡◌, ◌∙◌, refl, sym, ap, ℕ, ◌+◌, ◌-◌, ◌<◌, ◌≤◌, Bool, true, false, IsTrue, List, [], ◌∷◌, ◌++◌, length, ◌↔◌, inl, inr, Option, Some, None, arith, subst}
 use Rattle.std.specs.Prelude.{remove, slice_index_or}
-use Rattle.std.specs.List.{items_where_true}
+use Rattle.range_map.proofs.Common.{items_where_true, IsEquivalence, length-append, length_push, append_assoc, append-nil, remove-append_right, KeyOrder, IsLawful, Every, AnyRange, Item, IsBound, BindsTo, Binds, Line, Follows, IsChain, line_of, IsStored}
 use Rattle.std.specs.List.Retain.{ReturnsInTurn}
-use Rattle.std.specs.Cmp.{IsEquivalence}
-use Rattle.std.proofs.lemmas.List.{length-append, length_push, append_assoc, append-nil}
-use Rattle.std.proofs.lemmas.List.Edits.{remove-append_right}
-use Rattle.range_keys.specs.Order.{KeyOrder, IsLawful}
-use Rattle.range_algebra.specs.Intervals.{Every}
 use Rattle.range_algebra.specs.Orders.{le_lt_trans, lt_le_trans}
-use Rattle.range_algebra.specs.declared.any.AnyRange.{AnyRange}
-use Rattle.range_store.specs.declared.storage.Item.{Item}
-use Rattle.range_change.specs.Bindings.{IsBound, BindsTo, Binds}
-use Rattle.range_change.specs.Chains.{Line, Follows, IsChain, line_of}
 use Rattle.range_map.specs.Retaining.{BindOnlyAsBefore}
-use Rattle.range_change.specs.Stored.{IsStored}
 use Rattle.range_change.proofs.Chains.{strictly_leads}
 use Rattle.range_change.proofs.Forms.{stored_known, stored_chain, chain_stored}
 use Rattle.range_map.proofs.Once.{bound_once}
@@ -56,7 +46,7 @@ module _ {L V X : Type 0} (line : Line L V X) where
   chain_kept (b ∷ bs) [] h = tt
   chain_kept (true ∷ bs) (x ∷ xs) h = (h.0, follows_kept x bs xs h.1)
   chain_kept (false ∷ bs) (x ∷ []) h = chain_kept bs [] tt
-  chain_kept (false ∷ bs) (x ∷ y ∷ xs) h = chain_kept bs (y ∷ xs) h.1.1
+  chain_kept (false ∷ bs) (x ∷ y ∷ xs) h = chain_kept bs _ h.1.1
 
 module _ {K : Type 0} (order : KeyOrder K) (lawful : IsLawful order) {V : Type 0}
     (same : V → V → Bool) (equal : IsEquivalence same) where
@@ -239,11 +229,11 @@ module _ {X F : Type 0} (R : F → X → Bool → F → Type 0) (old : List X) (
       (retaining_more items next f g x false place was after.0 after.1 one is)
 
   -- at the end the closure was called at each item
-  pub retained : (items : List X) (place : ℕ) (f : F) → IsRetaining items place f
+  pub retained : {items : List X} {place : ℕ} {f : F} → IsRetaining items place f
       → place ≡ length items
       → (bs : List Bool) × (q : F) × (length bs ≡ length old) × ReturnsInTurn R start bs old q
       × (items ≡ items_where_true bs old)
-  retained items place f was end =
+  retained {f = f} was end =
       let kept = items_where_true was.bs was.done in
       let none = no_rest kept was.rest
       (omega (arith, end, was.size, ap length was.left)) in

@@ -1,13 +1,7 @@
 -- What an item at an index binds.
 use Rattle.std.proofs.Common.{◌≡◌, ℕ, ◌<◌, suc, zero, List, [], ◌∷◌, length, get_or, take, subst, ◌≤◌, inl, inr, Bool, IsTrue, arith}
-use Rattle.std.specs.List.{All, AllByRecursion}
-use Rattle.std.proofs.lemmas.List.{take_all}
+use Rattle.range_map.proofs.Common.{All, AllByRecursion, take_all, KeyOrder, Holds, AnyRange, Item, IsBound, BindsTo}
 use Rattle.std.proofs.lemmas.List.Elements.{recursion_from_All}
-use Rattle.range_keys.specs.Order.{KeyOrder}
-use Rattle.range_algebra.specs.Range.{Holds}
-use Rattle.range_algebra.specs.declared.any.AnyRange.{AnyRange}
-use Rattle.range_store.specs.declared.storage.Item.{Item}
-use Rattle.range_change.specs.Bindings.{IsBound, BindsTo}
 
 module _ {K : Type 0} (order : KeyOrder K) {V : Type 0} (same_value : V → V → Bool) where
   -- an item that holds the key binds it to its value

@@ -1,18 +1,9 @@
 -- Lists that are sorted up to a place, and what a map is built of.
 use Rattle.std.proofs.Common.{◌≡◌, refl, ap, ◌∙◌, ◌+◌, ◌<◌, ◌≤◌, ℕ, zero, suc, take, map, get_or, length, Some, List, [], ◌∷◌, ◌++◌, arith}
-use Rattle.std.proofs.lemmas.List.{map_more, take-map}
-use Rattle.range_keys.specs.Order.{KeyOrder, IsLawful}
-use Rattle.range_algebra.specs.Cuts.{lower}
-use Rattle.range_algebra.specs.Intervals.{Every}
-use Rattle.range_algebra.specs.Range.{IsEmptyRange, IsKnownRange}
-use Rattle.range_algebra.specs.Relations.{LiesBefore}
-use Rattle.range_algebra.specs.declared.any.AnyRange.{AnyRange}
+use Rattle.range_map.proofs.Common.{map_more, take-map, KeyOrder, IsLawful, lower, Every, IsEmptyRange, IsKnownRange, LiesBefore, AnyRange, Item, item_upper, full_range}
 use Rattle.range_algebra.proofs.Places.{unbounded_start}
-use Rattle.range_store.specs.declared.storage.Item.{Item}
 use Rattle.range_change.specs.Neighbours.{EachNext}
-use Rattle.range_change.specs.Stored.{item_upper}
 use Rattle.range_change.proofs.Forms.{before_is}
-use Rattle.range_map.specs.FreeRanges.{full_range}
 use Rattle.range_map.specs.Sorting.{IsFirstFault, IsNext, IsSorted, last_key}
 use Rattle.range_map.proofs.Joining.{RisesFrom}
 
@@ -79,7 +70,7 @@ module _ {K : Type 0} (order : KeyOrder K) {V : Type 0} where
       → IsFirstFault order xs n → ¬ (m < n)
   not_later xs m n fault other less =
       let same = fewer (m + 1) n xs (omega (arith, less)) in
-      fault.1 (rw same at (front_sorted (m + 1) (take n xs) other.0))
+      fault.1 (rw same at (front_sorted (m + 1) _ other.0))
 
   -- there is one first fault
   pub one_fault : (xs : List (Item (AnyRange K) V)) (m n : ℕ) → IsFirstFault order xs m

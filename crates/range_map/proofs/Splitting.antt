@@ -1,30 +1,10 @@
 -- A stored list cut in two at a key.
 use Rattle.std.proofs.Common.{◌≡◌, refl, sym, ap, ◌∙◌, ◌+◌, ◌≤◌, Bool, true, IsTrue, List, [], ◌∷◌, ◌++◌, length, arith, subst}
-use Rattle.std.specs.Ordering.{ordering_then}
-use Rattle.std.specs.declared.cmp.Ordering.{Ordering}
-use Rattle.std.specs.declared.cmp.Ordering.TheVariants.{Less, Equal, Greater}
-use Rattle.std.specs.declared.ops.Bound.{Bound}
-use Rattle.std.specs.declared.ops.Bound.TheVariants.{Included, Excluded}
-use Rattle.std.specs.Cmp.{IsEquivalence}
-use Rattle.std.proofs.lemmas.List.{append_assoc, length-append}
-use Rattle.range_keys.specs.Order.{KeyOrder, IsLawful, Below, NotAbove}
-use Rattle.range_keys.specs.Position.{start_position}
-use Rattle.range_keys.specs.PositionOrder.{position_total}
-use Rattle.range_keys.specs.declared.inner.position.Position.{Position}
-use Rattle.range_keys.specs.declared.inner.position.Position.TheVariants.{Beside}
-use Rattle.range_keys.specs.declared.inner.position.Side.TheVariants.{At}
-use Rattle.range_algebra.specs.Clones.{SameBound}
-use Rattle.range_algebra.specs.Intervals.{Le, Lt, Every}
-use Rattle.range_algebra.specs.Orders.{le_refl, lt_le, le_trans, not_lt, both}
-use Rattle.range_algebra.specs.Range.{Holds, IsKnownBound}
-use Rattle.range_algebra.specs.declared.any.AnyRange.{AnyRange}
-use Rattle.range_algebra.proofs.Lists.{every_append, every_left, every_right, every_weaker}
+use Rattle.range_map.proofs.Common.{ordering_then, Ordering, Less, Equal, Greater, Bound, Included, Excluded, IsEquivalence, append_assoc, length-append, KeyOrder, IsLawful, Below, NotAbove, start_position, Position, Beside, At, SameBound, Le, Lt, Every, Holds, IsKnownBound, AnyRange, every_append, every_left, every_right, every_weaker, Item, line_of, IsLeft, IsRight, IsStored, item_lower, item_upper}
+use Rattle.range_map.proofs.PlaceOrder.{le_refl, lt_le, le_trans, not_lt, both}
 use Rattle.range_algebra.proofs.Places.{held_between}
-use Rattle.range_store.specs.declared.storage.Item.{Item}
-use Rattle.range_change.specs.Chains.{line_of, IsLeft, IsRight}
 use Rattle.range_change.specs.Edits.{with_start}
 use Rattle.range_map.specs.Splitting.{IsDivided}
-use Rattle.range_change.specs.Stored.{IsStored, item_lower, item_upper}
 use Rattle.range_change.proofs.Chains.{same_is_symmetric, chain_before}
 use Rattle.range_change.proofs.ChainSides.{left_whole, left_cut, right_whole, right_cut, none_above, none_below}
 use Rattle.range_change.proofs.CutParts.{cut_end}
@@ -118,25 +98,19 @@ module _ {K : Type 0} (order : KeyOrder K) (lawful : IsLawful order) {V : Type 0
       pub last_parted : (Holds order x.key key → ⊥)
           → IsDivided order same key ((front ++ x ∷ []) ++ rest) (front ++ x ∷ []) rest
       last_parted out =
-          let total = position_total order.cmp lawful.total in
           let line = line_of order lawful same equal in
           let whole = subst (IsStored order same) together form in
           let known = stored_known order lawful same equal (front ++ x ∷ rest) whole in
-          let x_known = (every_right _ front (x ∷ rest) known).0 in
+          let x_known = (every_right _ front _ known).0 in
           let chain = stored_chain order lawful same equal (front ++ x ∷ rest) whole in
           let at = held_between order lawful x.key key x_known key_known in
           let ends : Le (places order lawful) (item_upper order x) cut =
-          not_lt (places order lawful) total (item_upper order x) cut
-          (λ reaches. out (at.1 (
-            lt_le (places order lawful) total (item_lower order x) cut low,
-            reaches,
-          ))) in
+          not_lt lawful _ _ (λ reaches. out (at.1 (lt_le lawful _ _ low, reaches))) in
           parted (front ++ x ∷ []) rest form
           (every_append _ front (x ∷ [])
           (every_weaker _ _ front (λ z h.
-          le_trans (places order lawful) total (item_upper order z) (item_lower order x) cut h.0
-          (lt_le (places order lawful) total (item_lower order x) cut low))
-          (chain_before line front x rest chain)) (ends, tt)) starts
+          le_trans lawful _ _ _ h.0 (lt_le lawful _ _ low)) (chain_before line front x rest chain))
+          (ends, tt)) starts
 
       -- it holds the key, and is cut there
       pub last_cut : (b : Bound K) (v : V) → IsKnownBound order b
@@ -145,30 +119,27 @@ module _ {K : Type 0} (order : KeyOrder K) (lawful : IsLawful order) {V : Type 0
           (front ++ (record { key = record { start = x.key.start; end = b }; value = v }) ∷ [])
           (with_start x (Included key) ∷ rest)
       last_cut b v b_known same_b alike held =
-          let total = position_total order.cmp lawful.total in
           let line = line_of order lawful same equal in
           let whole = subst (IsStored order same) together form in
           let known = stored_known order lawful same equal (front ++ x ∷ rest) whole in
-          let front_known = every_left _ front (x ∷ rest) known in
-          let x_known = (every_right _ front (x ∷ rest) known).0 in
-          let rest_known = (every_right _ front (x ∷ rest) known).1 in
+          let front_known = every_left _ front _ known in
+          let x_known = (every_right _ front _ known).0 in
+          let rest_known = (every_right _ front _ known).1 in
           let chain = stored_chain order lawful same equal (front ++ x ∷ rest) whole in
           let at = (held_between order lawful x.key key x_known key_known).0 held in
           let y : Item (AnyRange K) V =
           record { key = record { start = x.key.start; end = b }; value = v } in
           let z = with_start x (Included key) in
           let own : (p : Position K) → places order lawful p p ≡ Equal =
-          λ p. both (places order lawful) total p p (le_refl (places order lawful) total p)
-          (le_refl (places order lawful) total p) in
+          λ p. both lawful _ _ (le_refl lawful _) (le_refl lawful _) in
           let at_end = cut_end order lawful x.key.start (Included key) b x_known.0 low same_b in
           let sum = length-append front (x ∷ rest) in
           let sum_front = length-append front (y ∷ []) in
-          subst (λ items. IsDivided order same key items (front ++ y ∷ []) (z ∷ rest)) (sym together)
-          (divided (front ++ x ∷ rest) (front ++ y ∷ []) (z ∷ rest) known
+          subst (λ items. IsDivided order same key items (front ++ y ∷ []) (z ∷ rest))
+          (sym together) (divided (front ++ x ∷ rest) (front ++ y ∷ []) _ known
           (every_append _ front (y ∷ []) front_known ((x_known.0, b_known), tt))
           ((key_known, x_known.1), rest_known)
-          (left_cut line front x rest y cut chain low
-          (lt_le (places order lawful) total cut (item_upper order x) at.1)
+          (left_cut line front x rest y cut chain low (lt_le lawful cut (item_upper order x) at.1)
           (own (item_lower order x)) at_end (same_is_symmetric line x.value v alike))
           (right_cut line front x rest z cut chain at.0 at.1 (own cut) (own (item_upper order x))
           (equal.refl x.value)) (omega (arith, sum, sum_front)))

@@ -1,93 +1,74 @@
 -- Lists of the map's form are coarse over complete keys, and equal exactly where they bind every
 -- key alike.
 use Rattle.std.proofs.Common.{◌≡◌, refl, sym, ap, ◌∙◌, List, [], ◌∷◌, length, inl, inr, ◌↔◌, Bool, ◌&&◌, IsTrue, Option, Some, None}
-use Rattle.std.specs.declared.cmp.Ordering.{Ordering}
-use Rattle.std.specs.declared.cmp.Ordering.TheVariants.{Equal}
-use Rattle.std.specs.Ordering.{is_eq, eq_by_cmp}
-use Rattle.std.specs.Cmp.{IsEquivalence, IsTotalOrder, Equal-is, alike_right, first_so, second_so}
-use Rattle.range_keys.specs.Order.{KeyOrder, IsLawful, IsComplete}
-use Rattle.range_keys.specs.Position.{start_position, end_position, position_cmp}
-use Rattle.range_algebra.specs.Range.{Holds, IsKnownRange, IsEmptyRange, IsKeyless}
-use Rattle.range_algebra.specs.RangeOrder.{range_cmp}
-use Rattle.range_algebra.specs.declared.any.AnyRange.{AnyRange}
-use Rattle.std.specs.List.{AllByRecursion}
-use Rattle.std.proofs.lemmas.Bool.{and_from}
+use Rattle.range_map.proofs.Common.{Ordering, Equal, is_eq, eq_by_cmp, IsEquivalence, IsTotalOrder, Equal-is, alike_right, first_so, second_so, KeyOrder, IsLawful, IsComplete, start_position, end_position, position_cmp, Holds, IsKnownRange, IsEmptyRange, IsKeyless, range_cmp, AnyRange, AllByRecursion, and_from, Item, IsBound, BindsTo, Binds, BindAlike, IsCoarse, AreAlike, IsOnlyCoarse, IsLeastCount, IsStored, same_list, list_cmp, lists_tied, lists_order}
 use Rattle.range_algebra.proofs.Holding.{empty_is_keyless}
 use Rattle.range_algebra.proofs.Completeness.{nonempty_holds}
 use Rattle.range_algebra.proofs.Canonical.{same_is_equal, equal_is_same}
 use Rattle.range_algebra.proofs.Meeting.{not_greater}
-use Rattle.range_store.specs.declared.storage.Item.{Item}
-use Rattle.range_change.specs.Bindings.{IsBound, BindsTo, Binds, BindAlike, IsCoarse, AreAlike, IsOnlyCoarse, IsLeastCount}
-use Rattle.range_change.specs.Stored.{IsStored}
-use Rattle.range_map.specs.ListOrder.{same_list, list_cmp, lists_tied, lists_order}
 use Rattle.range_change.proofs.Overlaps.{binds_bound}
 use Rattle.range_map.proofs.Coarse.{coarse_alike, coarse_shortest, Follows}
 use Rattle.range_algebra.proofs.Joined.{before_is, ends_below, joined_touch, is_before_of}
 
-module _ {K : Type 0} (order : KeyOrder K) (lawful : IsLawful order) {V : Type 0}
-    (same_value : V → V → Bool) (values : IsEquivalence same_value) where
+module _ {K : Type 0} {order : KeyOrder K} (lawful : IsLawful order) {V : Type 0}
+    {same_value : V → V → Bool} (values : IsEquivalence same_value) where
   tail_is_stored : (i : Item (AnyRange K) V) (rest : List (Item (AnyRange K) V))
       → IsStored order same_value (i ∷ rest) → IsStored order same_value rest
   tail_is_stored i rest stored =
       record { known = stored.known.1; nonempty = stored.nonempty.1; rising = stored.rising.1 }
 
-  module _ (complete : IsComplete order) where
-    has_key : (i : Item (AnyRange K) V) (rest : List (Item (AnyRange K) V))
-        → IsStored order same_value (i ∷ rest) → ¬ IsKeyless order i.key
-    has_key i rest stored none =
-        let found =
-        nonempty_holds order lawful complete i.key stored.known.0
-        (not_greater (position_cmp order.cmp (start_position order i.key.start)
-        (end_position order i.key.end)) stored.nonempty.0) in
-        none found.0 found.1 found.2
+  has_key : (i : Item (AnyRange K) V) (rest : List (Item (AnyRange K) V))
+      → IsStored order same_value (i ∷ rest) → IsComplete order → ¬ IsKeyless order i.key
+  has_key i rest stored complete none =
+      let found =
+      nonempty_holds order lawful complete i.key stored.known.0 (not_greater _ stored.nonempty.0) in
+      none found.0 found.1 found.2
 
-    -- over complete keys the map's form is coarse
-    pub stored_coarse : (items : List (Item (AnyRange K) V)) → IsStored order same_value items
-        → IsCoarse order same_value items
-    stored_coarse [] stored = record { keyed = tt; rising = tt; parted = tt }
-    stored_coarse (i ∷ []) stored =
-        record { keyed = (has_key i [] stored, tt); rising = (tt, tt); parted = (tt, tt) }
-    stored_coarse (i ∷ j ∷ rest) stored =
-        let before =
-        before_is order lawful i.key j.key (same_value i.value j.value) stored.rising.0 in
-        let behind = stored_coarse (j ∷ rest) (tail_is_stored i (j ∷ rest) stored) in
-        record {
-          keyed = (has_key i (j ∷ rest) stored, behind.keyed);
-          rising = (ends_below order lawful i.key j.key before.0, behind.rising);
-          parted = (
-            λ joined same. before.1 same
-                (joined_touch order lawful complete i.key j.key stored.known.0 stored.known.1.0
-                stored.nonempty.0 stored.nonempty.1.0 joined),
-            behind.parted,
-          );
-        }
+  -- over complete keys the map's form is coarse
+  pub stored_coarse : (items : List (Item (AnyRange K) V)) → IsStored order same_value items
+      → IsComplete order → IsCoarse order same_value items
+  stored_coarse [] stored complete = record { keyed = tt; rising = tt; parted = tt }
+  stored_coarse (i ∷ []) stored complete =
+      record { keyed = (has_key i [] stored complete, tt); rising = (tt, tt); parted = (tt, tt) }
+  stored_coarse (i ∷ j ∷ rest) stored complete =
+      let before =
+      before_is order lawful i.key j.key (same_value i.value j.value) stored.rising.0 in
+      let behind = stored_coarse (j ∷ rest) (tail_is_stored i (j ∷ rest) stored) complete in
+      record {
+        keyed = (has_key i (j ∷ rest) stored complete, behind.keyed);
+        rising = (ends_below order lawful i.key j.key before.0, behind.rising);
+        parted = (
+          λ joined same. before.1 same
+              (joined_touch order lawful complete i.key j.key stored.known.0 stored.known.1.0
+              stored.nonempty.0 stored.nonempty.1.0 joined),
+          behind.parted,
+        );
+      }
 
-    pub stored_only : (items : List (Item (AnyRange K) V)) → IsStored order same_value items
-        → IsOnlyCoarse order same_value items
-    stored_only items stored others coarse alike =
-        coarse_alike order lawful same_value values items others
-        (stored_coarse items stored) coarse alike
+  pub stored_only : (items : List (Item (AnyRange K) V)) → IsStored order same_value items
+      → IsComplete order → IsOnlyCoarse order same_value items
+  stored_only items stored complete others coarse alike =
+      coarse_alike order lawful same_value values items others
+      (stored_coarse items stored complete) coarse alike
 
-    pub stored_least : (items : List (Item (AnyRange K) V)) → IsStored order same_value items
-        → IsLeastCount order same_value items (length items)
-    stored_least items stored others alike =
-        coarse_shortest order lawful same_value values items others
-        (stored_coarse items stored) alike
+  pub stored_least : (items : List (Item (AnyRange K) V)) → IsStored order same_value items
+      → IsComplete order → IsLeastCount order same_value items (length items)
+  stored_least items stored complete others alike =
+      coarse_shortest order lawful same_value values items others
+      (stored_coarse items stored complete) alike
 
-    alike_equal : (items others : List (Item (AnyRange K) V)) → IsStored order same_value items
-        → IsStored order same_value others → AreAlike order same_value items others
-        → IsTrue (same_list order same_value items others)
-    alike_equal [] [] stored stored' alike = refl
-    alike_equal [] (j ∷ others) stored stored' alike = absurd alike
-    alike_equal (i ∷ items) [] stored stored' alike = absurd alike
-    alike_equal (i ∷ items) (j ∷ others) stored stored' alike =
-        and_from (eq_by_cmp (range_cmp order) i.key j.key && same_value i.value j.value)
-        (same_list order same_value items others)
-        (and_from (eq_by_cmp (range_cmp order) i.key j.key) (same_value i.value j.value)
-        (ap is_eq (same_is_equal order lawful complete i.key j.key stored.known.0 stored'.known.0
-        stored.nonempty.0 stored'.nonempty.0 alike.0.0)) alike.0.1)
-        (alike_equal items others (tail_is_stored i items stored)
-        (tail_is_stored j others stored') alike.1)
+  alike_equal : IsComplete order → (items others : List (Item (AnyRange K) V))
+      → IsStored order same_value items → IsStored order same_value others
+      → AreAlike order same_value items others → IsTrue (same_list order same_value items others)
+  alike_equal complete [] [] stored stored' alike = refl
+  alike_equal complete [] (j ∷ others) stored stored' alike = absurd alike
+  alike_equal complete (i ∷ items) [] stored stored' alike = absurd alike
+  alike_equal complete (i ∷ items) (j ∷ others) stored stored' alike =
+      and_from _ _ (and_from _ _
+      (ap is_eq (same_is_equal order lawful complete i.key j.key stored.known.0 stored'.known.0
+      stored.nonempty.0 stored'.nonempty.0 alike.0.0)) alike.0.1)
+      (alike_equal complete items others (tail_is_stored i items stored)
+      (tail_is_stored j others stored') alike.1)
 
   equal_alike : (items others : List (Item (AnyRange K) V))
       → IsTrue (same_list order same_value items others) → AreAlike order same_value items others
@@ -95,20 +76,10 @@ module _ {K : Type 0} (order : KeyOrder K) (lawful : IsLawful order) {V : Type 0
   equal_alike [] (j ∷ others) e = cc
   equal_alike (i ∷ items) [] e = cc
   equal_alike (i ∷ items) (j ∷ others) e =
-      let here =
-      first_so (eq_by_cmp (range_cmp order) i.key j.key && same_value i.value j.value)
-      (same_list order same_value items others) e in
-      let there =
-      second_so (eq_by_cmp (range_cmp order) i.key j.key && same_value i.value j.value)
-      (same_list order same_value items others) e in
-      let ranges =
-      first_so (eq_by_cmp (range_cmp order) i.key j.key)
-      (same_value i.value j.value) here in (
-        (
-          equal_is_same order lawful i.key j.key
-              ((Equal-is (range_cmp order i.key j.key)).0 ranges),
-          second_so (eq_by_cmp (range_cmp order) i.key j.key) (same_value i.value j.value) here,
-        ),
+      let here = first_so _ _ e in
+      let there = second_so _ _ e in
+      let ranges = first_so _ _ here in (
+        (equal_is_same order lawful i.key j.key ((Equal-is _).0 ranges), second_so _ _ here),
         equal_alike items others there,
       )
 
@@ -173,7 +144,7 @@ module _ {K : Type 0} (order : KeyOrder K) (lawful : IsLawful order) {V : Type 0
     λ e. alike_binds items others (equal_alike items others e),
     λ alike. alike_equal complete items others stored stored'
         (coarse_alike order lawful same_value values items others
-        (stored_coarse complete items stored) (stored_coarse complete others stored') alike),
+        (stored_coarse items stored complete) (stored_coarse others stored' complete) alike),
   )
 
   module _ (value_cmp : V → V → Ordering) (total : IsTotalOrder value_cmp)
@@ -186,7 +157,7 @@ module _ {K : Type 0} (order : KeyOrder K) (lawful : IsLawful order) {V : Type 0
     stored_compared items others stored stored' =
         let equal = stored_equal complete items others stored stored' in
         let ties = lists_tied order same_value value_cmp tied items others in
-        let level = Equal-is (list_cmp order value_cmp items others) in
+        let level = Equal-is _ in
         (λ e. equal.0 (ties ∙ level.1 e), λ alike. level.0 (sym ties ∙ equal.1 alike))
 
     -- lists compare as those do that bind every key alike
@@ -250,9 +221,7 @@ module _ {K : Type 0} (order : KeyOrder K) (lawful : IsLawful order) (complete :
   keyed_range_has_key : (r : AnyRange K) → IsKnownRange order r → ¬ IsKeyless order r
       → (k : K) × order.is_key k × Holds order r k
   keyed_range_has_key r known keyed =
-      nonempty_holds order lawful complete r known
-      (not_greater (position_cmp order.cmp (start_position order r.start)
-      (end_position order r.end)) (keyed_full r keyed))
+      nonempty_holds order lawful complete r known (not_greater _ (keyed_full r keyed))
 
   -- over complete keys a coarse list of ranges of keys has the map's form
   pub coarse_stored : (items : List (Item (AnyRange K) V))

@@ -5,12 +5,10 @@ pub returns : goal.returns
 returns g c =
     record {
       coarse =
-          stored_coarse g.K.MaybeBounded.order g.met.K.PartialEnum.lawful g.V.PartialEq.eq
-          g.met.V.Eq.laws;
+          λ complete items stored.
+          stored_coarse g.met.K.PartialEnum.lawful g.met.V.Eq.laws items stored complete;
       stored =
           λ complete.
           coarse_stored g.K.MaybeBounded.order g.met.K.PartialEnum.lawful complete g.V.PartialEq.eq;
-      equal =
-          stored_equal g.K.MaybeBounded.order g.met.K.PartialEnum.lawful g.V.PartialEq.eq
-          g.met.V.Eq.laws;
+      equal = stored_equal g.met.K.PartialEnum.lawful g.met.V.Eq.laws;
     }

@@ -1,6 +1,5 @@
-use Rattle.std.proofs.lemmas.Grind.{common_steps}
+use Rattle.range_map.proofs.Common.{common_steps, is_before}
 use Rattle.std.proofs.Common.{◌+◌, ◌-◌, ◌/◌, ap, sym, ◌∙◌, arith}
-use Rattle.range_algebra.specs.Compared.{is_before}
 use Rattle.range_change.proofs.Comparisons.{before_from}
 use Rattle.range_map.proofs.search.binary_search.Goals as goal
 

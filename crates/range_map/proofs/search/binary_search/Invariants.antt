@@ -1,7 +1,5 @@
 use Rattle.std.proofs.Common.{◌-◌, ◌<◌, ◌≤◌, length, get_or}
-use Rattle.std.specs.List.{AllWithin}
-use Rattle.range_algebra.specs.declared.any.AnyRange.{AnyRange}
-use Rattle.range_store.specs.declared.storage.Item.{Item}
+use Rattle.range_map.proofs.Common.{AllWithin, AnyRange, Item}
 use Rattle.range_change.specs.Searches.{ElementIsBefore}
 use Rattle.range_map.proofs.search.binary_search.Given as goal
 

@@ -1,6 +1,5 @@
 use Rattle.std.proofs.Common.{take}
-use Rattle.std.specs.List.{All}
-use Rattle.range_algebra.specs.Range.{Holds}
+use Rattle.range_map.proofs.Common.{All, Holds}
 use Rattle.range_map.proofs.inner.scan.find.Given as goal
 
 abbrev pub invariant-loop-item : goal.invariant-loop-item

@@ -5,26 +5,22 @@ use Rattle.range_map.proofs.StoredLists.{stored_coarse, stored_only}
 use Rattle.range_map.proofs.map.RangeMap.append.Goals as goal
 
 pub returns-then-not-lies_before-clause-coarse : goal.returns-then-not-lies_before-clause-coarse
-returns-then-not-lies_before-clause-coarse g c complete =
-    stored_coarse g.K.MaybeBounded.order g.met.K.PartialEnum.lawful g.V.PartialEq.eq
-    g.met.V.Eq.laws complete (g.C.Storage.items c.args.self.now) c.in_form.ensures
+returns-then-not-lies_before-clause-coarse g c =
+    stored_coarse g.met.K.PartialEnum.lawful g.met.V.Eq.laws _ c.in_form.ensures
 
 pub returns-then-not-lies_before-clause-only : goal.returns-then-not-lies_before-clause-only
-returns-then-not-lies_before-clause-only g c complete =
-    stored_only g.K.MaybeBounded.order g.met.K.PartialEnum.lawful g.V.PartialEq.eq
-    g.met.V.Eq.laws complete (g.C.Storage.items c.args.self.now) c.in_form.ensures
+returns-then-not-lies_before-clause-only g c =
+    stored_only g.met.K.PartialEnum.lawful g.met.V.Eq.laws _ c.in_form.ensures
 
 pub returns-in_err-reserve-clause-coarse : goal.returns-in_err-reserve-clause-coarse
 returns-in_err-reserve-clause-coarse g c complete =
-    rw c.reserve.ensures.list (stored_coarse g.K.MaybeBounded.order g.met.K.PartialEnum.lawful
-    g.V.PartialEq.eq g.met.V.Eq.laws complete (g.C.Storage.items c.self.inside.stored)
-    c.self.invariant)
+    rw c.reserve.ensures.list
+    (stored_coarse g.met.K.PartialEnum.lawful g.met.V.Eq.laws _ c.self.invariant complete)
 
 pub returns-in_err-reserve-clause-only : goal.returns-in_err-reserve-clause-only
 returns-in_err-reserve-clause-only g c complete =
-    rw c.reserve.ensures.list (stored_only g.K.MaybeBounded.order g.met.K.PartialEnum.lawful
-    g.V.PartialEq.eq g.met.V.Eq.laws complete (g.C.Storage.items c.self.inside.stored)
-    c.self.invariant)
+    rw c.reserve.ensures.list
+    (stored_only g.met.K.PartialEnum.lawful g.met.V.Eq.laws _ c.self.invariant complete)
 
 pub invariant_of-self-2 : goal.invariant_of-self-2
 invariant_of-self-2 g c =
@@ -44,14 +40,12 @@ pub returns-clause-form : goal.returns-clause-form
 returns-clause-form g c = invariant_of-self-2 g c
 
 pub returns-clause-coarse : goal.returns-clause-coarse
-returns-clause-coarse g c complete =
-    stored_coarse g.K.MaybeBounded.order g.met.K.PartialEnum.lawful g.V.PartialEq.eq
-    g.met.V.Eq.laws complete (g.C.Storage.items c.move_all.new.stored) (invariant_of-self-2 g c)
+returns-clause-coarse g c =
+    stored_coarse g.met.K.PartialEnum.lawful g.met.V.Eq.laws _ (invariant_of-self-2 g c)
 
 pub returns-clause-only : goal.returns-clause-only
-returns-clause-only g c complete =
-    stored_only g.K.MaybeBounded.order g.met.K.PartialEnum.lawful g.V.PartialEq.eq
-    g.met.V.Eq.laws complete (g.C.Storage.items c.move_all.new.stored) (invariant_of-self-2 g c)
+returns-clause-only g c =
+    stored_only g.met.K.PartialEnum.lawful g.met.V.Eq.laws _ (invariant_of-self-2 g c)
 
 pub returns-clause-bound : goal.returns-clause-bound
 returns-clause-bound g c =

@@ -8,9 +8,7 @@ returns-in-None g c =
     let none = c.gaps_within-gaps.ensures.none c.in-None.ensures.steps.0 in
     record {
       free = (λ _. none, λ _. refl);
-      bound =
-          λ _. full_binds g.K.MaybeBounded.order g.met.K.PartialEnum.lawful
-          (g.C.Storage.items c.args.self.now) (g.R.AsRange.range c.args.range) none;
+      bound = λ _. full_binds g.K.MaybeBounded.order g.met.K.PartialEnum.lawful _ _ none;
       complete = λ _ _. refl;
     }
 

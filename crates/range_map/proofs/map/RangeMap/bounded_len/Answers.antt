@@ -1,9 +1,7 @@
 use Rattle.std.proofs.Common.{sym, subst, ◌∙◌, ap}
-use Rattle.std.specs.Option.{IsSomeAnd}
+use Rattle.range_map.proofs.Common.{IsSomeAnd, IsBound, item_ranges}
 use Rattle.range_algebra.specs.Measures.{AreInOrder, list_measure}
 use Rattle.range_algebra.specs.Numbers.{IsNumberOfKeys}
-use Rattle.range_change.specs.Bindings.{IsBound}
-use Rattle.range_map.specs.FreeRanges.{item_ranges}
 use Rattle.range_map.proofs.MeasureTotals.{counted_bound, stored_in_order, untold_list}
 use Rattle.range_map.proofs.map.RangeMap.bounded_len.Goals as goal
 

@@ -1,14 +1,12 @@
 use Rattle.std.proofs.Common.{get_or, sym, ◌∙◌}
 use Rattle.std.specs.Cmp.{Equal-is}
-use Rattle.range_map.proofs.CloneLists.{equal_items_are_copy, copy_stored, item_clone}
+use Rattle.range_map.proofs.CloneLists.{clones_tied, equal_items_are_copy, copy_stored, item_clone}
 use Rattle.range_map.proofs.map.RangeMap.clone.Goals as goal
 
 pub clone-requires : goal.clone-requires
 clone-requires g c =
-    let equal = λ (x : g.row.K.Denot) (y : g.row.K.Denot) (h : g.K.Clone.is_clone x y).
-    sym (g.met.K.MaybeBounded.order_is_cmp x y)
-    ∙ (Equal-is (g.K.Ord.cmp x y)).0
-    (sym (g.met.K.Ord.matches_eq x y) ∙ c.requires.keys x y h) in
+    let equal =
+    clones_tied g.met.K.MaybeBounded.order_is_cmp g.met.K.Ord.matches_eq c.requires.keys in
     λ k d within y h.
     item_clone g.K.MaybeBounded.order g.met.K.PartialEnum.lawful g.V.PartialEq.eq
     g.met.V.Eq.laws g.K.Clone.is_clone equal g.V.Clone.is_clone c.requires.values

@@ -7,17 +7,13 @@ returns-clause-value g c = search rules
 
 pub returns-clause-same : goal.returns-clause-same
 returns-clause-same g c = λ complete.
-    let order = g.K.MaybeBounded.order in
     rw (returns-clause-value g c)
-    (stored_compared order g.met.K.PartialEnum.lawful g.V.PartialEq.eq g.met.V.Eq.laws g.V.Ord.cmp
-    g.met.V.Ord.total g.met.V.Ord.matches_eq complete (g.C.Storage.items c.args.self.now)
-    (g.D.Storage.items c.args.other.now) c.in_form.ensures c.in_form-2.ensures)
+    (stored_compared g.met.K.PartialEnum.lawful g.met.V.Eq.laws g.V.Ord.cmp g.met.V.Ord.total
+    g.met.V.Ord.matches_eq complete _ _ c.in_form.ensures c.in_form-2.ensures)
 
 pub returns-clause-alike : goal.returns-clause-alike
 returns-clause-alike g c = λ complete items others stored stored' alike alike'.
-    let order = g.K.MaybeBounded.order in
     rw (returns-clause-value g c)
-    (stored_same_order order g.met.K.PartialEnum.lawful g.V.PartialEq.eq g.met.V.Eq.laws g.V.Ord.cmp
-    g.met.V.Ord.total g.met.V.Ord.matches_eq complete (g.C.Storage.items c.args.self.now)
-    (g.D.Storage.items c.args.other.now) items others c.in_form.ensures c.in_form-2.ensures
+    (stored_same_order g.met.K.PartialEnum.lawful g.met.V.Eq.laws g.V.Ord.cmp g.met.V.Ord.total
+    g.met.V.Ord.matches_eq complete _ _ _ _ c.in_form.ensures c.in_form-2.ensures
     stored stored' alike alike')

@@ -12,21 +12,17 @@ returns g c =
       form = search rules;
       closure = search rules;
       bound =
-          rw c.in_ok-map_of.ensures
-          (pieces_combine g.K.MaybeBounded.order g.met.K.PartialEnum.lawful g.V.PartialEq.eq
-          g.met.V.Eq.laws g.W.PartialEq.eq g.met.W.Eq.laws g.X.PartialEq.eq
-          (MayAnswerBoth g.F.Fn c.args.f) (g.C.Storage.items c.args.self.now)
-          (g.D.Storage.items c.args.other.now) c.in_ok-answers.answers.items
-          c.in_ok-answers.ensures.combined);
+          rw c.in_ok-map_of.ensures (pieces_combine g.K.MaybeBounded.order
+          g.met.K.PartialEnum.lawful g.V.PartialEq.eq g.met.V.Eq.laws g.W.PartialEq.eq
+          g.met.W.Eq.laws g.X.PartialEq.eq (MayAnswerBoth g.F.Fn c.args.f) _ _
+          c.in_ok-answers.answers.items c.in_ok-answers.ensures.combined);
       coarse =
-          rw c.in_ok-map_of.ensures (λ complete.
-          stored_coarse g.K.MaybeBounded.order g.met.K.PartialEnum.lawful g.X.PartialEq.eq
-          g.met.X.Eq.laws complete c.in_ok-answers.answers.items c.in_ok-answers.ensures.form);
+          rw c.in_ok-map_of.ensures
+          (stored_coarse g.met.K.PartialEnum.lawful g.met.X.Eq.laws _ c.in_ok-answers.ensures.form);
       only =
           rw c.in_ok-map_of.ensures (λ complete others coarse alike.
           coarse_alike g.K.MaybeBounded.order g.met.K.PartialEnum.lawful g.X.PartialEq.eq
           g.met.X.Eq.laws c.in_ok-answers.answers.items others
-          (stored_coarse g.K.MaybeBounded.order g.met.K.PartialEnum.lawful g.X.PartialEq.eq
-          g.met.X.Eq.laws complete c.in_ok-answers.answers.items c.in_ok-answers.ensures.form) coarse
-          alike);
+          (stored_coarse g.met.K.PartialEnum.lawful g.met.X.Eq.laws _ c.in_ok-answers.ensures.form
+          complete) coarse alike);
     }

@@ -6,10 +6,8 @@ pub returns : goal.returns
 returns g c =
     record {
       value =
-          rw c.is_some.ensures (holding_is g.K.MaybeBounded.order g.V.PartialEq.eq
-          (g.C.Storage.items c.args.self.now) c.args.key c.get_counted.result c.get_counted.ensures.value);
-      counted =
-          search rules;
-      none =
-          search rules;
+          rw c.is_some.ensures (holding_is g.K.MaybeBounded.order g.V.PartialEq.eq _ c.args.key
+          c.get_counted.result c.get_counted.ensures.value);
+      counted = search rules;
+      none = search rules;
     }

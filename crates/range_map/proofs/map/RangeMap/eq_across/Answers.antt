@@ -7,14 +7,10 @@ returns-clause-value g c = search rules
 
 pub returns-clause-bound : goal.returns-clause-bound
 returns-clause-bound g c =
-    rw (returns-clause-value g c)
-    (equal_binds g.K.MaybeBounded.order g.met.K.PartialEnum.lawful g.V.PartialEq.eq g.met.V.Eq.laws
-    (g.C.Storage.items c.args.self.now) (g.D.Storage.items c.args.other.now))
+    rw (returns-clause-value g c) (equal_binds g.met.K.PartialEnum.lawful g.met.V.Eq.laws _ _)
 
 pub returns-clause-same : goal.returns-clause-same
 returns-clause-same g c = λ complete.
-    let order = g.K.MaybeBounded.order in
     rw (returns-clause-value g c)
-    (stored_equal order g.met.K.PartialEnum.lawful g.V.PartialEq.eq g.met.V.Eq.laws complete
-    (g.C.Storage.items c.args.self.now)
-    (g.D.Storage.items c.args.other.now) c.in_form.ensures c.in_form-2.ensures)
+    (stored_equal g.met.K.PartialEnum.lawful g.met.V.Eq.laws complete _ _
+    c.in_form.ensures c.in_form-2.ensures)

@@ -1,6 +1,5 @@
 use Rattle.std.proofs.Common.{◌∷◌, [], map, rules}
-use Rattle.std.proofs.lemmas.List.{map-append}
-use Rattle.range_map.specs.Extending.{item_of}
+use Rattle.range_map.proofs.Common.{map-append, item_of}
 use Rattle.range_map.proofs.Extending.{none_bound_after, one_bound_after}
 use Rattle.range_change.proofs.Results.{on_error}
 use Rattle.range_map.proofs.StoredLists.{stored_coarse, stored_only}
@@ -15,7 +14,7 @@ loop-range-init g c =
       can = ready.0;
       ends = ready.1;
       bound = none_bound_after g.K.MaybeBounded.order g.V.PartialEq.eq
-          (g.C.Storage.items c.args.self.now);
+          _;
       form = c.in_form.ensures;
     }
 
@@ -52,11 +51,9 @@ returns-in_err-insert-clause-refused g c =
     )
 
 pub returns-clause-coarse : goal.returns-clause-coarse
-returns-clause-coarse g c complete =
-    stored_coarse g.K.MaybeBounded.order g.met.K.PartialEnum.lawful g.V.PartialEq.eq
-    g.met.V.Eq.laws complete (g.C.Storage.items c.loop-range.self) c.loop-range.invariant.form
+returns-clause-coarse g c =
+    stored_coarse g.met.K.PartialEnum.lawful g.met.V.Eq.laws _ c.loop-range.invariant.form
 
 pub returns-clause-only : goal.returns-clause-only
-returns-clause-only g c complete =
-    stored_only g.K.MaybeBounded.order g.met.K.PartialEnum.lawful g.V.PartialEq.eq
-    g.met.V.Eq.laws complete (g.C.Storage.items c.loop-range.self) c.loop-range.invariant.form
+returns-clause-only g c =
+    stored_only g.met.K.PartialEnum.lawful g.met.V.Eq.laws _ c.loop-range.invariant.form

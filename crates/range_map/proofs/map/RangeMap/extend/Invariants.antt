@@ -1,6 +1,5 @@
 use Rattle.std.proofs.Common.{map}
-use Rattle.range_map.specs.Extending.{AreBoundAfter, item_of}
-use Rattle.range_change.specs.Stored.{IsStored}
+use Rattle.range_map.proofs.Common.{AreBoundAfter, item_of, IsStored}
 use Rattle.range_map.proofs.map.RangeMap.extend.Given as goal
 
 abbrev pub invariant-loop-range : goal.invariant-loop-range

@@ -1,14 +1,10 @@
 use Rattle.std.proofs.Common.{sym, ◌∙◌}
-use Rattle.std.specs.Cmp.{Equal-is, tied_back}
-use Rattle.range_algebra.specs.Clones.{range_clone}
-use Rattle.range_algebra.specs.RangeOrder.{range_total}
-use Rattle.range_algebra.specs.declared.any.AnyRange.{AnyRange}
-use Rattle.range_store.specs.declared.storage.Item.{Item}
+use Rattle.range_map.proofs.Common.{Equal-is, tied_back, range_clone, range_total, AnyRange, Item, IsOverlaid}
 use Rattle.range_change.proofs.Results.{on_error}
-use Rattle.range_map.specs.Overlays.{IsOverlaid}
 use Rattle.range_map.proofs.InPlace.{none_over, one_over}
 use Rattle.range_map.proofs.PartWay.{set_out, one_done, stopped, arrived}
 use Rattle.range_map.proofs.StoredLists.{stored_coarse, stored_only}
+use Rattle.range_map.proofs.CloneLists.{clones_tied}
 use Rattle.range_map.proofs.map.RangeMap.extend_from.Goals as goal
 
 pub loop-range-init : goal.loop-range-init
@@ -18,15 +14,11 @@ loop-range-init g c =
     let items = g.C.Storage.items c.args.self.now in
     record {
       way = rw c.iter-items.ensures.items
-          (set_out (λ front. IsOverlaid order same items front items)
-          (g.D.Storage.items c.args.other.now) (none_over order same items));
+          (set_out (λ front. IsOverlaid order same items front items) _
+          (none_over order same items));
       form = c.in_form.ensures;
-      coarse = λ complete.
-          stored_coarse order g.met.K.PartialEnum.lawful same g.met.V.Eq.laws complete items
-          c.in_form.ensures;
-      only = λ complete.
-          stored_only order g.met.K.PartialEnum.lawful same g.met.V.Eq.laws complete items
-          c.in_form.ensures;
+      coarse = stored_coarse g.met.K.PartialEnum.lawful g.met.V.Eq.laws _ c.in_form.ensures;
+      only = stored_only g.met.K.PartialEnum.lawful g.met.V.Eq.laws _ c.in_form.ensures;
     }
 
 pub loop-range-preserved : goal.loop-range-preserved
@@ -39,10 +31,8 @@ loop-range-preserved g c =
     let before = items c.loop-range.self in
     let after = items c.insert.new.self in
     let others = g.D.Storage.items c.args.other.now in
-    let equal = λ (x : g.row.K.Denot) (y : g.row.K.Denot) (h : g.K.Clone.is_clone x y).
-    sym (g.met.K.MaybeBounded.order_is_cmp x y)
-    ∙ (Equal-is (g.K.Ord.cmp x y)).0
-    (sym (g.met.K.Ord.matches_eq x y) ∙ c.requires.keys x y h) in
+    let equal =
+    clones_tied g.met.K.MaybeBounded.order_is_cmp g.met.K.Ord.matches_eq c.requires.keys in
     let range = c.in-Some.range.now in
     let copy = c.in_ok-clone.field-0 in
     let alike =
@@ -54,9 +44,7 @@ loop-range-preserved g c =
     record { key = range; value = value } in
     record {
       way =
-          one_done (λ front. IsOverlaid order same first front before)
-          (λ front. IsOverlaid order same first front after) others c.loop-range.items
-          c.next.new.self item c.in-Some.ensures.steps
+          one_done {Q = λ front. IsOverlaid order same first front after} c.in-Some.ensures.steps
           (λ done split so_far. one_over order same lawful g.met.V.Eq.laws others
           (rw (← c.iter-items.ensures.items) c.iter-items.ensures.form) done c.next.new.self item
           split first before after copy put alike
@@ -69,38 +57,19 @@ loop-range-preserved g c =
 
 pub returns-clause-bound : goal.returns-clause-bound
 returns-clause-bound g c =
-    let first = g.C.Storage.items c.args.self.now in
-    let now = g.C.Storage.items c.loop-range.self in
-    arrived (λ front. IsOverlaid g.K.MaybeBounded.order g.V.PartialEq.eq first front now)
-    (g.D.Storage.items c.args.other.now) c.loop-range.items c.in_default.ensures.steps.0
-    c.loop-range.invariant.way
+    arrived c.in_default.ensures.steps.0 c.loop-range.invariant.way
 
 pub returns-in_err-clone-clause-refused : goal.returns-in_err-clone-clause-refused
 returns-in_err-clone-clause-refused g c =
-    let first = g.C.Storage.items c.args.self.now in
-    let now = g.C.Storage.items c.loop-range.self in
-    on_error _ c.from_residual.result (stopped
-    (λ front. IsOverlaid g.K.MaybeBounded.order g.V.PartialEq.eq first front now)
-    (g.D.Storage.items c.args.other.now) c.loop-range.items c.next.new.self
-    (record { key = c.in-Some.range.now; value = c.in-Some.value.now }) c.in-Some.ensures.steps
-    c.loop-range.invariant.way)
+    on_error _ c.from_residual.result
+    (stopped c.in-Some.ensures.steps c.loop-range.invariant.way)
 
 pub returns-in_err-clone-2-clause-refused : goal.returns-in_err-clone-2-clause-refused
 returns-in_err-clone-2-clause-refused g c =
-    let first = g.C.Storage.items c.args.self.now in
-    let now = g.C.Storage.items c.loop-range.self in
-    on_error _ c.from_residual-in_err-clone-2.result (stopped
-    (λ front. IsOverlaid g.K.MaybeBounded.order g.V.PartialEq.eq first front now)
-    (g.D.Storage.items c.args.other.now) c.loop-range.items c.next.new.self
-    (record { key = c.in-Some.range.now; value = c.in-Some.value.now }) c.in-Some.ensures.steps
-    c.loop-range.invariant.way)
+    on_error _ c.from_residual-in_err-clone-2.result
+    (stopped c.in-Some.ensures.steps c.loop-range.invariant.way)
 
 pub returns-in_err-insert-clause-refused : goal.returns-in_err-insert-clause-refused
 returns-in_err-insert-clause-refused g c =
-    let first = g.C.Storage.items c.args.self.now in
-    let now = g.C.Storage.items c.loop-range.self in
-    rw c.in_err-insert.ensures.refused (on_error _ c.from_residual-in_err-insert.result (stopped
-    (λ front. IsOverlaid g.K.MaybeBounded.order g.V.PartialEq.eq first front now)
-    (g.D.Storage.items c.args.other.now) c.loop-range.items c.next.new.self
-    (record { key = c.in-Some.range.now; value = c.in-Some.value.now }) c.in-Some.ensures.steps
-    c.loop-range.invariant.way))
+    rw c.in_err-insert.ensures.refused (on_error _ c.from_residual-in_err-insert.result
+    (stopped c.in-Some.ensures.steps c.loop-range.invariant.way))

@@ -33,11 +33,9 @@ returns-in-Ok-clause-out_of_order g c n =
     )
 
 pub returns-in-Ok-clause-coarse : goal.returns-in-Ok-clause-coarse
-returns-in-Ok-clause-coarse g c complete =
-    stored_coarse g.K.MaybeBounded.order g.met.K.PartialEnum.lawful g.V.PartialEq.eq
-    g.met.V.Eq.laws complete (g.C.Storage.items c.in-Ok.new) c.in-Ok.ensures.form
+returns-in-Ok-clause-coarse g c =
+    stored_coarse g.met.K.PartialEnum.lawful g.met.V.Eq.laws _ c.in-Ok.ensures.form
 
 pub returns-in-Ok-clause-only : goal.returns-in-Ok-clause-only
-returns-in-Ok-clause-only g c complete =
-    stored_only g.K.MaybeBounded.order g.met.K.PartialEnum.lawful g.V.PartialEq.eq
-    g.met.V.Eq.laws complete (g.C.Storage.items c.in-Ok.new) c.in-Ok.ensures.form
+returns-in-Ok-clause-only g c =
+    stored_only g.met.K.PartialEnum.lawful g.met.V.Eq.laws _ c.in-Ok.ensures.form

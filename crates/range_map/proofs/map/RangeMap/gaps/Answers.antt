@@ -1,6 +1,5 @@
 use Rattle.std.proofs.Common.{◌+◌, ◌≤◌, Some, sym, subst, length, ◌++◌}
-use Rattle.std.specs.declared.ops.Bound.TheVariants.{Unbounded}
-use Rattle.range_map.specs.FreeRanges.{free_from, item_ranges, AreGaps, IsHeldOnce}
+use Rattle.range_map.proofs.Common.{Unbounded, free_from, item_ranges, AreGaps, IsHeldOnce}
 use Rattle.range_map.proofs.FreeParts.{few_free}
 use Rattle.range_map.proofs.FreeParts.{gaps_are, held_once, stored_row}
 use Rattle.range_map.proofs.map.RangeMap.gaps.Goals as goal
@@ -26,7 +25,7 @@ returns g c =
           (sym c.iter.ensures.items)
           (held_once order lawful items k (stored_row order lawful g.V.PartialEq.eq items stored) key);
       few =
-          subst (λ walk. length (free_from order (Some Unbounded) walk)
-          ≤ length (g.C.Storage.items c.args.self.now) + 1) (sym c.iter.ensures.items)
-          (few_free order (Some Unbounded) (g.C.Storage.items c.args.self.now));
+          subst (λ walk. length (free_from order (Some Unbounded) walk) ≤ length
+          (g.C.Storage.items c.args.self.now) + 1) (sym c.iter.ensures.items)
+          (few_free order (Some Unbounded) _);
     }

@@ -1,80 +1,49 @@
-use Rattle.std.proofs.lemmas.Grind.{common_steps}
+use Rattle.range_map.proofs.Common.{common_steps, IsBoundAfter, MeetAlso}
 use Rattle.std.proofs.Common.{subst, refl, rules, arith}
-use Rattle.range_change.specs.Bindings.{IsBoundAfter}
 use Rattle.range_change.specs.Frames.{IsInsertionFrame}
-use Rattle.range_change.specs.Lookups.{MeetAlso}
 use Rattle.range_map.proofs.StoredLists.{stored_coarse, stored_only}
 use Rattle.range_change.proofs.Results.{error_has_no_value, on_error}
 use Rattle.range_change.proofs.Lengths.{le_sum}
+use Rattle.range_change.proofs.Tests.{not_both}
 use Rattle.range_map.proofs.map.RangeMap.insert.Goals as goal
 
 pub returns : goal.returns
 returns g c =
+    let empty_is = rw c.into_range-range.ensures at c.is_empty.ensures.by_position in
     record {
       meets =
           λ full.
-          let items = g.C.Storage.items c.self.inside.stored in
-          let new = g.C.Storage.items c.bind_in_order.new.stored in
-          rw (← c.self.view_is) (subst
-          (λ r. MeetAlso g.K.MaybeBounded.order items new r) c.into_range-range.ensures
-          c.in_ok-bind_in_order.ensures.ok.meets);
-      form =
-          c.in_ok-bind_in_order.ensures.ok.stored;
+          rw (← c.self.view_is)
+          (rw c.into_range-range.ensures at c.in_ok-bind_in_order.ensures.ok.meets);
+      form = c.in_ok-bind_in_order.ensures.ok.stored;
       coarse =
-          λ complete.
-          stored_coarse g.K.MaybeBounded.order g.met.K.PartialEnum.lawful g.V.PartialEq.eq g.met.V.Eq.laws
-          complete (g.C.Storage.items c.bind_in_order.new.stored) c.in_ok-bind_in_order.ensures.ok.stored;
+          stored_coarse g.met.K.PartialEnum.lawful g.met.V.Eq.laws _
+          c.in_ok-bind_in_order.ensures.ok.stored;
       only =
-          λ complete.
-          stored_only g.K.MaybeBounded.order g.met.K.PartialEnum.lawful g.V.PartialEq.eq g.met.V.Eq.laws
-          complete (g.C.Storage.items c.bind_in_order.new.stored) c.in_ok-bind_in_order.ensures.ok.stored;
+          stored_only g.met.K.PartialEnum.lawful g.met.V.Eq.laws _
+          c.in_ok-bind_in_order.ensures.ok.stored;
       bound =
-          rw (← c.self.view_is) (subst
-          (λ r. IsBoundAfter g.K.MaybeBounded.order g.V.PartialEq.eq
-          (g.C.Storage.items c.self.inside.stored)
-          (g.C.Storage.items c.bind_in_order.new.stored) r c.args.value) c.into_range-range.ensures
-          c.in_ok-bind_in_order.ensures.ok.bound);
-      empty =
-          λ _. refl;
-      empty_unchanged =
-          λ empty. let told =
-          c.is_empty.ensures.by_position.1 (rw c.into_range-range.ensures empty) in let not =
-          c.if-is_empty.false in absurd (cc);
-      few =
-          rw (← c.self.view_is) c.bind_in_order.ensures.few;
+          rw (← c.self.view_is)
+          (rw c.into_range-range.ensures at c.in_ok-bind_in_order.ensures.ok.bound);
+      empty = λ _. refl;
+      empty_unchanged = λ e. absurd (not_both c.if-is_empty.false (empty_is.1 e));
+      few = rw (← c.self.view_is) c.bind_in_order.ensures.few;
       frame =
           λ full. rw (← c.self.view_is)
-          (subst (λ r. IsInsertionFrame g.K.MaybeBounded.order g.V.PartialEq.eq
-          (g.C.Storage.items c.self.inside.stored)
-          (g.C.Storage.items c.bind_in_order.new.stored) r c.args.value) c.into_range-range.ensures
-          c.in_ok-bind_in_order.ensures.ok.frame);
-      refused =
-          tt;
+          (rw c.into_range-range.ensures at c.in_ok-bind_in_order.ensures.ok.frame);
+      refused = tt;
     }
 
 pub returns-then-is_empty : goal.returns-then-is_empty
 returns-then-is_empty g c =
+    let empty_is = rw c.into_range-range.ensures at c.is_empty.ensures.by_position in
     record {
       bound = grind (arith, common_steps);
       form = c.in_form.ensures;
-      coarse =
-          λ complete.
-          stored_coarse g.K.MaybeBounded.order g.met.K.PartialEnum.lawful g.V.PartialEq.eq
-          g.met.V.Eq.laws complete (g.C.Storage.items c.args.self.now) c.in_form.ensures;
-      only =
-          λ complete.
-          stored_only g.K.MaybeBounded.order g.met.K.PartialEnum.lawful g.V.PartialEq.eq
-          g.met.V.Eq.laws complete (g.C.Storage.items c.args.self.now) c.in_form.ensures;
-      frame =
-          λ full.
-          absurd
-          (full (rw (← c.into_range-range.ensures)
-          (c.is_empty.ensures.by_position.0 c.if-is_empty.true)));
-      meets =
-          λ full.
-          absurd
-          (full (rw (← c.into_range-range.ensures)
-          (c.is_empty.ensures.by_position.0 c.if-is_empty.true)));
+      coarse = stored_coarse g.met.K.PartialEnum.lawful g.met.V.Eq.laws _ c.in_form.ensures;
+      only = stored_only g.met.K.PartialEnum.lawful g.met.V.Eq.laws _ c.in_form.ensures;
+      frame = λ full. absurd (full (empty_is.0 c.if-is_empty.true));
+      meets = λ full. absurd (full (empty_is.0 c.if-is_empty.true));
       few = le_sum _ 2;
       refused = tt;
       empty = λ _. refl;
@@ -83,31 +52,22 @@ returns-then-is_empty g c =
 
 pub returns-in_err-bind_in_order : goal.returns-in_err-bind_in_order
 returns-in_err-bind_in_order g c =
+    let empty_is = rw c.into_range-range.ensures at c.is_empty.ensures.by_position in
+    let same = c.in_err-bind_in_order.ensures.refused in
+    let form = rw (← c.self.view_is, ← same) at c.in_form.ensures in
     record {
       bound = error_has_no_value _ c.from_residual.result c.from_residual.ensures.0;
-      form = rw (c.in_err-bind_in_order.ensures.refused, c.self.view_is) c.in_form.ensures;
-      coarse =
-          λ complete.
-          stored_coarse g.K.MaybeBounded.order g.met.K.PartialEnum.lawful g.V.PartialEq.eq
-          g.met.V.Eq.laws complete (g.C.Storage.items c.bind_in_order.new.stored)
-          (rw (c.in_err-bind_in_order.ensures.refused, c.self.view_is) c.in_form.ensures);
-      only =
-          λ complete.
-          stored_only g.K.MaybeBounded.order g.met.K.PartialEnum.lawful g.V.PartialEq.eq
-          g.met.V.Eq.laws complete (g.C.Storage.items c.bind_in_order.new.stored)
-          (rw (c.in_err-bind_in_order.ensures.refused, c.self.view_is) c.in_form.ensures);
+      form = form;
+      coarse = stored_coarse g.met.K.PartialEnum.lawful g.met.V.Eq.laws _ form;
+      only = stored_only g.met.K.PartialEnum.lawful g.met.V.Eq.laws _ form;
       frame = error_has_no_value _ c.from_residual.result c.from_residual.ensures.0;
       meets = error_has_no_value _ c.from_residual.result c.from_residual.ensures.0;
       few = rw (← c.self.view_is) c.bind_in_order.ensures.few;
       refused =
           on_error _ c.from_residual.result
           (rw (← c.self.view_is) c.in_err-bind_in_order.ensures.refused);
-      empty = λ empty. let told =
-          c.is_empty.ensures.by_position.1 (rw c.into_range-range.ensures empty) in let not =
-          c.if-is_empty.false in absurd (cc);
-      empty_unchanged = λ empty. let told =
-          c.is_empty.ensures.by_position.1 (rw c.into_range-range.ensures empty) in let not =
-          c.if-is_empty.false in absurd (cc);
+      empty = λ e. absurd (not_both c.if-is_empty.false (empty_is.1 e));
+      empty_unchanged = λ e. absurd (not_both c.if-is_empty.false (empty_is.1 e));
     }
 
 pub invariant_of-self : goal.invariant_of-self
@@ -122,6 +82,5 @@ bind_in_order-requires g c =
       keys = c.requires.keys;
       values = c.requires.values;
       stored = rw c.self.view_is c.in_form.ensures;
-      nonempty = λ empty. let told = c.is_empty.ensures.by_position.1 empty in let not =
-          c.if-is_empty.false in cc;
+      nonempty = λ e. not_both c.if-is_empty.false (c.is_empty.ensures.by_position.1 e);
     }

@@ -1,125 +1,75 @@
-use Rattle.std.proofs.lemmas.Grind.{common_steps}
+use Rattle.range_map.proofs.Common.{common_steps, IsBoundAfter, MeetAlso}
 use Rattle.std.proofs.Common.{subst, refl, rules, arith}
-use Rattle.range_change.specs.Bindings.{IsBoundAfter}
 use Rattle.range_change.specs.Frames.{IsInsertionFrame}
-use Rattle.range_change.specs.Lookups.{MeetAlso}
 use Rattle.range_map.proofs.StoredLists.{stored_coarse, stored_only}
 use Rattle.range_change.proofs.Results.{error_has_no_value, on_error}
 use Rattle.range_change.proofs.Lengths.{le_sum}
+use Rattle.range_change.proofs.Tests.{not_both}
 use Rattle.range_map.proofs.map.RangeMap.insert_counted.Goals as goal
 
 pub returns : goal.returns
 returns g c =
+    let empty_is = rw c.into_range-range.ensures at c.is_empty.ensures.by_position in
     record {
       bound =
-          rw (← c.self.view_is) (subst
-          (λ r. IsBoundAfter g.K.MaybeBounded.order g.V.PartialEq.eq
-          (g.C.Storage.items c.self.inside.stored)
-          (g.C.Storage.items c.bind.new.stored) r c.args.value) c.into_range-range.ensures
-          c.in_ok-bind.ensures.ok.bound);
+          rw (← c.self.view_is) (rw c.into_range-range.ensures at c.in_ok-bind.ensures.ok.bound);
       form = c.in_ok-bind.ensures.ok.stored;
       coarse =
-          λ complete.
-          stored_coarse g.K.MaybeBounded.order g.met.K.PartialEnum.lawful g.V.PartialEq.eq
-          g.met.V.Eq.laws complete
-          (g.C.Storage.items c.bind.new.stored) c.in_ok-bind.ensures.ok.stored;
+          stored_coarse g.met.K.PartialEnum.lawful g.met.V.Eq.laws _ c.in_ok-bind.ensures.ok.stored;
       only =
-          λ complete.
-          stored_only g.K.MaybeBounded.order g.met.K.PartialEnum.lawful g.V.PartialEq.eq
-          g.met.V.Eq.laws complete
-          (g.C.Storage.items c.bind.new.stored) c.in_ok-bind.ensures.ok.stored;
+          stored_only g.met.K.PartialEnum.lawful g.met.V.Eq.laws _ c.in_ok-bind.ensures.ok.stored;
       frame =
           λ full. rw (← c.self.view_is)
-          (subst (λ r. IsInsertionFrame g.K.MaybeBounded.order g.V.PartialEq.eq
-          (g.C.Storage.items c.self.inside.stored)
-          (g.C.Storage.items c.bind.new.stored) r c.args.value) c.into_range-range.ensures
-          c.in_ok-bind.ensures.ok.frame);
+          (rw c.into_range-range.ensures at c.in_ok-bind.ensures.ok.frame);
       meets = λ full.
-          let items = g.C.Storage.items c.self.inside.stored in
-          let new = g.C.Storage.items c.bind.new.stored in
-          rw (← c.self.view_is) (subst
-          (λ r. MeetAlso g.K.MaybeBounded.order items new r) c.into_range-range.ensures
-          c.in_ok-bind.ensures.ok.meets);
+          rw (← c.self.view_is) (rw c.into_range-range.ensures at c.in_ok-bind.ensures.ok.meets);
       few = grind (arith, common_steps);
       refused = tt;
       empty = λ _. refl;
-      empty_unchanged = λ empty. let told =
-          c.is_empty.ensures.by_position.1 (rw c.into_range-range.ensures empty) in let not =
-          c.if-is_empty.false in absurd (cc);
+      empty_unchanged = λ e. absurd (not_both c.if-is_empty.false (empty_is.1 e));
       most = rw (← c.self.view_is) c.in_ok-bind.ensures.most;
       least = λ _. rw (← c.self.view_is) c.bind.ensures.least;
-      empty_uncounted = λ empty. let told =
-          c.is_empty.ensures.by_position.1 (rw c.into_range-range.ensures empty) in let not =
-          c.if-is_empty.false in absurd (cc);
+      empty_uncounted = λ e. absurd (not_both c.if-is_empty.false (empty_is.1 e));
     }
 
 pub returns-then-is_empty : goal.returns-then-is_empty
 returns-then-is_empty g c =
+    let empty_is = rw c.into_range-range.ensures at c.is_empty.ensures.by_position in
     record {
       bound = grind (arith, common_steps);
       form = c.in_form.ensures;
-      coarse =
-          λ complete.
-          stored_coarse g.K.MaybeBounded.order g.met.K.PartialEnum.lawful g.V.PartialEq.eq
-          g.met.V.Eq.laws complete (g.C.Storage.items c.args.self.now) c.in_form.ensures;
-      only =
-          λ complete.
-          stored_only g.K.MaybeBounded.order g.met.K.PartialEnum.lawful g.V.PartialEq.eq
-          g.met.V.Eq.laws complete (g.C.Storage.items c.args.self.now) c.in_form.ensures;
-      frame =
-          λ full.
-          absurd
-          (full (rw (← c.into_range-range.ensures)
-          (c.is_empty.ensures.by_position.0 c.if-is_empty.true)));
-      meets =
-          λ full.
-          absurd
-          (full (rw (← c.into_range-range.ensures)
-          (c.is_empty.ensures.by_position.0 c.if-is_empty.true)));
+      coarse = stored_coarse g.met.K.PartialEnum.lawful g.met.V.Eq.laws _ c.in_form.ensures;
+      only = stored_only g.met.K.PartialEnum.lawful g.met.V.Eq.laws _ c.in_form.ensures;
+      frame = λ full. absurd (full (empty_is.0 c.if-is_empty.true));
+      meets = λ full. absurd (full (empty_is.0 c.if-is_empty.true));
       few = le_sum _ 2;
       refused = tt;
       empty = λ _. refl;
       empty_unchanged = λ _. refl;
       most = search rules;
-      least =
-          λ full.
-          absurd
-          (full (rw (← c.into_range-range.ensures)
-          (c.is_empty.ensures.by_position.0 c.if-is_empty.true)));
+      least = λ full. absurd (full (empty_is.0 c.if-is_empty.true));
       empty_uncounted = λ _. refl;
     }
 
 pub returns-in_err-bind : goal.returns-in_err-bind
 returns-in_err-bind g c =
+    let empty_is = rw c.into_range-range.ensures at c.is_empty.ensures.by_position in
+    let form = rw (← c.self.view_is, ← c.in_err-bind.ensures.refused) at c.in_form.ensures in
     record {
       bound = error_has_no_value _ c.from_residual.result c.from_residual.ensures.0;
-      form = rw (c.in_err-bind.ensures.refused, c.self.view_is) c.in_form.ensures;
-      coarse =
-          λ complete.
-          stored_coarse g.K.MaybeBounded.order g.met.K.PartialEnum.lawful g.V.PartialEq.eq
-          g.met.V.Eq.laws complete (g.C.Storage.items c.bind.new.stored)
-          (rw (c.in_err-bind.ensures.refused, c.self.view_is) c.in_form.ensures);
-      only =
-          λ complete.
-          stored_only g.K.MaybeBounded.order g.met.K.PartialEnum.lawful g.V.PartialEq.eq
-          g.met.V.Eq.laws complete (g.C.Storage.items c.bind.new.stored)
-          (rw (c.in_err-bind.ensures.refused, c.self.view_is) c.in_form.ensures);
+      form = form;
+      coarse = stored_coarse g.met.K.PartialEnum.lawful g.met.V.Eq.laws _ form;
+      only = stored_only g.met.K.PartialEnum.lawful g.met.V.Eq.laws _ form;
       frame = error_has_no_value _ c.from_residual.result c.from_residual.ensures.0;
       meets = error_has_no_value _ c.from_residual.result c.from_residual.ensures.0;
       few = grind (arith, common_steps);
       refused =
           on_error _ c.from_residual.result (rw (← c.self.view_is) c.in_err-bind.ensures.refused);
-      empty = λ empty. let told =
-          c.is_empty.ensures.by_position.1 (rw c.into_range-range.ensures empty) in let not =
-          c.if-is_empty.false in absurd (cc);
-      empty_unchanged = λ empty. let told =
-          c.is_empty.ensures.by_position.1 (rw c.into_range-range.ensures empty) in let not =
-          c.if-is_empty.false in absurd (cc);
+      empty = λ e. absurd (not_both c.if-is_empty.false (empty_is.1 e));
+      empty_unchanged = λ e. absurd (not_both c.if-is_empty.false (empty_is.1 e));
       most = error_has_no_value _ c.from_residual.result c.from_residual.ensures.0;
       least = λ _. rw (← c.self.view_is) c.bind.ensures.least;
-      empty_uncounted = λ empty. let told =
-          c.is_empty.ensures.by_position.1 (rw c.into_range-range.ensures empty) in let not =
-          c.if-is_empty.false in absurd (cc);
+      empty_uncounted = λ e. absurd (not_both c.if-is_empty.false (empty_is.1 e));
     }
 
 pub invariant_of-self : goal.invariant_of-self
@@ -134,6 +84,5 @@ bind-requires g c =
       keys = c.requires.keys;
       values = c.requires.values;
       stored = rw c.self.view_is c.in_form.ensures;
-      nonempty = λ empty. let told = c.is_empty.ensures.by_position.1 empty in let not =
-          c.if-is_empty.false in cc;
+      nonempty = λ e. not_both c.if-is_empty.false (c.is_empty.ensures.by_position.1 e);
     }

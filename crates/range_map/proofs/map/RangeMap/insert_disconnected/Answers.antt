@@ -1,11 +1,8 @@
-use Rattle.std.proofs.lemmas.Grind.{common_steps}
+use Rattle.range_map.proofs.Common.{common_steps, length-insert, IsEmptyRange, IsBoundAfter, IsPutInto, MeetAlso}
 use Rattle.std.proofs.Common.{OnOk, OnErr, Ok, Err, Result, List, ◌≡◌, ◌+◌, ◌≤◌, length, refl, ap, arith, subst}
-use Rattle.std.proofs.lemmas.List.Edits.{length-insert}
-use Rattle.range_algebra.specs.Range.{IsEmptyRange}
-use Rattle.range_change.specs.Bindings.{IsBoundAfter}
-use Rattle.range_change.specs.Lookups.{IsPutInto, MeetAlso}
 use Rattle.range_change.proofs.CoveredPlaces.{on_ok}
 use Rattle.range_map.proofs.StoredLists.{stored_coarse, stored_only}
+use Rattle.range_change.proofs.Tests.{not_both}
 use Rattle.range_map.proofs.map.RangeMap.insert_disconnected.Goals as goal
 
 -- putting one item in adds one
@@ -25,70 +22,38 @@ returns g c =
     let met : OnOk c.bind_apart.result (MeetAlso order items new range) =
     subst (λ r. OnOk c.bind_apart.result (MeetAlso order items new r))
     c.into_range-range.ensures c.bind_apart.ensures.meets in
+    let empty_is = rw c.into_range-range.ensures at c.is_empty.ensures.by_position in
     record {
       connected = grind (arith, common_steps);
       given = grind (arith, common_steps);
       put = grind (arith, common_steps);
-      bound =
-          rw (← c.self.view_is) (subst
-          (λ r. OnOk c.bind_apart.result
-          (IsBoundAfter g.K.MaybeBounded.order g.V.PartialEq.eq
-          (g.C.Storage.items c.self.inside.stored)
-          (g.C.Storage.items c.bind_apart.new.stored) r c.args.value)) c.into_range-range.ensures
-          c.bind_apart.ensures.bound);
+      bound = rw (← c.self.view_is) (rw c.into_range-range.ensures at c.bind_apart.ensures.bound);
       meets =
           rw (← c.self.view_is) (on_ok (MeetAlso order items new range)
           ((IsEmptyRange order range → ⊥) → MeetAlso order items new range) c.bind_apart.result
           (λ h full. h) met);
       form = c.bind_apart.ensures.form;
-      coarse =
-          λ complete.
-          stored_coarse g.K.MaybeBounded.order g.met.K.PartialEnum.lawful g.V.PartialEq.eq
-          g.met.V.Eq.laws complete
-          (g.C.Storage.items c.bind_apart.new.stored) c.bind_apart.ensures.form;
-      only =
-          λ complete.
-          stored_only g.K.MaybeBounded.order g.met.K.PartialEnum.lawful g.V.PartialEq.eq
-          g.met.V.Eq.laws complete
-          (g.C.Storage.items c.bind_apart.new.stored) c.bind_apart.ensures.form;
+      coarse = stored_coarse g.met.K.PartialEnum.lawful g.met.V.Eq.laws _ c.bind_apart.ensures.form;
+      only = stored_only g.met.K.PartialEnum.lawful g.met.V.Eq.laws _ c.bind_apart.ensures.form;
       few = rw (← c.self.view_is)
-          (put_few c.bind_apart.result (g.C.Storage.items c.self.inside.stored)
-          (g.C.Storage.items c.bind_apart.new.stored) _ c.bind_apart.ensures.put
-          c.bind_apart.ensures.refused);
+          (put_few c.bind_apart.result _ _ _ c.bind_apart.ensures.put c.bind_apart.ensures.refused);
       refused = rw (← c.self.view_is) c.bind_apart.ensures.refused;
-      empty = λ empty. let told =
-          c.is_empty.ensures.by_position.1 (rw c.into_range-range.ensures empty) in let not =
-          c.if-is_empty.false in absurd (cc);
-      empty_unchanged = λ empty. let told =
-          c.is_empty.ensures.by_position.1 (rw c.into_range-range.ensures empty) in let not =
-          c.if-is_empty.false in absurd (cc);
+      empty = λ e. absurd (not_both c.if-is_empty.false (empty_is.1 e));
+      empty_unchanged = λ e. absurd (not_both c.if-is_empty.false (empty_is.1 e));
     }
 
 pub returns-then-is_empty : goal.returns-then-is_empty
 returns-then-is_empty g c =
+    let empty_is = rw c.into_range-range.ensures at c.is_empty.ensures.by_position in
     record {
       connected = grind (arith, common_steps);
       given = tt;
-      put =
-          λ full.
-          absurd
-          (full (rw (← c.into_range-range.ensures)
-          (c.is_empty.ensures.by_position.0 c.if-is_empty.true)));
+      put = λ full. absurd (full (empty_is.0 c.if-is_empty.true));
       bound = grind (arith, common_steps);
-      meets =
-          λ full.
-          absurd
-          (full (rw (← c.into_range-range.ensures)
-          (c.is_empty.ensures.by_position.0 c.if-is_empty.true)));
+      meets = λ full. absurd (full (empty_is.0 c.if-is_empty.true));
       form = c.in_form.ensures;
-      coarse =
-          λ complete.
-          stored_coarse g.K.MaybeBounded.order g.met.K.PartialEnum.lawful g.V.PartialEq.eq
-          g.met.V.Eq.laws complete (g.C.Storage.items c.args.self.now) c.in_form.ensures;
-      only =
-          λ complete.
-          stored_only g.K.MaybeBounded.order g.met.K.PartialEnum.lawful g.V.PartialEq.eq
-          g.met.V.Eq.laws complete (g.C.Storage.items c.args.self.now) c.in_form.ensures;
+      coarse = stored_coarse g.met.K.PartialEnum.lawful g.met.V.Eq.laws _ c.in_form.ensures;
+      only = stored_only g.met.K.PartialEnum.lawful g.met.V.Eq.laws _ c.in_form.ensures;
       few = grind (arith, common_steps);
       refused = tt;
       empty = λ _. refl;
@@ -99,6 +64,5 @@ pub bind_apart-requires : goal.bind_apart-requires
 bind_apart-requires g c =
     record {
       stored = rw c.self.view_is c.in_form.ensures;
-      nonempty = λ empty. let told = c.is_empty.ensures.by_position.1 empty in let not =
-          c.if-is_empty.false in cc;
+      nonempty = λ e. not_both c.if-is_empty.false (c.is_empty.ensures.by_position.1 e);
     }

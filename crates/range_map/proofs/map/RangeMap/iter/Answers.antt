@@ -5,16 +5,9 @@ use Rattle.range_map.proofs.map.RangeMap.iter.Goals as goal
 pub returns : goal.returns
 returns g c =
     record {
-      form =
-          search rules;
+      form = search rules;
       coarse =
-          λ complete.
-          stored_coarse g.K.MaybeBounded.order g.met.K.PartialEnum.lawful g.V.PartialEq.eq g.met.V.Eq.laws
-          complete (c.new.result) (search rules);
-      only =
-          λ complete.
-          stored_only g.K.MaybeBounded.order g.met.K.PartialEnum.lawful g.V.PartialEq.eq g.met.V.Eq.laws
-          complete (c.new.result) (search rules);
-      items =
-          search rules;
+          stored_coarse g.met.K.PartialEnum.lawful g.met.V.Eq.laws (c.new.result) (search rules);
+      only = stored_only g.met.K.PartialEnum.lawful g.met.V.Eq.laws (c.new.result) (search rules);
+      items = search rules;
     }

@@ -9,7 +9,7 @@ returns g c =
       items =
           rw (← c.self.view_is, c.new.ensures, c.run_between-ends.ensures.items)
           (found_from g.K.MaybeBounded.order g.met.K.PartialEnum.lawful g.V.PartialEq.eq
-          (storage.is_good stored) (storage.rank stored) (storage.items stored) c.self.invariant
-          c.args.key c.known.ensures c.find-first.result.0 c.find-first.result.1 c.last.result
+          (storage.is_good stored) (storage.rank stored) _ c.self.invariant c.args.key
+          c.known.ensures c.find-first.result.0 c.find-first.result.1 c.last.result
           c.find-first.ensures.found c.last.ensures);
     }

@@ -1,7 +1,5 @@
 use Rattle.std.proofs.Common.{◌≡◌, refl, List, ◌∷◌, []}
-use Rattle.range_algebra.specs.Intervals.{Every}
-use Rattle.range_algebra.specs.Relations.{LiesBefore}
-use Rattle.range_map.specs.Iteration.{shown_item}
+use Rattle.range_map.proofs.Common.{Every, LiesBefore, shown_item}
 use Rattle.range_map.proofs.Appending.{ends_tell}
 use Rattle.range_map.proofs.map.RangeMap.lies_before.Goals as goal
 
@@ -30,7 +28,6 @@ returns-in_default g c = rw c.in_default.ensures.last (λ h. tt, λ h. refl)
 pub returns-in_default-first_range_value : goal.returns-in_default-first_range_value
 returns-in_default-first_range_value g c = (
   λ h. to_none (λ i j. LiesBefore g.K.MaybeBounded.order i.key j.key)
-      (g.C.Storage.items c.args.self.now) (g.D.Storage.items c.args.other.now)
-      c.in_default-first_range_value.ensures.first,
+      _ _ c.in_default-first_range_value.ensures.first,
   λ h. refl,
 )

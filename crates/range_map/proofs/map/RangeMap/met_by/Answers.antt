@@ -1,6 +1,5 @@
 use Rattle.std.proofs.Common.{ap}
-use Rattle.range_keys.specs.Position.{bound_of, start_position, end_position}
-use Rattle.range_algebra.specs.Range.{IsEmptyRange}
+use Rattle.range_map.proofs.Common.{bound_of, start_position, end_position, IsEmptyRange}
 use Rattle.range_change.proofs.Overlaps.{binding_meets, meeting_binds}
 use Rattle.range_map.proofs.Overlapping.{overlapping_found, none_shown, all_shown}
 use Rattle.range_map.proofs.map.RangeMap.met_by.Goals as goal
@@ -11,13 +10,11 @@ returns-clause-items g c = λ full.
     let stored = c.self.inside.stored in
     let order = g.K.MaybeBounded.order in
     rw (← c.self.view_is, c.new-2.ensures, c.run_between-ends.ensures.items)
-    (overlapping_found order g.met.K.PartialEnum.lawful g.V.PartialEq.eq
-    (storage.is_good stored) (storage.rank stored) (storage.items stored) c.self.invariant
-    (g.R.AsRange.range c.args.range.now) full
-    (start_position order (bound_of c.start.result)) (end_position order (bound_of c.end.result))
-    (ap (start_position order) c.start.ensures) (ap (end_position order) c.end.ensures)
-    c.find-first.result.0 c.find-first.result.1 c.find_last_started-last.result
-    c.find-first.ensures.found c.find_last_started-last.ensures.found)
+    (overlapping_found order g.met.K.PartialEnum.lawful g.V.PartialEq.eq (storage.is_good stored)
+    (storage.rank stored) _ c.self.invariant _ full (start_position order (bound_of c.start.result))
+    (end_position order (bound_of c.end.result)) (ap (start_position order) c.start.ensures)
+    (ap (end_position order) c.end.ensures) c.find-first.result.0 c.find-first.result.1
+    c.find_last_started-last.result c.find-first.ensures.found c.find_last_started-last.ensures.found)
 
 pub returns-clause-none : goal.returns-clause-none
 returns-clause-none g c = λ none binds.

@@ -1,6 +1,5 @@
 use Rattle.std.proofs.Common.{◌≡◌, None}
-use Rattle.range_algebra.specs.Intervals.{Any}
-use Rattle.range_change.specs.Pieces.{ArePieces}
+use Rattle.range_map.proofs.Common.{Any, ArePieces}
 use Rattle.range_map.proofs.PieceSteps.{range_by, pieces_shown, all_pieces, all_free}
 use Rattle.range_map.proofs.map.RangeMap.pieces.Goals as goal
 

@@ -1,11 +1,7 @@
 use Rattle.std.proofs.Common.{◌≡◌, Bool, List, [], ◌∷◌, ◌++◌, Option, Some, None}
 use Rattle.std.specs.Prelude.{MatchOption}
-use Rattle.std.specs.List.{AllByRecursion}
-use Rattle.range_keys.specs.Order.{KeyOrder}
-use Rattle.range_algebra.specs.declared.any.AnyRange.{AnyRange}
-use Rattle.range_store.specs.declared.storage.Item.{Item}
+use Rattle.range_map.proofs.Common.{AllByRecursion, KeyOrder, AnyRange, Item, IsStored}
 use Rattle.range_change.specs.Neighbours.{EachNext}
-use Rattle.range_change.specs.Stored.{IsStored}
 use Rattle.range_map.proofs.map.RangeMap.pop_last.Goals as goal
 
 module _ {X : Type 0} where

@@ -8,5 +8,4 @@ returns-clause-value g c = search rules
 pub returns-clause-least : goal.returns-clause-least
 returns-clause-least g c = λ complete.
     rw (returns-clause-value g c)
-    (stored_least g.K.MaybeBounded.order g.met.K.PartialEnum.lawful g.V.PartialEq.eq
-    g.met.V.Eq.laws complete (g.C.Storage.items c.args.self.now) c.in_form.ensures)
+    (stored_least g.met.K.PartialEnum.lawful g.met.V.Eq.laws _ c.in_form.ensures complete)

@@ -1,7 +1,5 @@
-use Rattle.range_algebra.specs.declared.any.AnyRange.{AnyRange}
-use Rattle.range_store.specs.declared.storage.Item.{Item}
+use Rattle.range_map.proofs.Common.{AnyRange, Item, IsWithout}
 use Rattle.range_change.proofs.Results.{on_error}
-use Rattle.range_map.specs.Overlays.{IsWithout}
 use Rattle.range_map.proofs.InPlace.{none_without, one_without}
 use Rattle.range_map.proofs.PartWay.{set_out, one_done, stopped, arrived}
 use Rattle.range_map.proofs.StoredLists.{stored_coarse, stored_only}
@@ -14,15 +12,11 @@ loop-range-init g c =
     let items = g.C.Storage.items c.args.self.now in
     record {
       way = rw c.iter-items.ensures.items
-          (set_out (λ front. IsWithout order same items front items)
-          (g.D.Storage.items c.args.other.now) (none_without order same items));
+          (set_out (λ front. IsWithout order same items front items) _
+          (none_without order same items));
       form = c.in_form.ensures;
-      coarse = λ complete.
-          stored_coarse order g.met.K.PartialEnum.lawful same g.met.V.Eq.laws complete items
-          c.in_form.ensures;
-      only = λ complete.
-          stored_only order g.met.K.PartialEnum.lawful same g.met.V.Eq.laws complete items
-          c.in_form.ensures;
+      coarse = stored_coarse g.met.K.PartialEnum.lawful g.met.V.Eq.laws _ c.in_form.ensures;
+      only = stored_only g.met.K.PartialEnum.lawful g.met.V.Eq.laws _ c.in_form.ensures;
     }
 
 pub loop-range-preserved : goal.loop-range-preserved
@@ -37,9 +31,7 @@ loop-range-preserved g c =
     record { key = c.in-Some.range.now; value = c.in-Some.field-0-1.now } in
     record {
       way =
-          one_done (λ front. IsWithout order same first front before)
-          (λ front. IsWithout order same first front after) (g.D.Storage.items c.args.other.now)
-          c.loop-range.items c.next.new.self item c.in-Some.ensures.steps
+          one_done {Q = λ front. IsWithout order same first front after} c.in-Some.ensures.steps
           (λ done split so_far. one_without order same g.met.K.PartialEnum.lawful first before after
           done item so_far c.in_ok-remove.ensures.unbound) c.loop-range.invariant.way;
       form = c.remove.ensures.form;
@@ -49,18 +41,9 @@ loop-range-preserved g c =
 
 pub returns-clause-bound : goal.returns-clause-bound
 returns-clause-bound g c =
-    let first = g.C.Storage.items c.args.self.now in
-    let now = g.C.Storage.items c.loop-range.self in
-    arrived (λ front. IsWithout g.K.MaybeBounded.order g.V.PartialEq.eq first front now)
-    (g.D.Storage.items c.args.other.now) c.loop-range.items c.in_default.ensures.steps.0
-    c.loop-range.invariant.way
+    arrived c.in_default.ensures.steps.0 c.loop-range.invariant.way
 
 pub returns-in_err-remove-clause-refused : goal.returns-in_err-remove-clause-refused
 returns-in_err-remove-clause-refused g c =
-    let first = g.C.Storage.items c.args.self.now in
-    let now = g.C.Storage.items c.loop-range.self in
-    rw c.in_err-remove.ensures.refused (on_error _ c.from_residual.result (stopped
-    (λ front. IsWithout g.K.MaybeBounded.order g.V.PartialEq.eq first front now)
-    (g.D.Storage.items c.args.other.now) c.loop-range.items c.next.new.self
-    (record { key = c.in-Some.range.now; value = c.in-Some.field-0-1.now }) c.in-Some.ensures.steps
-    c.loop-range.invariant.way))
+    rw c.in_err-remove.ensures.refused (on_error _ c.from_residual.result
+    (stopped c.in-Some.ensures.steps c.loop-range.invariant.way))

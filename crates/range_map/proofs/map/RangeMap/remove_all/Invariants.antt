@@ -1,8 +1,5 @@
 use Rattle.std.proofs.Common.{length}
-use Rattle.range_keys.specs.Order.{IsComplete}
-use Rattle.range_change.specs.Bindings.{IsCoarse, IsOnlyCoarse}
-use Rattle.range_change.specs.Stored.{IsStored}
-use Rattle.range_map.specs.Overlays.{IsWithout}
+use Rattle.range_map.proofs.Common.{IsComplete, IsCoarse, IsOnlyCoarse, IsStored, IsWithout}
 use Rattle.range_map.proofs.PartWay.{IsPartWay}
 use Rattle.range_map.proofs.map.RangeMap.remove_all.Given as goal
 

@@ -1,6 +1,5 @@
 use Rattle.std.proofs.Common.{◌≡◌, ◌∙◌, ◌+◌, ◌<◌, ap, arith, length}
-use Rattle.std.proofs.lemmas.List.Edits.{length-remove}
-use Rattle.range_store.specs.Places.{place_before}
+use Rattle.range_map.proofs.Common.{length-remove, place_before}
 use Rattle.range_store.proofs.Places.{place_at}
 use Rattle.range_map.specs.Retaining.{CalledAtItem}
 use Rattle.range_map.proofs.Retaining.{retaining_starts, kept_next, removed_next, retained, kept_stored, kept_as_before, fewer_kept}
@@ -39,10 +38,9 @@ loop-at-preserved-then-keeps g c =
       position = rw next c.next-at.ensures;
       callable = c.keeps.ensures.callable;
       told =
-          rw next
-          (kept_next (CalledAtItem g.F.FnMut) (storage.items c.self.inside.stored) c.args.f items
-          c.loop-at.f c.keeps.new.f c.get.result.now (storage.rank stored p) was within
-          c.get.ensures (rw c.if-keeps.true at c.keeps.ensures.called));
+          rw next (kept_next (CalledAtItem g.F.FnMut) (storage.items c.self.inside.stored) c.args.f
+          items c.loop-at.f c.keeps.new.f c.get.result.now _ was within c.get.ensures
+          (rw c.if-keeps.true at c.keeps.ensures.called));
     }
 
 pub loop-at-preserved : goal.loop-at-preserved
@@ -60,16 +58,14 @@ loop-at-preserved g c =
     let next : place_before (storage.rank after) (length (storage.items after))
     c.remove_at-removed.result.1 ≡ storage.rank stored p =
     place_at (storage.is_good after) (storage.rank after) (length (storage.items after))
-    c.remove_at-removed.result.1 (storage.rank stored p) removed.following in
+    c.remove_at-removed.result.1 _ removed.following in
     record {
       position = rw next removed.following;
       callable = c.keeps.ensures.callable;
       told =
-          rw next
-          (removed_next (CalledAtItem g.F.FnMut) (storage.items c.self.inside.stored) c.args.f
-          items (storage.items after) c.loop-at.f c.keeps.new.f c.get.result.now
-          (storage.rank stored p) was within
-          c.get.ensures (rw c.if-keeps.false at c.keeps.ensures.called) removed.list);
+          rw next (removed_next (CalledAtItem g.F.FnMut) (storage.items c.self.inside.stored)
+          c.args.f items _ c.loop-at.f c.keeps.new.f c.get.result.now _ was within c.get.ensures
+          (rw c.if-keeps.false at c.keeps.ensures.called) removed.list);
     }
 
 pub loop-at-smaller : goal.loop-at-smaller
@@ -86,7 +82,7 @@ loop-at-smaller g c =
     let next : place_before (storage.rank after) (length (storage.items after))
     c.remove_at-removed.result.1 ≡ storage.rank stored p =
     place_at (storage.is_good after) (storage.rank after) (length (storage.items after))
-    c.remove_at-removed.result.1 (storage.rank stored p) removed.following in
+    c.remove_at-removed.result.1 _ removed.following in
     let now : place_before (storage.rank stored) (length items) c.loop-at.at
     ≡ storage.rank stored p =
     ap (place_before (storage.rank stored) (length items)) c.in-Some.is in
@@ -96,67 +92,48 @@ loop-at-smaller g c =
 
 pub invariant_of-self : goal.invariant_of-self
 invariant_of-self g c =
-    let storage = g.C.Storage in
     let stored = c.loop-at.self-inside.stored in
-    let items = storage.items stored in
-    let old = storage.items c.self.inside.stored in
+    let count = length (g.C.Storage.items stored) in
     let done =
-    retained (CalledAtItem g.F.FnMut) old c.args.f items
-    (place_before (storage.rank stored) (length items) c.loop-at.at) c.loop-at.f
-    c.loop-at.invariant.told
-    (ap (place_before (storage.rank stored) (length items)) c.in_default.is) in
+    retained (CalledAtItem g.F.FnMut) _ _ c.loop-at.invariant.told
+    (ap (place_before (g.C.Storage.rank stored) count) c.in_default.is) in
     rw done.4 (kept_stored g.K.MaybeBounded.order g.met.K.PartialEnum.lawful g.V.PartialEq.eq
-    g.met.V.Eq.laws done.0 old c.self.invariant)
+    g.met.V.Eq.laws done.0 _ c.self.invariant)
 
 pub returns-clause-form : goal.returns-clause-form
 returns-clause-form g c =
-    let storage = g.C.Storage in
     let stored = c.loop-at.self-inside.stored in
-    let items = storage.items stored in
-    let old = storage.items c.self.inside.stored in
+    let count = length (g.C.Storage.items stored) in
     let done =
-    retained (CalledAtItem g.F.FnMut) old c.args.f items
-    (place_before (storage.rank stored) (length items) c.loop-at.at) c.loop-at.f
-    c.loop-at.invariant.told
-    (ap (place_before (storage.rank stored) (length items)) c.in_default.is) in
+    retained (CalledAtItem g.F.FnMut) _ _ c.loop-at.invariant.told
+    (ap (place_before (g.C.Storage.rank stored) count) c.in_default.is) in
     rw done.4 (kept_stored g.K.MaybeBounded.order g.met.K.PartialEnum.lawful g.V.PartialEq.eq
-    g.met.V.Eq.laws done.0 old c.self.invariant)
+    g.met.V.Eq.laws done.0 _ c.self.invariant)
 
 pub returns-clause-coarse : goal.returns-clause-coarse
-returns-clause-coarse g c complete =
-    stored_coarse g.K.MaybeBounded.order g.met.K.PartialEnum.lawful g.V.PartialEq.eq
-    g.met.V.Eq.laws complete (g.C.Storage.items c.loop-at.self-inside.stored)
-    (returns-clause-form g c)
+returns-clause-coarse g c =
+    stored_coarse g.met.K.PartialEnum.lawful g.met.V.Eq.laws _ (returns-clause-form g c)
 
 pub returns-clause-only : goal.returns-clause-only
-returns-clause-only g c complete =
-    stored_only g.K.MaybeBounded.order g.met.K.PartialEnum.lawful g.V.PartialEq.eq
-    g.met.V.Eq.laws complete (g.C.Storage.items c.loop-at.self-inside.stored)
-    (returns-clause-form g c)
+returns-clause-only g c =
+    stored_only g.met.K.PartialEnum.lawful g.met.V.Eq.laws _ (returns-clause-form g c)
 
 pub returns-clause-kept : goal.returns-clause-kept
 returns-clause-kept g c =
-    let storage = g.C.Storage in
     let stored = c.loop-at.self-inside.stored in
-    let items = storage.items stored in
-    let old = storage.items c.self.inside.stored in
+    let count = length (g.C.Storage.items stored) in
     let done =
-    retained (CalledAtItem g.F.FnMut) old c.args.f items
-    (place_before (storage.rank stored) (length items) c.loop-at.at) c.loop-at.f
-    c.loop-at.invariant.told
-    (ap (place_before (storage.rank stored) (length items)) c.in_default.is) in
-    rw (← c.self.view_is, done.4) (kept_as_before g.K.MaybeBounded.order
-    g.met.K.PartialEnum.lawful g.V.PartialEq.eq g.met.V.Eq.laws done.0 old c.self.invariant)
+    retained (CalledAtItem g.F.FnMut) _ _ c.loop-at.invariant.told
+    (ap (place_before (g.C.Storage.rank stored) count) c.in_default.is) in
+    rw (← c.self.view_is, done.4)
+    (kept_as_before g.K.MaybeBounded.order g.met.K.PartialEnum.lawful g.V.PartialEq.eq
+    g.met.V.Eq.laws done.0 _ c.self.invariant)
 
 pub returns-clause-few : goal.returns-clause-few
 returns-clause-few g c =
-    let storage = g.C.Storage in
     let stored = c.loop-at.self-inside.stored in
-    let items = storage.items stored in
-    let old = storage.items c.self.inside.stored in
+    let count = length (g.C.Storage.items stored) in
     let done =
-    retained (CalledAtItem g.F.FnMut) old c.args.f items
-    (place_before (storage.rank stored) (length items) c.loop-at.at) c.loop-at.f
-    c.loop-at.invariant.told
-    (ap (place_before (storage.rank stored) (length items)) c.in_default.is) in
-    rw (← c.self.view_is, done.4) (fewer_kept done.0 old)
+    retained (CalledAtItem g.F.FnMut) _ _ c.loop-at.invariant.told
+    (ap (place_before (g.C.Storage.rank stored) count) c.in_default.is) in
+    rw (← c.self.view_is, done.4) (fewer_kept done.0 _)

@@ -1,13 +1,11 @@
 use Rattle.std.proofs.Common.{sym, ◌∙◌}
-use Rattle.std.specs.Cmp.{Equal-is, tied_back}
-use Rattle.range_algebra.specs.Clones.{range_clone}
-use Rattle.range_algebra.specs.RangeOrder.{range_total}
-use Rattle.range_algebra.specs.References.{range_of}
+use Rattle.range_map.proofs.Common.{Equal-is, tied_back, range_clone, range_total, range_of}
 use Rattle.range_change.proofs.Results.{on_error}
 use Rattle.range_map.specs.PartWay.{AreUnboundAfter}
 use Rattle.range_map.proofs.InPlace.{none_unbound, one_unbound, all_kept}
 use Rattle.range_map.proofs.PartWay.{set_out, one_done, stopped_at_gap, arrived}
 use Rattle.range_map.proofs.StoredLists.{stored_coarse, stored_only}
+use Rattle.range_map.proofs.CloneLists.{clones_tied}
 use Rattle.range_map.proofs.map.RangeMap.retain_all.Goals as goal
 
 pub loop-gap-init : goal.loop-gap-init
@@ -19,12 +17,8 @@ loop-gap-init g c =
       way = set_out (AreUnboundAfter order same items items) c.gaps-gaps.result
           (none_unbound order same items);
       form = c.in_form.ensures;
-      coarse = λ complete.
-          stored_coarse order g.met.K.PartialEnum.lawful same g.met.V.Eq.laws complete items
-          c.in_form.ensures;
-      only = λ complete.
-          stored_only order g.met.K.PartialEnum.lawful same g.met.V.Eq.laws complete items
-          c.in_form.ensures;
+      coarse = stored_coarse g.met.K.PartialEnum.lawful g.met.V.Eq.laws _ c.in_form.ensures;
+      only = stored_only g.met.K.PartialEnum.lawful g.met.V.Eq.laws _ c.in_form.ensures;
     }
 
 pub loop-gap-preserved : goal.loop-gap-preserved
@@ -36,10 +30,8 @@ loop-gap-preserved g c =
     let first = items c.args.self.now in
     let before = items c.loop-gap.self in
     let after = items c.remove.new.self in
-    let equal = λ (x : g.row.K.Denot) (y : g.row.K.Denot) (h : g.K.Clone.is_clone x y).
-    sym (g.met.K.MaybeBounded.order_is_cmp x y)
-    ∙ (Equal-is (g.K.Ord.cmp x y)).0
-    (sym (g.met.K.Ord.matches_eq x y) ∙ c.requires.keys x y h) in
+    let equal =
+    clones_tied g.met.K.MaybeBounded.order_is_cmp g.met.K.Ord.matches_eq c.requires.keys in
     let gap = range_of c.in-Some.gap in
     let copy = c.in_ok-cloned.field-0 in
     let alike =
@@ -47,8 +39,7 @@ loop-gap-preserved g c =
     (range_clone order lawful g.K.Clone.is_clone equal gap copy c.in_ok-cloned.ensures) in
     record {
       way =
-          one_done (AreUnboundAfter order same first before) (AreUnboundAfter order same first after)
-          c.gaps-gaps.result c.loop-gap.gaps c.next.new.self gap c.in-Some.ensures.steps
+          one_done {Q = AreUnboundAfter order same first after} c.in-Some.ensures.steps
           (λ done split so_far. one_unbound order same lawful first before after done gap copy alike
           so_far c.in_ok-remove.ensures.unbound) c.loop-gap.invariant.way;
       form = c.remove.ensures.form;
@@ -62,26 +53,15 @@ returns-clause-bound g c =
     let same = g.V.PartialEq.eq in
     let first = g.C.Storage.items c.args.self.now in
     let now = g.C.Storage.items c.loop-gap.self in
-    all_kept order same first now (g.D.Storage.items c.args.other.now) c.gaps-gaps.result
-    c.gaps-gaps.ensures.once (arrived (AreUnboundAfter order same first now) c.gaps-gaps.result
-    c.loop-gap.gaps c.in_default.ensures.steps.0 c.loop-gap.invariant.way)
+    all_kept order same first now _ c.gaps-gaps.result c.gaps-gaps.ensures.once
+    (arrived c.in_default.ensures.steps.0 c.loop-gap.invariant.way)
 
 pub returns-in_err-cloned-clause-refused : goal.returns-in_err-cloned-clause-refused
 returns-in_err-cloned-clause-refused g c =
-    let first = g.C.Storage.items c.args.self.now in
-    let now = g.C.Storage.items c.loop-gap.self in
-    on_error _ c.from_residual.result (stopped_at_gap g.K.MaybeBounded.order
-    (AreUnboundAfter g.K.MaybeBounded.order g.V.PartialEq.eq first now)
-    (g.D.Storage.items c.args.other.now) c.gaps-gaps.result c.loop-gap.gaps c.next.new.self
-    (range_of c.in-Some.gap) c.gaps-gaps.ensures.gaps c.in-Some.ensures.steps
-    c.loop-gap.invariant.way)
+    on_error _ c.from_residual.result
+    (stopped_at_gap c.gaps-gaps.ensures.gaps c.in-Some.ensures.steps c.loop-gap.invariant.way)
 
 pub returns-in_err-remove-clause-refused : goal.returns-in_err-remove-clause-refused
 returns-in_err-remove-clause-refused g c =
-    let first = g.C.Storage.items c.args.self.now in
-    let now = g.C.Storage.items c.loop-gap.self in
-    rw c.in_err-remove.ensures.refused (on_error _ c.from_residual-in_err-remove.result (stopped_at_gap g.K.MaybeBounded.order
-    (AreUnboundAfter g.K.MaybeBounded.order g.V.PartialEq.eq first now)
-    (g.D.Storage.items c.args.other.now) c.gaps-gaps.result c.loop-gap.gaps c.next.new.self
-    (range_of c.in-Some.gap) c.gaps-gaps.ensures.gaps c.in-Some.ensures.steps
-    c.loop-gap.invariant.way))
+    rw c.in_err-remove.ensures.refused (on_error _ c.from_residual-in_err-remove.result
+    (stopped_at_gap c.gaps-gaps.ensures.gaps c.in-Some.ensures.steps c.loop-gap.invariant.way))

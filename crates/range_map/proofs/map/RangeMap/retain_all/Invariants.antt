@@ -1,7 +1,5 @@
 use Rattle.std.proofs.Common.{length}
-use Rattle.range_keys.specs.Order.{IsComplete}
-use Rattle.range_change.specs.Bindings.{IsCoarse, IsOnlyCoarse}
-use Rattle.range_change.specs.Stored.{IsStored}
+use Rattle.range_map.proofs.Common.{IsComplete, IsCoarse, IsOnlyCoarse, IsStored}
 use Rattle.range_map.specs.PartWay.{AreUnboundAfter}
 use Rattle.range_map.proofs.PartWay.{IsPartWay}
 use Rattle.range_map.proofs.map.RangeMap.retain_all.Given as goal

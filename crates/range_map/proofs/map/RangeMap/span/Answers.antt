@@ -13,9 +13,7 @@ returns-in-Some-Some g c =
         starts = c.in-Some-Some.ensures.first;
         ends = c.in-Some-Some.ensures'.last;
         is =
-            range_by c.new.result
-            (record { start = first.key.start; end = last.key.end }) c.start_bound.result
-            c.end_bound.result c.new.ensures.start c.new.ensures.end (c.start_bound.ensures tt)
-            (c.end_bound.ensures tt);
+            range_by c.new.result _ c.start_bound.result c.end_bound.result c.new.ensures.start
+            c.new.ensures.end (c.start_bound.ensures tt) (c.end_bound.ensures tt);
       };
     }

@@ -1,29 +1,25 @@
-use Rattle.std.proofs.lemmas.Grind.{common_steps}
+use Rattle.range_map.proofs.Common.{common_steps, IsEmptyRange, IsBoundAfter, MeetAlso}
 use Rattle.std.proofs.Common.{OnOk, refl, arith, subst}
-use Rattle.range_algebra.specs.Range.{IsEmptyRange}
-use Rattle.range_change.specs.Bindings.{IsBoundAfter}
 use Rattle.range_change.specs.Changes.{IsInserted}
 use Rattle.range_change.specs.Frames.{IsInsertionFrame}
-use Rattle.range_change.specs.Lookups.{MeetAlso}
 use Rattle.range_change.proofs.CoveredPlaces.{on_ok}
 use Rattle.range_change.proofs.Freeing.{form_after}
 use Rattle.range_map.proofs.StoredLists.{stored_coarse, stored_only}
+use Rattle.range_change.proofs.Tests.{not_both}
 use Rattle.range_map.proofs.map.RangeMap.try_insert.Goals as goal
 
 pub bind_where_free-requires : goal.bind_where_free-requires
 bind_where_free-requires g c =
     record {
       stored = rw c.self.view_is c.in_form.ensures;
-      nonempty = λ empty. let told = c.is_empty.ensures.by_position.1 empty in let not =
-          c.if-is_empty.false in cc;
+      nonempty = λ e. not_both c.if-is_empty.false (c.is_empty.ensures.by_position.1 e);
     }
 
 pub invariant_of-self : goal.invariant_of-self
 invariant_of-self g c =
-    form_after g.K.MaybeBounded.order g.V.PartialEq.eq c.bind_where_free.result
-    (g.C.Storage.items c.self.inside.stored)
-    (g.C.Storage.items c.bind_where_free.new.stored) c.into_range-range.result c.args.value
-    c.bind_where_free.ensures.ok c.bind_where_free.ensures.refused c.self.invariant
+    form_after g.K.MaybeBounded.order g.V.PartialEq.eq c.bind_where_free.result _ _
+    c.into_range-range.result c.args.value c.bind_where_free.ensures.ok
+    c.bind_where_free.ensures.refused c.self.invariant
 
 pub returns : goal.returns
 returns g c =
@@ -39,6 +35,7 @@ returns g c =
     form_after order same c.bind_where_free.result items new c.into_range-range.result
     c.args.value c.bind_where_free.ensures.ok c.bind_where_free.ensures.refused
     c.self.invariant in
+    let empty_is = rw c.into_range-range.ensures at c.is_empty.ensures.by_position in
     record {
       occupied = grind (arith, common_steps);
       given = grind (arith, common_steps);
@@ -56,46 +53,25 @@ returns g c =
           ((IsEmptyRange order range → ⊥) → MeetAlso order items new range)
           c.bind_where_free.result (λ h full. h.meets) done);
       form = form;
-      coarse =
-          λ complete.
-          stored_coarse order g.met.K.PartialEnum.lawful same g.met.V.Eq.laws complete new form;
-      only =
-          λ complete.
-          stored_only order g.met.K.PartialEnum.lawful same g.met.V.Eq.laws complete new form;
+      coarse = stored_coarse g.met.K.PartialEnum.lawful g.met.V.Eq.laws _ form;
+      only = stored_only g.met.K.PartialEnum.lawful g.met.V.Eq.laws _ form;
       refused = rw (← c.self.view_is) c.bind_where_free.ensures.refused;
-      empty = λ empty. let told =
-          c.is_empty.ensures.by_position.1 (rw c.into_range-range.ensures empty) in let not =
-          c.if-is_empty.false in absurd (cc);
-      empty_unchanged = λ empty. let told =
-          c.is_empty.ensures.by_position.1 (rw c.into_range-range.ensures empty) in let not =
-          c.if-is_empty.false in absurd (cc);
+      empty = λ e. absurd (not_both c.if-is_empty.false (empty_is.1 e));
+      empty_unchanged = λ e. absurd (not_both c.if-is_empty.false (empty_is.1 e));
     }
 
 pub returns-then-is_empty : goal.returns-then-is_empty
 returns-then-is_empty g c =
+    let empty_is = rw c.into_range-range.ensures at c.is_empty.ensures.by_position in
     record {
       occupied = grind (arith, common_steps);
       given = tt;
       bound = grind (arith, common_steps);
-      frame =
-          λ full.
-          absurd
-          (full (rw (← c.into_range-range.ensures)
-          (c.is_empty.ensures.by_position.0 c.if-is_empty.true)));
-      meets =
-          λ full.
-          absurd
-          (full (rw (← c.into_range-range.ensures)
-          (c.is_empty.ensures.by_position.0 c.if-is_empty.true)));
+      frame = λ full. absurd (full (empty_is.0 c.if-is_empty.true));
+      meets = λ full. absurd (full (empty_is.0 c.if-is_empty.true));
       form = c.in_form.ensures;
-      coarse =
-          λ complete.
-          stored_coarse g.K.MaybeBounded.order g.met.K.PartialEnum.lawful g.V.PartialEq.eq
-          g.met.V.Eq.laws complete (g.C.Storage.items c.args.self.now) c.in_form.ensures;
-      only =
-          λ complete.
-          stored_only g.K.MaybeBounded.order g.met.K.PartialEnum.lawful g.V.PartialEq.eq
-          g.met.V.Eq.laws complete (g.C.Storage.items c.args.self.now) c.in_form.ensures;
+      coarse = stored_coarse g.met.K.PartialEnum.lawful g.met.V.Eq.laws _ c.in_form.ensures;
+      only = stored_only g.met.K.PartialEnum.lawful g.met.V.Eq.laws _ c.in_form.ensures;
       refused = tt;
       empty = λ _. refl;
       empty_unchanged = λ _. refl;

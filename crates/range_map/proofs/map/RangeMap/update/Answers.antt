@@ -1,9 +1,5 @@
-use Rattle.std.proofs.lemmas.Grind.{common_steps}
+use Rattle.range_map.proofs.Common.{common_steps, Equal-is, bound_clone, IsEmptyRange, MayAnswer, IsUpdated}
 use Rattle.std.proofs.Common.{sym, refl, ◌∙◌, arith}
-use Rattle.std.specs.Cmp.{Equal-is}
-use Rattle.range_algebra.specs.Clones.{bound_clone}
-use Rattle.range_algebra.specs.Range.{IsEmptyRange}
-use Rattle.range_change.specs.Answers.{MayAnswer, IsUpdated}
 use Rattle.range_change.proofs.CoveredPlaces.{on_ok}
 use Rattle.range_map.proofs.Likeness.{clone_empty, updated_too, fails_too}
 use Rattle.range_change.specs.Frames.{IsUpdateFrame}
@@ -14,16 +10,16 @@ use Rattle.range_change.proofs.UpdatedLists.{updated_stands}
 use Rattle.range_map.proofs.ReboundKeys.{update_rebinds, none_rebound}
 use Rattle.range_map.proofs.StoredLists.{stored_coarse, stored_only}
 use Rattle.range_change.proofs.Results.{error_has_no_value, on_error}
+use Rattle.range_change.proofs.Tests.{not_both}
+use Rattle.range_map.proofs.CloneLists.{clones_tied}
 use Rattle.range_map.proofs.map.RangeMap.update.Goals as goal
 
 pub update_pieces-requires : goal.update_pieces-requires
 update_pieces-requires g c =
     let order = g.K.MaybeBounded.order in
     let lawful = g.met.K.PartialEnum.lawful in
-    let equal_keys = λ (a : g.row.K.Denot) (b : g.row.K.Denot) (h : g.K.Clone.is_clone a b).
-    sym (g.met.K.MaybeBounded.order_is_cmp a b)
-    ∙ (Equal-is (g.K.Ord.cmp a b)).0
-    (sym (g.met.K.Ord.matches_eq a b) ∙ c.requires.keys a b h) in
+    let equal_keys =
+    clones_tied g.met.K.MaybeBounded.order_is_cmp g.met.K.Ord.matches_eq c.requires.keys in
     let r = g.R.AsRange.range c.args.range in
     let s = c.in_ok-range.range in
     let start =
@@ -49,10 +45,8 @@ pub returns : goal.returns
 returns g c =
     let order = g.K.MaybeBounded.order in
     let lawful = g.met.K.PartialEnum.lawful in
-    let equal_keys = λ (a : g.row.K.Denot) (b : g.row.K.Denot) (h : g.K.Clone.is_clone a b).
-    sym (g.met.K.MaybeBounded.order_is_cmp a b)
-    ∙ (Equal-is (g.K.Ord.cmp a b)).0
-    (sym (g.met.K.Ord.matches_eq a b) ∙ c.requires.keys a b h) in
+    let equal_keys =
+    clones_tied g.met.K.MaybeBounded.order_is_cmp g.met.K.Ord.matches_eq c.requires.keys in
     let r = g.R.AsRange.range c.args.range in
     let s = c.in_ok-range.range in
     let start =
@@ -86,24 +80,16 @@ returns g c =
       spelled = rw (← c.self.view_is) c.update_pieces.ensures.spelled;
       form = c.update_pieces.ensures.form;
       coarse =
-          λ complete.
-          stored_coarse g.K.MaybeBounded.order g.met.K.PartialEnum.lawful g.V.PartialEq.eq
-          g.met.V.Eq.laws complete
-          (g.C.Storage.items c.update_pieces.new.stored) c.update_pieces.ensures.form;
-      only =
-          λ complete.
-          stored_only g.K.MaybeBounded.order g.met.K.PartialEnum.lawful g.V.PartialEq.eq
-          g.met.V.Eq.laws complete
-          (g.C.Storage.items c.update_pieces.new.stored) c.update_pieces.ensures.form;
+          stored_coarse g.met.K.PartialEnum.lawful g.met.V.Eq.laws _ c.update_pieces.ensures.form;
+      only = stored_only g.met.K.PartialEnum.lawful g.met.V.Eq.laws _ c.update_pieces.ensures.form;
       closure =
           λ e failed. rw (← c.self.view_is)
           (fails_too order lawful r s start end same g.F.Fn c.args.f items e
           (c.update_pieces.ensures.closure e failed));
       refused = rw (← c.self.view_is) c.update_pieces.ensures.refused;
-      empty = λ empty. let told = c.is_empty.ensures.by_position.1 empty in let not =
-          c.if-is_empty.false in absurd (cc);
-      empty_unchanged = λ empty. let told = c.is_empty.ensures.by_position.1 empty in let not =
-          c.if-is_empty.false in absurd (cc);
+      empty = λ e. absurd (not_both c.if-is_empty.false (c.is_empty.ensures.by_position.1 e));
+      empty_unchanged =
+          λ e. absurd (not_both c.if-is_empty.false (c.is_empty.ensures.by_position.1 e));
     }
 
 pub returns-then-is_empty : goal.returns-then-is_empty
@@ -112,21 +98,12 @@ returns-then-is_empty g c =
       updated = λ full. absurd (full (c.is_empty.ensures.by_position.0 c.if-is_empty.true));
       rebound =
           none_rebound g.K.MaybeBounded.order g.met.K.PartialEnum.lawful g.V.PartialEq.eq
-          g.met.V.Eq.laws g.F.Fn c.args.f (g.C.Storage.items c.args.self.now)
-          (g.R.AsRange.range c.args.range) (c.is_empty.ensures.by_position.0 c.if-is_empty.true);
-      kept =
-          unchanged_stands g.K.MaybeBounded.order g.V.PartialEq.eq (g.R.AsRange.range c.args.range)
-          (g.C.Storage.items c.args.self.now);
+          g.met.V.Eq.laws g.F.Fn c.args.f _ _ (c.is_empty.ensures.by_position.0 c.if-is_empty.true);
+      kept = unchanged_stands g.K.MaybeBounded.order g.V.PartialEq.eq _ _;
       spelled = list_keeps_spelling g.met.K.PartialEnum.lawful g.met.V.Eq.laws c.in_form.ensures;
       form = c.in_form.ensures;
-      coarse =
-          λ complete.
-          stored_coarse g.K.MaybeBounded.order g.met.K.PartialEnum.lawful g.V.PartialEq.eq
-          g.met.V.Eq.laws complete (g.C.Storage.items c.args.self.now) c.in_form.ensures;
-      only =
-          λ complete.
-          stored_only g.K.MaybeBounded.order g.met.K.PartialEnum.lawful g.V.PartialEq.eq
-          g.met.V.Eq.laws complete (g.C.Storage.items c.args.self.now) c.in_form.ensures;
+      coarse = stored_coarse g.met.K.PartialEnum.lawful g.met.V.Eq.laws _ c.in_form.ensures;
+      only = stored_only g.met.K.PartialEnum.lawful g.met.V.Eq.laws _ c.in_form.ensures;
       closure = λ e failed. absurd (cc);
       refused = tt;
       empty = λ _. refl;
@@ -141,17 +118,10 @@ returns-in_err-range g c =
       kept = error_has_no_value _ c.from_residual.result c.from_residual.ensures.0;
       spelled = error_has_no_value _ c.from_residual.result c.from_residual.ensures.0;
       form = c.in_form.ensures;
-      coarse =
-          λ complete.
-          stored_coarse g.K.MaybeBounded.order g.met.K.PartialEnum.lawful g.V.PartialEq.eq
-          g.met.V.Eq.laws complete (g.C.Storage.items c.args.self.now) c.in_form.ensures;
-      only =
-          λ complete.
-          stored_only g.K.MaybeBounded.order g.met.K.PartialEnum.lawful g.V.PartialEq.eq
-          g.met.V.Eq.laws complete (g.C.Storage.items c.args.self.now) c.in_form.ensures;
+      coarse = stored_coarse g.met.K.PartialEnum.lawful g.met.V.Eq.laws _ c.in_form.ensures;
+      only = stored_only g.met.K.PartialEnum.lawful g.met.V.Eq.laws _ c.in_form.ensures;
       closure = grind (arith, common_steps);
       refused = on_error _ c.from_residual.result refl;
-      empty = λ empty. let told = c.is_empty.ensures.by_position.1 empty in let not =
-          c.if-is_empty.false in absurd (cc);
+      empty = λ e. absurd (not_both c.if-is_empty.false (c.is_empty.ensures.by_position.1 e));
       empty_unchanged = λ _. refl;
     }

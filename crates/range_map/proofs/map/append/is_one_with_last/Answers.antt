@@ -1,6 +1,5 @@
-use Rattle.std.proofs.lemmas.Bool.{false≢true}
+use Rattle.range_map.proofs.Common.{false≢true, common_steps}
 use Rattle.std.proofs.Common.{arith}
-use Rattle.std.proofs.lemmas.Grind.{common_steps}
 use Rattle.range_map.proofs.map.append.is_one_with_last.Goals as goal
 
 pub returns-in-None : goal.returns-in-None

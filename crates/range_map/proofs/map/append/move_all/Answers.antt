@@ -1,7 +1,5 @@
 use Rattle.std.proofs.Common.{◌≡◌, ◌∙◌, ℕ, ◌+◌, ◌≤◌, List, length, ◌++◌, ◌∷◌, [], arith}
-use Rattle.std.specs.List.{insert}
-use Rattle.std.proofs.lemmas.List.{append_assoc}
-use Rattle.std.proofs.lemmas.List.Edits.{insert_end}
+use Rattle.range_map.proofs.Common.{insert, append_assoc, insert_end}
 use Rattle.range_map.proofs.map.append.move_all.Goals as goal
 
 -- the first of the others comes to be the last that is stored

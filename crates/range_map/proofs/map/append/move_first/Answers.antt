@@ -1,6 +1,5 @@
 use Rattle.std.proofs.Common.{◌≡◌, ◌∙◌, sym, ◌++◌, ◌∷◌, []}
-use Rattle.std.proofs.lemmas.List.{append_assoc, append-nil}
-use Rattle.std.proofs.lemmas.List.Edits.{insert_end}
+use Rattle.range_map.proofs.Common.{append_assoc, append-nil, insert_end}
 use Rattle.range_map.specs.Appending.{as_one}
 use Rattle.range_map.proofs.Appending.{appended_last, appended_none}
 use Rattle.range_map.proofs.map.append.move_first.Goals as goal

@@ -1,8 +1,5 @@
 use Rattle.std.proofs.Common.{ℕ, ◌-◌, ◌<◌, length, get_or}
-use Rattle.range_algebra.specs.declared.any.AnyRange.{AnyRange}
-use Rattle.range_algebra.specs.Range.{IsKnownRange}
-use Rattle.range_store.specs.Places.{place_before, IsAt}
-use Rattle.range_store.specs.declared.storage.Item.{Item}
+use Rattle.range_map.proofs.Common.{AnyRange, IsKnownRange, place_before, IsAt, Item}
 use Rattle.range_map.proofs.map.clone.known_items.Given as goal
 
 abbrev pub invariant-loop-at : goal.invariant-loop-at

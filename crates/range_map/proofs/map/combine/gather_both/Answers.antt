@@ -1,15 +1,10 @@
 use Rattle.std.proofs.Common.{◌∙◌, sym, ◌++◌, rules}
-use Rattle.std.specs.Cmp.{Equal-is}
-use Rattle.std.specs.Option.{option_copied, option_map}
-use Rattle.range_algebra.specs.Clones.{bound_clone}
-use Rattle.range_algebra.specs.Cuts.{lower, upper}
-use Rattle.range_algebra.specs.References.{range_of}
-use Rattle.range_map.specs.Combining.{MayAnswerBoth}
-use Rattle.range_map.specs.FreeRanges.{full_range}
+use Rattle.range_map.proofs.Common.{Equal-is, option_copied, option_map, bound_clone, lower, upper, range_of, MayAnswerBoth, full_range}
 use Rattle.range_map.specs.Merged.{part_item}
 use Rattle.range_change.specs.Window.{option_items}
 use Rattle.range_map.proofs.Combination.{combined_none, combined_more, combined_all, is_shared, asked_of_part}
 use Rattle.range_map.proofs.Combining.{first_placed, fewer_steps_at, unmapped, nothing_listed}
+use Rattle.range_map.proofs.CloneLists.{clones_tied}
 use Rattle.range_map.proofs.map.combine.gather_both.Goals as goal
 
 pub loop-piece-init : goal.loop-piece-init
@@ -21,9 +16,8 @@ loop-piece-init g c =
         lower g.K.MaybeBounded.order full_range,
         rw (left, right, c.new-answers.ensures.items)
             (combined_none g.K.MaybeBounded.order lawful g.V.PartialEq.eq first g.W.PartialEq.eq
-            second g.X.PartialEq.eq equal (MayAnswerBoth g.F.Fn c.args.f.now)
-            (g.C.Storage.items c.args.map.now) (g.D.Storage.items c.args.other.now)
-            c.in_form.ensures c.in_form-2.ensures),
+            second g.X.PartialEq.eq equal (MayAnswerBoth g.F.Fn c.args.f.now) _ _ c.in_form.ensures
+            c.in_form-2.ensures),
       );
       first = c.next_part-left.ensures.last;
       second = c.next_part-right.ensures.last;
@@ -36,126 +30,72 @@ first_piece-requires g c =
     g.met.X.Eq.laws in
     record {
       left =
-          first_placed g.K.MaybeBounded.order g.met.K.PartialEnum.lawful g.V.PartialEq.eq g.met.V.Eq.laws
-          (g.C.Storage.items c.args.map.now) up_to.0 (option_map part_item c.loop-piece.left)
-          c.loop-piece.items up_to.1.first;
+          first_placed g.K.MaybeBounded.order g.met.K.PartialEnum.lawful g.V.PartialEq.eq
+          g.met.V.Eq.laws _ up_to.0 _ c.loop-piece.items up_to.1.first;
       right =
-          first_placed g.K.MaybeBounded.order g.met.K.PartialEnum.lawful g.W.PartialEq.eq g.met.W.Eq.laws
-          (g.D.Storage.items c.args.other.now) up_to.0 (option_map part_item c.loop-piece.right)
-          c.loop-piece.others up_to.1.second;
+          first_placed g.K.MaybeBounded.order g.met.K.PartialEnum.lawful g.W.PartialEq.eq
+          g.met.W.Eq.laws _ up_to.0 _ c.loop-piece.others up_to.1.second;
     }
 
 pub ask_both-requires : goal.ask_both-requires
 ask_both-requires g c =
-    let order = g.K.MaybeBounded.order in
-    let lawful = g.met.K.PartialEnum.lawful in
-    let left = option_map part_item c.loop-piece.left in
-    let right = option_map part_item c.loop-piece.right in
-    let key = range_of c.in-Some.piece.range in
-    let value = option_copied c.in-Some.piece.value in
-    let other = option_copied c.in-Some.piece.other_value in
-    let left_rest = option_map part_item c.in-Some.piece.left in
-    let right_rest = option_map part_item c.in-Some.piece.right in
-    let items = g.C.Storage.items c.args.map.now in
-    let others = g.D.Storage.items c.args.other.now in
+    let inv = c.loop-piece.invariant in
     let was =
-    c.loop-piece.invariant.up_to lawful g.met.V.Eq.laws g.met.W.Eq.laws g.met.X.Eq.laws in
+    inv.up_to g.met.K.PartialEnum.lawful g.met.V.Eq.laws g.met.W.Eq.laws g.met.X.Eq.laws in
     let shared =
-    is_shared order lawful g.V.PartialEq.eq g.met.V.Eq.laws g.W.PartialEq.eq g.met.W.Eq.laws
-    g.X.PartialEq.eq g.met.X.Eq.laws (MayAnswerBoth g.F.Fn c.args.f.now) items others
-    c.in_form.ensures c.in_form-2.ensures was.0 c.loop-piece.answers.items left c.loop-piece.items
-    right c.loop-piece.others
-    (λ e. c.loop-piece.invariant.first (unmapped part_item c.loop-piece.left e))
-    (λ e. c.loop-piece.invariant.second (unmapped part_item c.loop-piece.right e)) was.1 key value
-    other left_rest right_rest (rw c.in-Some.is at c.first_piece.ensures) in
-    asked_of_part order g.F.Fn c.args.f.now items others c.requires.asked key value other
-    shared.first shared.second shared.bound
+    is_shared g.K.MaybeBounded.order g.met.K.PartialEnum.lawful g.V.PartialEq.eq g.met.V.Eq.laws
+    g.W.PartialEq.eq g.met.W.Eq.laws g.X.PartialEq.eq g.met.X.Eq.laws
+    (MayAnswerBoth g.F.Fn c.args.f.now) _ _ c.in_form.ensures c.in_form-2.ensures
+    (λ e. inv.first (unmapped part_item c.loop-piece.left e))
+    (λ e. inv.second (unmapped part_item c.loop-piece.right e)) was.1
+    (rw c.in-Some.is at c.first_piece.ensures) in
+    asked_of_part g.K.MaybeBounded.order g.F.Fn c.args.f.now _ _ c.requires.asked _ _ _ shared.first
+    shared.second shared.bound
 
 pub returns-in_err-ask_both-clause-closure : goal.returns-in_err-ask_both-clause-closure
-returns-in_err-ask_both-clause-closure g c =
-    let order = g.K.MaybeBounded.order in
-    let lawful = g.met.K.PartialEnum.lawful in
-    let left = option_map part_item c.loop-piece.left in
-    let right = option_map part_item c.loop-piece.right in
-    let key = range_of c.in-Some.piece.range in
-    let value = option_copied c.in-Some.piece.value in
-    let other = option_copied c.in-Some.piece.other_value in
-    let left_rest = option_map part_item c.in-Some.piece.left in
-    let right_rest = option_map part_item c.in-Some.piece.right in
-    let items = g.C.Storage.items c.args.map.now in
-    let others = g.D.Storage.items c.args.other.now in
+returns-in_err-ask_both-clause-closure g c e failed =
+    let inv = c.loop-piece.invariant in
     let was =
-    c.loop-piece.invariant.up_to lawful g.met.V.Eq.laws g.met.W.Eq.laws g.met.X.Eq.laws in
-    let shared =
-    is_shared order lawful g.V.PartialEq.eq g.met.V.Eq.laws g.W.PartialEq.eq g.met.W.Eq.laws
-    g.X.PartialEq.eq g.met.X.Eq.laws (MayAnswerBoth g.F.Fn c.args.f.now) items others
-    c.in_form.ensures c.in_form-2.ensures was.0 c.loop-piece.answers.items left c.loop-piece.items
-    right c.loop-piece.others
-    (λ e. c.loop-piece.invariant.first (unmapped part_item c.loop-piece.left e))
-    (λ e. c.loop-piece.invariant.second (unmapped part_item c.loop-piece.right e)) was.1 key value
-    other left_rest right_rest (rw c.in-Some.is at c.first_piece.ensures) in
-    λ e failed. record {
-      part = key;
-      left = value;
-      right = other;
-      is_part = shared;
+    inv.up_to g.met.K.PartialEnum.lawful g.met.V.Eq.laws g.met.W.Eq.laws g.met.X.Eq.laws in
+    record {
+      part = range_of c.in-Some.piece.range;
+      left = option_copied c.in-Some.piece.value;
+      right = option_copied c.in-Some.piece.other_value;
+      is_part =
+          is_shared g.K.MaybeBounded.order g.met.K.PartialEnum.lawful g.V.PartialEq.eq
+          g.met.V.Eq.laws g.W.PartialEq.eq g.met.W.Eq.laws g.X.PartialEq.eq g.met.X.Eq.laws
+          (MayAnswerBoth g.F.Fn c.args.f.now) _ _ c.in_form.ensures c.in_form-2.ensures
+          (λ e. inv.first (unmapped part_item c.loop-piece.left e))
+          (λ e. inv.second (unmapped part_item c.loop-piece.right e)) was.1
+          (rw c.in-Some.is at c.first_piece.ensures);
       says = c.ask_both.ensures.closure e (search rules);
     }
 
 pub loop-piece-smaller : goal.loop-piece-smaller
 loop-piece-smaller g c =
-    let order = g.K.MaybeBounded.order in
-    let lawful = g.met.K.PartialEnum.lawful in
-    let left = option_map part_item c.loop-piece.left in
-    let right = option_map part_item c.loop-piece.right in
-    let key = range_of c.in-Some.piece.range in
-    let value = option_copied c.in-Some.piece.value in
-    let other = option_copied c.in-Some.piece.other_value in
-    let left_rest = option_map part_item c.in-Some.piece.left in
-    let right_rest = option_map part_item c.in-Some.piece.right in
-    let items = g.C.Storage.items c.args.map.now in
-    let others = g.D.Storage.items c.args.other.now in
-    fewer_steps_at order left left_rest right right_rest c.loop-piece.items c.loop-piece.others key
-    value other (option_items (option_map part_item c.refilled-left.result)
-    ++ c.refilled-left.new.items)
-    (option_items (option_map part_item c.refilled-right.result) ++ c.refilled-right.new.items)
+    fewer_steps_at g.K.MaybeBounded.order c.loop-piece.items c.loop-piece.others
     c.refilled-left.ensures.items c.refilled-right.ensures.items
     (rw c.in-Some.is at c.first_piece.ensures)
 
 pub loop-piece-preserved : goal.loop-piece-preserved
 loop-piece-preserved g c =
     let order = g.K.MaybeBounded.order in
-    let lawful = g.met.K.PartialEnum.lawful in
-    let left = option_map part_item c.loop-piece.left in
-    let right = option_map part_item c.loop-piece.right in
-    let key = range_of c.in-Some.piece.range in
-    let value = option_copied c.in-Some.piece.value in
-    let other = option_copied c.in-Some.piece.other_value in
-    let left_rest = option_map part_item c.in-Some.piece.left in
-    let right_rest = option_map part_item c.in-Some.piece.right in
-    let items = g.C.Storage.items c.args.map.now in
-    let others = g.D.Storage.items c.args.other.now in
-    let equal_keys = λ (a : g.row.K.Denot) (b : g.row.K.Denot) (h : g.K.Clone.is_clone a b).
-    sym (g.met.K.MaybeBounded.order_is_cmp a b)
-    ∙ (Equal-is (g.K.Ord.cmp a b)).0
-    (sym (g.met.K.Ord.matches_eq a b) ∙ c.requires.keys a b h) in
+    let inv = c.loop-piece.invariant in
+    let equal_keys =
+    clones_tied g.met.K.MaybeBounded.order_is_cmp g.met.K.Ord.matches_eq c.requires.keys in
     let asked = c.in_ok-ask_both.ensures.ok in
     record {
-      up_to = λ lawful first second equal.
-          let was = c.loop-piece.invariant.up_to lawful first second equal in (
-            upper order key,
-            rw (c.refilled-left.ensures.items, c.refilled-right.ensures.items)
-                (combined_more order lawful g.V.PartialEq.eq first g.W.PartialEq.eq second
-                g.X.PartialEq.eq equal (MayAnswerBoth g.F.Fn c.args.f.now) items others
-                c.in_form.ensures c.in_form-2.ensures was.0 c.loop-piece.answers.items left
-                c.loop-piece.items right c.loop-piece.others
-                (λ e. c.loop-piece.invariant.first (unmapped part_item c.loop-piece.left e))
-                (λ e. c.loop-piece.invariant.second (unmapped part_item c.loop-piece.right e))
-                was.1 key value other left_rest right_rest
-                (rw c.in-Some.is at c.first_piece.ensures) asked.0 c.ask_both.new.answers.items
-                g.K.Clone.is_clone (bound_clone order lawful g.K.Clone.is_clone equal_keys)
-                asked.1 asked.2),
-          );
+      up_to = λ lawful first second equal. (
+        upper order (range_of c.in-Some.piece.range),
+        rw (c.refilled-left.ensures.items, c.refilled-right.ensures.items)
+            (combined_more order lawful g.V.PartialEq.eq first g.W.PartialEq.eq second
+            g.X.PartialEq.eq equal (MayAnswerBoth g.F.Fn c.args.f.now) _ _ c.in_form.ensures
+            c.in_form-2.ensures (λ e. inv.first (unmapped part_item c.loop-piece.left e))
+            (λ e. inv.second (unmapped part_item c.loop-piece.right e))
+            (inv.up_to lawful first second equal).1 (rw c.in-Some.is at c.first_piece.ensures)
+            asked.0 c.ask_both.new.answers.items g.K.Clone.is_clone
+            (bound_clone order lawful g.K.Clone.is_clone equal_keys) asked.1 asked.2),
+      );
       first = c.refilled-left.ensures.last;
       second = c.refilled-right.ensures.last;
     }
@@ -163,24 +103,18 @@ loop-piece-preserved g c =
 pub returns : goal.returns
 returns g c =
     let lawful = g.met.K.PartialEnum.lawful in
-    let was =
-    c.loop-piece.invariant.up_to lawful g.met.V.Eq.laws g.met.W.Eq.laws g.met.X.Eq.laws in
+    let was = c.loop-piece.invariant.up_to lawful g.met.V.Eq.laws g.met.W.Eq.laws g.met.X.Eq.laws in
     let none = rw c.in_default.is at c.first_piece.ensures in
     let all =
     combined_all g.K.MaybeBounded.order lawful g.V.PartialEq.eq g.met.V.Eq.laws g.W.PartialEq.eq
-    g.met.W.Eq.laws g.X.PartialEq.eq g.met.X.Eq.laws (MayAnswerBoth g.F.Fn c.args.f.now)
-    (g.C.Storage.items c.args.map.now) (g.D.Storage.items c.args.other.now) was.0
-    (option_items (option_map part_item c.loop-piece.left) ++ c.loop-piece.items)
-    (option_items (option_map part_item c.loop-piece.right) ++ c.loop-piece.others)
-    c.loop-piece.answers.items
+    g.met.W.Eq.laws g.X.PartialEq.eq g.met.X.Eq.laws (MayAnswerBoth g.F.Fn c.args.f.now) _ _ was.0 _
+    _ c.loop-piece.answers.items
     (nothing_listed part_item c.loop-piece.left c.loop-piece.items none.0
     (c.loop-piece.invariant.first none.0))
     (nothing_listed part_item c.loop-piece.right c.loop-piece.others none.1
     (c.loop-piece.invariant.second none.1)) c.in_form.ensures c.in_form-2.ensures was.1 in
     record {
       closure = search rules;
-      form =
-          all.0;
-      combined =
-          all.1;
+      form = all.0;
+      combined = all.1;
     }

@@ -1,9 +1,5 @@
 use Rattle.std.proofs.Common.{◌≡◌, ◌++◌, [], None}
-use Rattle.std.specs.Cmp.{IsEquivalence}
-use Rattle.std.specs.Option.{option_map}
-use Rattle.range_keys.specs.Order.{IsLawful}
-use Rattle.range_keys.specs.declared.inner.position.Position.{Position}
-use Rattle.range_map.specs.Combining.{MayAnswerBoth}
+use Rattle.range_map.proofs.Common.{IsEquivalence, option_map, IsLawful, Position, MayAnswerBoth}
 use Rattle.range_map.specs.Merged.{part_item}
 use Rattle.range_change.specs.Window.{option_items}
 use Rattle.range_map.proofs.Combination.{IsCombinedUpTo}

@@ -1,6 +1,5 @@
 use Rattle.std.proofs.Common.{◌≡◌, length}
-use Rattle.std.specs.List.{fold, flat_map}
-use Rattle.range_map.specs.ListOrder.{item_input, list_input}
+use Rattle.range_map.proofs.Common.{fold, flat_map, item_input, list_input}
 use Rattle.range_map.proofs.map.compare.hash_list.Given as goal
 
 abbrev pub invariant-loop-range : goal.invariant-loop-range

@@ -1,15 +1,8 @@
 use Rattle.std.proofs.Common.{◌≡◌, ◌∙◌, sym, ap, ◌∷◌, ◌++◌, [], length, map, subst, arith, append_assoc}
-use Rattle.std.proofs.lemmas.List.{map-append}
+use Rattle.range_map.proofs.Common.{map-append, lower, BindAlike, item_upper, item_of, full_range}
 use Rattle.std.proofs.lemmas.Result.{IfOk-weaker}
-use Rattle.range_algebra.specs.Cuts.{lower}
-use Rattle.range_algebra.specs.Orders.{le_refl}
-use Rattle.range_keys.specs.Position.{position_cmp}
-use Rattle.range_keys.specs.PositionOrder.{position_total}
-use Rattle.range_change.specs.Bindings.{BindAlike}
-use Rattle.range_change.specs.Stored.{item_upper}
+use Rattle.range_map.proofs.PlaceOrder.{le_refl}
 use Rattle.range_change.proofs.OuterBounds.{prefix_is_all}
-use Rattle.range_map.specs.Extending.{item_of}
-use Rattle.range_map.specs.FreeRanges.{full_range}
 use Rattle.range_map.proofs.Joining.{built_more, built_none}
 use Rattle.range_map.proofs.Sorting.{sorted_rises}
 use Rattle.range_map.proofs.map.from_sorted.build.Goals as goal
@@ -48,10 +41,8 @@ loop-range-preserved g c =
       built = (
         end,
         rw (c.in_ok-push.ensures, c.into_range.ensures, map-append item done (pair ∷ []))
-            (built_more order lawful g.V.PartialEq.eq g.met.V.Eq.laws was.built.0 end
-            (map item done) c.loop-range.items.items (item pair) rises.0 rises.1
-            rises.2
-            (le_refl (position_cmp order.cmp) (position_total order.cmp lawful.total) end)
+            (built_more order lawful g.V.PartialEq.eq g.met.V.Eq.laws was.built.0 end _
+            c.loop-range.items.items (item pair) rises.0 rises.1 rises.2 (le_refl lawful _)
             was.built.1),
         rises.3,
       );
@@ -70,5 +61,5 @@ returns-clause-bound g c =
     λ (list : _). BindAlike g.K.MaybeBounded.order g.V.PartialEq.eq list
     (map (item_of g.R.AsRange.range) c.args.pairs.items) in
     let bound : alike c.loop-range.items.items = rw all at was.built.1.bound in
-    IfOk-weaker c.map_of.result _ (λ new. alike (g.C.Storage.items new))
-    (λ new is. subst alike (sym is) bound) c.map_of.ensures
+    IfOk-weaker c.map_of.result _ (λ new. alike _) (λ new is. subst alike (sym is) bound)
+    c.map_of.ensures

@@ -1,6 +1,5 @@
 use Rattle.std.proofs.Common.{◌≡◌, ◌++◌, map}
-use Rattle.range_keys.specs.declared.inner.position.Position.{Position}
-use Rattle.range_map.specs.Extending.{item_of}
+use Rattle.range_map.proofs.Common.{Position, item_of}
 use Rattle.range_map.proofs.Joining.{IsBuilt, RisesFrom}
 use Rattle.range_map.proofs.map.from_sorted.build.Given as goal
 

@@ -1,7 +1,5 @@
 use Rattle.std.proofs.Common.{◌≡◌, sym, true, ◌∷◌, [], get_or, map, take, rules}
-use Rattle.range_algebra.specs.Range.{IsKnownRange}
-use Rattle.range_algebra.proofs.Lists.{every_append}
-use Rattle.range_map.specs.Extending.{item_of}
+use Rattle.range_map.proofs.Common.{IsKnownRange, every_append, item_of}
 use Rattle.range_map.proofs.Sorting.{last_is, more_sorted, sorted_more, take_next}
 use Rattle.range_map.proofs.map.from_sorted.first_fault.Goals as goal
 
@@ -16,8 +14,7 @@ returns-then-not-is_next-clause-fault g c =
       was.sorted,
       λ sorted.
           let next =
-          more_sorted g.K.MaybeBounded.order (take place (map item pairs)) (item pair)
-          (rw more at sorted) in
+          more_sorted g.K.MaybeBounded.order (take place _) (item pair) (rw more at sorted) in
           let holds : c.is_next.result ≡ true =
           c.is_next.ensures.next.1 (rw (← was.last) at next) in
           absurd (cc),
@@ -30,7 +27,7 @@ loop-index-preserved g c =
     let place = c.loop-index.index in
     let pairs = c.args.pairs.now in
     let pair = get_or pairs place c.index-pairs-index.result in
-    let front = take place (map item pairs) in
+    let front = take place _ in
     let was = c.loop-index.invariant in
     let more = take_next item pairs place c.index-pairs-index.result c.loop-index-test.true in
     let holds : c.is_next.result ≡ true = search rules in
@@ -39,7 +36,6 @@ loop-index-preserved g c =
           rw more (sorted_more order front (item pair) was.sorted
           (rw was.last at (c.is_next.ensures.next.0 holds)));
       known =
-          rw more (every_append (λ i. IsKnownRange order i.key) front (item pair ∷ []) was.known
-          (c.is_next.ensures.known, tt));
+          rw more (every_append _ front (item pair ∷ []) was.known (c.is_next.ensures.known, tt));
       last = rw more (sym (last_is front (item pair)));
     }

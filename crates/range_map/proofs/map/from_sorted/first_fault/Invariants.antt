@@ -1,8 +1,5 @@
 use Rattle.std.proofs.Common.{◌≡◌, take, map}
-use Rattle.std.specs.Option.{option_map}
-use Rattle.range_algebra.specs.Intervals.{Every}
-use Rattle.range_algebra.specs.Range.{IsKnownRange}
-use Rattle.range_map.specs.Extending.{item_of}
+use Rattle.range_map.proofs.Common.{option_map, Every, IsKnownRange, item_of}
 use Rattle.range_map.specs.Sorting.{IsSorted, last_key}
 use Rattle.range_map.proofs.map.from_sorted.first_fault.Given as goal
 

@@ -1,8 +1,5 @@
 use Rattle.std.proofs.Common.{◌∷◌, ◌++◌, [], ap, ◌∙◌}
-use Rattle.std.proofs.lemmas.List.{append-nil}
-use Rattle.std.specs.Option.{option_copied}
-use Rattle.range_algebra.specs.References.{range_of}
-use Rattle.range_map.specs.PieceLists.{free_ranges, range_if_free, shown_piece}
+use Rattle.range_map.proofs.Common.{append-nil, option_copied, range_of, free_ranges, range_if_free, shown_piece}
 use Rattle.range_map.proofs.PieceSteps.{free_append}
 use Rattle.range_map.proofs.map.gaps_within.last_free.Goals as goal
 

@@ -1,7 +1,5 @@
 use Rattle.std.proofs.Common.{◌++◌, ap, ◌∙◌}
-use Rattle.std.specs.Option.{option_copied}
-use Rattle.range_algebra.specs.References.{range_of}
-use Rattle.range_map.specs.PieceLists.{free_ranges, range_if_free}
+use Rattle.range_map.proofs.Common.{option_copied, range_of, free_ranges, range_if_free}
 use Rattle.range_map.proofs.map.gaps_within.next_free.Goals as goal
 
 pub returns-in-None-clause-next : goal.returns-in-None-clause-next

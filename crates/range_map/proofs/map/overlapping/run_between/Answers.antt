@@ -12,10 +12,8 @@ returns-then-stands_before-clause-items g c =
     let at_p = rw c.in-Some-Some.is-0 at c.requires.first in
     let at_q = rw c.in-Some-Some.is-1 at c.requires.last in
     let order =
-    stored_order g.K.MaybeBounded.order g.met.K.PartialEnum.lawful g.V.PartialEq.eq items
-    (storage.rank stored q) (storage.rank stored p) c.get.result.now
-    c.get-in-Some-Some.result.now c.requires.stored
-    (g.met.C.Storage.good_is_in_range stored q at_q.0)
+    stored_order g.K.MaybeBounded.order g.met.K.PartialEnum.lawful g.V.PartialEq.eq
+    c.requires.stored (g.met.C.Storage.good_is_in_range stored q at_q.0)
     (g.met.C.Storage.good_is_in_range stored p at_p.0) c.get.ensures c.get-in-Some-Some.ensures in
     let behind : storage.rank stored q < storage.rank stored p =
     order.0 (sym c.if-stands_before.ensures) in
@@ -25,17 +23,13 @@ returns-then-stands_before-clause-items g c =
 
 pub returns-else-stands_before-clause-run : goal.returns-else-stands_before-clause-run
 returns-else-stands_before-clause-run g c =
-    let storage = g.C.Storage in
     let stored = c.args.stored.now in
-    let items = storage.items stored in
     let p = c.in-Some-Some.p in
     let q = c.in-Some-Some.q in
     let at_p = rw c.in-Some-Some.is-0 at c.requires.first in
     let at_q = rw c.in-Some-Some.is-1 at c.requires.last in
     let order =
-    stored_order g.K.MaybeBounded.order g.met.K.PartialEnum.lawful g.V.PartialEq.eq items
-    (storage.rank stored q) (storage.rank stored p) c.get.result.now
-    c.get-in-Some-Some.result.now c.requires.stored
-    (g.met.C.Storage.good_is_in_range stored q at_q.0)
+    stored_order g.K.MaybeBounded.order g.met.K.PartialEnum.lawful g.V.PartialEq.eq
+    c.requires.stored (g.met.C.Storage.good_is_in_range stored q at_q.0)
     (g.met.C.Storage.good_is_in_range stored p at_p.0) c.get.ensures c.get-in-Some-Some.ensures in
     (at_p.0, at_q.0, order.1 (sym c.if-stands_before.ensures))

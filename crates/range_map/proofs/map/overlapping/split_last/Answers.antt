@@ -4,12 +4,10 @@ use Rattle.range_map.proofs.map.overlapping.split_last.Goals as goal
 
 pub returns-in-Some-clause-items : goal.returns-in-Some-clause-items
 returns-in-Some-clause-items g c =
-    let storage = g.C.Storage in
     let stored = c.args.stored.now in
-    run_last (storage.items stored) (storage.rank stored c.args.first)
-    (storage.rank stored c.args.last) c.get-item.result.now
+    run_last _ _ _ c.get-item.result.now
     (g.met.C.Storage.good_is_in_range stored c.args.last c.requires.run.1) c.requires.run.2
-    c.get-item.ensures (storage.rank stored c.in-Some.p) c.in-Some.ensures.1
+    c.get-item.ensures _ c.in-Some.ensures.1
 
 pub returns-else-stands_before-clause-items : goal.returns-else-stands_before-clause-items
 returns-else-stands_before-clause-items g c =
@@ -20,9 +18,7 @@ returns-else-stands_before-clause-items g c =
     let within = g.met.C.Storage.good_is_in_range stored c.args.last c.requires.run.1 in
     let order =
     stored_order g.K.MaybeBounded.order g.met.K.PartialEnum.lawful g.V.PartialEq.eq
-    (storage.items stored) p q c.get.result.now c.get-item.result.now c.requires.stored
-    (g.met.C.Storage.good_is_in_range stored c.args.first c.requires.run.0) within c.get.ensures
-    c.get-item.ensures in
+    c.requires.stored (g.met.C.Storage.good_is_in_range stored c.args.first c.requires.run.0) within
+    c.get.ensures c.get-item.ensures in
     let behind : q ≤ p = order.1 (sym c.if-stands_before.ensures) in
-    run_alone (storage.items stored) p q c.get-item.result.now within c.requires.run.2 behind
-    c.get-item.ensures
+    run_alone _ p q c.get-item.result.now within c.requires.run.2 behind c.get-item.ensures

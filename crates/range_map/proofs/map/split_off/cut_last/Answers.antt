@@ -1,9 +1,5 @@
 use Rattle.std.proofs.Common.{◌≡◌, ◌∙◌, refl, ap, ◌++◌, ◌∷◌, [], length}
-use Rattle.std.specs.declared.ops.Bound.TheVariants.{Included}
-use Rattle.std.proofs.lemmas.List.Edits.{insert_end}
-use Rattle.range_algebra.specs.declared.any.AnyRange.{AnyRange}
-use Rattle.range_store.specs.declared.storage.Item.{Item}
-use Rattle.range_store.specs.Places.{place_before}
+use Rattle.range_map.proofs.Common.{Included, insert_end, AnyRange, Item, place_before}
 use Rattle.range_store.proofs.Places.{place_at}
 use Rattle.range_change.specs.Edits.{with_start}
 use Rattle.range_map.proofs.Splitting.{parted, last_parted, last_cut}

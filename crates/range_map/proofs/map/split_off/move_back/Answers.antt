@@ -1,15 +1,7 @@
 use Rattle.std.proofs.Common.{rules, ◌≡◌, ◌∙◌, ℕ, ◌+◌, ◌≤◌, ◌<◌, refl, sym, ap, subst, List, length, ◌++◌, ◌∷◌, [], arith}
-use Rattle.std.specs.List.{insert}
-use Rattle.std.specs.declared.ops.Bound.TheVariants.{Included}
-use Rattle.std.proofs.lemmas.List.{append_assoc, append-nil, length-append}
-use Rattle.std.proofs.lemmas.List.Edits.{insert_end}
-use Rattle.range_keys.specs.Position.{start_position}
-use Rattle.range_keys.specs.PositionOrder.{position_total}
-use Rattle.range_algebra.specs.Intervals.{Le, Lt, Every}
-use Rattle.range_algebra.specs.Orders.{not_lt}
-use Rattle.range_store.specs.Places.{place_before}
+use Rattle.range_map.proofs.Common.{insert, Included, append_assoc, append-nil, length-append, insert_end, start_position, Le, Lt, Every, place_before, item_lower}
+use Rattle.range_map.proofs.PlaceOrder.{not_lt}
 use Rattle.range_store.proofs.Places.{place_at}
-use Rattle.range_change.specs.Stored.{item_lower}
 use Rattle.range_change.proofs.Forms.{places}
 use Rattle.range_map.proofs.Splitting.{last_same}
 use Rattle.range_map.proofs.map.split_off.move_back.Goals as goal
@@ -75,14 +67,12 @@ returns-then-starts_before g c =
           room_kept (length (g.C.Storage.items c.loop-last.others)) (room c.loop-last.stored)
           (room c.pop_last.new.self) (room c.insert_at-position.new.self) c.loop-last.invariant.room
           c.in-Some.ensures.space c.insert_at-position.ensures.space;
-      from =
-          c.loop-last.invariant.from;
+      from = c.loop-last.invariant.from;
       below =
           let order = g.K.MaybeBounded.order in
           λ rest x ends. last_such (λ i. Lt (places order g.met.K.PartialEnum.lawful)
-          (item_lower order i) (start_position order (Included c.args.key.now)))
-          (g.C.Storage.items c.pop_last.new.self) (g.C.Storage.items c.insert_at-position.new.self)
-          rest c.in-Some.last x c.insert_at-position.ensures.list
+          (item_lower order i) (start_position order (Included c.args.key.now))) _ _ rest
+          c.in-Some.last x c.insert_at-position.ensures.list
           (c.starts_before.ensures.0 c.if-starts_before.true) ends;
     }
 
@@ -136,10 +126,8 @@ loop-last-preserved g c =
           c.in-Some.ensures.space;
       from =
           first_such (λ i. Le (places order lawful) key (item_lower order i))
-          (items c.loop-last.others) (items others)
-          (items c.insert_at-position-in-Some.new.self) last same put
-          (not_lt (places order lawful) (position_total order.cmp lawful.total) key
-          (item_lower order last) (λ h. let told = c.starts_before.ensures.1 h in let not =
+          (items c.loop-last.others) (items others) (items c.insert_at-position-in-Some.new.self)
+          last same put (not_lt lawful _ _ (λ h. let told = c.starts_before.ensures.1 h in let not =
           c.if-starts_before.false in absurd (cc)))
           c.loop-last.invariant.from;
     }

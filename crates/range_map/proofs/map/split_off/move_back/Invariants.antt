@@ -1,8 +1,5 @@
 use Rattle.std.proofs.Common.{◌≡◌, ◌≤◌, ◌++◌, length}
-use Rattle.std.specs.declared.ops.Bound.TheVariants.{Included}
-use Rattle.range_keys.specs.Position.{position_cmp, start_position}
-use Rattle.range_algebra.specs.Intervals.{Le, Every}
-use Rattle.range_change.specs.Stored.{item_lower}
+use Rattle.range_map.proofs.Common.{Included, position_cmp, start_position, Le, Every, item_lower}
 use Rattle.range_map.proofs.map.split_off.move_back.Given as goal
 
 abbrev pub invariant-loop-last : goal.invariant-loop-last

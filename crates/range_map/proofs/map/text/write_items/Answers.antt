@@ -1,14 +1,13 @@
 use Rattle.std.proofs.Common.{subst, rules, ◌≡◌, ◌∷◌}
 use Rattle.std.specs.Prelude.{IsOk}
-use Rattle.range_algebra.specs.declared.any.AnyRange.{AnyRange}
-use Rattle.range_store.specs.declared.storage.Item.{Item}
+use Rattle.range_map.proofs.Common.{AnyRange, Item}
 use Rattle.range_map.proofs.WrittenItems.{HasShown, shown_none, shown_more}
 use Rattle.range_map.proofs.map.text.write_items.Goals as goal
 
 pub loop-range-init : goal.loop-range-init
 loop-range-init g c =
     rw c.new-items.ensures (shown_none g.K.Debug.debug_output g.V.Debug.debug_output
-    g.W.Write.write_str_gives (g.C.Storage.items c.args.stored.now) c.args.f.now)
+    g.W.Write.write_str_gives _ c.args.f.now)
 
 pub loop-range-preserved : goal.loop-range-preserved
 loop-range-preserved g c =

@@ -1,6 +1,5 @@
 use Rattle.std.proofs.Common.{◌≡◌, arith}
-use Rattle.range_algebra.proofs.Lists.{any_none}
-use Rattle.range_change.specs.Lookups.{Overlap}
+use Rattle.range_map.proofs.Common.{any_none, Overlap}
 use Rattle.range_change.proofs.InsertionFrames.{meets_some, none_meets}
 use Rattle.range_map.proofs.map.try_insert.bind_where_free.Goals as goal
 
@@ -18,9 +17,7 @@ returns-in-Ok-clause-occupied g c =
     none_meets g.met.K.PartialEnum.lawful g.met.V.Eq.laws
     c.find_window-window.ensures.window none in (
       λ e. absurd e,
-      λ met.
-          absurd (any_none (λ i. Overlap g.K.MaybeBounded.order i.key c.args.range) _ _ unmet
-          (λ i no at. no at) met),
+      λ met. absurd (any_none _ _ _ unmet (λ i no at. no at) met),
     )
 
 pub returns-in-Err-clause-occupied : goal.returns-in-Err-clause-occupied
@@ -30,7 +27,5 @@ returns-in-Err-clause-occupied g c =
     none_meets g.met.K.PartialEnum.lawful g.met.V.Eq.laws
     c.find_window-window.ensures.window none in (
       λ e. absurd e,
-      λ met.
-          absurd (any_none (λ i. Overlap g.K.MaybeBounded.order i.key c.args.range) _ _ unmet
-          (λ i no at. no at) met),
+      λ met. absurd (any_none _ _ _ unmet (λ i no at. no at) met),
     )

@@ -1,6 +1,5 @@
-use Rattle.std.proofs.lemmas.Grind.{common_steps}
+use Rattle.range_map.proofs.Common.{common_steps, MayAnswer}
 use Rattle.std.proofs.Common.{rules, refl, arith, Some, None, Ok, Err}
-use Rattle.range_change.specs.Answers.{MayAnswer}
 use Rattle.range_change.proofs.Results.{error_has_no_value, on_error}
 use Rattle.range_change.proofs.Surrounded.{alone, piece, answer_is_to_piece}
 use Rattle.range_change.proofs.SpelledChanges.{inserted_keeps_spelling, removed_keeps_spelling}

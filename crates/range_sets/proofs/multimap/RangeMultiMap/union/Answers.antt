@@ -26,18 +26,13 @@ loop-range-preserved g c =
     let after = items c.insert_values.new.self in
     let item : Item (AnyRange g.row.K.Denot) g.row.S.Denot =
     record { key = c.in-Some.range.now; value = c.in-Some.values.now } in
-    one_done (λ done. HasPairsOfEither order has first done before)
-    (λ done. HasPairsOfEither order has first done after) (g.D.Storage.items c.args.other.now)
-    c.loop-range.items c.next.new.self item c.in-Some.ensures.steps
+    one_done {Q = λ done. HasPairsOfEither order has first done after} c.in-Some.ensures.steps
     (λ done split so_far. one_united order has first before after done item so_far
     c.in_ok-insert_values.ensures) c.loop-range.invariant
 
 pub returns-clause-pairs : goal.returns-clause-pairs
 returns-clause-pairs g c =
-    let now = g.C.Storage.items c.loop-range.new in
-    arrived (λ done. HasPairsOfEither g.K.MaybeBounded.order g.S.SetMut.has
-    (g.C.Storage.items c.args.self.now) done now) (g.D.Storage.items c.args.other.now)
-    c.loop-range.items c.in_default.ensures.steps.0 c.loop-range.invariant
+    arrived c.in_default.ensures.steps.0 c.loop-range.invariant
 
 pub insert_values-requires-clause-nonempty : goal.insert_values-requires-clause-nonempty
 insert_values-requires-clause-nonempty g c =

@@ -1,7 +1,5 @@
 use Rattle.std.proofs.Common.{rules, ap, ◌∙◌}
-use Rattle.std.specs.List.{fold}
-use Rattle.std.specs.Ordering.{is_eq}
-use Rattle.range_map.specs.ListOrder.{lists_fed}
+use Rattle.range_map.proofs.Common.{fold, is_eq, lists_fed}
 use Rattle.range_map.proofs.StoredLists.{stored_equal}
 use Rattle.range_map.proofs.map.compare.RangeMapHash.hash.Goals as goal
 
@@ -13,8 +11,8 @@ returns-clause-same g c = λ complete others stored alike.
     let order = g.K.MaybeBounded.order in
     let items = g.C.Storage.items c.args.self.now in
     let equal =
-    (stored_equal order g.met.K.PartialEnum.lawful g.V.PartialEq.eq g.met.V.Eq.laws complete
-    items others c.in_form.ensures stored).1 alike in
+    (stored_equal g.met.K.PartialEnum.lawful g.met.V.Eq.laws complete items others
+    c.in_form.ensures stored).1 alike in
     let fed =
     lists_fed order g.V.PartialEq.eq g.K.Hash.hash_input g.V.Hash.hash_input
     (λ a b f. g.met.K.Hash.respects_eq a b

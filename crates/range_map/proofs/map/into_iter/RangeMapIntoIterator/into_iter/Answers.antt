@@ -4,17 +4,14 @@ use Rattle.range_map.proofs.map.into_iter.RangeMapIntoIterator.into_iter.Goals a
 
 pub returns : goal.returns
 returns g c =
-    let order = g.K.MaybeBounded.order in
     let lawful = g.met.K.PartialEnum.lawful in
-    let items = g.C.Storage.items c.self.inside.stored in
     record {
       into_iter_gives = (
         ap g.C.Storage.items c.self.view_is,
         c.self.invariant,
         λ complete. (
-          stored_coarse order lawful g.V.PartialEq.eq g.met.V.Eq.laws complete items
-              c.self.invariant,
-          stored_only order lawful g.V.PartialEq.eq g.met.V.Eq.laws complete items c.self.invariant,
+          stored_coarse lawful g.met.V.Eq.laws _ c.self.invariant complete,
+          stored_only lawful g.met.V.Eq.laws _ c.self.invariant complete,
         ),
       );
     }

@@ -1,6 +1,5 @@
-use Rattle.std.proofs.lemmas.Grind.{common_steps}
+use Rattle.range_map.proofs.Common.{common_steps, place_before}
 use Rattle.std.proofs.Common.{arith, length, sym, ◌∙◌, rules}
-use Rattle.range_store.specs.Places.{place_before}
 use Rattle.range_change.proofs.Windows.{last_of_run}
 use Rattle.range_map.proofs.map.iter.IterDoubleEndedIterator.next_back.Goals as goal
 
@@ -14,11 +13,9 @@ returns g c =
           let place = place_before (storage.rank stored) (length items) c.self.inside.front in
           let ends = rw c.in-Some.is at (c.self.invariant.ends (omega arith)) in
           sym c.self.view_is
-          ∙ last_of_run items place c.self.inside.left
-          (storage.rank stored c.in-Some.p) c.get-item.result.now
-          (omega arith) c.self.invariant.in_range ends.1 c.get-item.ensures;
-      goes =
-          grind (arith, common_steps);
+          ∙ last_of_run items place c.self.inside.left _ c.get-item.result.now (omega arith)
+          c.self.invariant.in_range ends.1 c.get-item.ensures;
+      goes = grind (arith, common_steps);
     }
 
 pub invariant_of-self : goal.invariant_of-self

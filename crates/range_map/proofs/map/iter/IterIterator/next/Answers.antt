@@ -1,6 +1,5 @@
-use Rattle.std.proofs.lemmas.Grind.{common_steps}
+use Rattle.range_map.proofs.Common.{common_steps, place_before}
 use Rattle.std.proofs.Common.{◌≡◌, ◌+◌, arith, length, sym, ◌∙◌, ap, take, drop, ◌-◌, ◌∷◌, rules}
-use Rattle.range_store.specs.Places.{place_before}
 use Rattle.range_store.proofs.Places.{place_at}
 use Rattle.range_change.proofs.Windows.{first_of_run}
 use Rattle.range_map.proofs.map.iter.IterIterator.next.Goals as goal

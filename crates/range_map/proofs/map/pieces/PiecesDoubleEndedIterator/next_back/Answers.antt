@@ -1,10 +1,5 @@
 use Rattle.std.proofs.Common.{◌≡◌, ◌∷◌, ◌++◌, [], Some, ap, sym, ◌∙◌}
-use Rattle.std.specs.Option.{option_map}
-use Rattle.range_keys.specs.Position.{bound_of}
-use Rattle.range_algebra.specs.Compared.{flipped}
-use Rattle.range_algebra.specs.References.{range_of}
-use Rattle.range_map.specs.Iteration.{shown_item}
-use Rattle.range_map.specs.PieceLists.{bound_piece, free_piece, pieces_from}
+use Rattle.range_map.proofs.Common.{option_map, bound_of, flipped, range_of, shown_item, bound_piece, free_piece, pieces_from}
 use Rattle.range_map.proofs.PieceSteps.{gap_last, item_last, last_is_less}
 use Rattle.range_map.proofs.map.pieces.PiecesDoubleEndedIterator.next_back.Goals as goal
 

@@ -1,9 +1,5 @@
 use Rattle.std.proofs.Common.{◌≡◌, ◌∷◌, Some, ap, arith, length, sym, ◌∙◌}
-use Rattle.std.specs.Option.{option_map}
-use Rattle.range_keys.specs.Position.{bound_of}
-use Rattle.range_algebra.specs.References.{range_of}
-use Rattle.range_map.specs.Iteration.{shown_item}
-use Rattle.range_map.specs.PieceLists.{free_piece, pieces_from}
+use Rattle.range_map.proofs.Common.{option_map, bound_of, range_of, shown_item, free_piece, pieces_from}
 use Rattle.range_map.proofs.PieceSteps.{gap_first}
 use Rattle.range_map.proofs.map.pieces.PiecesIterator.next.Goals as goal
 
