@@ -1,18 +1,29 @@
-use Rattle.range_algebra.specs.References.{range_of}
+use Rattle.std.proofs.Common.{◌∙◌, sym}
 use Rattle.range_map.specs.Merged.{part_item}
-use Rattle.range_map.proofs.FirstPieces.{second_first, first_first}
+use Rattle.range_map.proofs.FirstPieces.{first_ends, both_end, second_ends}
 use Rattle.range_map.proofs.map.merged.first_of_both.Goals as goal
-
-pub returns-in-Some : goal.returns-in-Some
-returns-in-Some g c =
-    second_first g.K.MaybeBounded.order g.met.K.PartialEnum.lawful (part_item c.args.part)
-    (part_item c.args.other) c.requires.part c.requires.other c.requires.alike
-    (range_of c.in-Some.rest) (rw (c.in-Some.is, c.flip.ensures) at c.part_from.ensures)
+use Rattle.range_map.proofs.map.merged.first_of_both.Goals.{in-Less, in-Equal, in-Greater}
 
 pub returns : goal.returns
 returns g c =
-    rw c.with_value.ensures
-    (first_first g.K.MaybeBounded.order g.met.K.PartialEnum.lawful (part_item c.args.part)
-    (part_item c.args.other) c.requires.part c.requires.other c.requires.alike
-    c.part_from-rest.result (rw (c.in_default.is, c.flip.ensures) at c.part_from.ensures)
-    (rw c.flip-2.ensures at c.part_from-rest.ensures))
+    elim c.match-cmp.branch [
+      | in-Less w ↦
+          rw (c.new.ensures.start, c.new.ensures.end, w.t-25-is, c.end_bound-end.ensures tt)
+          (first_ends g.K.MaybeBounded.order g.met.K.PartialEnum.lawful (part_item c.args.part)
+          (part_item c.args.other) c.requires.part c.requires.other c.requires.alike
+          (part_item w.part_past.result) (rw (c.end_bound-end.ensures tt) at w.part_past.ensures))
+      | in-Equal w ↦
+          rw (c.new.ensures.start, c.new.ensures.end, w.t-25-is, c.end_bound-end.ensures tt)
+          (both_end g.K.MaybeBounded.order g.met.K.PartialEnum.lawful (part_item c.args.part)
+          (part_item c.args.other) c.requires.part c.requires.other c.requires.alike
+          (rw (← c.end_bound-end.ensures tt, ← c.end_bound-other_end.ensures tt) (sym c.cmp.ensures ∙ w.in-Equal.is)))
+      | in-Greater w ↦
+          rw (c.new.ensures.start, c.new.ensures.end, w.t-25-is, c.end_bound-other_end.ensures tt)
+          (second_ends g.K.MaybeBounded.order g.met.K.PartialEnum.lawful (part_item c.args.part)
+          (part_item c.args.other) c.requires.part c.requires.other c.requires.alike
+          (part_item w.part_past-in-Greater.result) (rw (c.end_bound-other_end.ensures tt) at w.part_past-in-Greater.ensures))
+    ]
+
+pub part_past-requires-clause-before : goal.part_past-requires-clause-before
+part_past-requires-clause-before g c =
+    rw (← c.end_bound-other_end.ensures tt) (sym c.cmp.ensures ∙ c.in-Less.is)
