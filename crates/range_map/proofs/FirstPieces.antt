@@ -1,10 +1,10 @@
 -- The first piece of two ranges, by the places where they start and end.
-use Rattle.std.proofs.Common.{◌≡◌, refl, sym, ◌∙◌, ◌⊎◌, inl, inr, true, false, Option, Some, None}
+use Rattle.std.proofs.Common.{◌≡◌, refl, sym, ◌∙◌, inl, inr, true, false, Option, Some, None}
 use Rattle.std.specs.Cmp.{tied_back, tied_itself}
 use Rattle.std.specs.declared.ops.Bound.{Bound}
 use Rattle.std.specs.declared.ops.Bound.TheVariants.{Included, Excluded, Unbounded}
 use Rattle.std.specs.declared.cmp.Ordering.{Ordering}
-use Rattle.std.specs.declared.cmp.Ordering.TheVariants.{Equal, Greater}
+use Rattle.std.specs.declared.cmp.Ordering.TheVariants.{Equal}
 use Rattle.range_keys.specs.Order.{KeyOrder, IsLawful, Below, SameAnswer, Tells}
 use Rattle.range_keys.specs.Position.{at_told, start_position, end_position, position_cmp}
 use Rattle.range_keys.specs.PositionOrder.{position_total}
@@ -21,7 +21,7 @@ use Rattle.range_algebra.specs.Range.{IsKnownBound}
 use Rattle.range_algebra.specs.declared.any.AnyRange.{AnyRange}
 use Rattle.range_algebra.proofs.Places.{reaching_is_before_past, flipped_bound_is_past, flipped_back, flipped_known, unbounded_start, unbounded_end}
 use Rattle.range_store.specs.declared.storage.Item.{Item}
-use Rattle.range_map.specs.Merged.{IsPlaced, IsPartPast, IsLeftFrom, IsAlone, IsUsedUp, StartAlike, IsFirstPiece}
+use Rattle.range_map.specs.Merged.{IsPlaced, IsPartPast, IsRestOf, StartAlike, IsFirstPiece}
 
 clash : true ≡ false → ⊥
 clash e = cc
@@ -118,7 +118,7 @@ module _ {K : Type 0} (order : KeyOrder K) (lawful : IsLawful order) where
       (eq_le cmp total (Past f) p at))
 
   -- the places past two ends at one place are one place
-  past_same : (e f : Bound K) → IsKnownBound order e → IsKnownBound order f
+  pub past_same : (e f : Bound K) → IsKnownBound order e → IsKnownBound order f
       → cmp (end_position order e) (end_position order f) ≡ Equal → cmp (Past e) (Past f) ≡ Equal
   past_same e f known others same =
       let total = position_total order.cmp lawful.total in
@@ -154,6 +154,17 @@ module _ {K : Type 0} (order : KeyOrder K) (lawful : IsLawful order) where
   earlier_has_start r (Excluded a) placed less is = cc
 
   module _ {V : Type 0} (i : Item (AnyRange K) V) (placed : IsPlaced order i.key) where
+    left_from : (p : Position K) (s : Bound K) → IsKnownBound order s
+        → cmp p (start_position order s) ≡ Equal → Lt cmp (start_position order s) (Hi i.key)
+        → IsPartPast order i p
+        (record { key = record { start = s; end = i.key.end }; value = i.value })
+    left_from p s known at good = record {
+      placed = record { known = (known, placed.known.1); good = good };
+      value = refl;
+      from = at;
+      upto = itself (Hi i.key);
+    }
+
     -- what is left past an end
     pub is_part_past : (e s : Bound K) → IsKnownBound order e
         → Lt cmp (end_position order e) (end_position order i.key.end) → flipped e ≡ Some s
@@ -163,157 +174,121 @@ module _ {K : Type 0} (order : KeyOrder K) (lawful : IsLawful order) where
         let total = position_total order.cmp lawful.total in
         let p = start_position order s in
         let at = flipped_bound_is_past order lawful e s turns in
-        record {
-          placed = record {
-            known = (flipped_known order lawful e s turns known, placed.known.1);
-            good =
-                le_lt_trans cmp total p (Past e) (Hi i.key) (eq_ge cmp total (Past e) p at)
-                (end_rises e i.key known placed less);
-          };
-          value = refl;
-          from = at;
-          upto = itself (Hi i.key);
-        }
+        left_from (Past e) s (flipped_known order lawful e s turns known) at
+        (le_lt_trans cmp total p (Past e) (Hi i.key) (eq_ge cmp total (Past e) p at)
+        (end_rises e i.key known placed less))
 
-    module _ (s : Bound K) (known : IsKnownBound order s)
-        (later : Lt cmp (Lo i.key) (start_position order s)) where
-      abbrev P : Position K
-      P = start_position order s
-
-      -- the range ends before the start
-      pub whole_alone : starts_past_end order s i.key.end ≡ true
-          → IsAlone order i P i.key None
-      whole_alone over = record {
+  module _ {V W : Type 0} (i : Item (AnyRange K) V) (j : Item (AnyRange K) W)
+      (placed : IsPlaced order i.key) (placed_j : IsPlaced order j.key) where
+    module _ (less : Lt cmp (Lo i.key) (Lo j.key)) where
+      -- the first ends before the second starts
+      pub whole_first : starts_past_end order j.key.start i.key.end ≡ true
+          → IsFirstPiece order (Some i) (Some j) i.key (Some i.value) None None (Some j)
+      whole_first over = record {
         placed = placed;
-        cut = (refl, itself (Lo i.key), itself (Hi i.key));
-        before =
-            not_lt cmp (position_total order.cmp lawful.total) (Hi i.key) P
-            (λ l. clash (sym over
-            ∙ (reaching_is_before_past order lawful s i.key.end known placed.known.1).1 l));
-        progress = tt;
+        bound = λ e. cc;
+        first = (refl, itself (Lo i.key), itself (Hi i.key));
+        second = (
+          refl,
+          not_lt cmp (position_total order.cmp lawful.total) (Hi i.key) (Lo j.key)
+              (λ l. clash (sym over
+              ∙ (reaching_is_before_past order lawful j.key.start i.key.end placed_j.known.0
+              placed.known.1).1 l)),
+        );
+        progress = inl refl;
       }
 
-      -- the start lies in the range
-      pub cut_alone : (e : Bound K) → flipped s ≡ Some e → starts_past_end order s i.key.end ≡ false
-          → IsAlone order i P (record { start = i.key.start; end = e })
-          (Some (record { key = record { start = s; end = i.key.end }; value = i.value }))
-      cut_alone e turns within =
+      -- the second starts in the first
+      pub cut_first : (e : Bound K) → flipped j.key.start ≡ Some e
+          → starts_past_end order j.key.start i.key.end ≡ false
+          → IsFirstPiece order (Some i) (Some j) (record { start = i.key.start; end = e })
+          (Some i.value) None
+          (Some (record {
+            key = record { start = j.key.start; end = i.key.end };
+            value = i.value;
+          })) (Some j)
+      cut_first e turns within =
           let total = position_total order.cmp lawful.total in
+          let s = j.key.start in
+          let known = placed_j.known.0 in
           let at = flipped_bound_is_past order lawful e s (flipped_back order lawful s e turns) in
           record {
             placed = record {
               known = (placed.known.0, flipped_known order lawful s e turns known);
-              good = lt_le_trans cmp total (Lo i.key) P (Past e) later (eq_ge cmp total (Past e) P at);
+              good =
+                  lt_le_trans cmp total (Lo i.key) (Lo j.key) (Past e) less
+                  (eq_ge cmp total (Past e) (Lo j.key) at);
             };
-            cut = (
+            bound = λ e. cc;
+            first = (
               refl,
               itself (Lo i.key),
-              record {
-                placed = record {
-                  known = (known, placed.known.1);
-                  good =
-                      (reaching_is_before_past order lawful s i.key.end known placed.known.1).0
-                      within;
-                };
-                value = refl;
-                from = at;
-                upto = itself (Hi i.key);
-              },
+              left_from i placed (Past e) s known at
+                  ((reaching_is_before_past order lawful s i.key.end known placed.known.1).0
+                  within),
             );
-            before = eq_le cmp total (Past e) P at;
-            progress = itself P;
+            second = (refl, eq_le cmp total (Past e) (Lo j.key) at);
+            progress = inr (inr (λ e. cc, itself (Lo j.key)));
           }
 
-  module _ {V W : Type 0} (i : Item (AnyRange K) V) (j : Item (AnyRange K) W)
-      (placed : IsPlaced order i.key) (placed_j : IsPlaced order j.key)
-      (alike : cmp (Lo i.key) (Lo j.key) ≡ Equal) where
-    -- the first ends first
-    pub first_ends : (rest : Item (AnyRange K) W) → IsPartPast order j (Hi i.key) rest
-        → IsFirstPiece order (Some i) (Some j) i.key (Some i.value) (Some j.value) None (Some rest)
-    first_ends rest past = record {
-      placed = placed;
-      bound = λ e. cc;
-      first = (refl, itself (Lo i.key), itself (Hi i.key));
-      second = (refl, alike, past);
-      progress = inl refl;
-    }
+    module _ (alike : cmp (Lo i.key) (Lo j.key) ≡ Equal) where
+      -- the first ends first, or both at once
+      pub first_ends : (rest : Option (Item (AnyRange K) W)) → IsRestOf order j i.key rest
+          → IsFirstPiece order (Some i) (Some j) i.key (Some i.value) (Some j.value) None rest
+      first_ends rest is = record {
+        placed = placed;
+        bound = λ e. cc;
+        first = (refl, itself (Lo i.key), itself (Hi i.key));
+        second = (refl, alike, is);
+        progress = inl refl;
+      }
 
-    -- both end at one place
-    pub both_end : cmp (end_position order i.key.end) (end_position order j.key.end) ≡ Equal
-        → IsFirstPiece order (Some i) (Some j) i.key (Some i.value) (Some j.value) None None
-    both_end same = record {
-      placed = placed;
-      bound = λ e. cc;
-      first = (refl, itself (Lo i.key), itself (Hi i.key));
-      second = (
-        refl,
-        alike,
-        past_same i.key.end j.key.end placed.known.1 placed_j.known.1 same,
-      );
-      progress = inl refl;
-    }
+      -- the second ends first
+      pub second_ends : (rest : Item (AnyRange K) V) → IsPartPast order i (Hi j.key) rest
+          → IsFirstPiece order (Some i) (Some j) (record { start = i.key.start; end = j.key.end })
+          (Some i.value) (Some j.value) (Some rest) None
+      second_ends rest past =
+          let total = position_total order.cmp lawful.total in
+          record {
+            placed = record {
+              known = (placed.known.0, placed_j.known.1);
+              good =
+                  le_lt_trans cmp total (Lo i.key) (Lo j.key) (Hi j.key)
+                  (eq_le cmp total (Lo i.key) (Lo j.key) alike) placed_j.good;
+            };
+            bound = λ e. cc;
+            first = (refl, itself (Lo i.key), past);
+            second = (refl, alike, itself (Hi j.key));
+            progress = inr (inl refl);
+          }
 
-    -- the second ends first
-    pub second_ends : (rest : Item (AnyRange K) V) → IsPartPast order i (Hi j.key) rest
-        → IsFirstPiece order (Some i) (Some j) (record { start = i.key.start; end = j.key.end })
-        (Some i.value) (Some j.value) (Some rest) None
-    second_ends rest past = record {
-      placed = record {
-        known = (placed.known.0, placed_j.known.1);
-        good =
-            le_lt_trans cmp (position_total order.cmp lawful.total) (Lo i.key) (Lo j.key)
-            (Hi j.key)
-            (eq_le cmp (position_total order.cmp lawful.total) (Lo i.key) (Lo j.key) alike)
-            placed_j.good;
-      };
-      bound = λ e. cc;
-      first = (refl, itself (Lo i.key), past);
-      second = (refl, alike, itself (Hi j.key));
-      progress = inr (inl refl);
-    }
+  alike_turned : {V W : Type 0} (left : Option (Item (AnyRange K) V))
+      (right : Option (Item (AnyRange K) W)) → StartAlike order left right
+      → StartAlike order right left
+  alike_turned None None h = h
+  alike_turned None (Some j) h = h
+  alike_turned (Some i) None h = h
+  alike_turned (Some i) (Some j) h = back (Lo i.key) (Lo j.key) h
 
-  module _ {V W : Type 0} (i : Item (AnyRange K) V) (j : Item (AnyRange K) W) where
-    first_goes_on : (left : Option (Item (AnyRange K) V)) → IsLeftFrom order (Lo j.key) left
-        → IsUsedUp (Some i) left ⊎ StartAlike order left (Some j)
-    first_goes_on None h = inl refl
-    first_goes_on (Some q) h = inr (back (Lo j.key) (Lo q.key) h)
-
-    -- the first starts first
-    pub first_before : (key : AnyRange K) (left : Option (Item (AnyRange K) V))
-        → Lt cmp (Lo i.key) (Lo j.key) → IsAlone order i (Lo j.key) key left
-        → IsFirstPiece order (Some i) (Some j) key (Some i.value) None left (Some j)
-    first_before key left less alone = record {
-      placed = alone.placed;
-      bound = λ e. cc;
-      first = alone.cut;
-      second = (refl, alone.before);
-      progress =
-          elim (first_goes_on left alone.progress) [
-            | inl used ↦ inl used
-            | inr now ↦ inr (inr (λ e. cc, now))
-          ];
-    }
-
-    second_goes_on : (right : Option (Item (AnyRange K) W)) → IsLeftFrom order (Lo i.key) right
-        → IsUsedUp (Some j) right ⊎ StartAlike order (Some i) right
-    second_goes_on None h = inl refl
-    second_goes_on (Some q) h = inr h
-
-    -- the second starts first
-    pub second_before : (key : AnyRange K) (right : Option (Item (AnyRange K) W))
-        → cmp (Lo i.key) (Lo j.key) ≡ Greater → IsAlone order j (Lo i.key) key right
-        → IsFirstPiece order (Some i) (Some j) key None (Some j.value) (Some i) right
-    second_before key right over alone = record {
-      placed = alone.placed;
-      bound = λ e f. cc;
-      first = (refl, alone.before);
-      second = alone.cut;
-      progress =
-          elim (second_goes_on right alone.progress) [
-            | inl used ↦ inr (inl used)
-            | inr now ↦ inr (inr (λ e. cc, now))
-          ];
-    }
+  -- the sides exchanged
+  pub turned : {V W : Type 0} {left left_rest : Option (Item (AnyRange K) V)}
+      {right right_rest : Option (Item (AnyRange K) W)} {key : AnyRange K} {value : Option V}
+      {other : Option W}
+      → IsFirstPiece order left right key value other left_rest right_rest
+      → IsFirstPiece order right left key other value right_rest left_rest
+  turned {left} {left_rest} {right} {right_rest} piece = record {
+    placed = piece.placed;
+    bound = λ e f. piece.bound f e;
+    first = piece.second;
+    second = piece.first;
+    progress =
+        elim piece.progress [
+          | inl used ↦ inr (inl used)
+          | inr (inl used) ↦ inl used
+          | inr (inr now) ↦
+              inr (inr (λ h. now.0 (alike_turned right left h), alike_turned left_rest right_rest now.1))
+        ];
+  }
 
   -- one is left alone
   pub left_alone : {V W : Type 0} (i : Item (AnyRange K) V) → IsPlaced order i.key
@@ -328,10 +303,4 @@ module _ {K : Type 0} (order : KeyOrder K) (lawful : IsLawful order) where
 
   pub right_alone : {V W : Type 0} (j : Item (AnyRange K) W) → IsPlaced order j.key
       → IsFirstPiece order {V = V} None (Some j) j.key None (Some j.value) None None
-  right_alone j placed = record {
-    placed = placed;
-    bound = λ e f. cc;
-    first = refl;
-    second = (refl, itself (Lo j.key), itself (Hi j.key));
-    progress = inr (inl refl);
-  }
+  right_alone j placed = turned (left_alone j placed)

@@ -63,19 +63,6 @@ module _ {K : Type 0} (order : KeyOrder K) where
       (i.value ≡ v) × (position_cmp order.cmp (lower order key) (item_lower order i) ≡ Equal)
       × IsRestOf i key rest
 
-  -- none is left, or what is left starts at the place
-  abbrev pub IsLeftFrom : {V : Type 0} → Position K → Option (Item (AnyRange K) V) → Type 0
-  IsLeftFrom p None = Unit {0}
-  IsLeftFrom p (Some j) = position_cmp order.cmp p (item_lower order j) ≡ Equal
-
-  -- the piece that a range has before a place where another begins, and what is left of it
-  pub record IsAlone {V : Type 0} (i : Item (AnyRange K) V) (p : Position K) (key : AnyRange K)
-      (rest : Option (Item (AnyRange K) V)) : Type 0 where
-    pub placed : IsPlaced key
-    pub cut : IsCutFrom (Some i) key (Some i.value) rest
-    pub before : Le (position_cmp order.cmp) (upper order key) p
-    pub progress : IsLeftFrom p rest
-
   module _ {V W : Type 0} where
     -- both are there, and start at one place
     abbrev pub StartAlike : Option (Item (AnyRange K) V) → Option (Item (AnyRange K) W) → Type 0

@@ -2,12 +2,12 @@
 ghost use Rattle.std.specs.Prelude.{◌≡◌, ◌++◌, [], Some, None, MatchOption};
 ghost use Rattle.std.specs.Option.{option_map};
 ghost use Rattle.std.specs.declared.cmp.Ordering.TheVariants.{Equal};
-ghost use Rattle.range_keys.specs.Position.{bound_of, position_cmp, start_position, end_position};
+ghost use Rattle.range_keys.specs.Position.{bound_of, position_cmp, end_position};
 ghost use Rattle.range_algebra.specs.Cuts.{lower, past};
 ghost use Rattle.range_algebra.specs.Intervals.{Lt};
 ghost use Rattle.range_algebra.specs.Range.{IsKnownBound};
 ghost use Rattle.range_algebra.specs.References.{range_of};
-ghost use Rattle.range_map.specs.Merged.{IsPlaced, IsPlacedIn, IsAlone, IsPartPast, IsFirstPieceOf, part_item};
+ghost use Rattle.range_map.specs.Merged.{IsPlaced, IsPlacedIn, IsPartPast, IsFirstPieceOf, part_item};
 ghost use Rattle.range_change.specs.Window.{option_items};
 
 use crate::map::Iter;
@@ -82,52 +82,56 @@ pub(crate) fn keys_of<'a, K: PartialEnum, V>(part: Part<'a, K, V>) -> AnyRange<&
     AnyRange::new(part.start, part.range.end_bound())
 }
 
-/// The first piece of a part that starts before a bound, and what is left of it from there on.
+/// The first piece of two parts of which the first starts before the second.
 #[inline(always)]
-fn first_alone<'a, K: PartialEnum, V>(
+fn first_alone<'a, K: PartialEnum, V, W>(
     part: Part<'a, K, V>,
-    later: Bound<&'a K>,
-) -> (AnyRange<&'a K>, Option<Part<'a, K, V>>)
+    later: Part<'a, K, W>,
+) -> Piece<'a, K, V, W>
     requires part { IsPlaced K.order (part_item part).key }
-    requires known { IsKnownBound K.order (bound_of later) }
+    requires later { IsPlaced K.order (part_item later).key }
     requires before { Lt (position_cmp K.order.cmp) (lower K.order (part_item part).key)
-        (start_position K.order (bound_of later)) }
-    ensures { IsAlone K.order (part_item part.entry)
-        (start_position K.order (bound_of later.entry)) (range_of result.0)
-        (option_map part_item result.1) }
+        (lower K.order (part_item later).key) }
+    ensures { IsFirstPieceOf K.order (Some (part_item part.entry)) (Some (part_item later.entry))
+        result }
 {
-    if starts_past_end(later, part.range.end_bound()) {
-        return (keys_of(part), None);
-    }
-    match flip(later) {
-        Some(end) => (
-            AnyRange::new(part.start, end),
-            Some(Part {
-                start: later,
-                range: part.range,
-                value: part.value,
-            }),
-        ),
-        None => unreachable!(),
+    let last = part.range.end_bound();
+    let cut = if starts_past_end(later.start, last) {
+        (last, None)
+    } else {
+        match flip(later.start) {
+            Some(end) => (
+                end,
+                Some(Part {
+                    start: later.start,
+                    ..part
+                }),
+            ),
+            None => unreachable!(),
+        }
+    };
+    let (end, left) = cut;
+    Piece {
+        range: AnyRange::new(part.start, end),
+        value: Some(part.value),
+        other_value: None,
+        left,
+        right: Some(later),
     }
 }
 
 /// What is left of a part past an end that lies before its own.
 #[inline(always)]
-fn part_past<'a, K: PartialEnum, V>(part: Part<'a, K, V>, end: Bound<&'a K>) -> Part<'a, K, V>
-    requires part { IsPlaced K.order (part_item part).key }
+fn part_past<'a, K: PartialEnum, V>(part: &Part<'a, K, V>, end: Bound<&'a K>) -> Part<'a, K, V>
+    requires part { IsPlaced K.order (part_item part.now).key }
     requires known { IsKnownBound K.order (bound_of end) }
     requires before { Lt (position_cmp K.order.cmp) (end_position K.order (bound_of end))
-        (end_position K.order part.range.now.end) }
-    ensures { IsPartPast K.order (part_item part.entry)
+        (end_position K.order part.now.range.now.end) }
+    ensures { IsPartPast K.order (part_item part.now)
         (past K.order (end_position K.order (bound_of end.entry))) (part_item result) }
 {
     match flip(end) {
-        Some(start) => Part {
-            start,
-            range: part.range,
-            value: part.value,
-        },
+        Some(start) => Part { start, ..*part },
         None => unreachable!(),
     }
 }
@@ -145,22 +149,40 @@ fn first_of_both<'a, K: PartialEnum, V, W>(
     ensures { IsFirstPieceOf K.order (Some (part_item part.entry)) (Some (part_item other.entry))
         result }
 {
-    let start = part.start;
-    let value = Some(part.value);
-    let other_value = Some(other.value);
     let end = part.range.end_bound();
     let other_end = other.range.end_bound();
-    let (end, left, right) = match Directed::End(end).cmp(&Directed::End(other_end)) {
-        Ordering::Less => (end, None, Some(part_past(other, end))),
+    let cut = match Directed::End(end).cmp(&Directed::End(other_end)) {
+        Ordering::Less => (end, None, Some(part_past(&other, end))),
         Ordering::Equal => (end, None, None),
-        Ordering::Greater => (other_end, Some(part_past(part, other_end)), None),
+        Ordering::Greater => (other_end, Some(part_past(&part, other_end)), None),
     };
+    let (end, left, right) = cut;
     Piece {
-        range: AnyRange::new(start, end),
-        value,
-        other_value,
+        range: AnyRange::new(part.start, end),
+        value: Some(part.value),
+        other_value: Some(other.value),
         left,
         right,
+    }
+}
+
+/// The piece with its two sides exchanged.
+#[inline(always)]
+fn turned<'a, K, V, W>(piece: Piece<'a, K, V, W>) -> Piece<'a, K, W, V>
+    ensures { result ≡ record {
+      range = piece.entry.range;
+      value = piece.entry.other_value;
+      other_value = piece.entry.value;
+      left = piece.entry.right;
+      right = piece.entry.left;
+    } }
+{
+    Piece {
+        range: piece.range,
+        value: piece.other_value,
+        other_value: piece.value,
+        left: piece.right,
+        right: piece.left,
     }
 }
 
@@ -176,29 +198,9 @@ fn first_of_two<'a, K: PartialEnum, V, W>(
         result }
 {
     match Directed::Start(part.start).cmp(&Directed::Start(other.start)) {
-        Ordering::Less => {
-            let value = Some(part.value);
-            let (range, left) = first_alone(part, other.start);
-            Piece {
-                range,
-                value,
-                other_value: None,
-                left,
-                right: Some(other),
-            }
-        }
+        Ordering::Less => first_alone(part, other),
         Ordering::Equal => first_of_both(part, other),
-        Ordering::Greater => {
-            let other_value = Some(other.value);
-            let (range, right) = first_alone(other, part.start);
-            Piece {
-                range,
-                value: None,
-                other_value,
-                left: Some(part),
-                right,
-            }
-        }
+        Ordering::Greater => turned(first_alone(other, part)),
     }
 }
 
