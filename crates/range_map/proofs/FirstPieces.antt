@@ -1,30 +1,27 @@
 -- The first piece of two ranges, by the places where they start and end.
-use Rattle.std.proofs.Common.{◌≡◌, refl, sym, ◌∙◌, ◌⊎◌, inl, inr, true, false, Option, Some, None}
+use Rattle.std.proofs.Common.{◌≡◌, refl, sym, ◌∙◌, inl, inr, true, false, Option, Some, None}
 use Rattle.std.specs.Cmp.{tied_back, tied_itself}
-use Rattle.std.specs.Option.{option_map}
-use Rattle.std.specs.Ordering.{is_gt}
 use Rattle.std.specs.declared.ops.Bound.{Bound}
 use Rattle.std.specs.declared.ops.Bound.TheVariants.{Included, Excluded, Unbounded}
 use Rattle.std.specs.declared.cmp.Ordering.{Ordering}
-use Rattle.std.specs.declared.cmp.Ordering.TheVariants.{Equal, Greater}
-use Rattle.range_keys.specs.Order.{KeyOrder, IsLawful}
-use Rattle.range_keys.specs.Position.{start_position, end_position, position_cmp}
+use Rattle.std.specs.declared.cmp.Ordering.TheVariants.{Equal}
+use Rattle.range_keys.specs.Order.{KeyOrder, IsLawful, Below, SameAnswer, Tells}
+use Rattle.range_keys.specs.Position.{at_told, start_position, end_position, position_cmp}
 use Rattle.range_keys.specs.PositionOrder.{position_total}
 use Rattle.range_keys.specs.declared.inner.position.Position.{Position}
-use Rattle.range_algebra.specs.Compared.{flipped}
+use Rattle.range_keys.specs.declared.inner.position.Position.TheVariants.{MinusInfinity, Beside, PlusInfinity}
+use Rattle.range_keys.specs.declared.inner.position.Side.TheVariants.{Before, At, After}
+use Rattle.range_keys.proofs.BoundPositions.{IsEnd, ends_lie_at_ends}
+use Rattle.range_keys.proofs.Orderings.{any_then_equal, less_unless_equal, less_unless_greater, less_unless_less, not_greater_unless_greater}
+use Rattle.range_algebra.specs.Compared.{flipped, starts_past_end}
 use Rattle.range_algebra.specs.Cuts.{lower, upper, past}
 use Rattle.range_algebra.specs.Intervals.{Le, Lt}
-use Rattle.range_algebra.specs.Orders.{eq_le, eq_ge, le_trans, lt_not_le, lt_le_trans, not_lt, both}
+use Rattle.range_algebra.specs.Orders.{eq_le, eq_ge, le_trans, lt_not_le, lt_le_trans, le_lt_trans, not_le, not_lt, both}
 use Rattle.range_algebra.specs.Range.{IsKnownBound}
-use Rattle.range_algebra.specs.References.{range_of}
-use denote.Ref.{Bor}
 use Rattle.range_algebra.specs.declared.any.AnyRange.{AnyRange}
 use Rattle.range_algebra.proofs.Places.{reaching_is_before_past, flipped_bound_is_past, flipped_back, flipped_known, unbounded_start, unbounded_end}
 use Rattle.range_store.specs.declared.storage.Item.{Item}
-use Rattle.range_map.specs.Merged.{IsPlaced, IsPartFrom, IsSplitAt, IsCutFrom, IsUsedUp, StartAlike, IsFirstPiece}
-
-pub greater_not_equal : Greater ≡ Equal → ⊥
-greater_not_equal e = cc
+use Rattle.range_map.specs.Merged.{IsPlaced, IsPartPast, IsRestOf, StartAlike, IsFirstPiece}
 
 clash : true ≡ false → ⊥
 clash e = cc
@@ -39,8 +36,8 @@ module _ {K : Type 0} (order : KeyOrder K) (lawful : IsLawful order) where
   abbrev Hi : AnyRange K → Position K
   Hi r = upper order r
 
-  eq_trans : (p q r : Position K) → cmp p q ≡ Equal → cmp q r ≡ Equal → cmp p r ≡ Equal
-  eq_trans p q r e f = (position_total order.cmp lawful.total).congr p q r e ∙ f
+  abbrev Past : Bound K → Position K
+  Past e = past order (end_position order e)
 
   itself : (p : Position K) → cmp p p ≡ Equal
   itself p = tied_itself (position_total order.cmp lawful.total) p
@@ -48,22 +45,95 @@ module _ {K : Type 0} (order : KeyOrder K) (lawful : IsLawful order) where
   back : (p q : Position K) → cmp p q ≡ Equal → cmp q p ≡ Equal
   back p q e = tied_back (position_total order.cmp lawful.total) p q e
 
-  -- nothing lies from a start on that lies past the end
-  ends_before : (s e : Bound K) → IsKnownBound order s → IsKnownBound order e
-      → is_gt (cmp (start_position order s) (end_position order e)) ≡ true
-      → Le cmp (past order (end_position order e)) (start_position order s)
-  ends_before s e known known_e over =
-      not_lt cmp (position_total order.cmp lawful.total) (past order (end_position order e))
-      (start_position order s)
-      (λ l. clash (sym over ∙ (reaching_is_before_past order lawful s e known known_e).1 l))
+  no_answer : (o p : Option K) (a : K) → SameAnswer order o p → Tells order o a → p ≡ None → ⊥
+  no_answer None p a same tells none = tells
+  no_answer (Some x) None a same tells none = same
+  no_answer (Some x) (Some y) a same tells none = cc
 
-  rest_placed : (r : AnyRange K) (s : Bound K) → IsPlaced order r → IsKnownBound order s
-      → is_gt (cmp (start_position order s) (end_position order r.end)) ≡ false
-      → IsPlaced order (record { start = s; end = r.end })
-  rest_placed r s placed known within = record {
-    known = (known, placed.known.1);
-    good = (reaching_is_before_past order lawful s r.end known placed.known.1).0 within;
-  }
+  -- the neighbour that a key tells is not one that tells none before it
+  told_below : (a b c : K) → order.succ a ≡ Some c → order.is_key b → order.pred b ≡ None
+      → Below order a b → Below order c b
+  told_below a b c told key none less =
+      not_le order.cmp lawful.total c b
+      (λ over. no_answer (order.pred c) (order.pred b) a (lawful.pred_congr c b
+      (both order.cmp lawful.total c b (lawful.none_between a c b told key less) over))
+      (lawful.succ_pred a c told) none)
+
+  upto_key : (a b : K) (o : Option K) → order.succ a ≡ o → order.is_key b → Below order a b
+      → Le cmp (at_told o (Beside a After)) (Beside b At)
+  upto_key a b None told key less = (not_greater_unless_greater (order.cmp a b)).1 less
+  upto_key a b (Some c) told key less =
+      rw (any_then_equal (order.cmp c b)) (lawful.none_between a c b told key less)
+
+  under_key : (a b : K) (o : Option K) → order.succ a ≡ o → order.is_key b → order.pred b ≡ None
+      → Below order a b → Lt cmp (at_told o (Beside a After)) (Beside b At)
+  under_key a b None told key none less = (less_unless_greater (order.cmp a b)).1 less
+  under_key a b (Some c) told key none less =
+      rw (any_then_equal (order.cmp c b)) (told_below a b c told key none less)
+
+  under_infinity : (a : K) (o : Option K) → Lt cmp (at_told o (Beside a After)) PlusInfinity
+  under_infinity a None = refl
+  under_infinity a (Some c) = refl
+
+  -- the place past an end lies before that past a later one
+  past_rises : (e f : Position K) → IsEnd order e → IsEnd order f → Lt cmp e f
+      → Lt cmp (past order e) (past order f)
+  unfolding IsEnd
+  past_rises (Beside a At) (Beside b At) h k less =
+      (reaching_is_before_past order lawful (Excluded a) (Included b) h k).0
+      (upto_key a b (order.succ a) refl k (less_unless_equal (order.cmp a b) less))
+  past_rises (Beside a At) (Beside b Before) h k less =
+      under_key a b (order.succ a) refl k.0 k.1 ((less_unless_greater (order.cmp a b)).0 less)
+  past_rises (Beside a At) PlusInfinity h k less = under_infinity a (order.succ a)
+  past_rises (Beside a Before) (Beside b At) h k less =
+      (reaching_is_before_past order lawful (Included a) (Included b) h.0 k).0
+      (rw (any_then_equal (order.cmp a b)) ((less_unless_less (order.cmp a b)).0 less))
+  past_rises (Beside a Before) (Beside b Before) h k less = less
+  past_rises (Beside a Before) PlusInfinity h k less = refl
+  past_rises PlusInfinity MinusInfinity h k less = absurd (cc)
+  past_rises PlusInfinity (Beside b s) h k less = absurd (cc)
+  past_rises PlusInfinity PlusInfinity h k less = absurd (cc)
+  past_rises (Beside a After) f h k less = absurd h
+  past_rises MinusInfinity f h k less = absurd h
+  past_rises (Beside a s) (Beside b After) h k less = absurd k
+  past_rises (Beside a s) MinusInfinity h k less = absurd k
+
+  past_upto : (e f : Bound K) (t : Option (Bound K)) → flipped f ≡ t → IsKnownBound order e
+      → IsKnownBound order f → Le cmp (end_position order e) (end_position order f)
+      → Le cmp (Past e) (Past f)
+  past_upto e Unbounded None turns known others le = unbounded_end order lawful e known
+  past_upto e (Included b) None turns known others le = absurd (cc)
+  past_upto e (Excluded b) None turns known others le = absurd (cc)
+  past_upto e f (Some s) turns known others le =
+      let total = position_total order.cmp lawful.total in
+      let p = start_position order s in
+      let at = flipped_bound_is_past order lawful f s turns in
+      let start = flipped_known order lawful f s turns others in
+      not_lt cmp total (Past e) (Past f)
+      (λ less. lt_not_le cmp total p (Past f)
+      ((reaching_is_before_past order lawful s f start others).0
+      (le_trans cmp total p (end_position order e) (end_position order f)
+      ((reaching_is_before_past order lawful s e start known).1
+      (le_lt_trans cmp total p (Past f) (Past e) (eq_ge cmp total (Past f) p at) less)) le))
+      (eq_le cmp total (Past f) p at))
+
+  -- the places past two ends at one place are one place
+  pub past_same : (e f : Bound K) → IsKnownBound order e → IsKnownBound order f
+      → cmp (end_position order e) (end_position order f) ≡ Equal → cmp (Past e) (Past f) ≡ Equal
+  past_same e f known others same =
+      let total = position_total order.cmp lawful.total in
+      let p = end_position order e in
+      let q = end_position order f in
+      both cmp total (Past e) (Past f)
+      (past_upto e f (flipped f) refl known others (eq_le cmp total p q same))
+      (past_upto f e (flipped e) refl others known (eq_ge cmp total p q same))
+
+  end_rises : (e : Bound K) (r : AnyRange K) → IsKnownBound order e → IsPlaced order r
+      → Lt cmp (end_position order e) (end_position order r.end) → Lt cmp (Past e) (Hi r)
+  end_rises e r known placed less =
+      past_rises (end_position order e) (end_position order r.end)
+      (ends_lie_at_ends order lawful e known) (ends_lie_at_ends order lawful r.end placed.known.1)
+      less
 
   -- a start that lies past another is not unbounded
   pub later_has_end : (r : AnyRange K) (s : Bound K) → IsPlaced order r
@@ -74,198 +144,151 @@ module _ {K : Type 0} (order : KeyOrder K) (lawful : IsLawful order) where
   later_has_end r (Included a) placed later e = cc
   later_has_end r (Excluded a) placed later e = cc
 
-  pub split_off : (r : AnyRange K) (s e : Bound K) (rest : AnyRange K) → IsPlaced order r
-      → IsKnownBound order s → Lt cmp (Lo r) (start_position order s) → flipped s ≡ Some e
-      → IsPartFrom order r (Some s) (Some rest)
-      → IsSplitAt order r (start_position order s) (record { start = r.start; end = e })
-      (Some rest)
-  split_off r s e rest placed known later turns part =
-      let total = position_total order.cmp lawful.total in
-      let p = start_position order s in
-      let at = flipped_bound_is_past order lawful e s (flipped_back order lawful s e turns) in
-      rw part.0 (record {
-        front_placed = record {
-          known = (placed.known.0, flipped_known order lawful s e turns known);
-          good =
-              lt_le_trans cmp total (Lo r) p (past order (end_position order e)) later
-              (eq_ge cmp total (past order (end_position order e)) p at);
-        };
-        rest_placed = rest_placed r s placed known part.1;
-        starts = itself (Lo r);
-        meets = at;
-        from = itself p;
-        ends = itself (Hi r);
-      })
+  -- an end that lies before another is not unbounded
+  pub earlier_has_start : (r : AnyRange K) (e : Bound K) → IsPlaced order r
+      → Lt cmp (end_position order e) (end_position order r.end) → flipped e ≡ None → ⊥
+  earlier_has_start r Unbounded placed less is =
+      lt_not_le cmp (position_total order.cmp lawful.total) (Past Unbounded) (Hi r)
+      (end_rises Unbounded r tt placed less) (unbounded_end order lawful r.end placed.known.1)
+  earlier_has_start r (Included a) placed less is = cc
+  earlier_has_start r (Excluded a) placed less is = cc
 
-  pub split_none : (r : AnyRange K) (s : Bound K) → IsPlaced order r → IsKnownBound order s
-      → IsPartFrom order r (Some s) None → IsSplitAt order r (start_position order s) r None
-  split_none r s placed known part = (refl, ends_before s r.end known placed.known.1 part)
+  module _ {V : Type 0} (i : Item (AnyRange K) V) (placed : IsPlaced order i.key) where
+    left_from : (p : Position K) (s : Bound K) → IsKnownBound order s
+        → cmp p (start_position order s) ≡ Equal → Lt cmp (start_position order s) (Hi i.key)
+        → IsPartPast order i p
+        (record { key = record { start = s; end = i.key.end }; value = i.value })
+    left_from p s known at good = record {
+      placed = record { known = (known, placed.known.1); good = good };
+      value = refl;
+      from = at;
+      upto = itself (Hi i.key);
+    }
 
-  module _ {V W : Type 0} (i : Item (AnyRange K) V) (later : Item (AnyRange K) W) where
-    abbrev Rest : Option (AnyRange (Bor K)) → Option (Item (AnyRange K) V)
-    Rest rest = option_map (λ r. record { key = range_of r; value = i.value }) rest
-
-    -- the piece that a range has before another begins
-    pub record IsAlone (front : AnyRange K) (rest : Option (AnyRange (Bor K))) : Type 0 where
-      pub placed : IsPlaced order front
-      pub cut : IsCutFrom order (Some i) front (Some i.value) (Rest rest)
-      pub before : Le cmp (Hi front) (Lo later.key)
-      pub progress : IsUsedUp (Some i) (Rest rest) ⊎ StartAlike order (Rest rest) (Some later)
-
-    pub split_alone : (front : AnyRange K) (rest : Option (AnyRange (Bor K)))
-        → IsPlaced order i.key
-        → IsSplitAt order i.key (Lo later.key) front (option_map range_of rest)
-        → IsAlone front rest
-    split_alone front None placed split =
-        rw split.0 (record {
-          placed = placed;
-          cut = (refl, itself (Lo i.key), itself (Hi i.key));
-          before = split.1;
-          progress = inl refl;
-        })
-    split_alone front (Some q) placed split =
+    -- what is left past an end
+    pub is_part_past : (e s : Bound K) → IsKnownBound order e
+        → Lt cmp (end_position order e) (end_position order i.key.end) → flipped e ≡ Some s
+        → IsPartPast order i (Past e)
+        (record { key = record { start = s; end = i.key.end }; value = i.value })
+    is_part_past e s known less turns =
         let total = position_total order.cmp lawful.total in
-        let key = range_of q in
-        record {
-          placed = split.front_placed;
-          cut = (
-            refl,
-            split.starts,
-            record {
-              placed = split.rest_placed;
-              value = refl;
-              from = eq_trans (Hi front) (Lo later.key) (Lo key) split.meets split.from;
-              upto = split.ends;
-            },
-          );
-          before = eq_le cmp total (Hi front) (Lo later.key) split.meets;
-          progress = inr (back (Lo later.key) (Lo key) split.from);
-        }
-
-  -- what a range has past the end of another
-  abbrev IsPast : AnyRange K → AnyRange K → Option (AnyRange K) → Type 0
-  IsPast r s None = Le cmp (Hi r) (Hi s)
-  IsPast r s (Some q) =
-      IsPlaced order q × (cmp (Hi s) (Lo q) ≡ Equal) × (cmp (Hi q) (Hi r) ≡ Equal)
-
-  past_by : (r : AnyRange K) (e : Bound K) (b : Option (Bound K)) (q : Option (AnyRange K))
-      → IsPlaced order r → IsKnownBound order e → flipped e ≡ b → IsPartFrom order r b q
-      → (s : AnyRange K) → s.end ≡ e → IsPast r s q
-  past_by r Unbounded None q placed known turns part s is =
-      rw (part, is) (unbounded_end order lawful r.end placed.known.1)
-  past_by r (Included a) None q placed known turns part s is = absurd (cc)
-  past_by r (Excluded a) None q placed known turns part s is = absurd (cc)
-  past_by r e (Some b) None placed known turns part s is =
-      let total = position_total order.cmp lawful.total in
-      let at = flipped_bound_is_past order lawful e b turns in
-      rw is (le_trans cmp total (Hi r) (start_position order b) (past order (end_position order e))
-      (ends_before b r.end (flipped_known order lawful e b turns known) placed.known.1 part)
-      (eq_ge cmp total (past order (end_position order e)) (start_position order b) at))
-  past_by r e (Some b) (Some q) placed known turns part s is =
-      rw (part.0, is) (
-        rest_placed r b placed (flipped_known order lawful e b turns known) part.1,
-        flipped_bound_is_past order lawful e b turns,
-        itself (Hi r),
-      )
-
-  pub past_end_of : (r s : AnyRange K) (q : Option (AnyRange K)) → IsPlaced order r
-      → IsPlaced order s → IsPartFrom order r (flipped s.end) q → IsPast r s q
-  past_end_of r s q placed placed_s part =
-      past_by r s.end (flipped s.end) q placed placed_s.known.1 refl part s refl
+        let p = start_position order s in
+        let at = flipped_bound_is_past order lawful e s turns in
+        left_from (Past e) s (flipped_known order lawful e s turns known) at
+        (le_lt_trans cmp total p (Past e) (Hi i.key) (eq_ge cmp total (Past e) p at)
+        (end_rises e i.key known placed less))
 
   module _ {V W : Type 0} (i : Item (AnyRange K) V) (j : Item (AnyRange K) W)
-      (placed : IsPlaced order i.key) (placed_j : IsPlaced order j.key)
-      (alike : cmp (Lo i.key) (Lo j.key) ≡ Equal) where
-    -- the second ends first
-    pub second_first : (q : AnyRange K) → IsPartFrom order i.key (flipped j.key.end) (Some q)
-        → IsFirstPiece order (Some i) (Some j) j.key (Some i.value) (Some j.value)
-        (Some (record { key = q; value = i.value })) None
-    second_first q part =
-        let over = past_end_of i.key j.key (Some q) placed placed_j part in
-        record {
-          placed = placed_j;
-          bound = λ e. cc;
-          first = (
-            refl,
-            back (Lo i.key) (Lo j.key) alike,
-            record { placed = over.0; value = refl; from = over.1; upto = over.2 },
-          );
-          second = (refl, itself (Lo j.key), itself (Hi j.key));
-          progress = inr (inl refl);
-        }
+      (placed : IsPlaced order i.key) (placed_j : IsPlaced order j.key) where
+    module _ (less : Lt cmp (Lo i.key) (Lo j.key)) where
+      -- the first ends before the second starts
+      pub whole_first : starts_past_end order j.key.start i.key.end ≡ true
+          → IsFirstPiece order (Some i) (Some j) i.key (Some i.value) None None (Some j)
+      whole_first over = record {
+        placed = placed;
+        bound = λ e. cc;
+        first = (refl, itself (Lo i.key), itself (Hi i.key));
+        second = (
+          refl,
+          not_lt cmp (position_total order.cmp lawful.total) (Hi i.key) (Lo j.key)
+              (λ l. clash (sym over
+              ∙ (reaching_is_before_past order lawful j.key.start i.key.end placed_j.known.0
+              placed.known.1).1 l)),
+        );
+        progress = inl refl;
+      }
 
-    -- the first ends first, or both at once
-    pub first_first : (q : Option (AnyRange (Bor K)))
-        → IsPartFrom order i.key (flipped j.key.end) None
-        → IsPartFrom order j.key (flipped i.key.end) (option_map range_of q)
-        → IsFirstPiece order (Some i) (Some j) i.key (Some i.value) (Some j.value) None
-        (option_map (λ r. record { key = range_of r; value = j.value }) q)
-    first_first None part other =
-        let total = position_total order.cmp lawful.total in
-        record {
-          placed = placed;
-          bound = λ e. cc;
-          first = (refl, itself (Lo i.key), itself (Hi i.key));
-          second = (
-            refl,
-            alike,
-            both cmp total (Hi i.key) (Hi j.key)
-                (past_end_of i.key j.key None placed placed_j part)
-                (past_end_of j.key i.key None placed_j placed other),
-          );
-          progress = inl refl;
-        }
-    first_first (Some q) part other =
-        let over = past_end_of j.key i.key (Some (range_of q)) placed_j placed other in
-        record {
-          placed = placed;
-          bound = λ e. cc;
-          first = (refl, itself (Lo i.key), itself (Hi i.key));
-          second = (
-            refl,
-            alike,
-            record { placed = over.0; value = refl; from = over.1; upto = over.2 },
-          );
-          progress = inl refl;
-        }
+      -- the second starts in the first
+      pub cut_first : (e : Bound K) → flipped j.key.start ≡ Some e
+          → starts_past_end order j.key.start i.key.end ≡ false
+          → IsFirstPiece order (Some i) (Some j) (record { start = i.key.start; end = e })
+          (Some i.value) None
+          (Some (record {
+            key = record { start = j.key.start; end = i.key.end };
+            value = i.value;
+          })) (Some j)
+      cut_first e turns within =
+          let total = position_total order.cmp lawful.total in
+          let s = j.key.start in
+          let known = placed_j.known.0 in
+          let at = flipped_bound_is_past order lawful e s (flipped_back order lawful s e turns) in
+          record {
+            placed = record {
+              known = (placed.known.0, flipped_known order lawful s e turns known);
+              good =
+                  lt_le_trans cmp total (Lo i.key) (Lo j.key) (Past e) less
+                  (eq_ge cmp total (Past e) (Lo j.key) at);
+            };
+            bound = λ e. cc;
+            first = (
+              refl,
+              itself (Lo i.key),
+              left_from i placed (Past e) s known at
+                  ((reaching_is_before_past order lawful s i.key.end known placed.known.1).0
+                  within),
+            );
+            second = (refl, eq_le cmp total (Past e) (Lo j.key) at);
+            progress = inr (inr (λ e. cc, itself (Lo j.key)));
+          }
 
-  module _ {V W : Type 0} (i : Item (AnyRange K) V) (j : Item (AnyRange K) W) where
-    -- the first starts first
-    pub first_before : (key : AnyRange K) (left : Option (Item (AnyRange K) V))
-        → IsPlaced order key → IsCutFrom order (Some i) key (Some i.value) left
-        → Le cmp (Hi key) (Lo j.key)
-        → IsUsedUp (Some i) left ⊎ StartAlike order left (Some j) → Lt cmp (Lo i.key) (Lo j.key)
-        → IsFirstPiece order (Some i) (Some j) key (Some i.value) None left (Some j)
-    first_before key left at cut before progress less = record {
-      placed = at;
-      bound = λ e. cc;
-      first = cut;
-      second = (refl, before);
-      progress = elim progress [ inl used ↦ inl used | inr now ↦ inr (inr (λ e. cc, now)) ];
-    }
+    module _ (alike : cmp (Lo i.key) (Lo j.key) ≡ Equal) where
+      -- the first ends first, or both at once
+      pub first_ends : (rest : Option (Item (AnyRange K) W)) → IsRestOf order j i.key rest
+          → IsFirstPiece order (Some i) (Some j) i.key (Some i.value) (Some j.value) None rest
+      first_ends rest is = record {
+        placed = placed;
+        bound = λ e. cc;
+        first = (refl, itself (Lo i.key), itself (Hi i.key));
+        second = (refl, alike, is);
+        progress = inl refl;
+      }
 
-    turned_alike : (right : Option (Item (AnyRange K) W)) → StartAlike order right (Some i)
-        → StartAlike order (Some i) right
-    turned_alike None h = h
-    turned_alike (Some q) h = back (Lo q.key) (Lo i.key) h
+      -- the second ends first
+      pub second_ends : (rest : Item (AnyRange K) V) → IsPartPast order i (Hi j.key) rest
+          → IsFirstPiece order (Some i) (Some j) (record { start = i.key.start; end = j.key.end })
+          (Some i.value) (Some j.value) (Some rest) None
+      second_ends rest past =
+          let total = position_total order.cmp lawful.total in
+          record {
+            placed = record {
+              known = (placed.known.0, placed_j.known.1);
+              good =
+                  le_lt_trans cmp total (Lo i.key) (Lo j.key) (Hi j.key)
+                  (eq_le cmp total (Lo i.key) (Lo j.key) alike) placed_j.good;
+            };
+            bound = λ e. cc;
+            first = (refl, itself (Lo i.key), past);
+            second = (refl, alike, itself (Hi j.key));
+            progress = inr (inl refl);
+          }
 
-    -- the second starts first
-    pub second_before : (key : AnyRange K) (right : Option (Item (AnyRange K) W))
-        → IsPlaced order key → IsCutFrom order (Some j) key (Some j.value) right
-        → Le cmp (Hi key) (Lo i.key)
-        → IsUsedUp (Some j) right ⊎ StartAlike order right (Some i)
-        → (cmp (Lo i.key) (Lo j.key) ≡ Equal → ⊥)
-        → IsFirstPiece order (Some i) (Some j) key None (Some j.value) (Some i) right
-    second_before key right at cut before progress unlike = record {
-      placed = at;
-      bound = λ e f. cc;
-      first = (refl, before);
-      second = cut;
-      progress = elim progress [
-        | inl used ↦ inr (inl used)
-        | inr now ↦ inr (inr (unlike, turned_alike right now))
-      ];
-    }
+  alike_turned : {V W : Type 0} (left : Option (Item (AnyRange K) V))
+      (right : Option (Item (AnyRange K) W)) → StartAlike order left right
+      → StartAlike order right left
+  alike_turned None None h = h
+  alike_turned None (Some j) h = h
+  alike_turned (Some i) None h = h
+  alike_turned (Some i) (Some j) h = back (Lo i.key) (Lo j.key) h
+
+  -- the sides exchanged
+  pub turned : {V W : Type 0} {left left_rest : Option (Item (AnyRange K) V)}
+      {right right_rest : Option (Item (AnyRange K) W)} {key : AnyRange K} {value : Option V}
+      {other : Option W}
+      → IsFirstPiece order left right key value other left_rest right_rest
+      → IsFirstPiece order right left key other value right_rest left_rest
+  turned {left} {left_rest} {right} {right_rest} piece = record {
+    placed = piece.placed;
+    bound = λ e f. piece.bound f e;
+    first = piece.second;
+    second = piece.first;
+    progress =
+        elim piece.progress [
+          | inl used ↦ inr (inl used)
+          | inr (inl used) ↦ inl used
+          | inr (inr now) ↦
+              inr (inr (λ h. now.0 (alike_turned right left h), alike_turned left_rest right_rest now.1))
+        ];
+  }
 
   -- one is left alone
   pub left_alone : {V W : Type 0} (i : Item (AnyRange K) V) → IsPlaced order i.key
@@ -280,10 +303,4 @@ module _ {K : Type 0} (order : KeyOrder K) (lawful : IsLawful order) where
 
   pub right_alone : {V W : Type 0} (j : Item (AnyRange K) W) → IsPlaced order j.key
       → IsFirstPiece order {V = V} None (Some j) j.key None (Some j.value) None None
-  right_alone j placed = record {
-    placed = placed;
-    bound = λ e f. cc;
-    first = refl;
-    second = (refl, itself (Lo j.key), itself (Hi j.key));
-    progress = inr (inl refl);
-  }
+  right_alone j placed = turned (left_alone j placed)

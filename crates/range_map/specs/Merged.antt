@@ -1,12 +1,9 @@
 -- What is left of two stored ranges when the first piece is taken from both.
-use Rattle.std.specs.Prelude.{◌≡◌, ◌⊎◌, true, false, Option, Some, None}
-use Rattle.std.specs.declared.ops.Bound.{Bound}
-use Rattle.std.specs.Ordering.{is_gt}
+use Rattle.std.specs.Prelude.{◌≡◌, ◌⊎◌, Option, Some, None}
 use Rattle.std.specs.declared.cmp.Ordering.TheVariants.{Equal}
 use Rattle.std.specs.Option.{option_copied, option_map}
-use denote.Ref.{Bor}
 use Rattle.range_keys.specs.Order.{KeyOrder}
-use Rattle.range_keys.specs.Position.{position_cmp, start_position, end_position}
+use Rattle.range_keys.specs.Position.{bound_of, position_cmp}
 use Rattle.range_keys.specs.declared.inner.position.Position.{Position}
 use Rattle.range_algebra.specs.Cuts.{lower, upper}
 use Rattle.range_algebra.specs.Intervals.{Le, Lt}
@@ -15,11 +12,15 @@ use Rattle.range_algebra.specs.References.{range_of}
 use Rattle.range_algebra.specs.declared.any.AnyRange.{AnyRange}
 use Rattle.range_store.specs.declared.storage.Item.{Item}
 use Rattle.range_change.specs.Stored.{item_lower, item_upper}
+use Rattle.range_map.specs.declared.map.merged.Part.{Part}
 use Rattle.range_map.specs.declared.map.merged.Piece.{Piece}
 
--- the item that a range over references and a value show
-abbrev pub part_item : {K V : Type 0} → AnyRange (Bor K) × Bor V → Item (AnyRange K) V
-part_item part = record { key = range_of part.0; value = part.1.now }
+-- the item that what is left of a stored range shows
+abbrev pub part_item : {K V : Type 0} → Part K V → Item (AnyRange K) V
+part_item part = record {
+  key = record { start = bound_of part.start; end = part.range.now.end };
+  value = part.value.now;
+}
 
 -- there was one, and none is left
 abbrev pub IsUsedUp : {U : Type 0} → Option U → Option U → Type 0
@@ -37,19 +38,19 @@ module _ {K : Type 0} (order : KeyOrder K) where
   IsPlacedIn None = Unit {0}
   IsPlacedIn (Some i) = IsPlaced i.key
 
-  -- the one is what is left of the other past the piece
-  pub record IsPartPast {V : Type 0} (i : Item (AnyRange K) V) (key : AnyRange K)
+  -- the one is what is left of the other from a place on
+  pub record IsPartPast {V : Type 0} (i : Item (AnyRange K) V) (p : Position K)
       (rest : Item (AnyRange K) V) : Type 0 where
     pub placed : IsPlaced rest.key
     pub value : rest.value ≡ i.value
-    pub from : position_cmp order.cmp (upper order key) (item_lower order rest) ≡ Equal
+    pub from : position_cmp order.cmp p (item_lower order rest) ≡ Equal
     pub upto : position_cmp order.cmp (item_upper order rest) (item_upper order i) ≡ Equal
 
   -- what is left of the item past the piece, or none where the piece goes to its end
   abbrev pub IsRestOf : {V : Type 0} → Item (AnyRange K) V → AnyRange K
       → Option (Item (AnyRange K) V) → Type 0
   IsRestOf i key None = position_cmp order.cmp (upper order key) (item_upper order i) ≡ Equal
-  IsRestOf i key (Some j) = IsPartPast i key j
+  IsRestOf i key (Some j) = IsPartPast i (upper order key) j
 
   -- the piece begins with the item and has its value, or comes before it
   abbrev pub IsCutFrom : {V : Type 0} → Option (Item (AnyRange K) V) → AnyRange K → Option V
@@ -61,30 +62,6 @@ module _ {K : Type 0} (order : KeyOrder K) where
   IsCutFrom (Some i) key (Some v) rest =
       (i.value ≡ v) × (position_cmp order.cmp (lower order key) (item_lower order i) ≡ Equal)
       × IsRestOf i key rest
-
-  -- what a range has from a start on, or none where there is no start or nothing lies there
-  abbrev pub IsPartFrom : AnyRange K → Option (Bound K) → Option (AnyRange K) → Type 0
-  IsPartFrom r None part = part ≡ None
-  IsPartFrom r (Some start) None =
-      is_gt (position_cmp order.cmp (start_position order start) (end_position order r.end)) ≡ true
-  IsPartFrom r (Some start) (Some part) =
-      (part ≡ record { start = start; end = r.end })
-      × (is_gt (position_cmp order.cmp (start_position order start) (end_position order r.end))
-      ≡ false)
-
-  -- the first starts as the range does, and ends where the other starts, which ends as the range
-  pub record AreParts (r : AnyRange K) (p : Position K) (front rest : AnyRange K) : Type 0 where
-    pub front_placed : IsPlaced front
-    pub rest_placed : IsPlaced rest
-    pub starts : position_cmp order.cmp (lower order front) (lower order r) ≡ Equal
-    pub meets : position_cmp order.cmp (upper order front) p ≡ Equal
-    pub from : position_cmp order.cmp p (lower order rest) ≡ Equal
-    pub ends : position_cmp order.cmp (upper order rest) (upper order r) ≡ Equal
-
-  -- the range up to a place, and what is left of it from there on
-  abbrev pub IsSplitAt : AnyRange K → Position K → AnyRange K → Option (AnyRange K) → Type 0
-  IsSplitAt r p front None = (front ≡ r) × Le (position_cmp order.cmp) (upper order r) p
-  IsSplitAt r p front (Some rest) = AreParts r p front rest
 
   module _ {V W : Type 0} where
     -- both are there, and start at one place

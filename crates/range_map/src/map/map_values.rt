@@ -14,7 +14,7 @@ ghost use Rattle.range_change.specs.declared.error.UpdateError.TheVariants.{Clos
 use crate::map::RangeMap;
 use crate::map::append::push;
 use crate::map::combine::map_of;
-use crate::map::merged::{Part, next_part};
+use crate::map::merged::{Part, keys_of, next_part};
 use range_algebra::any::AnyRange;
 use range_algebra::inner;
 use range_change::error::UpdateError;
@@ -35,9 +35,9 @@ fn answered<'a, K: PartialEnum + Clone, V, W: Drop, E: Drop, F: Fn(&V) -> Result
     ensures closure { (e : E) → result ≡ Err (ClosureError e)
         → FnReturnsAt F.Fn f.now (part_item part.entry).value (Err e) }
 {
-    match f(part.1) {
+    match f(part.value) {
         Ok(value) => {
-            let key = part.0.cloned()?;
+            let key = keys_of(part).cloned()?;
             inner::known(&key);
             Ok(Item { key, value })
         }

@@ -1,13 +1,13 @@
 //! Two lists of ranges as one list of pieces, on each of which both are constant.
-ghost use Rattle.std.specs.Prelude.{◌≡◌, ◌++◌, ◌⊎◌, [], ◌<◌, Some, None, MatchOption, ⊤};
-ghost use Rattle.std.specs.Option.{option_copied, option_map};
+ghost use Rattle.std.specs.Prelude.{◌≡◌, ◌++◌, [], Some, None, MatchOption};
+ghost use Rattle.std.specs.Option.{option_map};
 ghost use Rattle.std.specs.declared.cmp.Ordering.TheVariants.{Equal};
-ghost use Rattle.range_keys.specs.Position.{bound_of, position_cmp, start_position};
-ghost use Rattle.range_algebra.specs.Cuts.{lower, upper};
-ghost use Rattle.range_algebra.specs.Intervals.{Le, Lt};
+ghost use Rattle.range_keys.specs.Position.{bound_of, position_cmp, end_position};
+ghost use Rattle.range_algebra.specs.Cuts.{lower, past};
+ghost use Rattle.range_algebra.specs.Intervals.{Lt};
 ghost use Rattle.range_algebra.specs.Range.{IsKnownBound};
 ghost use Rattle.range_algebra.specs.References.{range_of};
-ghost use Rattle.range_map.specs.Merged.{IsPlaced, IsPlacedIn, IsPartFrom, IsSplitAt, IsCutFrom, IsUsedUp, StartAlike, IsFirstPieceOf, part_item};
+ghost use Rattle.range_map.specs.Merged.{IsPlaced, IsPlacedIn, IsPartPast, IsFirstPieceOf, part_item};
 ghost use Rattle.range_change.specs.Window.{option_items};
 
 use crate::map::Iter;
@@ -20,8 +20,13 @@ use range_store::storage::{Item, Storage};
 use std::cmp::Ordering;
 use std::ops::{Bound, RangeBounds};
 
-/// What is left of a stored range, with its value.
-pub(crate) type Part<'a, K, V> = (AnyRange<&'a K>, &'a V);
+/// What is left of a stored range, from a start on, with its value.
+#[derive(Drop)]
+pub(crate) struct Part<'a, K, V> {
+    pub(crate) start: Bound<&'a K>,
+    pub(crate) range: &'a AnyRange<K>,
+    pub(crate) value: &'a V,
+}
 
 /// A piece, what binds it on either side, and what is left of the ranges that it was taken from.
 #[derive(Drop)]
@@ -43,8 +48,11 @@ where
     ensures last { result ≡ None → items.new ≡ [] }
 {
     let (range, value) = items.next()?;
-    let range = AnyRange::new(range.start_bound(), range.end_bound());
-    Some((range, value))
+    Some(Part {
+        start: range.start_bound(),
+        range,
+        value,
+    })
 }
 
 /// What is left of a stored range, or the next one where nothing is.
@@ -66,83 +74,69 @@ where
     }
 }
 
-/// The part of a range from a start on, unless it is empty.
+/// The keys of what is left of a stored range.
 #[inline(always)]
-fn part_from<'a, K: PartialEnum>(
-    range: AnyRange<&'a K>,
-    start: Option<Bound<&'a K>>,
-) -> Option<AnyRange<&'a K>>
-    ensures { IsPartFrom K.order (range_of range.entry) (option_map bound_of start.entry)
-        (option_map range_of result) }
+pub(crate) fn keys_of<'a, K: PartialEnum, V>(part: Part<'a, K, V>) -> AnyRange<&'a K>
+    ensures { range_of result ≡ (part_item part.entry).key }
 {
-    let start = start?;
-    if starts_past_end(start, range.end) {
-        return None;
-    }
-    Some(AnyRange::new(start, range.end))
+    AnyRange::new(part.start, part.range.end_bound())
 }
 
-/// A range up to a start that lies past its own, and what is left of it from there on.
-#[inline(always)]
-fn split_at<'a, K: PartialEnum>(
-    range: AnyRange<&'a K>,
-    start: Bound<&'a K>,
-) -> (AnyRange<&'a K>, Option<AnyRange<&'a K>>)
-    requires placed { IsPlaced K.order (range_of range) }
-    requires known { IsKnownBound K.order (bound_of start) }
-    requires later { Lt (position_cmp K.order.cmp) (lower K.order (range_of range))
-        (start_position K.order (bound_of start)) }
-    ensures { IsSplitAt K.order (range_of range.entry)
-        (start_position K.order (bound_of start.entry)) (range_of result.0)
-        (option_map range_of result.1) }
-{
-    match part_from(range, Some(start)) {
-        None => (range, None),
-        Some(rest) => match flip(start) {
-            Some(end) => (
-                AnyRange {
-                    start: range.start,
-                    end,
-                },
-                Some(rest),
-            ),
-            None => unreachable!(),
-        },
-    }
-}
-
-/// A range with a value, where there is a range.
-#[inline(always)]
-fn with_value<'a, K, V>(range: Option<AnyRange<&'a K>>, value: &'a V) -> Option<Part<'a, K, V>>
-    ensures { option_map part_item result
-        ≡ option_map (λ r. record { key = range_of r; value = value.now }) range.entry }
-{
-    Some((range?, value))
-}
-
-/// The first piece of two ranges of which the first starts before the second.
+/// The first piece of two parts of which the first starts before the second.
 #[inline(always)]
 fn first_alone<'a, K: PartialEnum, V, W>(
     part: Part<'a, K, V>,
     later: Part<'a, K, W>,
-) -> (AnyRange<&'a K>, Option<Part<'a, K, V>>)
+) -> Piece<'a, K, V, W>
     requires part { IsPlaced K.order (part_item part).key }
     requires later { IsPlaced K.order (part_item later).key }
     requires before { Lt (position_cmp K.order.cmp) (lower K.order (part_item part).key)
         (lower K.order (part_item later).key) }
-    ensures placed { IsPlaced K.order (range_of result.0) }
-    ensures cut { IsCutFrom K.order (Some (part_item part.entry)) (range_of result.0)
-        (Some part.entry.1.now) (option_map part_item result.1) }
-    ensures before { Le (position_cmp K.order.cmp) (upper K.order (range_of result.0))
-        (lower K.order (part_item later.entry).key) }
-    ensures progress { IsUsedUp (Some (part_item part.entry)) (option_map part_item result.1)
-        ⊎ StartAlike K.order (option_map part_item result.1) (Some (part_item later.entry)) }
+    ensures { IsFirstPieceOf K.order (Some (part_item part.entry)) (Some (part_item later.entry))
+        result }
 {
-    let (range, rest) = split_at(part.0, later.0.start);
-    (range, with_value(rest, part.1))
+    let last = part.range.end_bound();
+    let cut = if starts_past_end(later.start, last) {
+        (last, None)
+    } else {
+        match flip(later.start) {
+            Some(end) => (
+                end,
+                Some(Part {
+                    start: later.start,
+                    ..part
+                }),
+            ),
+            None => unreachable!(),
+        }
+    };
+    let (end, left) = cut;
+    Piece {
+        range: AnyRange::new(part.start, end),
+        value: Some(part.value),
+        other_value: None,
+        left,
+        right: Some(later),
+    }
 }
 
-/// The first piece of two ranges that start at one place, and what is left of either.
+/// What is left of a part past an end that lies before its own.
+#[inline(always)]
+fn part_past<'a, K: PartialEnum, V>(part: &Part<'a, K, V>, end: Bound<&'a K>) -> Part<'a, K, V>
+    requires part { IsPlaced K.order (part_item part.now).key }
+    requires known { IsKnownBound K.order (bound_of end) }
+    requires before { Lt (position_cmp K.order.cmp) (end_position K.order (bound_of end))
+        (end_position K.order part.now.range.now.end) }
+    ensures { IsPartPast K.order (part_item part.now)
+        (past K.order (end_position K.order (bound_of end.entry))) (part_item result) }
+{
+    match flip(end) {
+        Some(start) => Part { start, ..*part },
+        None => unreachable!(),
+    }
+}
+
+/// The first piece of two parts that start at one place, and what is left of either.
 #[inline(always)]
 fn first_of_both<'a, K: PartialEnum, V, W>(
     part: Part<'a, K, V>,
@@ -155,26 +149,44 @@ fn first_of_both<'a, K: PartialEnum, V, W>(
     ensures { IsFirstPieceOf K.order (Some (part_item part.entry)) (Some (part_item other.entry))
         result }
 {
-    if let Some(rest) = part_from(part.0, flip(other.0.end)) {
-        return Piece {
-            range: other.0,
-            value: Some(part.1),
-            other_value: Some(other.1),
-            left: Some((rest, part.1)),
-            right: None,
-        };
-    }
-    let rest = part_from(other.0, flip(part.0.end));
+    let end = part.range.end_bound();
+    let other_end = other.range.end_bound();
+    let cut = match Directed::End(end).cmp(&Directed::End(other_end)) {
+        Ordering::Less => (end, None, Some(part_past(&other, end))),
+        Ordering::Equal => (end, None, None),
+        Ordering::Greater => (other_end, Some(part_past(&part, other_end)), None),
+    };
+    let (end, left, right) = cut;
     Piece {
-        range: part.0,
-        value: Some(part.1),
-        other_value: Some(other.1),
-        left: None,
-        right: with_value(rest, other.1),
+        range: AnyRange::new(part.start, end),
+        value: Some(part.value),
+        other_value: Some(other.value),
+        left,
+        right,
     }
 }
 
-/// The first piece of two ranges.
+/// The piece with its two sides exchanged.
+#[inline(always)]
+fn turned<'a, K, V, W>(piece: Piece<'a, K, V, W>) -> Piece<'a, K, W, V>
+    ensures { result ≡ record {
+      range = piece.entry.range;
+      value = piece.entry.other_value;
+      other_value = piece.entry.value;
+      left = piece.entry.right;
+      right = piece.entry.left;
+    } }
+{
+    Piece {
+        range: piece.range,
+        value: piece.other_value,
+        other_value: piece.value,
+        left: piece.right,
+        right: piece.left,
+    }
+}
+
+/// The first piece of two parts.
 #[inline(always)]
 fn first_of_two<'a, K: PartialEnum, V, W>(
     part: Part<'a, K, V>,
@@ -185,28 +197,10 @@ fn first_of_two<'a, K: PartialEnum, V, W>(
     ensures { IsFirstPieceOf K.order (Some (part_item part.entry)) (Some (part_item other.entry))
         result }
 {
-    match Directed::Start(part.0.start).cmp(&Directed::Start(other.0.start)) {
-        Ordering::Less => {
-            let (range, left) = first_alone(part, other);
-            Piece {
-                range,
-                value: Some(part.1),
-                other_value: None,
-                left,
-                right: Some(other),
-            }
-        }
+    match Directed::Start(part.start).cmp(&Directed::Start(other.start)) {
+        Ordering::Less => first_alone(part, other),
         Ordering::Equal => first_of_both(part, other),
-        Ordering::Greater => {
-            let (range, right) = first_alone(other, part);
-            Piece {
-                range,
-                value: None,
-                other_value: Some(other.1),
-                left: Some(part),
-                right,
-            }
-        }
+        Ordering::Greater => turned(first_alone(other, part)),
     }
 }
 
@@ -225,16 +219,16 @@ pub(crate) fn first_piece<'a, K: PartialEnum, V, W>(
     match (left, right) {
         (None, None) => None,
         (Some(part), None) => Some(Piece {
-            range: part.0,
-            value: Some(part.1),
+            value: Some(part.value),
             other_value: None,
+            range: keys_of(part),
             left: None,
             right: None,
         }),
         (None, Some(other)) => Some(Piece {
-            range: other.0,
             value: None,
-            other_value: Some(other.1),
+            other_value: Some(other.value),
+            range: keys_of(other),
             left: None,
             right: None,
         }),

@@ -1,20 +1,33 @@
-use Rattle.range_algebra.specs.References.{range_of}
+use Rattle.std.proofs.Common.{◌∙◌, ap, sym}
+use Rattle.std.specs.Option.{option_map}
+use Rattle.range_keys.specs.Position.{bound_of}
 use Rattle.range_map.specs.Merged.{part_item}
-use Rattle.range_map.proofs.FirstPieces.{split_alone}
+use Rattle.range_map.proofs.FirstPieces.{later_has_end, whole_first, cut_first}
 use Rattle.range_map.proofs.map.merged.first_alone.Goals as goal
+use Rattle.range_map.proofs.map.merged.first_alone.Goals.{then-starts_past_end, else-starts_past_end+in-Some}
 
-pub returns-clause-cut : goal.returns-clause-cut
-returns-clause-cut g c =
-    let alone =
-    split_alone g.K.MaybeBounded.order g.met.K.PartialEnum.lawful (part_item c.args.part)
-    (part_item c.args.later) (range_of c.split_at.result.0) c.split_at.result.1 c.requires.part
-    c.split_at.ensures in
-    rw c.with_value.ensures alone.cut
+pub unreachable-requires : goal.unreachable-requires
+unreachable-requires g c =
+    later_has_end g.K.MaybeBounded.order g.met.K.PartialEnum.lawful (part_item c.args.part).key
+    (bound_of c.args.later.start) c.requires.part c.requires.before
+    (sym c.flip.ensures ∙ ap (λ b. option_map bound_of b) c.in-None.is)
 
-pub returns-clause-progress : goal.returns-clause-progress
-returns-clause-progress g c =
-    let alone =
-    split_alone g.K.MaybeBounded.order g.met.K.PartialEnum.lawful (part_item c.args.part)
-    (part_item c.args.later) (range_of c.split_at.result.0) c.split_at.result.1 c.requires.part
-    c.split_at.ensures in
-    rw c.with_value.ensures alone.progress
+pub returns : goal.returns
+returns g c =
+    let order = g.K.MaybeBounded.order in
+    let lawful = g.met.K.PartialEnum.lawful in
+    let part = part_item c.args.part in
+    let later = part_item c.args.later in
+    let last = c.end_bound-last.ensures tt in
+    elim c.if-starts_past_end.branch [
+      | then-starts_past_end w ↦
+          rw (c.new.ensures.start, c.new.ensures.end, w.cut-is, last)
+          (whole_first order lawful part later c.requires.part c.requires.later c.requires.before
+          (rw (← last) (sym c.starts_past_end.ensures ∙ w.if-starts_past_end.true)))
+      | else-starts_past_end+in-Some w ↦
+          rw (c.new.ensures.start, c.new.ensures.end, w.cut-is)
+          (cut_first order lawful part later c.requires.part c.requires.later c.requires.before
+          (bound_of w.in-Some.end)
+          (sym w.flip.ensures ∙ ap (λ b. option_map bound_of b) w.in-Some.is)
+          (rw (← last) (sym c.starts_past_end.ensures ∙ w.if-starts_past_end.false)))
+    ]

@@ -1,18 +1,35 @@
-use Rattle.range_algebra.specs.References.{range_of}
+use Rattle.std.proofs.Common.{◌∙◌, sym, Some, None}
 use Rattle.range_map.specs.Merged.{part_item}
-use Rattle.range_map.proofs.FirstPieces.{second_first, first_first}
+use Rattle.range_map.proofs.FirstPieces.{first_ends, past_same, second_ends}
 use Rattle.range_map.proofs.map.merged.first_of_both.Goals as goal
-
-pub returns-in-Some : goal.returns-in-Some
-returns-in-Some g c =
-    second_first g.K.MaybeBounded.order g.met.K.PartialEnum.lawful (part_item c.args.part)
-    (part_item c.args.other) c.requires.part c.requires.other c.requires.alike
-    (range_of c.in-Some.rest) (rw (c.in-Some.is, c.flip.ensures) at c.part_from.ensures)
+use Rattle.range_map.proofs.map.merged.first_of_both.Goals.{in-Less, in-Equal, in-Greater}
 
 pub returns : goal.returns
 returns g c =
-    rw c.with_value.ensures
-    (first_first g.K.MaybeBounded.order g.met.K.PartialEnum.lawful (part_item c.args.part)
-    (part_item c.args.other) c.requires.part c.requires.other c.requires.alike
-    c.part_from-rest.result (rw (c.in_default.is, c.flip.ensures) at c.part_from.ensures)
-    (rw c.flip-2.ensures at c.part_from-rest.ensures))
+    let order = g.K.MaybeBounded.order in
+    let lawful = g.met.K.PartialEnum.lawful in
+    let part = part_item c.args.part in
+    let other = part_item c.args.other in
+    let end = c.end_bound-end.ensures tt in
+    let other_end = c.end_bound-other_end.ensures tt in
+    elim c.match-cmp.branch [
+      | in-Less w ↦
+          rw (c.new.ensures.start, c.new.ensures.end, w.cut-is, end)
+          (first_ends order lawful part other c.requires.part c.requires.other c.requires.alike
+          (Some (part_item w.part_past.result)) (rw end at w.part_past.ensures))
+      | in-Equal w ↦
+          rw (c.new.ensures.start, c.new.ensures.end, w.cut-is, end)
+          (first_ends order lawful part other c.requires.part c.requires.other c.requires.alike None
+          (past_same order lawful part.key.end other.key.end c.requires.part.known.1
+          c.requires.other.known.1
+          (rw (← end, ← other_end) (sym c.cmp.ensures ∙ w.in-Equal.is))))
+      | in-Greater w ↦
+          rw (c.new.ensures.start, c.new.ensures.end, w.cut-is, other_end)
+          (second_ends order lawful part other c.requires.part c.requires.other c.requires.alike
+          (part_item w.part_past-in-Greater.result)
+          (rw other_end at w.part_past-in-Greater.ensures))
+    ]
+
+pub part_past-requires-clause-before : goal.part_past-requires-clause-before
+part_past-requires-clause-before g c =
+    rw (← c.end_bound-other_end.ensures tt) (sym c.cmp.ensures ∙ c.in-Less.is)

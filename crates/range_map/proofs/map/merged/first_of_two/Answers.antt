@@ -1,14 +1,7 @@
-use Rattle.std.proofs.Common.{◌∙◌, sym}
-use Rattle.std.specs.Option.{option_map}
-use Rattle.range_algebra.specs.References.{range_of}
-use Rattle.range_map.specs.Merged.{part_item}
-use Rattle.range_map.proofs.FirstPieces.{second_before, greater_not_equal}
+use Rattle.range_map.proofs.FirstPieces.{turned}
 use Rattle.range_map.proofs.map.merged.first_of_two.Goals as goal
 
 pub returns-in-Greater : goal.returns-in-Greater
 returns-in-Greater g c =
-    let alone = c.first_alone-in-Greater in
-    second_before g.K.MaybeBounded.order g.met.K.PartialEnum.lawful (part_item c.args.part)
-    (part_item c.args.other) (range_of alone.result.0) (option_map part_item alone.result.1)
-    alone.ensures.placed alone.ensures.cut alone.ensures.before alone.ensures.progress
-    (λ e. greater_not_equal (sym c.in-Greater.is ∙ (c.cmp.ensures ∙ e)))
+    rw c.turned.ensures
+    (turned g.K.MaybeBounded.order g.met.K.PartialEnum.lawful c.first_alone-in-Greater.ensures)
