@@ -53,14 +53,6 @@ module _ {K : Type 0} (order : KeyOrder K) (lawful : IsLawful order) where
       (past_le order lawful e f known others (eq_le cmp total p q same))
       (past_le order lawful f e others known (eq_ge cmp total p q same))
 
-  end_rises : (e : Bound K) (r : AnyRange K) → IsKnownBound order e → IsPlaced order r
-      → Lt cmp (end_position order e) (end_position order r.end) → Lt cmp (Past e) (Hi r)
-  end_rises e r known placed less =
-      let total = position_total order.cmp lawful.total in
-      not_le cmp total (Past e) (Hi r)
-      (λ le. lt_not_le cmp total (end_position order e) (end_position order r.end) less
-      (end_le order lawful r.end e placed.known.1 known le))
-
   -- a start that lies past another is not unbounded
   pub later_has_end : (r : AnyRange K) (s : Bound K) → IsPlaced order r
       → Lt cmp (Lo r) (start_position order s) → flipped s ≡ None → ⊥
@@ -74,8 +66,10 @@ module _ {K : Type 0} (order : KeyOrder K) (lawful : IsLawful order) where
   pub earlier_has_start : (r : AnyRange K) (e : Bound K) → IsPlaced order r
       → Lt cmp (end_position order e) (end_position order r.end) → flipped e ≡ None → ⊥
   earlier_has_start r Unbounded placed less is =
-      lt_not_le cmp (position_total order.cmp lawful.total) (Past Unbounded) (Hi r)
-      (end_rises Unbounded r tt placed less) (unbounded_end order lawful r.end placed.known.1)
+      lt_not_le cmp (position_total order.cmp lawful.total) (end_position order Unbounded)
+      (end_position order r.end) less
+      (end_le order lawful r.end Unbounded placed.known.1 tt
+      (unbounded_end order lawful r.end placed.known.1))
   earlier_has_start r (Included a) placed less is = cc
   earlier_has_start r (Excluded a) placed less is = cc
 
@@ -102,7 +96,9 @@ module _ {K : Type 0} (order : KeyOrder K) (lawful : IsLawful order) where
         let at = flipped_bound_is_past order lawful e s turns in
         left_from (Past e) s (flipped_known order lawful e s turns known) at
         (le_lt_trans cmp total p (Past e) (Hi i.key) (eq_ge cmp total (Past e) p at)
-        (end_rises e i.key known placed less))
+        (not_le cmp total (Past e) (Hi i.key)
+        (λ le. lt_not_le cmp total (end_position order e) (end_position order i.key.end) less
+        (end_le order lawful i.key.end e placed.known.1 known le))))
 
   module _ {V W : Type 0} (i : Item (AnyRange K) V) (j : Item (AnyRange K) W)
       (placed : IsPlaced order i.key) (placed_j : IsPlaced order j.key) where
@@ -212,7 +208,10 @@ module _ {K : Type 0} (order : KeyOrder K) (lawful : IsLawful order) where
           | inl used ↦ inr (inl used)
           | inr (inl used) ↦ inl used
           | inr (inr now) ↦
-              inr (inr (λ h. now.0 (alike_turned right left h), alike_turned left_rest right_rest now.1))
+              inr (inr (
+                λ h. now.0 (alike_turned right left h),
+                alike_turned left_rest right_rest now.1,
+              ))
         ];
   }
 
