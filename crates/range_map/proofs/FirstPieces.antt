@@ -5,22 +5,19 @@ use Rattle.std.specs.declared.ops.Bound.{Bound}
 use Rattle.std.specs.declared.ops.Bound.TheVariants.{Included, Excluded, Unbounded}
 use Rattle.std.specs.declared.cmp.Ordering.{Ordering}
 use Rattle.std.specs.declared.cmp.Ordering.TheVariants.{Equal}
-use Rattle.range_keys.specs.Order.{KeyOrder, IsLawful, Below, SameAnswer, Tells}
-use Rattle.range_keys.specs.Position.{at_told, start_position, end_position, position_cmp}
+use Rattle.range_keys.specs.Order.{KeyOrder, IsLawful}
+use Rattle.range_keys.specs.Position.{start_position, end_position, position_cmp}
 use Rattle.range_keys.specs.PositionOrder.{position_total}
 use Rattle.range_keys.specs.declared.inner.position.Position.{Position}
-use Rattle.range_keys.specs.declared.inner.position.Position.TheVariants.{MinusInfinity, Beside, PlusInfinity}
-use Rattle.range_keys.specs.declared.inner.position.Side.TheVariants.{Before, At, After}
-use Rattle.range_keys.proofs.BoundPositions.{IsEnd, ends_lie_at_ends}
-use Rattle.range_keys.proofs.Orderings.{any_then_equal, less_unless_equal, less_unless_greater, less_unless_less, not_greater_unless_greater}
 use Rattle.range_algebra.specs.Compared.{flipped, starts_past_end}
 use Rattle.range_algebra.specs.Cuts.{lower, upper, past}
-use Rattle.range_algebra.specs.Intervals.{Le, Lt}
-use Rattle.range_algebra.specs.Orders.{eq_le, eq_ge, le_trans, lt_not_le, lt_le_trans, le_lt_trans, not_le, not_lt, both}
+use Rattle.range_algebra.specs.Intervals.{Lt}
+use Rattle.range_algebra.specs.Orders.{eq_le, eq_ge, lt_not_le, lt_le_trans, le_lt_trans, not_le, not_lt, both}
 use Rattle.range_algebra.specs.Range.{IsKnownBound}
 use Rattle.range_algebra.specs.declared.any.AnyRange.{AnyRange}
 use Rattle.range_algebra.proofs.Places.{reaching_is_before_past, flipped_bound_is_past, flipped_back, flipped_known, unbounded_start, unbounded_end}
 use Rattle.range_store.specs.declared.storage.Item.{Item}
+use Rattle.range_change.proofs.Extents.{past_le, end_le}
 use Rattle.range_map.specs.Merged.{IsPlaced, IsPartPast, IsRestOf, StartAlike, IsFirstPiece}
 
 clash : true ≡ false → ⊥
@@ -45,78 +42,6 @@ module _ {K : Type 0} (order : KeyOrder K) (lawful : IsLawful order) where
   back : (p q : Position K) → cmp p q ≡ Equal → cmp q p ≡ Equal
   back p q e = tied_back (position_total order.cmp lawful.total) p q e
 
-  no_answer : (o p : Option K) (a : K) → SameAnswer order o p → Tells order o a → p ≡ None → ⊥
-  no_answer None p a same tells none = tells
-  no_answer (Some x) None a same tells none = same
-  no_answer (Some x) (Some y) a same tells none = cc
-
-  -- the neighbour that a key tells is not one that tells none before it
-  told_below : (a b c : K) → order.succ a ≡ Some c → order.is_key b → order.pred b ≡ None
-      → Below order a b → Below order c b
-  told_below a b c told key none less =
-      not_le order.cmp lawful.total c b
-      (λ over. no_answer (order.pred c) (order.pred b) a (lawful.pred_congr c b
-      (both order.cmp lawful.total c b (lawful.none_between a c b told key less) over))
-      (lawful.succ_pred a c told) none)
-
-  upto_key : (a b : K) (o : Option K) → order.succ a ≡ o → order.is_key b → Below order a b
-      → Le cmp (at_told o (Beside a After)) (Beside b At)
-  upto_key a b None told key less = (not_greater_unless_greater (order.cmp a b)).1 less
-  upto_key a b (Some c) told key less =
-      rw (any_then_equal (order.cmp c b)) (lawful.none_between a c b told key less)
-
-  under_key : (a b : K) (o : Option K) → order.succ a ≡ o → order.is_key b → order.pred b ≡ None
-      → Below order a b → Lt cmp (at_told o (Beside a After)) (Beside b At)
-  under_key a b None told key none less = (less_unless_greater (order.cmp a b)).1 less
-  under_key a b (Some c) told key none less =
-      rw (any_then_equal (order.cmp c b)) (told_below a b c told key none less)
-
-  under_infinity : (a : K) (o : Option K) → Lt cmp (at_told o (Beside a After)) PlusInfinity
-  under_infinity a None = refl
-  under_infinity a (Some c) = refl
-
-  -- the place past an end lies before that past a later one
-  past_rises : (e f : Position K) → IsEnd order e → IsEnd order f → Lt cmp e f
-      → Lt cmp (past order e) (past order f)
-  unfolding IsEnd
-  past_rises (Beside a At) (Beside b At) h k less =
-      (reaching_is_before_past order lawful (Excluded a) (Included b) h k).0
-      (upto_key a b (order.succ a) refl k (less_unless_equal (order.cmp a b) less))
-  past_rises (Beside a At) (Beside b Before) h k less =
-      under_key a b (order.succ a) refl k.0 k.1 ((less_unless_greater (order.cmp a b)).0 less)
-  past_rises (Beside a At) PlusInfinity h k less = under_infinity a (order.succ a)
-  past_rises (Beside a Before) (Beside b At) h k less =
-      (reaching_is_before_past order lawful (Included a) (Included b) h.0 k).0
-      (rw (any_then_equal (order.cmp a b)) ((less_unless_less (order.cmp a b)).0 less))
-  past_rises (Beside a Before) (Beside b Before) h k less = less
-  past_rises (Beside a Before) PlusInfinity h k less = refl
-  past_rises PlusInfinity MinusInfinity h k less = absurd (cc)
-  past_rises PlusInfinity (Beside b s) h k less = absurd (cc)
-  past_rises PlusInfinity PlusInfinity h k less = absurd (cc)
-  past_rises (Beside a After) f h k less = absurd h
-  past_rises MinusInfinity f h k less = absurd h
-  past_rises (Beside a s) (Beside b After) h k less = absurd k
-  past_rises (Beside a s) MinusInfinity h k less = absurd k
-
-  past_upto : (e f : Bound K) (t : Option (Bound K)) → flipped f ≡ t → IsKnownBound order e
-      → IsKnownBound order f → Le cmp (end_position order e) (end_position order f)
-      → Le cmp (Past e) (Past f)
-  past_upto e Unbounded None turns known others le = unbounded_end order lawful e known
-  past_upto e (Included b) None turns known others le = absurd (cc)
-  past_upto e (Excluded b) None turns known others le = absurd (cc)
-  past_upto e f (Some s) turns known others le =
-      let total = position_total order.cmp lawful.total in
-      let p = start_position order s in
-      let at = flipped_bound_is_past order lawful f s turns in
-      let start = flipped_known order lawful f s turns others in
-      not_lt cmp total (Past e) (Past f)
-      (λ less. lt_not_le cmp total p (Past f)
-      ((reaching_is_before_past order lawful s f start others).0
-      (le_trans cmp total p (end_position order e) (end_position order f)
-      ((reaching_is_before_past order lawful s e start known).1
-      (le_lt_trans cmp total p (Past f) (Past e) (eq_ge cmp total (Past f) p at) less)) le))
-      (eq_le cmp total (Past f) p at))
-
   -- the places past two ends at one place are one place
   pub past_same : (e f : Bound K) → IsKnownBound order e → IsKnownBound order f
       → cmp (end_position order e) (end_position order f) ≡ Equal → cmp (Past e) (Past f) ≡ Equal
@@ -125,15 +50,8 @@ module _ {K : Type 0} (order : KeyOrder K) (lawful : IsLawful order) where
       let p = end_position order e in
       let q = end_position order f in
       both cmp total (Past e) (Past f)
-      (past_upto e f (flipped f) refl known others (eq_le cmp total p q same))
-      (past_upto f e (flipped e) refl others known (eq_ge cmp total p q same))
-
-  end_rises : (e : Bound K) (r : AnyRange K) → IsKnownBound order e → IsPlaced order r
-      → Lt cmp (end_position order e) (end_position order r.end) → Lt cmp (Past e) (Hi r)
-  end_rises e r known placed less =
-      past_rises (end_position order e) (end_position order r.end)
-      (ends_lie_at_ends order lawful e known) (ends_lie_at_ends order lawful r.end placed.known.1)
-      less
+      (past_le order lawful e f known others (eq_le cmp total p q same))
+      (past_le order lawful f e others known (eq_ge cmp total p q same))
 
   -- a start that lies past another is not unbounded
   pub later_has_end : (r : AnyRange K) (s : Bound K) → IsPlaced order r
@@ -148,8 +66,10 @@ module _ {K : Type 0} (order : KeyOrder K) (lawful : IsLawful order) where
   pub earlier_has_start : (r : AnyRange K) (e : Bound K) → IsPlaced order r
       → Lt cmp (end_position order e) (end_position order r.end) → flipped e ≡ None → ⊥
   earlier_has_start r Unbounded placed less is =
-      lt_not_le cmp (position_total order.cmp lawful.total) (Past Unbounded) (Hi r)
-      (end_rises Unbounded r tt placed less) (unbounded_end order lawful r.end placed.known.1)
+      lt_not_le cmp (position_total order.cmp lawful.total) (end_position order Unbounded)
+      (end_position order r.end) less
+      (end_le order lawful r.end Unbounded placed.known.1 tt
+      (unbounded_end order lawful r.end placed.known.1))
   earlier_has_start r (Included a) placed less is = cc
   earlier_has_start r (Excluded a) placed less is = cc
 
@@ -176,7 +96,9 @@ module _ {K : Type 0} (order : KeyOrder K) (lawful : IsLawful order) where
         let at = flipped_bound_is_past order lawful e s turns in
         left_from (Past e) s (flipped_known order lawful e s turns known) at
         (le_lt_trans cmp total p (Past e) (Hi i.key) (eq_ge cmp total (Past e) p at)
-        (end_rises e i.key known placed less))
+        (not_le cmp total (Past e) (Hi i.key)
+        (λ le. lt_not_le cmp total (end_position order e) (end_position order i.key.end) less
+        (end_le order lawful i.key.end e placed.known.1 known le))))
 
   module _ {V W : Type 0} (i : Item (AnyRange K) V) (j : Item (AnyRange K) W)
       (placed : IsPlaced order i.key) (placed_j : IsPlaced order j.key) where
@@ -286,7 +208,10 @@ module _ {K : Type 0} (order : KeyOrder K) (lawful : IsLawful order) where
           | inl used ↦ inr (inl used)
           | inr (inl used) ↦ inl used
           | inr (inr now) ↦
-              inr (inr (λ h. now.0 (alike_turned right left h), alike_turned left_rest right_rest now.1))
+              inr (inr (
+                λ h. now.0 (alike_turned right left h),
+                alike_turned left_rest right_rest now.1,
+              ))
         ];
   }
 

@@ -7,8 +7,8 @@ use Rattle.range_map.proofs.map.merged.part_past.Goals as goal
 
 pub unreachable-requires : goal.unreachable-requires
 unreachable-requires g c =
-    earlier_has_start g.K.MaybeBounded.order g.met.K.PartialEnum.lawful (part_item c.args.part.now).key
-    (bound_of c.args.end) c.requires.part c.requires.before
+    earlier_has_start g.K.MaybeBounded.order g.met.K.PartialEnum.lawful
+    (part_item c.args.part.now).key (bound_of c.args.end) c.requires.part c.requires.before
     (sym c.flip.ensures ∙ ap (λ b. option_map bound_of b) c.in-None.is)
 
 pub returns : goal.returns
