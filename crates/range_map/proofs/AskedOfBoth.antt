@@ -1,6 +1,6 @@
 -- A closure that may be asked of the items of two lists one by one, of each item of either with
 -- none beside it, and of each two, may be asked what `combine` may ask.
-use Rattle.std.proofs.Common.{◌≡◌, refl, subst, List, Option, Some, None}
+use Rattle.std.proofs.Common.{refl, subst, List, Option, Some, None}
 use Rattle.range_map.proofs.Common.{Shared, option_copied, Bor, Every, AnyRange, Item, AreValuesOf, MayBeAskedBoth, MayBeAskedOfBoth}
 use Rattle.range_change.proofs.RangePieces.{any_use}
 

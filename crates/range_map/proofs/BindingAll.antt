@@ -1,6 +1,6 @@
 -- Whether each key of a range is bound, and that an empty range has no piece.
 use Rattle.std.proofs.Common.{◌≡◌, List, [], ◌∷◌, ◌⊎◌, inl, inr, Option, Some, None}
-use Rattle.range_map.proofs.Common.{Included, KeyOrder, IsLawful, IsComplete, start_position, end_position, position_cmp, Beside, At, AnyRange, Every, Holds, IsEmptyRange, any_none, every_weaker, Item, IsBound, Overlap, BindsAllOf, AreGapsWithin, LiesIn, IsCommonPart, IsFreePart, IsPiece, ArePieces, later, earlier}
+use Rattle.range_map.proofs.Common.{Included, KeyOrder, IsLawful, IsComplete, start_position, end_position, position_cmp, Beside, At, AnyRange, Every, Holds, IsEmptyRange, any_none, every_weaker, Item, IsBound, Overlap, BindsAllOf, AreGapsWithin, LiesIn, IsCommonPart, IsFreePart, IsPiece, ArePieces}
 use Rattle.range_keys.proofs.Orderings.{not_greater, not_both_greater_and_not}
 use Rattle.range_map.proofs.PlaceOrder.{le_refl, eq_le, eq_ge, le_trans, not_lt}
 use Rattle.range_algebra.proofs.Completeness.{nonempty_holds}

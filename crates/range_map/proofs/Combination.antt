@@ -1,6 +1,6 @@
 -- A merged pass over two lists: what the answers so far make of both.
 use Rattle.std.proofs.Common.{◌≡◌, refl, sym, ap, ◌∙◌, ◌↔◌, ◌⊎◌, inl, inr, Bool, true, Option, Some, None, Result, Ok, List, [], ◌∷◌, ◌++◌, map}
-use Rattle.range_map.proofs.Common.{IsEquivalence, Shared, Bor, Bound, KeyOrder, IsLawful, position_total, Position, Beside, At, IsBoundClone, SameBound, Le, Lt, Any, Every, Holds, IsKnownRange, LiesBefore, AnyRange, any_none, any_left, any_split, every_append, every_weaker, Item, Answered, IsAsAnswered, IsBound, Binds, BindsTo, IsValueOf, MayBeAskedBoth, MayBeAskedOfBoth, Combined, IsConstantOn, IsSharedPart, AreCombined, IsCombination, full_range, LiesIn, IsStored}
+use Rattle.range_map.proofs.Common.{IsEquivalence, Shared, Bor, Bound, KeyOrder, IsLawful, Position, Beside, At, IsBoundClone, SameBound, Le, Lt, Any, Every, Holds, IsKnownRange, LiesBefore, AnyRange, any_none, any_left, any_split, every_append, every_weaker, Item, Answered, IsAsAnswered, IsBound, Binds, BindsTo, IsValueOf, MayBeAskedBoth, MayBeAskedOfBoth, Combined, IsConstantOn, IsSharedPart, AreCombined, IsCombination, full_range, LiesIn, IsStored}
 use Rattle.range_map.proofs.PlaceOrder.{le_refl, lt_le, eq_ge, le_trans, lt_not_le}
 use Rattle.range_algebra.proofs.Places.{held_between, unbounded_start, unbounded_end}
 use Rattle.range_change.specs.Questions.{IsPut}

@@ -1,6 +1,6 @@
 -- One side of a merged pass: what is left of a list, and what the pieces so far say of it.
 use Rattle.std.proofs.Common.{◌≡◌, refl, sym, ap, subst, append_assoc, ◌∙◌, ◌↔◌, ◌⊎◌, inl, inr, ℕ, ◌+◌, ◌*◌, ◌<◌, ◌≤◌, length, arith, Bool, true, Option, Some, None, List, [], ◌∷◌, ◌++◌, if◌then◌else◌}
-use Rattle.range_map.proofs.Common.{is_eq, option_map, Ordering, Less, Equal, Greater, IsEquivalence, KeyOrder, IsLawful, position_cmp, position_total, Position, lower, upper, Le, Lt, Any, Every, IsKnownRange, AnyRange, any_none, every_left, every_weaker, Item, line_of, Respects, IsConstantOn, MeetsSome, LiesIn, IsStored, item_lower}
+use Rattle.range_map.proofs.Common.{is_eq, option_map, Ordering, Less, Equal, Greater, IsEquivalence, KeyOrder, IsLawful, position_cmp, Position, lower, upper, Le, Lt, Any, Every, AnyRange, any_none, every_left, every_weaker, Item, line_of, Respects, IsConstantOn, MeetsSome, IsStored, item_lower}
 use Rattle.range_map.proofs.PlaceOrder.{le_refl, lt_le, eq_le, eq_ge, le_trans, lt_not_le, cases, lt_le_trans}
 use Rattle.range_map.specs.Merged.{IsPlaced, IsPlacedIn, IsCutFrom, IsUsedUp, StartAlike, IsFirstPiece}
 use Rattle.range_change.specs.Window.{option_items}

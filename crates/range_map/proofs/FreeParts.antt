@@ -1,6 +1,6 @@
 -- What stands free between the items of a stored list is all of its gaps.
 use Rattle.std.proofs.Common.{◌≡◌, refl, sym, subst, ◌∙◌, ◌↔◌, Option, Some, None, Bool, true, false, List, [], ◌∷◌, ◌++◌, ◌⊎◌, inl, inr, if◌then◌else◌, ◌+◌, ◌≤◌, arith, length, length-append}
-use Rattle.range_map.proofs.Common.{Bound, Included, Excluded, Unbounded, Equal, KeyOrder, IsLawful, start_position, end_position, position_cmp, Position, AnyRange, any_left, any_right, every_append, every_left, every_right, every_weaker, flipped, starts_past_end, Le, Lt, Any, Every, StartHolds, EndHolds, Holds, IsKnownBound, IsKnownRange, range_cmp, LiesBefore, Item, full_range, item_ranges, IsHeldOnce, AreGaps, between, free_from, LiesIn, IsFreePart, IsPiece, Overlap, IsStored}
+use Rattle.range_map.proofs.Common.{Bound, Included, Excluded, Unbounded, Equal, KeyOrder, IsLawful, start_position, end_position, position_cmp, Position, AnyRange, any_left, any_right, every_append, every_left, every_right, every_weaker, flipped, starts_past_end, Le, Lt, Any, Every, StartHolds, EndHolds, Holds, IsKnownBound, IsKnownRange, range_cmp, LiesBefore, Item, full_range, item_ranges, IsHeldOnce, AreGaps, between, free_from, LiesIn, IsFreePart, Overlap, IsStored}
 use Rattle.range_keys.proofs.Orderings.{equal_then_equal, not_both_greater_and_not, not_greater}
 use Rattle.range_map.proofs.PlaceOrder.{eq_le, eq_ge, le_refl, lt_le, le_trans, lt_not_le, cases, lt_le_trans, le_lt_trans, lt_trans, both}
 use Rattle.range_algebra.proofs.Holding.{start_holds, end_holds}

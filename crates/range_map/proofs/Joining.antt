@@ -1,7 +1,7 @@
 -- Items put one after the other, where two that touch with equal values become one.
 use Rattle.std.proofs.Common.{◌⊎◌, inl, inr, Bool, true, false, Some, None, List, [], ◌∷◌, ◌++◌}
 use Rattle.std.specs.Prelude.{if◌then◌else◌}
-use Rattle.range_map.proofs.Common.{IsEquivalence, KeyOrder, IsLawful, position_cmp, position_total, Position, Beside, At, lower, Le, Lt, Every, Holds, IsEmptyRange, IsKnownRange, AnyRange, every_weaker, Item, BindAlike, BindsTo, IsBound, line_of, Follows, IsStored, item_lower, item_upper, full_range}
+use Rattle.range_map.proofs.Common.{IsEquivalence, KeyOrder, IsLawful, position_cmp, Position, Beside, At, lower, Le, Lt, Every, Holds, IsEmptyRange, IsKnownRange, AnyRange, every_weaker, Item, BindAlike, BindsTo, IsBound, line_of, Follows, IsStored, item_lower, item_upper, full_range}
 use Rattle.range_map.proofs.PlaceOrder.{lt_le, le_trans, lt_not_le, lt_le_trans}
 use Rattle.range_algebra.proofs.Places.{held_between, unbounded_start}
 use Rattle.range_change.proofs.Forms.{Known, nonempty_good, stored_chain, stored_known}

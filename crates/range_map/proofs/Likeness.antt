@@ -1,6 +1,6 @@
 -- A clone of a range in the place of the range.
-use Rattle.std.proofs.Common.{◌≡◌, refl, ◌∙◌, Option, Some, None, Bool, false, IsTrue, List, ◌⊎◌, inl, inr, Result, map}
-use Rattle.range_map.proofs.Common.{Shared, Bor, Bound, Included, Excluded, Unbounded, Ordering, Less, Equal, Greater, is_gt, tied_back, KeyOrder, IsLawful, start_position, end_position, position_cmp, position_total, Position, Beside, At, AnyRange, SameBound, same_start, same_end, starts_at_end, Holds, IsEmptyRange, every_weaker, Item, piece_of, FailsAt, IsUpdated, later, earlier, IsCommonPart, LiesIn, IsFreePart, IsPiece, Overlap}
+use Rattle.std.proofs.Common.{◌≡◌, refl, ◌∙◌, Option, Some, None, Bool, false, IsTrue, List, ◌⊎◌, inl, inr, Result}
+use Rattle.range_map.proofs.Common.{Shared, Bor, Bound, Included, Excluded, Unbounded, Ordering, Less, Equal, Greater, is_gt, tied_back, KeyOrder, IsLawful, start_position, end_position, position_cmp, position_total, Position, Beside, At, AnyRange, SameBound, same_start, same_end, starts_at_end, Holds, IsEmptyRange, every_weaker, Item, FailsAt, IsUpdated, later, earlier, IsCommonPart, LiesIn, IsFreePart, IsPiece, Overlap}
 use Rattle.range_keys.proofs.Orderings.{eq_is_equal, not_both_greater_and_not}
 use Rattle.range_map.proofs.PlaceOrder.{eq_le, eq_ge, le_trans, lt_le_trans, le_lt_trans, both}
 use Rattle.range_algebra.proofs.Holding.{holds_by_position}

@@ -1,10 +1,10 @@
 -- The items that a range meets are one run of a stored list.
 use Rattle.std.proofs.Common.{◌≡◌, refl, sym, ap, subst, ◌∙◌, ℕ, zero, suc, ◌+◌, ◌-◌, ◌<◌, ◌≤◌, Bool, true, false, List, [], ◌∷◌, ◌++◌, length, take, drop, get_or, arith, Option, Some, None, inl, inr, length-drop}
 use Rattle.std.specs.Prelude.{MatchOption}
-use Rattle.range_map.proofs.Common.{AllByRecursion, is_gt, Included, Unbounded, drop_more, get_or-take, get_or-drop, drop-drop, length-take-le, KeyOrder, IsLawful, start_position, end_position, position_cmp, position_total, Position, AnyRange, Le, Lt, Any, Every, IsEmptyRange, IsKnownRange, with_bounds, any_none, any_left, any_right, any_split, every_at, every_append, every_left, every_right, every_weaker, list_is_take_and_drop, drop_all, Item, place_before, MeetsSome, Overlap, IsStored}
+use Rattle.range_map.proofs.Common.{AllByRecursion, is_gt, Included, Unbounded, get_or-take, get_or-drop, drop-drop, length-take-le, KeyOrder, IsLawful, start_position, end_position, position_cmp, Position, AnyRange, Le, Lt, Any, Every, IsEmptyRange, IsKnownRange, with_bounds, any_none, any_left, any_right, any_split, every_at, every_left, every_right, every_weaker, list_is_take_and_drop, drop_all, Item, place_before, MeetsSome, Overlap, IsStored}
 use Rattle.std.proofs.Math.Seq.{take-add}
 use Rattle.range_keys.proofs.Orderings.{not_greater, not_both_greater_and_not}
-use Rattle.range_map.proofs.PlaceOrder.{le_refl, lt_le, le_trans, lt_not_le, not_le, le_lt_trans, lt_trans}
+use Rattle.range_map.proofs.PlaceOrder.{le_refl, lt_le, le_trans, lt_not_le, le_lt_trans, lt_trans}
 use Rattle.range_map.specs.Overlapping.{AreOverlapping}
 use Rattle.range_change.specs.Window.{IsFound, IsLastStarting, place_after}
 use Rattle.range_change.proofs.RangePieces.{every_with}

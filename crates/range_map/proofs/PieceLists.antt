@@ -1,6 +1,6 @@
 -- The pieces that are read off from the items that meet a range are its pieces.
 use Rattle.std.proofs.Common.{◌≡◌, refl, sym, ap, ◌∙◌, List, [], ◌∷◌, ◌++◌, ◌⊎◌, inl, inr, Option, Some, None, Bool, true, false, map, if◌then◌else◌, append_assoc}
-use Rattle.range_map.proofs.Common.{append-nil, IsEquivalence, tied_itself, tied_back, Bound, Included, Excluded, Unbounded, Equal, KeyOrder, IsLawful, start_position, end_position, position_cmp, position_total, Position, AnyRange, flipped, starts_past_end, past, Any, Every, IsEmptyRange, IsKnownBound, IsKnownRange, LiesBefore, any_left, any_right, every_weaker, every_append, every_left, every_right, Item, Answered, piece_of, line_of, Leads, Overlap, free_piece, bound_piece, free_between, pieces_from, IsCommonPart, IsFreePart, ArePieces, item_lower, IsStored}
+use Rattle.range_map.proofs.Common.{append-nil, IsEquivalence, tied_itself, tied_back, Bound, Included, Excluded, Unbounded, Equal, KeyOrder, IsLawful, start_position, end_position, position_cmp, position_total, Position, AnyRange, flipped, starts_past_end, past, Any, Every, IsEmptyRange, IsKnownBound, IsKnownRange, any_left, any_right, every_weaker, every_append, every_left, every_right, Item, Answered, piece_of, line_of, Overlap, free_piece, bound_piece, free_between, pieces_from, IsFreePart, ArePieces, IsStored}
 use Rattle.range_algebra.specs.Combined.{common}
 use Rattle.range_map.proofs.PlaceOrder.{le_refl, lt_le, eq_le, eq_ge, le_trans, cases, not_le, not_lt, lt_le_trans}
 use Rattle.range_algebra.proofs.Commons.{later_is, earlier_is}

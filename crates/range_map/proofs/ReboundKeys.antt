@@ -1,7 +1,7 @@
 -- What the keys of a piece are bound to, and what they come to be bound to by an answer to it.
 use Rattle.std.proofs.Common.{◌≡◌, refl, Bool, true, false, List, [], ◌∷◌, map, Option, Some, None, ◌↔◌, inl, inr}
 use Rattle.std.specs.Prelude.{Result, Ok, if◌then◌else◌}
-use Rattle.range_map.proofs.Common.{Bor, Shared, IsEquivalence, is_gt, KeyOrder, IsLawful, position_cmp, start_position, end_position, Position, Beside, At, Le, Any, Every, Holds, IsEmptyRange, AnyRange, Item, Answered, IsAsAnswered, MayAnswer, IsUpdated, piece_of, Binds, BindsTo, IsBound, IsPiece, IsCommonPart, later, earlier, Overlap}
+use Rattle.range_map.proofs.Common.{Bor, Shared, IsEquivalence, is_gt, KeyOrder, IsLawful, position_cmp, start_position, end_position, Position, Beside, At, Le, Any, Every, Holds, IsEmptyRange, AnyRange, Item, Answered, IsAsAnswered, MayAnswer, IsUpdated, piece_of, Binds, BindsTo, IsBound, IsPiece, IsCommonPart, Overlap}
 use Rattle.range_map.proofs.PlaceOrder.{eq_le, eq_ge, le_refl, le_trans, lt_not_le, not_lt}
 use Rattle.range_algebra.proofs.Holding.{holds_by_position, empty_is_keyless}
 use Rattle.range_map.specs.Rebinding.{IsRebound, AreRebound}

@@ -1,7 +1,7 @@
 -- Lists of the map's form are coarse over complete keys, and equal exactly where they bind every
 -- key alike.
-use Rattle.std.proofs.Common.{◌≡◌, refl, sym, ap, ◌∙◌, List, [], ◌∷◌, length, inl, inr, ◌↔◌, Bool, ◌&&◌, IsTrue, Option, Some, None}
-use Rattle.range_map.proofs.Common.{Ordering, Equal, is_eq, eq_by_cmp, IsEquivalence, IsTotalOrder, Equal-is, alike_right, first_so, second_so, KeyOrder, IsLawful, IsComplete, start_position, end_position, position_cmp, Holds, IsKnownRange, IsEmptyRange, IsKeyless, range_cmp, AnyRange, AllByRecursion, and_from, Item, IsBound, BindsTo, Binds, BindAlike, IsCoarse, AreAlike, IsOnlyCoarse, IsLeastCount, IsStored, same_list, list_cmp, lists_tied, lists_order}
+use Rattle.std.proofs.Common.{◌≡◌, refl, sym, ap, ◌∙◌, List, [], ◌∷◌, length, inl, inr, ◌↔◌, Bool, IsTrue, Option, Some, None}
+use Rattle.range_map.proofs.Common.{Ordering, Equal, is_eq, eq_by_cmp, IsEquivalence, IsTotalOrder, Equal-is, alike_right, first_so, second_so, KeyOrder, IsLawful, IsComplete, Holds, IsKnownRange, IsEmptyRange, IsKeyless, AnyRange, AllByRecursion, and_from, Item, IsBound, BindsTo, Binds, BindAlike, IsCoarse, AreAlike, IsOnlyCoarse, IsLeastCount, IsStored, same_list, list_cmp, lists_tied, lists_order}
 use Rattle.range_algebra.proofs.Holding.{empty_is_keyless}
 use Rattle.range_algebra.proofs.Completeness.{nonempty_holds}
 use Rattle.range_algebra.proofs.Canonical.{same_is_equal, equal_is_same}

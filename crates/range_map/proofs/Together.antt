@@ -1,7 +1,7 @@
 -- Two lists of ranges in one pass over both: what the first ranges say of all.
 use Rattle.std.proofs.Common.{◌≡◌, sym, ◌∙◌, ◌<◌, ◌↔◌, inl, inr, Bool, Option, Some, None, List, [], ◌∷◌, ◌++◌, length, arith}
 use Rattle.std.specs.Prelude.{MatchOption}
-use Rattle.range_map.proofs.Common.{option_map, Bor, KeyOrder, IsLawful, start_position, end_position, position_cmp, Position, Le, Any, Every, IsEmptyRange, LiesBefore, AnyRange, any_none, every_weaker, Item, shown_item, Overlap, MeetsSome, LiesIn, IsStored}
+use Rattle.range_map.proofs.Common.{option_map, Bor, KeyOrder, IsLawful, start_position, end_position, position_cmp, Le, Any, Every, IsEmptyRange, LiesBefore, AnyRange, any_none, every_weaker, Item, shown_item, MeetsSome, LiesIn, IsStored}
 use Rattle.range_keys.proofs.Orderings.{not_greater}
 use Rattle.range_map.proofs.PlaceOrder.{le_trans, lt_le, lt_not_le, lt_le_trans}
 use Rattle.range_map.specs.Together.{MeetNowhere, LieInside}

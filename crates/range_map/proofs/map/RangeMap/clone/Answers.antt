@@ -1,5 +1,4 @@
-use Rattle.std.proofs.Common.{get_or, sym, ◌∙◌}
-use Rattle.std.specs.Cmp.{Equal-is}
+use Rattle.std.proofs.Common.{get_or}
 use Rattle.range_map.proofs.CloneLists.{clones_tied, equal_items_are_copy, copy_stored, item_clone}
 use Rattle.range_map.proofs.map.RangeMap.clone.Goals as goal
 

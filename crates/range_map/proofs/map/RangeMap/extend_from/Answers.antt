@@ -1,5 +1,4 @@
-use Rattle.std.proofs.Common.{sym, ◌∙◌}
-use Rattle.range_map.proofs.Common.{Equal-is, tied_back, range_clone, range_total, AnyRange, Item, IsOverlaid}
+use Rattle.range_map.proofs.Common.{tied_back, range_clone, range_total, AnyRange, Item, IsOverlaid}
 use Rattle.range_change.proofs.Results.{on_error}
 use Rattle.range_map.proofs.InPlace.{none_over, one_over}
 use Rattle.range_map.proofs.PartWay.{set_out, one_done, stopped, arrived}

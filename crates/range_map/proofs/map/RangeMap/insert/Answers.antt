@@ -1,6 +1,5 @@
-use Rattle.range_map.proofs.Common.{common_steps, IsBoundAfter, MeetAlso}
-use Rattle.std.proofs.Common.{subst, refl, rules, arith}
-use Rattle.range_change.specs.Frames.{IsInsertionFrame}
+use Rattle.range_map.proofs.Common.{common_steps}
+use Rattle.std.proofs.Common.{refl, rules, arith}
 use Rattle.range_map.proofs.StoredLists.{stored_coarse, stored_only}
 use Rattle.range_change.proofs.Results.{error_has_no_value, on_error}
 use Rattle.range_change.proofs.Lengths.{le_sum}

@@ -1,4 +1,4 @@
-use Rattle.range_map.proofs.Common.{common_steps, length-insert, IsEmptyRange, IsBoundAfter, IsPutInto, MeetAlso}
+use Rattle.range_map.proofs.Common.{common_steps, length-insert, IsEmptyRange, IsPutInto, MeetAlso}
 use Rattle.std.proofs.Common.{OnOk, OnErr, Ok, Err, Result, List, ◌≡◌, ◌+◌, ◌≤◌, length, refl, ap, arith, subst}
 use Rattle.range_change.proofs.CoveredPlaces.{on_ok}
 use Rattle.range_map.proofs.StoredLists.{stored_coarse, stored_only}

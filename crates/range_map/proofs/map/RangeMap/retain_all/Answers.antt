@@ -1,5 +1,4 @@
-use Rattle.std.proofs.Common.{sym, ◌∙◌}
-use Rattle.range_map.proofs.Common.{Equal-is, tied_back, range_clone, range_total, range_of}
+use Rattle.range_map.proofs.Common.{tied_back, range_clone, range_total, range_of}
 use Rattle.range_change.proofs.Results.{on_error}
 use Rattle.range_map.specs.PartWay.{AreUnboundAfter}
 use Rattle.range_map.proofs.InPlace.{none_unbound, one_unbound, all_kept}

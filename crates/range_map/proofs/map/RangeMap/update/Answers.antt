@@ -1,5 +1,5 @@
-use Rattle.range_map.proofs.Common.{common_steps, Equal-is, bound_clone, IsEmptyRange, MayAnswer, IsUpdated}
-use Rattle.std.proofs.Common.{sym, refl, ◌∙◌, arith}
+use Rattle.range_map.proofs.Common.{common_steps, bound_clone, IsEmptyRange, MayAnswer, IsUpdated}
+use Rattle.std.proofs.Common.{refl, arith}
 use Rattle.range_change.proofs.CoveredPlaces.{on_ok}
 use Rattle.range_map.proofs.Likeness.{clone_empty, updated_too, fails_too}
 use Rattle.range_change.specs.Frames.{IsUpdateFrame}

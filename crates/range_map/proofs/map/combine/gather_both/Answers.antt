@@ -1,7 +1,6 @@
-use Rattle.std.proofs.Common.{◌∙◌, sym, ◌++◌, rules}
-use Rattle.range_map.proofs.Common.{Equal-is, option_copied, option_map, bound_clone, lower, upper, range_of, MayAnswerBoth, full_range}
+use Rattle.std.proofs.Common.{◌∙◌, rules}
+use Rattle.range_map.proofs.Common.{option_copied, bound_clone, lower, upper, range_of, MayAnswerBoth, full_range}
 use Rattle.range_map.specs.Merged.{part_item}
-use Rattle.range_change.specs.Window.{option_items}
 use Rattle.range_map.proofs.Combination.{combined_none, combined_more, combined_all, is_shared, asked_of_part}
 use Rattle.range_map.proofs.Combining.{first_placed, fewer_steps_at, unmapped, nothing_listed}
 use Rattle.range_map.proofs.CloneLists.{clones_tied}

@@ -1,5 +1,5 @@
-use Rattle.std.proofs.Common.{◌≡◌, ◌∙◌, sym, [], rules, Err}
-use Rattle.range_map.proofs.Common.{Equal-is, FnReturnsAt, lower, full_range}
+use Rattle.std.proofs.Common.{◌≡◌, sym, [], rules, Err}
+use Rattle.range_map.proofs.Common.{FnReturnsAt, lower, full_range}
 use Rattle.range_map.specs.Merged.{part_item}
 use Rattle.range_map.proofs.Joining.{built_none, stored_rises}
 use Rattle.range_map.proofs.MappedValues.{first_left, mapped_more}
