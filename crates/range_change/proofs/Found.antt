@@ -27,7 +27,7 @@ use Rattle.range_change.specs.Bindings.{IsItemFor, IsStoredFor, IsBound, BindsTo
 use Rattle.range_change.specs.Window.{IsFound, IsJustBefore, IsLastStarting, place_after}
 use Rattle.range_change.proofs.Forms.{places}
 use Rattle.range_change.proofs.Listed.{IsListed, stored_list_is_listed}
-use Rattle.range_algebra.proofs.Lists.{every_append, every_at, every_right, every_take, every_drop, list_is_take_and_drop, drop_all, every_weaker}
+use Rattle.range_algebra.proofs.Lists.{every_append, every_at, every_right, every_take, every_drop, list_is_take_and_drop, every_weaker}
 
 pub not_less : (o : Ordering) → is_lt o ≡ false → o ≡ Less → ⊥
 not_less Less h e = cc
@@ -215,13 +215,6 @@ module _ {K : Type 0} (order : KeyOrder K) (lawful : IsLawful order) {V : Type 0
       λ h.
       not_bound (take place items ++ drop place items) k none
       (rw (list_is_take_and_drop items place) at h)
-
-  -- no item from the place on
-  pub none_bound : (items : List (Item (AnyRange K) V)) (k : K) (place : ℕ) → order.is_key k
-      → Every (λ i. Lt (places order lawful) (End i) (Beside k At)) (take place items)
-      → place ≡ length items → IsBound order items k → ⊥
-  none_bound items k place key below at =
-      apart_bound items k place key below (rw (drop_all items place at) tt)
 
   ends_upto_listed : (items : List (Item (AnyRange K) V)) (p : Position K) (place : ℕ)
       (d : Item (AnyRange K) V) → IsListed order lawful same items → place < length items

@@ -1,11 +1,10 @@
 -- Which stored ranges a range meets, and which keys both then hold.
-use Rattle.std.proofs.Common.{◌≡◌, ℕ, zero, suc, ◌+◌, ◌<◌, ◌≤◌, Bool, List, [], ◌∷◌, ◌++◌, length, take, drop, get_or, refl, sym, arith, true, false, inl, inr, not, IsTrue, ◌↔◌, Option, Some, None}
+use Rattle.std.proofs.Common.{◌≡◌, ℕ, zero, suc, ◌+◌, ◌<◌, Bool, List, [], ◌∷◌, ◌++◌, length, take, drop, get_or, refl, sym, arith, true, false, inl, inr, not, IsTrue, ◌↔◌, Option, Some, None}
 use Rattle.std.specs.Borrow.{Bor}
 use Rattle.std.specs.List.{AllByRecursion}
 use Rattle.std.specs.Option.{option_copied, is_some}
 use Rattle.std.specs.declared.ops.Bound.{Bound}
 use Rattle.std.specs.Ordering.{is_lt}
-use Rattle.std.proofs.lemmas.List.{take_all}
 use Rattle.range_keys.specs.Order.{KeyOrder, IsLawful, IsComplete}
 use Rattle.range_keys.specs.Position.{start_position, end_position, position_cmp}
 use Rattle.range_keys.specs.PositionOrder.{position_total}
@@ -174,17 +173,6 @@ module _ {K : Type 0} (order : KeyOrder K) (lawful : IsLawful order) where
         → (IsEmptyRange order r → ⊥) → MeetsSome order items r → BindsKeyOf order items r
     meeting_binds same items r complete stored known full h =
         meeting_by items r complete stored.known stored.nonempty known full h
-
-    -- all end before the range
-    pub none_meets : (items : List (Item (AnyRange K) V)) (r : AnyRange K) (place : ℕ)
-        → Every (λ i. PLt (End i.key) (Start r)) (take place items) → place ≡ length items
-        → MeetsSome order items r → ⊥
-    none_meets items r place below at h =
-        let le : length items ≤ place = omega arith in
-        let all : Every (λ i. PLt (End i.key) (Start r)) items =
-        rw (take_all place items le) at below in
-        any_none (λ i. Overlap order i.key r) (λ i. PLt (End i.key) (Start r)) items all
-        (λ i l meets. meets.0 l) h
 
     -- up to the place all end before the range, and from there on all start past it
     pub apart_meets : (items : List (Item (AnyRange K) V)) (r : AnyRange K) (p e : Position K)

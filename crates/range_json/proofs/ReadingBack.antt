@@ -97,7 +97,7 @@ module _ {K : Type 0} (order : KeyOrder K) (shape : K → Data) (reads : Data �
           → IsRangeRead is_read (range_shape shape x.key) y.key → IsTrue (same x.value y.value)
           → Copied x y
       item_back x y v read values =
-          item_clone order lawful same equal Alike (λ a b h. h) (λ a b. IsTrue (same a b))
+          item_clone lawful equal Alike (λ a b h. h) (λ a b. IsTrue (same a b))
           (λ a b h. h) x y (bounds_back x.key y.key v read) values
 
       same_copies : (items copy : List (Item (AnyRange K) V)) → AllZip Copied items copy
@@ -149,8 +149,8 @@ module _ {K : Type 0} (order : KeyOrder K) (shape : K → Data) (reads : Data �
             (subst (λ ds. AllZip (IsElementRead is_read value_is_read) ds h.elements)
             (sym listed) h.read.read) in
             let form =
-            copy_stored order lawful same equal h.elements items
-            (equal_items_are_copy order lawful same equal items h.elements copies)
+            copy_stored lawful equal h.elements items
+            (equal_items_are_copy lawful equal items h.elements copies)
             (All-from_recursion (λ i. IsKnownRange order i.key) h.elements h.read.known)
             stored in
             subst (λ is. IsTrue (same_list order same is items)) (sym (h.kept form))
@@ -246,8 +246,8 @@ module _ {K V : Type 0} (order : KeyOrder K) (shape : K → Data) (reads : Data 
               (subst (IsStored order same)
               (cut.split ∙ sym (one_between cut.xs cut.x cut.ys)) stored) in
               let form =
-              copy_stored order lawful same equal (first.earlier ++ y ∷ [])
-              (cut.xs ++ cut.x ∷ []) (equal_items_are_copy order lawful same equal
+              copy_stored lawful equal (first.earlier ++ y ∷ [])
+              (cut.xs ++ cut.x ∷ []) (equal_items_are_copy lawful equal
               (cut.xs ++ cut.x ∷ []) (first.earlier ++ y ∷ []) copies)
               (All-from_recursion (λ i. IsKnownRange order i.key) (first.earlier ++ y ∷ [])
               (all_more (λ i. IsKnownRange order i.key) first.earlier y first.fine.known
@@ -312,8 +312,8 @@ module _ {K : Type 0} (order : KeyOrder K) (shape : K → Data) (reads : Data �
         sets_back items h.ranges v
         (subst (λ ds. AllZip (IsRangeRead is_read) ds h.ranges) (sym listed) h.read) in
         let form =
-        copy_stored order lawful (λ _ _. true) all_equal (range_items h.ranges) items
-        (equal_items_are_copy order lawful (λ _ _. true) all_equal items
+        copy_stored lawful all_equal (range_items h.ranges) items
+        (equal_items_are_copy lawful all_equal items
         (range_items h.ranges) copies)
         (All-from_recursion (λ i. IsKnownRange order i.key) (range_items h.ranges)
         (known_items h.ranges h.known)) stored in

@@ -1,61 +1,17 @@
 -- A list of clones: equal item by item to its source, and in the same form.
-use Rattle.std.proofs.Common.{◌≡◌, refl, sym, ap, ◌∙◌, List, [], ◌∷◌, Option, Some, None, Bool, true, ◌&&◌, IsTrue}
-use Rattle.range_map.proofs.Common.{All, AllZip, AllByRecursion, Less, Equal, Greater, is_eq, eq_by_cmp, Equal-is, Ordering, IsEquivalence, alike_right, tied_back, and_from, and_parts, KeyOrder, IsLawful, SameAnswer, start_position, end_position, position_cmp, at_told, position_total, Position, MinusInfinity, Beside, PlusInfinity, Before, At, After, IsBoundClone, range_clone, past, IsKnownRange, IsEmptyRange, range_cmp, range_total, AnyRange, Item, IsCopyOf, LiesBefore, Touches, IsStored}
-use Rattle.std.proofs.lemmas.List.Elements.{recursion_from_All}
-use Rattle.range_keys.proofs.Orderings.{both_equal, equal_then_equal, eq_is_equal}
-use Rattle.range_map.proofs.PlaceOrder.{eq_le, eq_ge, le_trans}
-use Rattle.range_change.proofs.Forms.{before_is, nonempty_good, touches_is}
-use Rattle.range_change.proofs.Listed.{IsListed, stored_list_is_listed, stored_by}
+use Rattle.range_map.proofs.Common.{◌≡◌, sym, ap, ◌∙◌, List, [], ◌∷◌, Bool, true, ◌&&◌, IsTrue, All, AllZip, AllByRecursion, Equal, is_eq, eq_by_cmp, Equal-is, Ordering, IsEquivalence, alike_right, tied_back, and_from, and_parts, KeyOrder, IsLawful, start_position, end_position, position_cmp, position_total, Position, IsBoundClone, range_clone, IsKnownRange, IsEmptyRange, range_cmp, range_total, AnyRange, Item, IsCopyOf, LiesBefore, Touches, IsStored, both_equal, eq_is_equal, before_is, nonempty_good, touches_is, IsListed, stored_list_is_listed, stored_by, eq_le, eq_ge, le_trans, recursion_from_All}
+use Rattle.range_change.proofs.Extents.{past_le}
 
 -- clones of keys are tied in their order where clones are equal
 pub clones_tied : {K : Type 0} {tell cmp : K → K → Ordering} {eq : K → K → Bool}
     {is_clone : K → K → Type 0} → ((a b : K) → tell a b ≡ cmp a b)
     → ((a b : K) → eq a b ≡ eq_by_cmp tell a b) → ((a b : K) → is_clone a b → IsTrue (eq a b))
     → (a b : K) → is_clone a b → cmp a b ≡ Equal
-clones_tied told equal keys a b h =
-    sym (told a b) ∙ (Equal-is _).0 (sym (equal a b) ∙ keys a b h)
+clones_tied told equal keys a b h = sym (told a b) ∙ (Equal-is _).0 (sym (equal a b) ∙ keys a b h)
 
-module _ {K : Type 0} (order : KeyOrder K) (lawful : IsLawful order) where
+module _ {K : Type 0} {order : KeyOrder K} (lawful : IsLawful order) where
   abbrev Same : Position K → Position K → Type 0
   Same p q = position_cmp order.cmp p q ≡ Equal
-
-  told_same : (o p : Option K) (q r : Position K) → SameAnswer order o p → Same q r
-      → Same (at_told o q) (at_told p r)
-  told_same None None q r h e = e
-  told_same None (Some y) q r h e = absurd h
-  told_same (Some x) None q r h e = absurd h
-  told_same (Some x) (Some y) q r h e = equal_then_equal _ Equal h refl
-
-  -- the places past equal ends are equal
-  past_same : (p q : Position K) → Same p q → Same (past order p) (past order q)
-  past_same MinusInfinity MinusInfinity h = refl
-  past_same MinusInfinity (Beside b t) h = cc
-  past_same MinusInfinity PlusInfinity h = cc
-  past_same (Beside a s) MinusInfinity h = cc
-  past_same (Beside a s) PlusInfinity h = cc
-  past_same PlusInfinity MinusInfinity h = cc
-  past_same PlusInfinity (Beside b t) h = cc
-  past_same PlusInfinity PlusInfinity h = refl
-  past_same (Beside a Before) (Beside b Before) h =
-      equal_then_equal _ Equal (both_equal (order.cmp a b) Equal h).0 refl
-  past_same (Beside a At) (Beside b At) h =
-      let e = (both_equal (order.cmp a b) Equal h).0 in
-      told_same (order.succ a) (order.succ b) (Beside a After) (Beside b After)
-      (lawful.succ_congr a b e) (equal_then_equal _ Equal e refl)
-  past_same (Beside a After) (Beside b After) h =
-      equal_then_equal _ Equal (both_equal (order.cmp a b) Equal h).0 refl
-  past_same (Beside a Before) (Beside b At) h =
-      absurd (let e = (both_equal (order.cmp a b) Less h).1 in cc)
-  past_same (Beside a Before) (Beside b After) h =
-      absurd (let e = (both_equal (order.cmp a b) Less h).1 in cc)
-  past_same (Beside a At) (Beside b Before) h =
-      absurd (let e = (both_equal (order.cmp a b) Greater h).1 in cc)
-  past_same (Beside a At) (Beside b After) h =
-      absurd (let e = (both_equal (order.cmp a b) Less h).1 in cc)
-  past_same (Beside a After) (Beside b Before) h =
-      absurd (let e = (both_equal (order.cmp a b) Greater h).1 in cc)
-  past_same (Beside a After) (Beside b At) h =
-      absurd (let e = (both_equal (order.cmp a b) Greater h).1 in cc)
 
   equal_positions_compare_alike : (p q s t : Position K) → Same p q → Same s t
       → position_cmp order.cmp p s ≡ position_cmp order.cmp q t
@@ -66,17 +22,11 @@ module _ {K : Type 0} (order : KeyOrder K) (lawful : IsLawful order) where
 
   starts_same : (r s : AnyRange K) → range_cmp order r s ≡ Equal
       → Same (start_position order r.start) (start_position order s.start)
-  starts_same r s e =
-      (both_equal (position_cmp order.cmp (start_position order r.start)
-      (start_position order s.start))
-      (position_cmp order.cmp (end_position order r.end) (end_position order s.end)) e).0
+  starts_same r s e = (both_equal _ _ e).0
 
   ends_same : (r s : AnyRange K) → range_cmp order r s ≡ Equal
       → Same (end_position order r.end) (end_position order s.end)
-  ends_same r s e =
-      (both_equal (position_cmp order.cmp (start_position order r.start)
-      (start_position order s.start))
-      (position_cmp order.cmp (end_position order r.end) (end_position order s.end)) e).1
+  ends_same r s e = (both_equal _ _ e).1
 
   same_empty : (r s : AnyRange K) → range_cmp order r s ≡ Equal → IsEmptyRange order r
       → IsEmptyRange order s
@@ -105,12 +55,11 @@ module _ {K : Type 0} (order : KeyOrder K) (lawful : IsLawful order) where
       ((nonempty_good order lawful s others).0 full) le).0 h in
       let start = eq_ge lawful _ _ (starts_same s s' f) in
       let end =
-      eq_le lawful _ _
-      (past_same (end_position order r.end) (end_position order r'.end) (ends_same r r' e)) in
+      past_le order lawful r.end r'.end known.1 known'.1 (eq_le lawful _ _ (ends_same r r' e)) in
       (touches_is order lawful r'.end s' others' ((nonempty_good order lawful s' others').0 full')
       le').1 (le_trans lawful _ _ _ start (le_trans lawful _ _ _ back end))
 
-  module _ {V : Type 0} (same : V → V → Bool) (equal : IsEquivalence same) where
+  module _ {V : Type 0} {same : V → V → Bool} (equal : IsEquivalence same) where
     same_values : (v w v' w' : V) → same v v' ≡ true → same w w' ≡ true → same v w ≡ true
         → same v' w' ≡ true
     same_values v w v' w' e f h =
@@ -121,59 +70,47 @@ module _ {K : Type 0} (order : KeyOrder K) (lawful : IsLawful order) where
         → (IsEmptyRange order j.key → ⊥) → IsEmptyRange order i.key → ⊥
     copy_full i j e full h = full (same_empty i.key j.key e h)
 
-    listed_full : (j : Item (AnyRange K) V) (rest : List (Item (AnyRange K) V))
-        → IsListed order lawful same (j ∷ rest) → IsEmptyRange order j.key → ⊥
-    listed_full j [] h = h.1
-    listed_full j (k ∷ rest) h = h.1
-
-    listed_known : (j : Item (AnyRange K) V) (rest : List (Item (AnyRange K) V))
-        → IsListed order lawful same (j ∷ rest) → IsKnownRange order j.key
-    listed_known j [] h = h.0
-    listed_known j (k ∷ rest) h = h.0
-
     copy_listed : (copy items : List (Item (AnyRange K) V)) → IsCopyOf order same copy items
-        → AllByRecursion (λ i. IsKnownRange order i.key) copy → IsListed order lawful same items
-        → IsListed order lawful same copy
-    copy_listed [] items zip known h = tt
-    copy_listed (i ∷ []) [] zip known h = absurd zip
-    copy_listed (i ∷ []) (j ∷ others) zip known h =
-        (known.0, copy_full i j zip.0.0 (listed_full j others h))
-    copy_listed (i ∷ i' ∷ rest) [] zip known h = absurd zip
-    copy_listed (i ∷ i' ∷ rest) (j ∷ []) zip known h = absurd zip.1
-    copy_listed (i ∷ i' ∷ rest) (j ∷ j' ∷ others) zip known h =
-        let next = listed_full j' others h.4 in
+        → AllByRecursion (λ i. IsKnownRange order i.key) copy
+        → AllByRecursion (λ i. IsKnownRange order i.key) items
+        → AllByRecursion (λ i. ¬ IsEmptyRange order i.key) items
+        → IsListed order lawful same items → IsListed order lawful same copy
+    copy_listed [] items zip known known' full h = tt
+    copy_listed (i ∷ []) (j ∷ others) zip known known' full h =
+        (known.0, copy_full i j zip.0.0 full.0)
+    copy_listed (i ∷ i' ∷ rest) (j ∷ []) zip known known' full h = absurd zip.1
+    copy_listed (i ∷ i' ∷ rest) (j ∷ j' ∷ others) zip known known' full h =
         let before = same_before i.key i'.key j.key j'.key zip.0.0 zip.1.0.0 h.2 in
-        let full = copy_full i' j' zip.1.0.0 next in (
+        let next = copy_full i' j' zip.1.0.0 full.1.0 in (
           known.0,
           copy_full i j zip.0.0 h.1,
           before,
           λ touching s.
-              h.3 (same_touches i.key i'.key j.key j'.key known.0 known.1.0 h.0
-              (listed_known j' others h.4) full next before h.2 zip.0.0 zip.1.0.0 touching)
+              h.3 (same_touches i.key i'.key j.key j'.key known.0 known.1.0 h.0 known'.1.0 next
+              full.1.0 before h.2 zip.0.0 zip.1.0.0 touching)
               (same_values i.value i'.value j.value j'.value zip.0.1 zip.1.0.1 s),
-          copy_listed (i' ∷ rest) (j' ∷ others) zip.1 known.1 h.4,
+          copy_listed (i' ∷ rest) (j' ∷ others) zip.1 known.1 known'.1 full.1 h.4,
         )
+    copy_listed copy items zip known known' full h = absurd zip
 
     pub copy_stored : (copy items : List (Item (AnyRange K) V)) → IsCopyOf order same copy items
         → All (λ i. IsKnownRange order i.key) copy → IsStored order same items
         → IsStored order same copy
     copy_stored copy items zip known h =
-        stored_by order lawful same copy
-        (copy_listed copy items zip
-        (recursion_from_All (λ i. IsKnownRange order i.key) copy known)
+        stored_by order lawful same copy (copy_listed copy items zip
+        (recursion_from_All (λ i. IsKnownRange order i.key) copy known) h.known h.nonempty
         (stored_list_is_listed order lawful same items h))
 
     pub equal_items_are_copy : (items copy : List (Item (AnyRange K) V))
         → AllZip (λ x y. (is_eq (range_cmp order y.key x.key) && same y.value x.value) ≡ true) items
         copy → IsCopyOf order same copy items
     equal_items_are_copy [] [] zip = tt
-    equal_items_are_copy [] (y ∷ ys) zip = absurd zip
-    equal_items_are_copy (x ∷ xs) [] zip = absurd zip
     equal_items_are_copy (x ∷ xs) (y ∷ ys) zip =
         let both = and_parts _ _ zip.0 in (
           ((eq_is_equal _).0 both.0, both.1),
           equal_items_are_copy xs ys zip.1,
         )
+    equal_items_are_copy xs ys zip = absurd zip
 
     -- the clone of an item equals it
     pub item_clone : (is_clone : K → K → Type 0)

@@ -1,23 +1,9 @@
 -- What the closure of an update may answer, told by what its calls may.
-use Rattle.std.proofs.Common.{Bool, List, [], ◌∷◌, Option}
-use Rattle.std.specs.Prelude.{Result, Ok, Err}
-use Rattle.range_map.proofs.Common.{Bor, Shared, KeyOrder, Every, AnyRange, Item, Answered, MayAnswer, IsAnswered, IsUpdated, MayFail, FailsAt}
-use Rattle.range_map.specs.Rebinding.{IsRebound, AreRebound}
+use Rattle.range_map.proofs.Common.{Bool, List, [], ◌∷◌, Option, Result, Ok, Err, Bor, Shared, KeyOrder, Every, every_weaker, AnyRange, Item, MayAnswer, IsAnswered, IsUpdated, MayFail, FailsAt, AreRebound}
 
 pub every_one : {X : Type 0} (P : X → Type 0) (xs : List X) → ((x : X) → P x) → Every P xs
 every_one P [] each = tt
 every_one P (x ∷ xs) each = (each x, every_one P xs each)
-
-module _ {K : Type 0} (order : KeyOrder K) {V : Type 0} (same : V → V → Bool) {F E : Type 0}
-    (calls : Shared F (Option (Bor V) × Unit {0}) (Result (Option V) E)) (f : F)
-    (may : Option V → Result (Option V) E → Type 0)
-    (told : (value : Option V) (a : Result (Option V) E) → MayAnswer calls f value a → may value a)
-  where
-    all_told : (answers : List (Answered K V))
-        → Every (λ a. MayAnswer calls f a.value (Ok a.answer)) answers
-        → Every (λ a. may a.value (Ok a.answer)) answers
-    all_told [] given = tt
-    all_told (a ∷ answers) given = (told a.value (Ok a.answer) given.0, all_told answers given.1)
 
 module _ {K : Type 0} (order : KeyOrder K) {V : Type 0} (same : V → V → Bool) {E : Type 0}
     (may : Option V → Result (Option V) E → Type 0) {F : Type 0} where
@@ -27,28 +13,14 @@ module _ {K : Type 0} (order : KeyOrder K) {V : Type 0} (same : V → V → Bool
       → IsUpdated order same calls f items next r
       → ((value : Option V) (a : Result (Option V) E) → MayAnswer calls f value a → may value a)
       → IsAnswered order same may items next r
-  answered_as {calls} {f} items next r done told = let old =
-      done.answered in record {
+  answered_as items next r done told =
+      let old = done.answered in
+      record {
         answers = old.answers;
         pieces = old.pieces;
-        given = all_told order same calls f may told old.answers old.given;
+        given = every_weaker _ _ old.answers (λ a. told a.value (Ok a.answer)) old.given;
         held = old.held;
-        others =
-            old.others;
-      }
-
-  rebound_key : {calls : Shared F (Option (Bor V) × Unit {0}) (Result (Option V) E)} {f : F}
-      (items next : List (Item (AnyRange K) V)) (k : K)
-      → IsRebound order same (MayAnswer calls f) items next k
-      → ((value : Option V) (a : Result (Option V) E) → MayAnswer calls f value a → may value a)
-      → IsRebound order same may items next k
-  rebound_key items next k now told =
-      record {
-        old = now.old;
-        answer = now.answer;
-        was = now.was;
-        given = told now.old (Ok now.answer) now.given;
-        is = now.is;
+        others = old.others;
       }
 
   pub rebound_as : {calls : Shared F (Option (Bor V) × Unit {0}) (Result (Option V) E)} {f : F}
@@ -58,7 +30,15 @@ module _ {K : Type 0} (order : KeyOrder K) {V : Type 0} (same : V → V → Bool
       → AreRebound order same may items next r
   rebound_as items next r now told =
       record {
-        held = λ k key held. rebound_key items next k (now.held k key held) told;
+        held = λ k key held.
+            let at = now.held k key held in
+            record {
+              old = at.old;
+              answer = at.answer;
+              was = at.was;
+              given = told at.old (Ok at.answer) at.given;
+              is = at.is;
+            };
         others = now.others;
       }
 

@@ -1,6 +1,6 @@
 -- One item more that is bound after others.
-use Rattle.std.proofs.Common.{◌≡◌, ◌∙◌, sym, ap, Bool, List, [], ◌∷◌, ◌++◌, ◌↔◌, ◌⊎◌, inl, inr, Option, subst}
-use Rattle.range_map.proofs.Common.{KeyOrder, Holds, AnyRange, Item, Binds, IsBound, IsBoundAfter, IsSomeOf, AreBoundAfter}
+use Rattle.range_map.proofs.Common.{◌≡◌, ◌∙◌, sym, ap, Bool, List, [], ◌∷◌, ◌++◌, ◌↔◌, ◌⊎◌, inl, inr, Option, subst, KeyOrder, Holds, AnyRange, Item, Binds, IsBound, IsBoundAfter, IsSomeOf, AreBoundAfter}
+use Rattle.range_map.proofs.BoundKeys.{bound_split}
 
 -- where the last of a list stands, that is parted at an item
 record PartsBefore {X : Type 0} (xs front rest : List X) (x i : X) : Type 0 where
@@ -13,8 +13,7 @@ last_or_before : {X : Type 0} (xs front rest : List X) (x i : X)
 last_or_before [] [] rest x i e = inl (cc, cc)
 last_or_before [] (y ∷ []) rest x i e = absurd (cc)
 last_or_before [] (y ∷ z ∷ front) rest x i e = absurd (cc)
-last_or_before (y ∷ xs) [] rest x i e =
-    inr (record { others = xs; behind = cc; before = cc })
+last_or_before (y ∷ xs) [] rest x i e = inr (record { others = xs; behind = cc; before = cc })
 last_or_before (y ∷ xs) (z ∷ front) rest x i e =
     let first : y ≡ z = cc in
     let tail : xs ++ x ∷ [] ≡ front ++ i ∷ rest = cc in
@@ -29,17 +28,6 @@ last_or_before (y ∷ xs) (z ∷ front) rest x i e =
     ]
 
 module _ {K : Type 0} (order : KeyOrder K) {V : Type 0} where
-  bound_left : (xs ys : List (Item (AnyRange K) V)) (k : K) → IsBound order xs k
-      → IsBound order (xs ++ ys) k
-  bound_left [] ys k h = absurd h
-  bound_left (x ∷ xs) ys k (inl h) = inl h
-  bound_left (x ∷ xs) ys k (inr h) = inr (bound_left xs ys k h)
-
-  bound_right : (xs ys : List (Item (AnyRange K) V)) (k : K) → IsBound order ys k
-      → IsBound order (xs ++ ys) k
-  bound_right [] ys k h = h
-  bound_right (x ∷ xs) ys k h = inr (bound_right xs ys k h)
-
   module _ (same : V → V → Bool) where
     -- no item binds nothing
     pub none_bound_after : (items : List (Item (AnyRange K) V))
@@ -66,8 +54,7 @@ module _ {K : Type 0} (order : KeyOrder K) {V : Type 0} where
           ↔ IsSomeOf order same i.value b
       last_binds i k key is holds b =
           subst (λ (j : Item (AnyRange K) V). Binds order same after k b
-          ↔ IsSomeOf order same j.value b) is
-          (one.held k key
+          ↔ IsSomeOf order same j.value b) is (one.held k key
           (subst (λ (j : Item (AnyRange K) V). Holds order j.key k) (sym is) holds) b)
 
       earlier_binds : (front rest : List (Item (AnyRange K) V)) (i : Item (AnyRange K) V) (k : K)
@@ -78,11 +65,10 @@ module _ {K : Type 0} (order : KeyOrder K) {V : Type 0} where
           let others = parts.others in
           let none : IsBound order (others ++ last ∷ []) k → ⊥ =
           λ h. unheld (rw parts.behind h) in
-          let own =
-          one.others k key (λ h. none (bound_right others (last ∷ []) k (inl h))) b in
+          let all = bound_split order others (last ∷ []) k in
+          let own = one.others k key (λ h. none (all.1 (inr (inl h)))) b in
           let old =
-          was.held front others i parts.before k key holds
-          (λ h. none (bound_left others (last ∷ []) k h)) b in
+          was.held front others i parts.before k key holds (λ h. none (all.1 (inl h))) b in
           (λ h. old.0 (own.0 h), λ h. own.1 (old.1 h))
 
       -- one more is bound after the others
@@ -96,8 +82,8 @@ module _ {K : Type 0} (order : KeyOrder K) {V : Type 0} where
                   | inr h ↦ earlier_binds front rest i k key h holds unheld b
                 ];
             others = λ k key unheld b.
-                let own =
-                one.others k key (λ h. unheld (bound_right items (last ∷ []) k (inl h))) b in
-                let old = was.others k key (λ h. unheld (bound_left items (last ∷ []) k h)) b in
+                let all = bound_split order items (last ∷ []) k in
+                let own = one.others k key (λ h. unheld (all.1 (inr (inl h)))) b in
+                let old = was.others k key (λ h. unheld (all.1 (inl h))) b in
                 (λ h. old.0 (own.0 h), λ h. own.1 (old.1 h));
           }

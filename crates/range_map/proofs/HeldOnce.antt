@@ -1,6 +1,5 @@
 -- A key that the ranges of a list and its gaps share out.
-use Rattle.std.proofs.Common.{◌⊎◌, inl, inr, List, [], ◌∷◌, ◌++◌}
-use Rattle.range_map.proofs.Common.{KeyOrder, Any, Holds, AnyRange, any_none, every_right, Item, IsBound, item_ranges, IsHeldOnce}
+use Rattle.range_map.proofs.Common.{◌⊎◌, inl, inr, List, [], ◌∷◌, ◌++◌, KeyOrder, Any, Holds, AnyRange, any_none, every_right, Item, IsBound, item_ranges, IsHeldOnce}
 
 module _ {K : Type 0} (order : KeyOrder K) where
   some_once : (ranges : List (AnyRange K)) (k : K) → IsHeldOnce order ranges k

@@ -1,9 +1,6 @@
 -- The items of a list that are bound one after the other, and ranges that are unbound so.
-use Rattle.std.proofs.Common.{◌≡◌, refl, sym, subst, ◌∙◌, ◌↔◌, ◌⊎◌, inl, inr, Bool, true, List, [], ◌∷◌, ◌++◌, Option, Some, None}
-use Rattle.range_map.proofs.Common.{IsEquivalence, Equal, KeyOrder, IsLawful, Any, Holds, range_cmp, AnyRange, any_left, any_right, any_split, Item, IsBound, BindsTo, Binds, IsSomeOf, IsBoundAfter, IsUnboundAfter, IsStored, item_ranges, IsHeldOnce, IsOverlaid, IsRestricted, IsWithout}
-use Rattle.range_algebra.proofs.Canonical.{equal_is_same}
-use Rattle.range_algebra.proofs.Meeting.{held_or_not}
-use Rattle.range_map.specs.PartWay.{AreUnboundAfter}
+use Rattle.range_map.proofs.Common.{append_assoc, ◌≡◌, refl, sym, subst, ◌∙◌, ◌↔◌, ◌⊎◌, inl, inr, Bool, true, List, [], ◌∷◌, ◌++◌, Option, Some, None, IsEquivalence, Equal, KeyOrder, IsLawful, Any, Holds, range_cmp, AnyRange, any_left, any_right, any_split, Item, IsBound, BindsTo, Binds, IsSomeOf, IsBoundAfter, IsUnboundAfter, IsStored, item_ranges, IsHeldOnce, IsOverlaid, IsRestricted, IsWithout, equal_is_same, held_or_not, AreUnboundAfter}
+use Rattle.range_map.proofs.BoundKeys.{bound_split, binds_split, binds_by}
 use Rattle.range_map.proofs.HeldOnce.{one_of_two}
 use Rattle.range_map.proofs.Once.{bound_once}
 
@@ -11,20 +8,13 @@ module _ {K : Type 0} (order : KeyOrder K) where
   -- with one item more the keys of its range are bound too
   bound_with : {V : Type 0} (items : List (Item (AnyRange K) V)) (i : Item (AnyRange K) V) (k : K)
       → IsBound order (items ++ i ∷ []) k ↔ (IsBound order items k ⊎ Holds order i.key k)
-  bound_with [] i k = (
-    λ h. elim h [ inl held ↦ inr held | inr none ↦ absurd none ],
-    λ h. elim h [ inl none ↦ absurd none | inr held ↦ inl held ],
-  )
-  bound_with (j ∷ items) i k =
-      let later = bound_with items i k in (
-        λ h. elim h [
-          | inl held ↦ inl (inl held)
-          | inr b ↦ elim (later.0 b) [ inl was ↦ inl (inr was) | inr held ↦ inr held ]
+  bound_with items i k =
+      let both = bound_split order items (i ∷ []) k in (
+        λ h. elim (both.0 h) [
+          | inl was ↦ inl was
+          | inr last ↦ elim last [ inl held ↦ inr held | inr none ↦ absurd none ]
         ],
-        λ h. elim h [
-          | inl was ↦ elim was [ inl held ↦ inl held | inr b ↦ inr (later.1 (inl b)) ]
-          | inr held ↦ inr (later.1 (inr held))
-        ],
+        λ h. both.1 (elim h [ inl was ↦ inl was | inr held ↦ inr (inl held) ]),
       )
 
   module _ {V : Type 0} (same : V → V → Bool) where
@@ -59,8 +49,7 @@ module _ {K : Type 0} (order : KeyOrder K) where
         }
 
     -- a map without the keys of no item
-    pub none_without : {W : Type 0} (items : Items)
-        → IsWithout order same items {W = W} [] items
+    pub none_without : {W : Type 0} (items : Items) → IsWithout order same items {W = W} [] items
     none_without items =
         record { gone = λ k key h. absurd h; kept = λ k key none b. (λ h. h, λ h. h) }
 
@@ -83,8 +72,7 @@ module _ {K : Type 0} (order : KeyOrder K) where
     -- one range more is unbound, by one that equals it
     pub one_unbound : IsLawful order → (first before after : Items) (done : List (AnyRange K))
         (g r : AnyRange K) → range_cmp order r g ≡ Equal
-        → AreUnboundAfter order same first before done
-        → IsUnboundAfter order same before after r
+        → AreUnboundAfter order same first before done → IsUnboundAfter order same before after r
         → AreUnboundAfter order same first after (done ++ g ∷ [])
     one_unbound lawful first before after done g r e was one =
         let now =
@@ -132,41 +120,20 @@ module _ {K : Type 0} (order : KeyOrder K) where
     none_over items =
         record { over = λ k key h. absurd h; under = λ k key none b. (λ h. h, λ h. h) }
 
-    binds_left : (items more : Items) (k : K) (v : V) → BindsTo order same items k v
-        → BindsTo order same (items ++ more) k v
-    binds_left [] more k v h = absurd h
-    binds_left (j ∷ items) more k v (inl h) = inl h
-    binds_left (j ∷ items) more k v (inr h) = inr (binds_left items more k v h)
-
-    binds_right : (items more : Items) (k : K) (v : V) → BindsTo order same more k v
-        → BindsTo order same (items ++ more) k v
-    binds_right [] more k v h = h
-    binds_right (j ∷ items) more k v h = inr (binds_right items more k v h)
-
-    binds_split : (items more : Items) (k : K) (v : V) → BindsTo order same (items ++ more) k v
-        → BindsTo order same items k v ⊎ BindsTo order same more k v
-    binds_split [] more k v h = inr h
-    binds_split (j ∷ items) more k v (inl h) = inl (inl h)
-    binds_split (j ∷ items) more k v (inr h) =
-        elim (binds_split items more k v h) [ inl one ↦ inl (inr one) | inr one ↦ inr one ]
-
-    -- an item that does not hold the key binds it to nothing
-    without_last : (done : Items) (i : Item (AnyRange K) V) (k : K) → ¬ Holds order i.key k
-        → (b : Option V) → Binds order same (done ++ i ∷ []) k b ↔ Binds order same done k b
-    without_last done i k out None =
-        let last = bound_with done i k in (
-          λ free was. free (last.1 (inl was)),
-          λ free h. elim (last.0 h) [ inl was ↦ free was | inr held ↦ out held ],
-        )
-    without_last done i k out (Some v) = (
-      λ h. elim (binds_split done (i ∷ []) k v h) [
-        | inl was ↦ was
-        | inr last ↦ elim last [ inl held ↦ absurd (out held.0) | inr none ↦ absurd none ]
-      ],
-      binds_left done (i ∷ []) k v,
-    )
-
     module _ (lawful : IsLawful order) (equal : IsEquivalence same) where
+      -- an item that does not hold the key binds it to nothing
+      without_last : (done : Items) (i : Item (AnyRange K) V) (k : K) → ¬ Holds order i.key k
+          → (b : Option V) → Binds order same (done ++ i ∷ []) k b ↔ Binds order same done k b
+      without_last done i k out =
+          binds_by order same equal (done ++ i ∷ []) done k (λ v.
+          let both = binds_split order same done (i ∷ []) k v in (
+            λ h. elim (both.0 h) [
+              | inl was ↦ was
+              | inr last ↦ elim last [ inl held ↦ absurd (out held.0) | inr none ↦ absurd none ]
+            ],
+            λ was. both.1 (inl was),
+          ))
+
       same_some : (v w : V) → same v w ≡ true → (b : Option V) → IsSomeOf order same v b
           ↔ IsSomeOf order same w b
       same_some v w e None = (λ h. h, λ h. h)
@@ -181,20 +148,15 @@ module _ {K : Type 0} (order : KeyOrder K) where
         to_value k key held None =
             (λ free. free ((bound_with done i k).1 (inr held)), λ none. absurd none)
         to_value k key held (Some v) =
-            let bound = λ (w : V) (h : BindsTo order same (done ++ i ∷ rest) k w).
-            subst (λ l. BindsTo order same l k w) split h in (
+            let among = λ (w : V) (h : BindsTo order same (done ++ i ∷ []) k w).
+            subst (λ l. BindsTo order same l k w) (append_assoc done (i ∷ []) rest ∙ split)
+            ((binds_split order same (done ++ i ∷ []) rest k w).1 (inl h)) in
+            let last = λ (w : V) (e : same i.value w ≡ true).
+            (binds_split order same done (i ∷ []) k w).1 (inr (inl (held, e))) in (
               λ h.
-                  let own = binds_right done _ k i.value (inl (held, equal.refl i.value)) in
-                  bound_once order lawful same equal others stored k key i.value v
-                  (bound i.value own)
-                  (bound v (elim (binds_split done (i ∷ []) k v h) [
-                    | inl was ↦ binds_left done _ k v was
-                    | inr last ↦ elim last [
-                      | inl to ↦ binds_right done _ k v (inl to)
-                      | inr none ↦ absurd none
-                    ]
-                  ])),
-              λ e. binds_right done (i ∷ []) k v (inl (held, e)),
+                  bound_once lawful equal others stored k key i.value v
+                  (among i.value (last i.value (equal.refl i.value))) (among v h),
+              λ e. last v e,
             )
 
         -- one item more is bound over the map, by a range and a value that equal its own

@@ -1,68 +1,29 @@
 -- Items put one after the other, where two that touch with equal values become one.
-use Rattle.std.proofs.Common.{◌⊎◌, inl, inr, Bool, true, false, Some, None, List, [], ◌∷◌, ◌++◌}
-use Rattle.std.specs.Prelude.{if◌then◌else◌}
-use Rattle.range_map.proofs.Common.{IsEquivalence, KeyOrder, IsLawful, position_cmp, Position, Beside, At, lower, Le, Lt, Every, Holds, IsEmptyRange, IsKnownRange, AnyRange, every_weaker, Item, BindAlike, BindsTo, IsBound, line_of, Follows, IsStored, item_lower, item_upper, full_range}
-use Rattle.range_map.proofs.PlaceOrder.{lt_le, le_trans, lt_not_le, lt_le_trans}
-use Rattle.range_algebra.proofs.Places.{held_between, unbounded_start}
-use Rattle.range_change.proofs.Forms.{Known, nonempty_good, stored_chain, stored_known}
-use Rattle.range_map.specs.Appending.{LieBefore, appended, are_one, joined}
+use Rattle.range_map.proofs.Common.{inl, inr, Bool, true, false, Some, None, List, [], ◌∷◌, ◌++◌, if◌then◌else◌, IsEquivalence, KeyOrder, IsLawful, position_cmp, Position, Beside, At, lower, Le, Lt, Every, Holds, IsEmptyRange, IsKnownRange, AnyRange, every_weaker, Item, BindAlike, BindsTo, IsBound, IsStored, item_lower, item_upper, full_range, held_between, unbounded_start, every_with, before_is, nonempty_good, stored_known, LieBefore, appended, are_one, joined, lt_le, le_trans, lt_not_le, lt_le_trans}
+use Rattle.range_map.proofs.BoundKeys.{bound_split, binds_split}
+use Rattle.range_map.proofs.Together.{IsAscending, stored_ascends}
 use Rattle.range_map.proofs.Appending.{appended_binds, appended_stored, lie_before_from}
 
 module _ {K : Type 0} (order : KeyOrder K) {V : Type 0} where
-  bound_left : (xs ys : List (Item (AnyRange K) V)) (k : K) → IsBound order xs k
-      → IsBound order (xs ++ ys) k
-  bound_left [] ys k h = absurd h
-  bound_left (x ∷ xs) ys k (inl h) = inl h
-  bound_left (x ∷ xs) ys k (inr h) = inr (bound_left xs ys k h)
-
-  bound_right : (xs ys : List (Item (AnyRange K) V)) (k : K) → IsBound order ys k
-      → IsBound order (xs ++ ys) k
-  bound_right [] ys k h = h
-  bound_right (x ∷ xs) ys k h = inr (bound_right xs ys k h)
-
-  bound_split : (xs ys : List (Item (AnyRange K) V)) (k : K) → IsBound order (xs ++ ys) k
-      → IsBound order xs k ⊎ IsBound order ys k
-  bound_split [] ys k h = inr h
-  bound_split (x ∷ xs) ys k (inl h) = inl (inl h)
-  bound_split (x ∷ xs) ys k (inr h) =
-      elim (bound_split xs ys k h) [ inl e ↦ inl (inr e) | inr e ↦ inr e ]
-
   module _ (same : V → V → Bool) where
-    binds_left : (xs ys : List (Item (AnyRange K) V)) (k : K) (v : V) → BindsTo order same xs k v
-        → BindsTo order same (xs ++ ys) k v
-    binds_left [] ys k v h = absurd h
-    binds_left (x ∷ xs) ys k v (inl h) = inl h
-    binds_left (x ∷ xs) ys k v (inr h) = inr (binds_left xs ys k v h)
-
-    binds_right : (xs ys : List (Item (AnyRange K) V)) (k : K) (v : V) → BindsTo order same ys k v
-        → BindsTo order same (xs ++ ys) k v
-    binds_right [] ys k v h = h
-    binds_right (x ∷ xs) ys k v h = inr (binds_right xs ys k v h)
-
-    binds_split : (xs ys : List (Item (AnyRange K) V)) (k : K) (v : V)
-        → BindsTo order same (xs ++ ys) k v → BindsTo order same xs k v ⊎ BindsTo order same ys k v
-    binds_split [] ys k v h = inr h
-    binds_split (x ∷ xs) ys k v (inl h) = inl (inl h)
-    binds_split (x ∷ xs) ys k v (inr h) =
-        elim (binds_split xs ys k v h) [ inl e ↦ inl (inr e) | inr e ↦ inr e ]
-
     more_bound : (xs ys more : List (Item (AnyRange K) V)) (k : K)
         → (¬ IsBound order ys k → ¬ IsBound order xs k) → ¬ IsBound order (ys ++ more) k
         → ¬ IsBound order (xs ++ more) k
     more_bound xs ys more k free none h =
-        elim (bound_split xs more k h) [
-          | inl e ↦ free (λ g. none (bound_left ys more k g)) e
-          | inr e ↦ none (bound_right ys more k e)
+        let all = bound_split order ys more k in
+        elim ((bound_split order xs more k).0 h) [
+          | inl e ↦ free (λ g. none (all.1 (inl g))) e
+          | inr e ↦ none (all.1 (inr e))
         ]
 
     more_binds : (xs ys more : List (Item (AnyRange K) V)) (k : K) (v : V)
         → (BindsTo order same xs k v → BindsTo order same ys k v)
         → BindsTo order same (xs ++ more) k v → BindsTo order same (ys ++ more) k v
     more_binds xs ys more k v to h =
-        elim (binds_split xs more k v h) [
-          | inl e ↦ binds_left ys more k v (to e)
-          | inr e ↦ binds_right ys more k v e
-        ]
+        (binds_split order same ys more k v).1 (elim ((binds_split order same xs more k v).0 h) [
+          | inl e ↦ inl (to e)
+          | inr e ↦ inr e
+        ])
 
     -- two lists that bind alike do so with the same items after both
     alike_more : (xs ys more : List (Item (AnyRange K) V)) → BindAlike order same xs ys
@@ -95,32 +56,37 @@ module _ {K : Type 0} (order : KeyOrder K) {V : Type 0} where
     bound = λ k key b. (λ h. h, λ h. h);
   }
 
-module _ {K : Type 0} (order : KeyOrder K) (lawful : IsLawful order) {V : Type 0}
-    (same : V → V → Bool) (equal : IsEquivalence same) where
-  follows_rise : (x : Item (AnyRange K) V) (xs : List (Item (AnyRange K) V))
-      → Known order lawful same equal xs → Follows (line_of order lawful same equal) x xs
-      → RisesFrom order (item_upper order x) xs
-  follows_rise x [] known follows = tt
-  follows_rise x (y ∷ ys) known follows = (
+module _ {K : Type 0} {order : KeyOrder K} (lawful : IsLawful order) {V : Type 0} where
+  rises_from : (m : Position K) (items : List (Item (AnyRange K) V))
+      → Every (λ i. IsKnownRange order i.key) items → IsAscending order items
+      → Every (λ i. Le (position_cmp order.cmp) m (item_lower order i)) items
+      → RisesFrom order m items
+  rises_from m [] known up from = tt
+  rises_from m (i ∷ rest) known up from = (
     known.0,
-    (nonempty_good order lawful y.key known.0).1 follows.1.0,
-    follows.0.0,
-    follows_rise y ys known.1 follows.1.1,
+    up.0,
+    from.0,
+    rises_from (item_upper order i) rest known.1 up.2 (every_with _ _ _ rest known.1 up.1
+        (λ j known_j l. (before_is order lawful i.key.end j.key.start known.0.1 known_j.0).0 l)),
   )
 
-  -- a stored list rises
-  pub stored_rises : (items : List (Item (AnyRange K) V)) → IsStored order same items
+  -- known ranges that ascend rise from the least place
+  pub ascending_rises : (items : List (Item (AnyRange K) V))
+      → Every (λ i. IsKnownRange order i.key) items → IsAscending order items
       → RisesFrom order (lower order full_range) items
-  stored_rises [] stored = tt
-  stored_rises (i ∷ rest) stored =
-      let known = stored_known order lawful same equal _ stored in
-      let chain = stored_chain order lawful same equal _ stored in (
-        known.0,
-        (nonempty_good order lawful i.key known.0).1 chain.0,
-        unbounded_start order lawful i.key.start known.0.0,
-        follows_rise i rest known.1 chain.1,
-      )
+  ascending_rises items known up =
+      rises_from _ items known up
+      (every_weaker _ _ items (λ i k. unbounded_start order lawful i.key.start k.0) known)
 
+  pub stored_rises : {same : V → V → Bool} → IsEquivalence same
+      → (items : List (Item (AnyRange K) V)) → IsStored order same items
+      → RisesFrom order (lower order full_range) items
+  stored_rises {same = same} equal items stored =
+      ascending_rises items (stored_known order lawful same equal items stored)
+      (stored_ascends lawful stored)
+
+module _ {K : Type 0} {order : KeyOrder K} (lawful : IsLawful order) {V : Type 0}
+    {same : V → V → Bool} (equal : IsEquivalence same) where
   one_upto : (n : Position K) (i j : Item (AnyRange K) V) (b : Bool)
       → Le (position_cmp order.cmp) (item_upper order i) n
       → Le (position_cmp order.cmp) (item_upper order j) n
@@ -152,20 +118,20 @@ module _ {K : Type 0} (order : KeyOrder K) (lawful : IsLawful order) {V : Type 0
       let good = lt_le lawful _ _ ((nonempty_good order lawful j.key known).0 nonempty) in
       let later : Le cmp m n = le_trans lawful _ _ _ from (le_trans lawful _ _ _ good upto) in
       let before : LieBefore order built last =
-      lie_before_from order lawful same equal m built last
+      lie_before_from lawful equal m built last
       (stored_known order lawful same equal built was.stored) (known, tt) was.upto (from, tt) in
       record {
-        stored = appended_stored order lawful same equal built last was.stored form before;
+        stored = appended_stored lawful equal built last was.stored form before;
         upto =
             appended_upto n built j
             (every_weaker _ _ built (λ x le. le_trans lawful _ _ _ le later) was.upto) upto;
         bound = λ k key b.
-            let one = appended_binds order lawful same equal built last was.stored form before k key b in
+            let one = appended_binds lawful equal built last was.stored form before k key b in
             let more = alike_more order same built given last was.bound k key b in
             (λ h. more.0 (one.0 h), λ h. one.1 (more.1 h));
       }
 
-module _ {K : Type 0} (order : KeyOrder K) (lawful : IsLawful order) {V : Type 0} where
+module _ {K : Type 0} {order : KeyOrder K} (lawful : IsLawful order) {V : Type 0} where
   -- a key before a place is bound by none of what rises from there
   pub none_before : (k : K) → order.is_key k → (m : Position K) (xs : List (Item (AnyRange K) V))
       → RisesFrom order m xs → Lt (position_cmp order.cmp) (Beside k At) m → ¬ IsBound order xs k

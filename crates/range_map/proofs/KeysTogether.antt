@@ -1,19 +1,11 @@
 -- Two lists of ranges, by the keys that they bind: where they share none, and where the one binds
 -- all of the other.
-use Rattle.std.proofs.Common.{◌≡◌, refl, inl, inr, Bool, true, Some, List, [], ◌∷◌}
-use Rattle.range_map.proofs.Common.{Bound, Included, Excluded, Unbounded, Ordering, IsEquivalence, AllByRecursion, KeyOrder, IsLawful, IsComplete, start_position, end_position, position_cmp, Position, Beside, At, flipped, lower, upper, past, Le, Lt, Any, Every, Holds, IsKnownRange, IsKnownBound, IsEmptyRange, AnyRange, Item, IsBound, line_of, LiesIn, IsStored, item_lower}
+use Rattle.range_map.proofs.Common.{◌≡◌, refl, inl, inr, Bool, true, Some, List, [], ◌∷◌, Bound, Included, Excluded, Unbounded, Ordering, IsEquivalence, KeyOrder, IsLawful, IsComplete, start_position, end_position, position_cmp, Position, Beside, At, flipped, lower, upper, past, Le, Lt, Any, Holds, IsKnownRange, IsKnownBound, AnyRange, Item, IsBound, line_of, LiesIn, IsStored, past_is_start, held_between, flipped_bound_is_past, reaching_is_before_past, flipped_known, unbounded_end, MeetNowhere, LieInside, ShareNoKey, BindKeysOf, chain_above, lies_in, Known, Chained, nonempty_good, stored_chain, stored_known, binding_meets, meeting_binds, le_refl, lt_le, eq_le, eq_ge, le_trans, lt_not_le, lt_trans, cases, le_lt_trans, lt_le_trans, not_le, nonempty_holds}
 use Rattle.range_keys.proofs.BoundPositions.{starts_lie_at_starts, ends_lie_at_ends}
-use Rattle.range_map.proofs.PlaceOrder.{le_refl, lt_le, eq_le, eq_ge, le_trans, lt_not_le, lt_trans, cases, le_lt_trans, lt_le_trans, not_le}
 use Rattle.range_algebra.proofs.Canonical.{NotPast, IsBefore, KeyFrom, key_from}
-use Rattle.range_algebra.proofs.Completeness.{nonempty_holds}
-use Rattle.range_algebra.proofs.Holding.{holds_by_position}
-use Rattle.range_algebra.proofs.Meeting.{past_is_start}
-use Rattle.range_algebra.proofs.Places.{held_between, flipped_bound_is_past, reaching_is_before_past, flipped_known, unbounded_end}
-use Rattle.range_map.specs.Together.{MeetNowhere, LieInside, ShareNoKey, BindKeysOf}
-use Rattle.range_change.proofs.Chains.{chain_above}
-use Rattle.range_change.proofs.RangePieces.{lies_in}
-use Rattle.range_change.proofs.Forms.{Known, Chained, nonempty_good, stored_chain, stored_known}
-use Rattle.range_change.proofs.Overlaps.{binding_meets, meeting_binds}
+use Rattle.range_merge.proofs.HeldInside.{inside_holds}
+use Rattle.range_map.proofs.BoundKeys.{below_all}
+use Rattle.range_map.proofs.StoredLists.{tail_is_stored}
 
 abbrev any_same : {V : Type 0} → V → V → Bool
 any_same _ _ = true
@@ -21,7 +13,7 @@ any_same _ _ = true
 all_same : {V : Type 0} → IsEquivalence {K = V} any_same
 all_same = record { refl = λ x. refl; symm = λ x y. refl; congr = λ x y z e. refl }
 
-module _ {K : Type 0} (order : KeyOrder K) (lawful : IsLawful order) where
+module _ {K : Type 0} {order : KeyOrder K} (lawful : IsLawful order) where
   abbrev cmp : Position K → Position K → Ordering
   cmp = position_cmp order.cmp
 
@@ -30,22 +22,6 @@ module _ {K : Type 0} (order : KeyOrder K) (lawful : IsLawful order) where
 
   abbrev Hi : AnyRange K → Position K
   Hi r = upper order r
-
-  module _ {W : Type 0} where
-    -- a key of a range that lies in one of the list is bound
-    pub inside_holds : (i : AnyRange K) (others : List (Item (AnyRange K) W)) (k : K)
-        → order.is_key k
-        → Holds order i k → Any (λ j. LiesIn order i j.key) others → IsBound order others k
-    inside_holds i [] k key held inside = inside
-    inside_holds i (j ∷ others) k key held (inr inside) =
-        inr (inside_holds i others k key held inside)
-    inside_holds i (j ∷ others) k key held (inl inside) =
-        let at = (holds_by_position order lawful i k key).0 held in
-        inl ((holds_by_position order lawful j.key k key).1 (
-          le_trans lawful _ _ _ inside.starts at.0,
-          le_trans lawful (Beside k At) (end_position order i.end)
-              (end_position order j.key.end) at.1 inside.ends,
-        ))
 
   module _ {V W : Type 0} where
     -- lists of which no ranges meet share no key
@@ -58,44 +34,19 @@ module _ {K : Type 0} (order : KeyOrder K) (lawful : IsLawful order) where
     apart_share_none (i ∷ items) others apart k key (inr bound) other =
         apart_share_none items others apart.1 k key bound other
 
-    share_none_by : (complete : IsComplete order) (same : W → W → Bool)
-        (items : List (Item (AnyRange K) V)) (others : List (Item (AnyRange K) W))
-        → Every (λ i. IsKnownRange order i.key × (IsEmptyRange order i.key → ⊥)) items
-        → IsStored order same others → ShareNoKey order items others
-        → MeetNowhere order items others
-    share_none_by complete same [] others full stored none = tt
-    share_none_by complete same (i ∷ items) others full stored none = (
-      λ meets. let found = meeting_binds order lawful same others i.key complete stored full.0.0
-          full.0.1 meets in none found.0 found.1 (inl found.2) found.3,
-      share_none_by complete same items others full.1 stored
-          (λ k key bound other. none k key (inr bound) other),
-    )
-
     -- what lies inside binds no other keys
     pub inside_binds : (items : List (Item (AnyRange K) V)) (others : List (Item (AnyRange K) W))
         → LieInside order items others → BindKeysOf order items others
     inside_binds [] others inside k key bound = absurd bound
     inside_binds (i ∷ items) others inside k key (inl held) =
-        inside_holds i.key others k key held inside.0
+        inside_holds lawful i.key others k key held inside.0
     inside_binds (i ∷ items) others inside k key (inr bound) =
         inside_binds items others inside.1 k key bound
-
-  module _ {W : Type 0} where
-    below_all : (items : List (Item (AnyRange K) W)) (p : Position K) (k : K) → order.is_key k
-        → Lt cmp (Beside k At) p → Every (λ j. IsKnownRange order j.key) items
-        → Every (λ j. Le cmp p (item_lower order j)) items → ¬ IsBound order items k
-    below_all [] p k key below known above bound = bound
-    below_all (j ∷ items) p k key below known above (inl held) =
-        let at = (held_between order lawful j.key k known.0 key).0 held in
-        lt_not_le lawful _ _ below (le_trans lawful _ _ _ above.0 at.0)
-    below_all (j ∷ items) p k key below known above (inr bound) =
-        below_all items p k key below known.1 above.1 bound
 
   module _ (complete : IsComplete order) where
     -- a key from the one place on and before the other, which a range holds
     abbrev HasKeyIn : AnyRange K → Position K → Type 0
-    HasKeyIn r p =
-        (k : K) × order.is_key k × Holds order r k × Le cmp p (Beside k At)
+    HasKeyIn r p = (k : K) × order.is_key k × Holds order r k × Le cmp p (Beside k At)
 
     -- a key of the range from a place on, where the place lies before its end
     from_bound : (r : AnyRange K) (b : Bound K) → IsKnownRange order r → IsKnownBound order b
@@ -181,7 +132,7 @@ module _ {K : Type 0} (order : KeyOrder K) (lawful : IsLawful order) where
         unfolding IsBefore
         starts_late y ys known_ys chain each late =
             before_start (Lo i.key) y.key.start
-            (λ k key from upto held. below_all (y ∷ ys) (Lo y.key) k key upto known_ys
+            (λ k key from upto held. below_all order lawful (y ∷ ys) (Lo y.key) k key upto known_ys
             (chain_above (line_of order lawful any_same all_same) (Lo y.key) y ys chain
             (le_refl lawful _)) (each k key held))
             (from_bound i.key i.key.start known known.0 (le_refl lawful _) full)
@@ -210,7 +161,8 @@ module _ {K : Type 0} (order : KeyOrder K) (lawful : IsLawful order) where
             let apart : Lt cmp (Hi y.key) (Lo z.key) =
             not_le lawful _ _ (λ le. chain.1.0.1 le refl) in
             before_start (Hi y.key) z.key.start
-            (λ k key over upto held. below_all (z ∷ zs) (Lo z.key) k key upto known_ys.1
+            (λ k key over upto held. below_all order lawful (z ∷ zs) (Lo z.key) k key upto
+            known_ys.1
             (chain_above (line_of order lawful any_same all_same) (Lo z.key) z zs chain.1.1
             (le_refl lawful _)) (not_by_first y (z ∷ zs) k known_ys.0 key over (each k key held)))
             (past_end i.key y.key.end known known_ys.0.1 from early)
@@ -249,40 +201,35 @@ module _ {K : Type 0} (order : KeyOrder K) (lawful : IsLawful order) where
               ]
             ]
 
-    binds_inside_by : {V W : Type 0} (items : List (Item (AnyRange K) V))
-        (others : List (Item (AnyRange K) W))
-        → Every (λ i. IsKnownRange order i.key × (IsEmptyRange order i.key → ⊥)) items
-        → IsStored order any_same others → BindKeysOf order items others
-        → LieInside order items others
-    binds_inside_by [] others full stored binds = tt
-    binds_inside_by (i ∷ items) others full stored binds = (
-      inside_some i full.0.0 ((nonempty_good order lawful i.key full.0.0).0 full.0.1) others
-          (stored_known order lawful any_same all_same others stored)
-          (stored_chain order lawful any_same all_same others stored)
-          (λ k key held. binds k key (inl held)),
-      binds_inside_by items others full.1 stored (λ k key bound. binds k key (inr bound)),
-    )
-
-module _ {K : Type 0} (order : KeyOrder K) (lawful : IsLawful order) {V W : Type 0}
-    (same : V → V → Bool) (items : List (Item (AnyRange K) V))
-    (others : List (Item (AnyRange K) W)) (stored : IsStored order same items) where
-  each_full : (xs : List (Item (AnyRange K) V)) → AllByRecursion (λ i. IsKnownRange order i.key) xs
-      → AllByRecursion (λ i. IsEmptyRange order i.key → ⊥) xs
-      → Every (λ i. IsKnownRange order i.key × (IsEmptyRange order i.key → ⊥)) xs
-  each_full [] known full = tt
-  each_full (i ∷ xs) known full = ((known.0, full.0), each_full xs known.1 full.1)
-
+module _ {K : Type 0} {order : KeyOrder K} (lawful : IsLawful order) {V W : Type 0} where
   -- over complete keys lists that share no key meet nowhere
-  pub share_none_apart : IsComplete order → (same_other : W → W → Bool)
-      → IsStored order same_other others → ShareNoKey order items others
-      → MeetNowhere order items others
-  share_none_apart complete same_other stored_other none =
-      share_none_by order lawful complete same_other items others
-      (each_full items stored.known stored.nonempty) stored_other none
+  pub share_none_apart : (same : V → V → Bool) (items : List (Item (AnyRange K) V))
+      (others : List (Item (AnyRange K) W)) → IsStored order same items → IsComplete order
+      → (same_other : W → W → Bool) → IsStored order same_other others
+      → ShareNoKey order items others → MeetNowhere order items others
+  share_none_apart same [] others stored complete same_other stored_other none = tt
+  share_none_apart same (i ∷ items) others stored complete same_other stored_other none = (
+    λ meets.
+        let found =
+        meeting_binds order lawful same_other others i.key complete stored_other stored.known.0
+        stored.nonempty.0 meets in
+        none found.0 found.1 (inl found.2) found.3,
+    share_none_apart same items others (tail_is_stored lawful stored) complete same_other
+        stored_other (λ k key bound other. none k key (inr bound) other),
+  )
 
   -- over complete keys a list whose keys a set holds lies inside the set's ranges
-  pub binds_inside : IsComplete order → IsStored order (λ _ _. true) others
-      → BindKeysOf order items others → LieInside order items others
-  binds_inside complete stored_other binds =
-      binds_inside_by order lawful complete items others
-      (each_full items stored.known stored.nonempty) stored_other binds
+  pub binds_inside : (same : V → V → Bool) (items : List (Item (AnyRange K) V))
+      (others : List (Item (AnyRange K) W)) → IsStored order same items → IsComplete order
+      → IsStored order (λ _ _. true) others → BindKeysOf order items others
+      → LieInside order items others
+  binds_inside same [] others stored complete stored_other binds = tt
+  binds_inside same (i ∷ items) others stored complete stored_other binds = (
+    inside_some lawful complete i stored.known.0
+        ((nonempty_good order lawful i.key stored.known.0).0 stored.nonempty.0) others
+        (stored_known order lawful any_same all_same others stored_other)
+        (stored_chain order lawful any_same all_same others stored_other)
+        (λ k key held. binds k key (inl held)),
+    binds_inside same items others (tail_is_stored lawful stored) complete stored_other
+        (λ k key bound. binds k key (inr bound)),
+  )

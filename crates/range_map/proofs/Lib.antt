@@ -1,20 +1,17 @@
 mod Common
 pub mod Appending
-pub mod AskedOfBoth
 pub mod BindingAll
+pub mod BoundKeys
+pub mod Chunks
 pub mod CloneLists
 pub mod ClosureAnswers
 pub mod Coarse
-pub mod Combination
-pub mod Combining
 pub mod Depths
 pub mod Extending
-pub mod FirstPieces
 pub mod FreeParts
 pub mod HeldOnce
 pub mod InPlace
 pub mod Joining
-pub mod JustBefore
 pub mod KeysTogether
 pub mod Likeness
 pub mod MappedValues
@@ -25,7 +22,6 @@ pub mod Overlays
 pub mod PartWay
 pub mod PieceLists
 pub mod PieceSteps
-mod PlaceOrder
 pub mod ReboundKeys
 pub mod Retaining
 pub mod Scans

@@ -1,19 +1,13 @@
 -- A clone of a range in the place of the range.
-use Rattle.std.proofs.Common.{◌≡◌, refl, ◌∙◌, Option, Some, None, Bool, false, IsTrue, List, ◌⊎◌, inl, inr, Result}
-use Rattle.range_map.proofs.Common.{Shared, Bor, Bound, Included, Excluded, Unbounded, Ordering, Less, Equal, Greater, is_gt, tied_back, KeyOrder, IsLawful, start_position, end_position, position_cmp, position_total, Position, Beside, At, AnyRange, SameBound, same_start, same_end, starts_at_end, Holds, IsEmptyRange, every_weaker, Item, FailsAt, IsUpdated, later, earlier, IsCommonPart, LiesIn, IsFreePart, IsPiece, Overlap}
-use Rattle.range_keys.proofs.Orderings.{eq_is_equal, not_both_greater_and_not}
-use Rattle.range_map.proofs.PlaceOrder.{eq_le, eq_ge, le_trans, lt_le_trans, le_lt_trans, both}
-use Rattle.range_algebra.proofs.Holding.{holds_by_position}
-use Rattle.range_change.specs.Frames.{IsMergedInto}
-use Rattle.range_change.proofs.RangePieces.{PLe, any_over, later_over, earlier_under, either_choice_holds}
+use Rattle.range_map.proofs.Common.{◌≡◌, refl, ◌∙◌, Option, Some, None, Bool, false, IsTrue, List, ◌⊎◌, inl, inr, Result, Shared, Bor, Bound, Included, Excluded, Unbounded, Ordering, Equal, Greater, is_gt, is_eq, tied_back, tied_itself, KeyOrder, IsLawful, start_position, end_position, position_cmp, position_total, Position, AnyRange, SameBound, same_start, same_end, starts_at_end, Holds, IsEmptyRange, every_weaker, Item, FailsAt, IsUpdated, later, earlier, IsCommonPart, LiesIn, IsFreePart, IsPiece, Overlap, eq_is_equal, not_both_greater_and_not, PLe, any_over, later_over, earlier_under, either_choice_holds, eq_le, eq_ge, le_trans, lt_le_trans, le_lt_trans, both, IsMergedInto}
+use Rattle.range_merge.proofs.HeldInside.{lies_in_holds}
 use Rattle.range_change.proofs.MergedItems.{way_follows}
 
 not_false_is_greater : (o : Ordering) → (is_gt o ≡ false → ⊥) → o ≡ Greater
-not_false_is_greater Less h = absurd (h refl)
-not_false_is_greater Equal h = absurd (h refl)
 not_false_is_greater Greater h = refl
+not_false_is_greater o h = absurd (h refl)
 
-module _ {K : Type 0} (order : KeyOrder K) (lawful : IsLawful order) where
+module _ {K : Type 0} {order : KeyOrder K} (lawful : IsLawful order) where
   equal_positions_chain : (p q s : Position K) → position_cmp order.cmp p q ≡ Equal
       → position_cmp order.cmp q s ≡ Equal → position_cmp order.cmp p s ≡ Equal
   equal_positions_chain p q s h k = (position_total order.cmp lawful.total).congr p q s h ∙ k
@@ -21,6 +15,9 @@ module _ {K : Type 0} (order : KeyOrder K) (lawful : IsLawful order) where
   equal_positions_turn : (p q : Position K) → position_cmp order.cmp p q ≡ Equal
       → position_cmp order.cmp q p ≡ Equal
   equal_positions_turn p q h = tied_back (position_total order.cmp lawful.total) p q h
+
+  equal_itself : (p : Position K) → position_cmp order.cmp p p ≡ Equal
+  equal_itself p = tied_itself (position_total order.cmp lawful.total) p
 
   later_under : (p q u : Position K) → PLe order lawful q p
       → PLe order lawful (later order q u) (later order p u)
@@ -42,30 +39,23 @@ module _ {K : Type 0} (order : KeyOrder K) (lawful : IsLawful order) where
       ≡ Equal) where
     pub holds_too : (k : K) → order.is_key k → Holds order r k → Holds order s k
     holds_too k key h =
-        let at = (holds_by_position order lawful r k key).0 h in
-        (holds_by_position order lawful s k key).1 (
-          le_trans lawful _ _ _ (eq_ge lawful _ _ starts) at.0,
-          le_trans lawful (Beside k At) (end_position order r.end)
-              (end_position order s.end) at.1 (eq_le lawful _ _ ends),
-        )
+        let within : LiesIn order r s =
+        record { starts = eq_ge lawful _ _ starts; ends = eq_le lawful _ _ ends } in
+        lies_in_holds lawful k key r s within h
 
     common_too : (i part : AnyRange K) → IsCommonPart order r i part → IsCommonPart order s i part
     common_too i part h =
-        let p = start_position order r.start in
-        let q = start_position order s.start in
         let u = start_position order i.start in
-        let a = end_position order r.end in
-        let b = end_position order s.end in
         let v = end_position order i.end in
         record {
           starts =
               equal_positions_chain _ _ _ h.starts
-              (both lawful _ _ (later_under q p u (eq_le lawful _ _ starts))
-              (later_under p q u (eq_ge lawful _ _ starts)));
+              (both lawful _ _ (later_under _ _ u (eq_le lawful _ _ starts))
+              (later_under _ _ u (eq_ge lawful _ _ starts)));
           ends =
               equal_positions_chain _ _ _ h.ends
-              (both lawful _ _ (earlier_over a b v (eq_le lawful _ _ ends))
-              (earlier_over b a v (eq_ge lawful _ _ ends)));
+              (both lawful _ _ (earlier_over _ _ v (eq_le lawful _ _ ends))
+              (earlier_over _ _ v (eq_ge lawful _ _ ends)));
         }
 
     lies_too : (part : AnyRange K) → LiesIn order part r → LiesIn order part s
@@ -109,45 +99,31 @@ module _ {K : Type 0} (order : KeyOrder K) (lawful : IsLawful order) where
     any_over _ _ items (λ i t. (common_too r s starts ends i.key part t.0, t.1)) h.1,
   )
 
+  at_too : (p q s t : Position K) → position_cmp order.cmp q p ≡ Equal
+      → position_cmp order.cmp s t ≡ Equal → IsTrue (is_eq (position_cmp order.cmp p s))
+      → IsTrue (is_eq (position_cmp order.cmp q t))
+  at_too p q s t e f h =
+      (eq_is_equal _).1
+      (equal_positions_chain q p t e (equal_positions_chain p s t ((eq_is_equal _).0 h) f))
+
   touches_start : (e : Bound K) (r s : AnyRange K)
       → position_cmp order.cmp (start_position order r.start) (start_position order s.start) ≡ Equal
       → IsTrue (starts_at_end order e (start_position order r.start))
       → IsTrue (starts_at_end order e (start_position order s.start))
-  touches_start (Included a) r s starts h =
-      (eq_is_equal (position_cmp order.cmp (start_position order (Excluded a))
-      (start_position order s.start))).1
-      (equal_positions_chain (start_position order (Excluded a)) (start_position order r.start)
-      (start_position order s.start)
-      ((eq_is_equal (position_cmp order.cmp (start_position order (Excluded a))
-      (start_position order r.start))).0 h) starts)
+  touches_start (Included a) r s starts h = at_too _ _ _ _ (equal_itself _) starts h
   touches_start (Excluded a) r s starts h =
-      (eq_is_equal (position_cmp order.cmp (start_position order (Included a))
-      (start_position order s.start))).1
-      (equal_positions_chain (start_position order (Included a)) (start_position order r.start)
-      (start_position order s.start)
-      ((eq_is_equal (position_cmp order.cmp (start_position order (Included a))
-      (start_position order r.start))).0 h) starts)
+      let at = start_position order (Included a) in at_too at at _ _ (equal_itself at) starts h
   touches_start Unbounded r s starts h = absurd (cc)
 
   touches_end : (e f : Bound K) (p : Position K) → SameBound order f e
       → IsTrue (starts_at_end order e p) → IsTrue (starts_at_end order f p)
   touches_end (Included a) (Included b) p alike h =
-      (eq_is_equal (position_cmp order.cmp (start_position order (Excluded b)) p)).1
-      (equal_positions_chain (start_position order (Excluded b))
-      (start_position order (Excluded a)) p
-      (same_start order lawful (Excluded b) (Excluded a) alike)
-      ((eq_is_equal (position_cmp order.cmp (start_position order (Excluded a)) p)).0 h))
+      at_too _ _ p p (same_start order lawful (Excluded b) (Excluded a) alike) (equal_itself p) h
   touches_end (Excluded a) (Excluded b) p alike h =
-      (eq_is_equal (position_cmp order.cmp (start_position order (Included b)) p)).1
-      (equal_positions_chain (start_position order (Included b))
-      (start_position order (Included a)) p
-      (same_start order lawful (Included b) (Included a) alike)
-      ((eq_is_equal (position_cmp order.cmp (start_position order (Included a)) p)).0 h))
+      at_too (start_position order (Included a)) (start_position order (Included b)) p p
+      (same_start order lawful (Included b) (Included a) alike) (equal_itself p) h
   touches_end Unbounded f p alike h = absurd (cc)
-  touches_end (Included a) (Excluded b) p alike h = absurd alike
-  touches_end (Included a) Unbounded p alike h = absurd alike
-  touches_end (Excluded a) (Included b) p alike h = absurd alike
-  touches_end (Excluded a) Unbounded p alike h = absurd alike
+  touches_end e f p alike h = absurd alike
 
   -- what is true of an update of a clone is true of one of the range
   module _ (r s : AnyRange K) (start : SameBound order r.start s.start)
@@ -162,13 +138,7 @@ module _ {K : Type 0} (order : KeyOrder K) (lawful : IsLawful order) where
 
     pub clone_empty : IsEmptyRange order s → IsEmptyRange order r
     clone_empty h =
-        let cmp = position_cmp order.cmp in
-        let p = start_position order r.start in
-        let q = end_position order r.end in
-        let p' = start_position order s.start in
-        let q' = end_position order s.end in
-        not_false_is_greater (cmp p q)
-        (λ le. not_both_greater_and_not (cmp p' q')
+        not_false_is_greater _ (λ le. not_both_greater_and_not _
         (le_trans lawful _ _ _ (eq_le lawful _ _ starts_alike)
         (le_trans lawful _ _ _ le (eq_ge lawful _ _ ends_alike))) h)
 
@@ -178,16 +148,14 @@ module _ {K : Type 0} (order : KeyOrder K) (lawful : IsLawful order) where
           → Overlap order i.key r ⊎ IsMergedInto order same others r i
       concerned_too i (inl meets) = inl (overlap_too s r starts_alike ends_alike i.key meets)
       concerned_too i (inr (inl h)) =
-          inr
-          (inl (
+          inr (inl (
             touches_start i.key.end s r starts_alike h.0,
             any_over _ _ others (λ j g.
                 (g.0, overlap_too s r starts_alike ends_alike j.key g.1, g.2))
                 h.1,
           ))
       concerned_too i (inr (inr h)) =
-          inr
-          (inr (
+          inr (inr (
             touches_end s.end r.end (start_position order i.key.start) end h.0,
             any_over _ _ others (λ j g.
                 (g.0, overlap_too s r starts_alike ends_alike j.key g.1, g.2))
@@ -204,8 +172,7 @@ module _ {K : Type 0} (order : KeyOrder K) (lawful : IsLawful order) where
             piece = h.piece;
             value = h.value;
             is_piece = piece_too items s r starts_alike ends_alike h.piece h.value h.is_piece;
-            says =
-                h.says;
+            says = h.says;
           }
 
       pub updated_too : (new : List (Item (AnyRange K) V))

@@ -1,21 +1,15 @@
 -- Answers to the values of a list, put one after the other.
 use Rattle.std.proofs.Common.{◌≡◌, refl, ◌∙◌, ◌↔◌, inl, inr, Bool, Option, Some, None, Result, Ok, List, [], ◌∷◌, ◌++◌, append_assoc}
-use Rattle.range_map.proofs.Common.{append-nil, Shared, FnReturnsAt, AllZip, IsEquivalence, Equal, Bor, KeyOrder, IsLawful, position_cmp, Position, IsRangeClone, bound_clone, range_clone, same_start, Any, Holds, HoldSame, IsKnownRange, AnyRange, Item, Binds, IsBound, IsSomeOf, IsStored, item_lower, item_upper}
-use Rattle.range_map.proofs.PlaceOrder.{eq_le, eq_ge, le_trans, lt_le_trans, le_lt_trans}
-use Rattle.range_algebra.proofs.Canonical.{equal_is_same}
+use Rattle.range_map.proofs.Common.{Shared, FnReturnsAt, AllZip, IsEquivalence, Equal, Bor, KeyOrder, IsLawful, position_cmp, Position, IsRangeClone, bound_clone, range_clone, same_start, Any, Holds, HoldSame, IsKnownRange, AnyRange, Item, Binds, IsBound, IsSomeOf, IsStored, item_lower, item_upper, equal_is_same, nonempty_good, binds_bound, appended, eq_le, eq_ge, le_trans, lt_le_trans, le_lt_trans}
 use Rattle.range_change.proofs.CutParts.{same_past}
-use Rattle.range_change.proofs.Forms.{nonempty_good}
-use Rattle.range_change.proofs.Overlaps.{binds_bound}
-use Rattle.range_map.specs.Appending.{appended}
 use Rattle.range_map.specs.MappedValues.{AreAnswered, AreMapped, IsAnsweredEach, IsMappedAt}
 use Rattle.range_map.proofs.Joining.{IsBuilt, RisesFrom, built_more, first_alone, stored_rises}
 
 zip_more : {X Y : Type 0} (R : X → Y → Type 0) (xs : List X) (ys : List Y) (x : X) (y : Y)
     → AllZip R xs ys → R x y → AllZip R (xs ++ x ∷ []) (ys ++ y ∷ [])
 zip_more R [] [] x y h r = (r, tt)
-zip_more R [] (b ∷ ys) x y h r = absurd h
-zip_more R (a ∷ xs) [] x y h r = absurd h
 zip_more R (a ∷ xs) (b ∷ ys) x y h r = (h.0, zip_more R xs ys x y h.1 r)
+zip_more R xs ys x y h r = absurd h
 
 -- the first of what is left is an item of the list
 pub first_left : {X : Type 0} (P : X → Type 0) (done rest items : List X) (x : X)
@@ -40,17 +34,6 @@ module _ {K : Type 0} (order : KeyOrder K) {F V W E : Type 0}
     pub form : IsBuilt order same place answers built
     pub rises : RisesFrom order place left
 
-  -- where nothing is left, each item has its answer
-  pub all_answered : (built : List (Item (AnyRange K) W)) → IsMappedUpTo [] built
-      → IsAnsweredEach order calls f same items built
-  all_answered built was =
-      record {
-        answers = was.answers;
-        given =
-            rw (← was.parted, append-nil was.done) was.given;
-        bound = was.form.bound;
-      }
-
   module _ (lawful : IsLawful order) (equal : IsEquivalence same) where
     -- one answer more
     pub mapped_more : (i : Item (AnyRange K) V) (left : List (Item (AnyRange K) V))
@@ -61,14 +44,11 @@ module _ {K : Type 0} (order : KeyOrder K) {F V W E : Type 0}
         → IsMappedUpTo left (appended order same built (j ∷ []))
     mapped_more i left built j is_clone keys clone known given was =
         let cmp = position_cmp order.cmp in
-        let lo = item_lower order i in
         let hi = item_upper order i in
-        let lo' = item_lower order j in
-        let hi' = item_upper order j in
-        let starts : cmp lo lo' ≡ Equal =
+        let starts : cmp (item_lower order i) (item_lower order j) ≡ Equal =
         same_start order lawful i.key.start j.key.start
         (bound_clone order lawful is_clone keys i.key.start j.key.start clone.0) in
-        let ends : cmp hi hi' ≡ Equal =
+        let ends : cmp hi (item_upper order j) ≡ Equal =
         same_past order lawful i.key.end j.key.end
         (bound_clone order lawful is_clone keys i.key.end j.key.end clone.1) in
         let good =
@@ -87,7 +67,7 @@ module _ {K : Type 0} (order : KeyOrder K) {F V W E : Type 0}
                 given,
               );
           form =
-              built_more order lawful same equal was.place hi was.answers built j known
+              built_more lawful equal was.place hi was.answers built j known
               ((nonempty_good order lawful j.key known).1 good)
               (le_trans lawful _ _ _ was.rises.2 (eq_le lawful _ _ starts)) (eq_ge lawful _ _ ends)
               was.form;
@@ -95,17 +75,16 @@ module _ {K : Type 0} (order : KeyOrder K) {F V W E : Type 0}
         }
 
 -- from the answers to the keys
-module _ {K : Type 0} (order : KeyOrder K) (lawful : IsLawful order) {F V W E : Type 0}
+module _ {K : Type 0} {order : KeyOrder K} (lawful : IsLawful order) {F V W E : Type 0}
     (calls : Shared F (Bor V × Unit {0}) (Result W E)) (f : F) (same : W → W → Bool) where
   held_back : (items : List (Item (AnyRange K) V)) (answers : List (Item (AnyRange K) W)) (k : K)
       → order.is_key k → AreAnswered order calls f items answers → IsBound order answers k
       → IsBound order items k
   held_back [] [] k key given bound = bound
-  held_back [] (a ∷ answers) k key given bound = absurd given
-  held_back (i ∷ items) [] k key given bound = absurd given
   held_back (i ∷ items) (a ∷ answers) k key given (inl held) = inl ((given.0.0 k key).1 held)
   held_back (i ∷ items) (a ∷ answers) k key given (inr later) =
       inr (held_back items answers k key given.1 later)
+  held_back items answers k key given bound = absurd given
 
   -- the answer of the one item that holds the key binds it
   answer_alone : (a : Item (AnyRange K) W) (answers : List (Item (AnyRange K) W)) (k : K)
@@ -146,13 +125,13 @@ module _ {K : Type 0} (order : KeyOrder K) (lawful : IsLawful order) {F V W E : 
         given = given.0.1;
         is =
             answer_alone a answers k ((given.0.0 k key).0 held)
-            (λ bound. first_alone order lawful k key m i items rises held
+            (λ bound. first_alone lawful k key m i items rises held
             (held_back items answers k key given.1 bound));
       }
   mapped_at m (i ∷ items) (a ∷ answers) rises given k key (inr later) =
       let at = mapped_at (item_upper order i) items answers rises.3 given.1 k key later in
       let out : ¬ Holds order a.key k =
-      λ held. first_alone order lawful k key m i items rises ((given.0.0 k key).1 held) later in
+      λ held. first_alone lawful k key m i items rises ((given.0.0 k key).1 held) later in
       record {
         value = at.value;
         answer = at.answer;
@@ -163,16 +142,16 @@ module _ {K : Type 0} (order : KeyOrder K) (lawful : IsLawful order) {F V W E : 
             (λ h. (at.is b).0 (rest.0 h), λ h. rest.1 ((at.is b).1 h));
       }
 
-  pub keys_mapped : (same_value : V → V → Bool) → IsEquivalence same_value
+  pub keys_mapped : {same_value : V → V → Bool} → IsEquivalence same_value
       → (items : List (Item (AnyRange K) V)) (new : List (Item (AnyRange K) W))
       → IsStored order same_value items → IsAnsweredEach order calls f same items new
       → AreMapped order calls f same items new
-  keys_mapped same_value values items new stored made =
+  keys_mapped values items new stored made =
       record {
         held = λ k key bound.
             let at =
             mapped_at _ items made.answers
-            (stored_rises order lawful same_value values items stored) made.given k key bound in
+            (stored_rises lawful values items stored) made.given k key bound in
             record {
               value = at.value;
               answer = at.answer;

@@ -1,9 +1,7 @@
 -- What a copy of one of the two values of each key makes of two lists.
-use Rattle.std.proofs.Common.{◌≡◌, refl, sym, subst, ◌∙◌, ◌↔◌, ◌⊎◌, inl, inr, Bool, true, false, IsTrue, List, [], ◌∷◌, Option, Some, None, Result, Ok}
-use Rattle.range_map.proofs.Common.{IsEquivalence, Shared, FnReturnsAt, Bor, KeyOrder, IsLawful, ClonesAreEqual, AnyRange, Item, IsAsAnswered, IsBound, BindsTo, Binds, IsCombinedAt, AreCombined, IsSecondOrFirst, MayOverlay, first_where, IsCopyOfValue, IsOverlaid, IsRestricted, IsWithout, IsStored}
-use Rattle.range_algebra.proofs.Meeting.{held_or_not}
+use Rattle.range_map.proofs.Common.{◌≡◌, refl, sym, subst, ◌∙◌, ◌↔◌, inl, inr, Bool, true, false, List, Option, Some, None, Result, Ok, IsEquivalence, Shared, FnReturnsAt, Bor, KeyOrder, IsLawful, ClonesAreEqual, AnyRange, Item, IsAsAnswered, IsBound, Binds, IsCombinedAt, AreCombined, IsSecondOrFirst, MayOverlay, first_where, IsCopyOfValue, IsOverlaid, IsRestricted, IsWithout, IsStored, binds_bound}
+use Rattle.range_map.proofs.BoundKeys.{bound_or_not, bound_to_equal, binds_by}
 use Rattle.range_map.proofs.Once.{bound_once}
-use Rattle.range_change.proofs.Overlaps.{binds_bound}
 
 -- the second value, or the first where there is none
 abbrev second_or_first : {V : Type 0} → Option V → Option V → Option V
@@ -44,7 +42,8 @@ pub combined_weaker : {K V W X E : Type 0} (order : KeyOrder K) (same_left : V �
     (items : List (Item (AnyRange K) V)) (others : List (Item (AnyRange K) W))
     (new : List (Item (AnyRange K) X))
     → ((left : Option V) (right : Option W) (answer : Option X) → may left right (Ok answer)
-    → less left right (Ok answer)) → AreCombined order same_left same_right same may items others new
+    → less left right (Ok answer))
+    → AreCombined order same_left same_right same may items others new
     → AreCombined order same_left same_right same less items others new
 combined_weaker order same_left same_right same may less items others new weaker combined =
     record {
@@ -63,40 +62,8 @@ combined_weaker order same_left same_right same may less items others new weaker
     }
 
 module _ {K : Type 0} (order : KeyOrder K) where
-  pub bound_or_not : (lawful : IsLawful order) {V : Type 0} (items : List (Item (AnyRange K) V)) (k : K)
-      → IsBound order items k ⊎ (¬ IsBound order items k)
-  bound_or_not lawful [] k = inr (λ none. none)
-  bound_or_not lawful (i ∷ rest) k =
-      elim (held_or_not order lawful i.key k) [
-        | inl here ↦ inl (inl here)
-        | inr out ↦
-            elim (bound_or_not lawful rest k) [
-              | inl later ↦ inl (inr later)
-              | inr none ↦ inr (λ h. elim h [ inl here ↦ out here | inr later ↦ none later ])
-            ]
-      ]
-
-  -- two lists that do not bind a key bind it alike
-  both_free : {V : Type 0} (same : V → V → Bool) (items new : List (Item (AnyRange K) V)) (k : K)
-      → ¬ IsBound order items k → ¬ IsBound order new k → (b : Option V)
-      → Binds order same new k b ↔ Binds order same items k b
-  both_free same items new k free free' None = (λ h. free, λ h. free')
-  both_free same items new k free free' (Some v) = (
-    λ h. absurd (free' (binds_bound order same new k v h)),
-    λ h. absurd (free (binds_bound order same items k v h)),
-  )
-
-  bound_to_equal : {V : Type 0} (same : V → V → Bool) (equal : IsEquivalence same)
-      (items : List (Item (AnyRange K) V)) (k : K) (v w : V) → IsTrue (same v w)
-      → BindsTo order same items k v → BindsTo order same items k w
-  bound_to_equal same equal [] k v w e h = h
-  bound_to_equal same equal (i ∷ rest) k v w e (inl h) =
-      inl (h.0, equal.congr i.value v w h.1 ∙ e)
-  bound_to_equal same equal (i ∷ rest) k v w e (inr h) =
-      inr (bound_to_equal same equal rest k v w e h)
-
   -- a key that is bound as a copy of what a list binds it to is bound as in the list
-  module _ (lawful : IsLawful order) {V : Type 0} (same : V → V → Bool)
+  module _ (lawful : IsLawful order) {V : Type 0} {same : V → V → Bool}
       (equal : IsEquivalence same) (is_clone : V → V → Type 0)
       (clones : ClonesAreEqual is_clone same) (items new : List (Item (AnyRange K) V))
       (stored : IsStored order same items) (k : K) (key : order.is_key k) where
@@ -111,9 +78,9 @@ module _ {K : Type 0} (order : KeyOrder K) where
         (λ e. absurd e, λ free. free (binds_bound order same items k v h))
     as_copied (Some v) (Some w) (Some u) h is =
         let copied = clones v w is in (
-          λ e. bound_to_equal same equal items k v u (equal.congr v w u copied ∙ e) h,
+          λ e. bound_to_equal order same equal items k v u (equal.congr v w u copied ∙ e) h,
           λ to. sym (equal.congr v w u copied)
-              ∙ bound_once order lawful same equal items stored k key v u h to,
+              ∙ bound_once lawful equal items stored k key v u h to,
         )
 
     bound_as_copied : (o copy : Option V) → Binds order same items k o
@@ -131,13 +98,26 @@ module _ {K : Type 0} (order : KeyOrder K) where
     free_as_copied None is answered = (answered None).1 refl
     free_as_copied (Some w) is answered = absurd (cc)
 
-  module _ (lawful : IsLawful order) {V W E : Type 0} (same : V → V → Bool)
+  module _ (lawful : IsLawful order) {V W E : Type 0} {same : V → V → Bool}
       (equal : IsEquivalence same) (same_other : W → W → Bool) (is_clone : V → V → Type 0)
       (clones : ClonesAreEqual is_clone same) (items : List (Item (AnyRange K) V))
       (others : List (Item (AnyRange K) W)) (new : List (Item (AnyRange K) V))
       (stored : IsStored order same items)
       (may : Option V → Option W → Result (Option V) E → Type 0)
       (combined : AreCombined order same same_other same may items others new) where
+    -- where the second binds the key, and where it does not
+    there : (P : Option W → Type 0) (k : K) (right : Option W)
+        → Binds order same_other others k right → IsBound order others k
+        → ((w : W) → P (Some w)) → P right
+    there P k None second bound use_it = absurd (second bound)
+    there P k (Some w) second bound use_it = use_it w
+
+    missing : (P : Option W → Type 0) (k : K) (right : Option W)
+        → Binds order same_other others k right → ¬ IsBound order others k → P None → P right
+    missing P k None second free use_it = use_it
+    missing P k (Some w) second free use_it =
+        absurd (free (binds_bound order same_other others k w second))
+
     -- what is copied where the other list binds the key, and where it does not
     module _ (kept : Option V → Option W → Option V)
         (told : (left : Option V) (right : Option W) (copy : Option V) → may left right (Ok copy)
@@ -147,103 +127,70 @@ module _ {K : Type 0} (order : KeyOrder K) where
         as_in_items : kept at.left at.right ≡ at.left → (b : Option V)
             → Binds order same new k b ↔ Binds order same items k b
         as_in_items is =
-            bound_as_copied lawful same equal is_clone clones items new stored k key at.left
-            at.answer at.first
-            (rw is at (told at.left at.right at.answer at.given)) at.is
+            bound_as_copied lawful equal is_clone clones items new stored k key at.left
+            at.answer at.first (rw is at (told at.left at.right at.answer at.given)) at.is
 
         gone_at : kept at.left at.right ≡ None → ¬ IsBound order new k
         gone_at is =
-            free_as_copied lawful same equal is_clone clones items new stored k key at.answer
+            free_as_copied lawful equal is_clone clones items new stored k key at.answer
             (rw is at (told at.left at.right at.answer at.given)) at.is
-
-      -- where the second binds the key, and where it does not
-      there : (P : Option W → Type 0) (k : K) (right : Option W)
-          → Binds order same_other others k right → IsBound order others k
-          → ((w : W) → P (Some w)) → P right
-      there P k None second bound use_it = absurd (second bound)
-      there P k (Some w) second bound use_it = use_it w
-
-      missing : (P : Option W → Type 0) (k : K) (right : Option W)
-          → Binds order same_other others k right → ¬ IsBound order others k
-          → P None → P right
-      missing P k None second free use_it = use_it
-      missing P k (Some w) second free use_it =
-          absurd (free (binds_bound order same_other others k w second))
-
-      items_where_bound : ((left : Option V) (w : W) → kept left (Some w) ≡ left) → (k : K)
-          → order.is_key k → IsBound order others k → (b : Option V)
-          → Binds order same new k b ↔ Binds order same items k b
-      items_where_bound is k key bound =
-          let at = combined.held k key (inr bound) in
-          as_in_items k key at
-          (there (λ right. kept at.left right ≡ at.left) k at.right at.second bound
-          (λ w. is at.left w))
-
-      none_where_bound : ((left : Option V) (w : W) → kept left (Some w) ≡ None) → (k : K)
-          → order.is_key k → IsBound order others k → ¬ IsBound order new k
-      none_where_bound is k key bound =
-          let at = combined.held k key (inr bound) in
-          gone_at k key at
-          (there (λ right. kept at.left right ≡ None) k at.right at.second bound
-          (λ w. is at.left w))
 
       items_where_free : ((left : Option V) → kept left None ≡ left) → (k : K)
           → order.is_key k → ¬ IsBound order others k → (b : Option V)
           → Binds order same new k b ↔ Binds order same items k b
       items_where_free is k key free =
-          elim (bound_or_not lawful items k) [
+          elim (bound_or_not order lawful items k) [
             | inl bound ↦
                 let at = combined.held k key (inl bound) in
                 as_in_items k key at
                 (missing (λ right. kept at.left right ≡ at.left) k at.right at.second free
                 (is at.left))
-            | inr none ↦ both_free same items new k none (combined.free k key none free)
-          ]
-
-      none_where_free : ((left : Option V) → kept left None ≡ None) → (k : K)
-          → order.is_key k → ¬ IsBound order others k → ¬ IsBound order new k
-      none_where_free is k key free =
-          elim (bound_or_not lawful items k) [
-            | inl bound ↦
-                let at = combined.held k key (inl bound) in
-                gone_at k key at
-                (missing (λ right. kept at.left right ≡ None) k at.right at.second free
-                (is at.left))
-            | inr none ↦ combined.free k key none free
+            | inr none ↦ binds_by order same equal new items k (λ v. (
+              λ h. absurd (combined.free k key none free (binds_bound order same new k v h)),
+              λ h. absurd (none (binds_bound order same items k v h)),
+            ))
           ]
 
     -- the answers are copies of the first value where there is a second, or where there is none
-    abbrev Keeps : Bool → Type 0
+    abbrev pub Keeps : Bool → Type 0
     Keeps bound = (left : Option V) (right : Option W) (copy : Option V) → may left right (Ok copy)
         → IsCopyOfValue is_clone (first_where bound left right) copy
 
-    restricted_by : Keeps true → IsRestricted order same items others new
-    restricted_by told =
-        record {
-          kept = items_where_bound (first_where true) told (λ left w. refl);
-          gone = none_where_free (first_where true) told (λ left. refl);
-        }
-
-    without_by : Keeps false → IsWithout order same items others new
-    without_by told =
-        record {
-          gone = none_where_bound (first_where false) told (λ left w. refl);
-          kept = items_where_free (first_where false) told (λ left. refl);
-        }
-
-    pub restricted : (bound : Bool) → bound ≡ true
-        → ((left : Option V) (right : Option W) (copy : Option V) → may left right (Ok copy)
-        → IsCopyOfValue is_clone (first_where bound left right) copy)
+    pub restricted : (bound : Bool) → bound ≡ true → Keeps bound
         → IsRestricted order same items others new
-    restricted bound is told = restricted_by (subst Keeps is told)
+    restricted bound is keeps =
+        let kept = first_where true in
+        let told : Keeps true = subst Keeps is keeps in
+        record {
+          kept = λ k key bound.
+              let at = combined.held k key (inr bound) in
+              as_in_items kept told k key at
+              (there (λ right. kept at.left right ≡ at.left) k at.right at.second bound
+              (λ w. refl));
+          gone = λ k key free.
+              elim (bound_or_not order lawful items k) [
+                | inl bound ↦
+                    let at = combined.held k key (inl bound) in
+                    gone_at kept told k key at
+                    (missing (λ right. kept at.left right ≡ None) k at.right at.second free refl)
+                | inr none ↦ combined.free k key none free
+              ];
+        }
 
-    pub left_over : (bound : Bool) → bound ≡ false
-        → ((left : Option V) (right : Option W) (copy : Option V) → may left right (Ok copy)
-        → IsCopyOfValue is_clone (first_where bound left right) copy)
+    pub left_over : (bound : Bool) → bound ≡ false → Keeps bound
         → IsWithout order same items others new
-    left_over bound is told = without_by (subst Keeps is told)
+    left_over bound is keeps =
+        let kept = first_where false in
+        let told : Keeps false = subst Keeps is keeps in
+        record {
+          gone = λ k key bound.
+              let at = combined.held k key (inr bound) in
+              gone_at kept told k key at
+              (there (λ right. kept at.left right ≡ None) k at.right at.second bound (λ w. refl));
+          kept = items_where_free kept told (λ left. refl);
+        }
 
-  module _ (lawful : IsLawful order) {V E : Type 0} (same : V → V → Bool)
+  module _ (lawful : IsLawful order) {V E : Type 0} {same : V → V → Bool}
       (equal : IsEquivalence same) (is_clone : V → V → Type 0)
       (clones : ClonesAreEqual is_clone same) (items others new : List (Item (AnyRange K) V))
       (stored : IsStored order same items) (stored_others : IsStored order same others)
@@ -258,7 +205,7 @@ module _ {K : Type 0} (order : KeyOrder K) where
         → Binds order same new k b ↔ Binds order same others k b
     over_at k key left None copy second is answered bound = absurd (second bound)
     over_at k key left (Some w) copy second is answered bound =
-        bound_as_copied lawful same equal is_clone clones others new stored_others k key (Some w)
+        bound_as_copied lawful equal is_clone clones others new stored_others k key (Some w)
         copy second is answered
 
     pub overlaid : IsOverlaid order same items others new
@@ -269,7 +216,7 @@ module _ {K : Type 0} (order : KeyOrder K) where
               over_at k key at.left at.right at.answer at.second
               (told at.left at.right at.answer at.given) at.is bound;
           under =
-              items_where_free lawful same equal same is_clone clones items others new stored may
+              items_where_free lawful equal same is_clone clones items others new stored may
               combined second_or_first told (λ left. refl);
         }
 
@@ -282,5 +229,5 @@ module _ {K : Type 0} (order : KeyOrder K) where
       → IsOverlaid order same items others new
   overlaid_by_clones lawful same equal is_clone copies items others new stored stored_others
       {calls} {f} combined clones =
-      overlaid lawful same equal is_clone copies items others new stored stored_others
+      overlaid lawful equal is_clone copies items others new stored stored_others
       (MayOverlay is_clone calls f) combined (clones_overlaid is_clone calls f clones)

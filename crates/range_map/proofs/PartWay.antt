@@ -1,7 +1,6 @@
 -- A list that is gone over, and what holds of the part of it that is done.
 use Rattle.std.proofs.Common.{◌≡◌, refl, sym, ap, subst, ◌∙◌, append_assoc, List, [], ◌∷◌, ◌++◌}
-use Rattle.range_map.proofs.Common.{append-nil, KeyOrder, AnyRange, Item, AreGaps}
-use Rattle.range_map.specs.PartWay.{BeforeOne, BeforeOneGap}
+use Rattle.range_map.proofs.Common.{append-nil, KeyOrder, AnyRange, Item, AreGaps, BeforeOne, BeforeOneGap}
 
 module _ {A : Type 0} where
   -- P holds of what stands before the rest
@@ -31,8 +30,7 @@ module _ {A : Type 0} where
       (way.done, x, others, ap (λ l. way.done ++ l) (sym came) ∙ way.split, way.so_far)
 
   -- where nothing is left
-  pub arrived : {P : List A → Type 0} {all rest : List A} → rest ≡ [] → IsPartWay P all rest
-      → P all
+  pub arrived : {P : List A → Type 0} {all rest : List A} → rest ≡ [] → IsPartWay P all rest → P all
   arrived {P = P} ended way =
       subst P (sym (append-nil way.done) ∙ (ap (λ l. way.done ++ l) (sym ended) ∙ way.split))
       way.so_far

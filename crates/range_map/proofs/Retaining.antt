@@ -1,27 +1,21 @@
 -- Which items of a list are kept, one answer after the other.
-use Rattle.std.proofs.Common.{◌≡◌, ◌∙◌, refl, sym, ap, ℕ, ◌+◌, ◌-◌, ◌<◌, ◌≤◌, Bool, true, false, IsTrue, List, [], ◌∷◌, ◌++◌, length, ◌↔◌, inl, inr, Option, Some, None, arith, subst}
-use Rattle.std.specs.Prelude.{remove, slice_index_or}
-use Rattle.range_map.proofs.Common.{items_where_true, IsEquivalence, length-append, length_push, append_assoc, append-nil, remove-append_right, KeyOrder, IsLawful, Every, AnyRange, Item, IsBound, BindsTo, Binds, Line, Follows, IsChain, line_of, IsStored}
+use Rattle.range_map.proofs.Common.{◌≡◌, ◌∙◌, refl, sym, ap, ℕ, ◌+◌, ◌-◌, ◌<◌, ◌≤◌, Bool, true, false, List, [], ◌∷◌, ◌++◌, length, ◌↔◌, inl, inr, Option, Some, None, arith, subst, remove, slice_index_or, items_where_true, IsEquivalence, length-append, length_push, append_assoc, append-nil, remove-append_right, KeyOrder, IsLawful, Every, AnyRange, Item, BindsTo, Binds, Line, Follows, IsChain, line_of, IsStored, strictly_leads, stored_known, stored_chain, chain_stored, binds_bound, BindOnlyAsBefore}
 use Rattle.std.specs.List.Retain.{ReturnsInTurn}
 use Rattle.range_algebra.specs.Orders.{le_lt_trans, lt_le_trans}
-use Rattle.range_map.specs.Retaining.{BindOnlyAsBefore}
-use Rattle.range_change.proofs.Chains.{strictly_leads}
-use Rattle.range_change.proofs.Forms.{stored_known, stored_chain, chain_stored}
+use Rattle.range_map.proofs.BoundKeys.{bound_value, bound_to_equal}
 use Rattle.range_map.proofs.Once.{bound_once}
 
 every_kept : {X : Type 0} (P : X → Type 0) (bs : List Bool) (xs : List X) → Every P xs
     → Every P (items_where_true bs xs)
-every_kept P [] xs h = tt
-every_kept P (b ∷ bs) [] h = tt
 every_kept P (true ∷ bs) (x ∷ xs) h = (h.0, every_kept P bs xs h.1)
 every_kept P (false ∷ bs) (x ∷ xs) h = every_kept P bs xs h.1
+every_kept P bs xs h = tt
 
 pub fewer_kept : {X : Type 0} (bs : List Bool) (xs : List X)
     → length (items_where_true bs xs) ≤ length xs
-fewer_kept [] xs = omega arith
-fewer_kept (b ∷ bs) [] = omega arith
 fewer_kept (true ∷ bs) (x ∷ xs) = let rest = fewer_kept bs xs in omega arith
 fewer_kept (false ∷ bs) (x ∷ xs) = let rest = fewer_kept bs xs in omega arith
+fewer_kept bs xs = omega arith
 
 module _ {L V X : Type 0} (line : Line L V X) where
   follows_next : (x y : X) (ys : List X) → Follows line x (y ∷ ys) → Follows line x ys
@@ -35,21 +29,19 @@ module _ {L V X : Type 0} (line : Line L V X) where
 
   follows_kept : (x : X) (bs : List Bool) (ys : List X) → Follows line x ys
       → Follows line x (items_where_true bs ys)
-  follows_kept x [] ys f = tt
-  follows_kept x (b ∷ bs) [] f = tt
   follows_kept x (true ∷ bs) (y ∷ ys) f = (f.0, (f.1.0, follows_kept y bs ys f.1.1))
   follows_kept x (false ∷ bs) (y ∷ ys) f = follows_kept x bs ys (follows_next x y ys f)
+  follows_kept x bs ys f = tt
 
   chain_kept : (bs : List Bool) (xs : List X) → IsChain line xs
       → IsChain line (items_where_true bs xs)
-  chain_kept [] xs h = tt
-  chain_kept (b ∷ bs) [] h = tt
   chain_kept (true ∷ bs) (x ∷ xs) h = (h.0, follows_kept x bs xs h.1)
   chain_kept (false ∷ bs) (x ∷ []) h = chain_kept bs [] tt
   chain_kept (false ∷ bs) (x ∷ y ∷ xs) h = chain_kept bs _ h.1.1
+  chain_kept bs xs h = tt
 
-module _ {K : Type 0} (order : KeyOrder K) (lawful : IsLawful order) {V : Type 0}
-    (same : V → V → Bool) (equal : IsEquivalence same) where
+module _ {K : Type 0} {order : KeyOrder K} (lawful : IsLawful order) {V : Type 0}
+    {same : V → V → Bool} (equal : IsEquivalence same) where
   -- what is kept of a stored list is in its form
   pub kept_stored : (bs : List Bool) (items : List (Item (AnyRange K) V))
       → IsStored order same items → IsStored order same (items_where_true bs items)
@@ -67,44 +59,26 @@ module _ {K : Type 0} (order : KeyOrder K) (lawful : IsLawful order) {V : Type 0
   kept_binds (true ∷ bs) (i ∷ items) k v (inr h) = inr (kept_binds bs items k v h)
   kept_binds (false ∷ bs) (i ∷ items) k v h = inr (kept_binds bs items k v h)
 
-  own_value : (items : List (Item (AnyRange K) V)) (k : K) → IsBound order items k
-      → (v : V) × BindsTo order same items k v
-  own_value [] k h = absurd h
-  own_value (i ∷ items) k (inl h) = (i.value, inl (h, equal.refl i.value))
-  own_value (i ∷ items) k (inr h) = let rest = own_value items k h in (rest.0, inr rest.1)
-
-  value_binds : (items : List (Item (AnyRange K) V)) (k : K) (v w : V) → IsTrue (same v w)
-      → BindsTo order same items k v → BindsTo order same items k w
-  value_binds [] k v w e h = h
-  value_binds (i ∷ items) k v w e (inl h) =
-      inl (h.0, equal.congr i.value v w h.1 ∙ e)
-  value_binds (i ∷ items) k v w e (inr h) = inr (value_binds items k v w e h)
-
-  bound_by : (items : List (Item (AnyRange K) V)) (k : K) (v : V)
-      → BindsTo order same items k v → IsBound order items k
-  bound_by [] k v h = h
-  bound_by (i ∷ items) k v (inl h) = inl h.0
-  bound_by (i ∷ items) k v (inr h) = inr (bound_by items k v h)
-
   -- a key that is bound in what is kept is bound as before
   pub kept_as_before : (bs : List Bool) (items : List (Item (AnyRange K) V))
       → IsStored order same items → BindOnlyAsBefore order same items (items_where_true bs items)
   kept_as_before bs items form k key bound b = by_value b
     where
       here : (v : V) × BindsTo order same (items_where_true bs items) k v
-      here = own_value (items_where_true bs items) k bound
+      here = bound_value order same equal (items_where_true bs items) k bound
 
       by_value : (b : Option V) → Binds order same (items_where_true bs items) k b
           ↔ Binds order same items k b
       by_value None = (
         λ none. absurd (none bound),
         λ none.
-            absurd (none (bound_by items k here.0 (kept_binds bs items k here.0 here.1))),
+            absurd (none (binds_bound order same items k here.0
+            (kept_binds bs items k here.0 here.1))),
       )
       by_value (Some w) = (
         kept_binds bs items k w,
-        λ h. value_binds (items_where_true bs items) k here.0 w
-            (bound_once order lawful same equal items form k key here.0 w
+        λ h. bound_to_equal order same equal (items_where_true bs items) k here.0 w
+            (bound_once lawful equal items form k key here.0 w
             (kept_binds bs items k here.0 here.1) h) here.1,
       )
 
@@ -113,21 +87,18 @@ module _ {X F : Type 0} (R : F → X → Bool → F → Type 0) where
       → length bs ≡ length done → ReturnsInTurn R s bs done f → R f x b g
       → ReturnsInTurn R s (bs ++ b ∷ []) (done ++ x ∷ []) g
   told_more s f g [] b [] x size told one = (g, subst (λ t. R t x b g) (sym told) one, refl)
-  told_more s f g [] b (y ∷ done) x size told one = absurd (omega (arith, size))
-  told_more s f g (c ∷ bs) b [] x size told one = absurd (omega (arith, size))
   told_more s f g (c ∷ bs) b (y ∷ done) x size told one =
       (told.0, told.1, told_more told.0 f g bs b done x (omega (arith, size)) told.2 one)
+  told_more s f g bs b done x size told one = absurd (omega (arith, size))
 
 picked_more : {X : Type 0} (bs : List Bool) (b : Bool) (done : List X) (x : X)
-    → length bs ≡ length done
-    → items_where_true (bs ++ b ∷ []) (done ++ x ∷ [])
+    → length bs ≡ length done → items_where_true (bs ++ b ∷ []) (done ++ x ∷ [])
     ≡ items_where_true bs done ++ items_where_true (b ∷ []) (x ∷ [])
 picked_more [] b [] x size = refl
-picked_more [] b (y ∷ done) x size = absurd (omega (arith, size))
-picked_more (c ∷ bs) b [] x size = absurd (omega (arith, size))
 picked_more (true ∷ bs) b (y ∷ done) x size =
     ap (λ xs. y ∷ xs) (picked_more bs b done x (omega (arith, size)))
 picked_more (false ∷ bs) b (y ∷ done) x size = picked_more bs b done x (omega (arith, size))
+picked_more bs b done x size = absurd (omega (arith, size))
 
 module _ {X F : Type 0} (R : F → X → Bool → F → Type 0) (old : List X) (start : F) where
   -- the closure was called at the items before the place, and those that it did not keep are gone
@@ -159,16 +130,13 @@ module _ {X F : Type 0} (R : F → X → Bool → F → Type 0) (old : List X) (
   item_is (z ∷ kept) rest x y e = item_is kept rest x y e
 
   next_of : (kept rest : List X) (x : X) → length kept < length (kept ++ rest)
-      → x ≡ slice_index_or (kept ++ rest) (length kept) x
-      → (others : List X) × (rest ≡ x ∷ others)
+      → x ≡ slice_index_or (kept ++ rest) (length kept) x → (others : List X) × (rest ≡ x ∷ others)
   next_of kept [] x within e = absurd (omega (arith, ap length (append-nil kept), within))
-  next_of kept (y ∷ others) x within e =
-      (others, ap (λ z. z ∷ others) (item_is kept others x y e))
+  next_of kept (y ∷ others) x within e = (others, ap (λ z. z ∷ others) (item_is kept others x y e))
 
   -- one item more
   pub retaining_more : (items next : List X) (f g : F) (x : X) (b : Bool) (place : ℕ)
-      → (was : IsRetaining items place f) → (others : List X) → was.rest ≡ x ∷ others
-      → R f x b g
+      → (was : IsRetaining items place f) → (others : List X) → was.rest ≡ x ∷ others → R f x b g
       → next ≡ items_where_true was.bs was.done ++ (items_where_true (b ∷ []) (x ∷ []) ++ others)
       → IsRetaining next (place + length (items_where_true (b ∷ []) (x ∷ []))) g
   retaining_more items next f g x b place was others more one is =
@@ -189,12 +157,7 @@ module _ {X F : Type 0} (R : F → X → Bool → F → Type 0) (old : List X) (
             ap length picked
             ∙ length-append (items_where_true was.bs was.done) (items_where_true (b ∷ []) (x ∷ []))
             ∙ ap (λ n. n + length (items_where_true (b ∷ []) (x ∷ []))) was.size;
-        answers = omega (
-          arith,
-          was.answers,
-          length_push was.bs b,
-          length_push was.done x,
-        );
+        answers = omega (arith, was.answers, length_push was.bs b, length_push was.done x);
         told = told_more R start f g was.bs b was.done x was.answers was.told one;
       }
 
@@ -235,8 +198,7 @@ module _ {X F : Type 0} (R : F → X → Bool → F → Type 0) (old : List X) (
       × (items ≡ items_where_true bs old)
   retained {f = f} was end =
       let kept = items_where_true was.bs was.done in
-      let none = no_rest kept was.rest
-      (omega (arith, end, was.size, ap length was.left)) in
+      let none = no_rest kept was.rest (omega (arith, end, was.size, ap length was.left)) in
       let all : old ≡ was.done =
       was.whole ∙ ap (λ xs. was.done ++ xs) none ∙ append-nil was.done in (
         was.bs,

@@ -1,17 +1,12 @@
 -- Lists that are sorted up to a place, and what a map is built of.
-use Rattle.std.proofs.Common.{◌≡◌, refl, ap, ◌∙◌, ◌+◌, ◌<◌, ◌≤◌, ℕ, zero, suc, take, map, get_or, length, Some, List, [], ◌∷◌, ◌++◌, arith}
-use Rattle.range_map.proofs.Common.{map_more, take-map, KeyOrder, IsLawful, lower, Every, IsEmptyRange, IsKnownRange, LiesBefore, AnyRange, Item, item_upper, full_range}
-use Rattle.range_algebra.proofs.Places.{unbounded_start}
-use Rattle.range_change.specs.Neighbours.{EachNext}
-use Rattle.range_change.proofs.Forms.{before_is}
-use Rattle.range_map.specs.Sorting.{IsFirstFault, IsNext, IsSorted, last_key}
-use Rattle.range_map.proofs.Joining.{RisesFrom}
+use Rattle.range_map.proofs.Common.{◌≡◌, refl, ap, ◌∙◌, ◌+◌, ◌<◌, ◌≤◌, ℕ, zero, suc, take, map, get_or, length, Some, List, [], ◌∷◌, ◌++◌, arith, map_more, take-map, KeyOrder, IsLawful, lower, Every, IsKnownRange, AnyRange, Item, full_range, IsFirstFault, IsNext, IsSorted, last_key}
+use Rattle.range_map.proofs.Joining.{RisesFrom, ascending_rises}
+use Rattle.range_map.proofs.Together.{ascends}
 
 pub last_is : {K V : Type 0} (xs : List (Item (AnyRange K) V)) (x : Item (AnyRange K) V)
     → last_key (xs ++ x ∷ []) ≡ Some x.key
-last_is [] x = refl
-last_is (y ∷ []) x = refl
 last_is (y ∷ z ∷ rest) x = last_is (z ∷ rest) x
+last_is xs x = refl
 
 module _ {K : Type 0} (order : KeyOrder K) {V : Type 0} where
   -- one more is sorted with the others where it is the next
@@ -61,10 +56,9 @@ module _ {K : Type 0} (order : KeyOrder K) {V : Type 0} where
   sorted_has_none xs n sorted fault = fault.1 (front_sorted (n + 1) xs sorted)
 
   fewer : (m n : ℕ) (xs : List (Item (AnyRange K) V)) → m ≤ n → take m (take n xs) ≡ take m xs
-  fewer zero n xs le = refl
   fewer (suc m) zero xs le = absurd (omega (arith, le))
-  fewer (suc m) (suc n) [] le = refl
   fewer (suc m) (suc n) (x ∷ xs) le = ap (λ ys. x ∷ ys) (fewer m n xs (omega (arith, le)))
+  fewer m n xs le = refl
 
   not_later : (xs : List (Item (AnyRange K) V)) (m n : ℕ) → IsFirstFault order xs m
       → IsFirstFault order xs n → ¬ (m < n)
@@ -81,32 +75,13 @@ module _ {K : Type 0} (order : KeyOrder K) {V : Type 0} where
       omega (arith, up, down)
 
   module _ (lawful : IsLawful order) where
-    after_rises : (x : Item (AnyRange K) V) (xs : List (Item (AnyRange K) V))
-        → IsKnownRange order x.key → Every (λ i. IsKnownRange order i.key) xs
-        → Every (λ i. ¬ IsEmptyRange order i.key) xs
-        → EachNext (λ i j. LiesBefore order i.key j.key) (x ∷ xs)
-        → RisesFrom order (item_upper order x) xs
-    after_rises x [] known others nonempty rising = tt
-    after_rises x (y ∷ ys) known others nonempty rising = (
-      others.0,
-      nonempty.0,
-      (before_is order lawful x.key.end y.key.start known.1 others.0.0).0 rising.0,
-      after_rises y ys others.0 others.1 nonempty.1 rising.1,
-    )
-
     -- a sorted list rises
     pub sorted_rises : (xs : List (Item (AnyRange K) V))
         → Every (λ i. IsKnownRange order i.key) xs → IsSorted order xs
         → RisesFrom order (lower order full_range) xs
-    sorted_rises [] known sorted = tt
-    sorted_rises (x ∷ xs) known sorted = (
-      known.0,
-      sorted.nonempty.0,
-      unbounded_start order lawful x.key.start known.0.0,
-      after_rises x xs known.0 known.1 sorted.nonempty.1 sorted.rising,
-    )
+    sorted_rises xs known sorted =
+        ascending_rises lawful xs known (ascends lawful xs sorted.nonempty sorted.rising)
 
 pub take_next : {X Y : Type 0} (f : X → Y) (xs : List X) (n : ℕ) (d : X) → n < length xs
     → take (n + 1) (map f xs) ≡ take n (map f xs) ++ f (get_or xs n d) ∷ []
-take_next f xs n d less =
-    take-map f (n + 1) xs ∙ map_more f xs n d less ∙ rw (take-map f n xs) refl
+take_next f xs n d less = take-map f (n + 1) xs ∙ map_more f xs n d less ∙ rw (take-map f n xs) refl

@@ -1,14 +1,9 @@
 -- A stored list cut in two at a key.
-use Rattle.std.proofs.Common.{◌≡◌, refl, sym, ap, ◌∙◌, ◌+◌, ◌≤◌, Bool, true, IsTrue, List, [], ◌∷◌, ◌++◌, length, arith, subst}
-use Rattle.range_map.proofs.Common.{ordering_then, Ordering, Less, Equal, Greater, Bound, Included, Excluded, IsEquivalence, append_assoc, length-append, KeyOrder, IsLawful, Below, NotAbove, start_position, Position, Beside, At, SameBound, Le, Lt, Every, Holds, IsKnownBound, AnyRange, every_append, every_left, every_right, every_weaker, Item, line_of, IsLeft, IsRight, IsStored, item_lower, item_upper}
-use Rattle.range_map.proofs.PlaceOrder.{le_refl, lt_le, le_trans, not_lt, both}
-use Rattle.range_algebra.proofs.Places.{held_between}
+use Rattle.range_map.proofs.Common.{◌≡◌, refl, sym, ap, ◌∙◌, ◌+◌, ◌≤◌, Bool, true, IsTrue, List, [], ◌∷◌, ◌++◌, length, arith, subst, ordering_then, Ordering, Less, Equal, Greater, Bound, Included, Excluded, IsEquivalence, append_assoc, length-append, KeyOrder, IsLawful, Below, NotAbove, start_position, Position, Beside, At, SameBound, Le, Lt, Every, Holds, IsKnownBound, AnyRange, every_append, every_left, every_right, every_weaker, Item, line_of, IsLeft, IsRight, IsStored, item_lower, item_upper, held_between, same_is_symmetric, chain_before, places, Known, bound_hold, chain_stored, same_binds, stored_chain, stored_known, le_refl, lt_le, le_trans, not_lt, both}
 use Rattle.range_change.specs.Edits.{with_start}
 use Rattle.range_map.specs.Splitting.{IsDivided}
-use Rattle.range_change.proofs.Chains.{same_is_symmetric, chain_before}
 use Rattle.range_change.proofs.ChainSides.{left_whole, left_cut, right_whole, right_cut, none_above, none_below}
 use Rattle.range_change.proofs.CutParts.{cut_end}
-use Rattle.range_change.proofs.Forms.{places, Known, bound_hold, chain_stored, same_binds, stored_chain, stored_known}
 
 then_equal : (o : Ordering) → ordering_then o Equal ≡ o
 then_equal Less = refl
@@ -29,8 +24,8 @@ last_same (z ∷ []) [] x y e = let rest = ap tail_of e in absurd (cc)
 last_same (z ∷ w ∷ xs) [] x y e = let rest = ap tail_of e in absurd (cc)
 last_same (z ∷ xs) (w ∷ ys) x y e = last_same xs ys x y (ap tail_of e)
 
-module _ {K : Type 0} (order : KeyOrder K) (lawful : IsLawful order) {V : Type 0}
-    (same : V → V → Bool) (equal : IsEquivalence same) (key : K) (key_known : order.is_key key)
+module _ {K : Type 0} {order : KeyOrder K} (lawful : IsLawful order) {V : Type 0}
+    {same : V → V → Bool} (equal : IsEquivalence same) (key : K) (key_known : order.is_key key)
   where
     abbrev cut : Position K
     cut = start_position order (Included key)
@@ -52,8 +47,7 @@ module _ {K : Type 0} (order : KeyOrder K) (lawful : IsLawful order) {V : Type 0
         → Known order lawful same equal front → Known order lawful same equal back
         → IsLeft (line_of order lawful same equal) items front cut
         → IsRight (line_of order lawful same equal) items back cut
-        → length front + length back ≤ length items + 1
-        → IsDivided order same key items front back
+        → length front + length back ≤ length items + 1 → IsDivided order same key items front back
     divided items front back known front_known back_known left right few =
         let line = line_of order lawful same equal in
         record {
@@ -106,8 +100,7 @@ module _ {K : Type 0} (order : KeyOrder K) (lawful : IsLawful order) {V : Type 0
           let at = held_between order lawful x.key key x_known key_known in
           let ends : Le (places order lawful) (item_upper order x) cut =
           not_lt lawful _ _ (λ reaches. out (at.1 (lt_le lawful _ _ low, reaches))) in
-          parted (front ++ x ∷ []) rest form
-          (every_append _ front (x ∷ [])
+          parted (front ++ x ∷ []) rest form (every_append _ front (x ∷ [])
           (every_weaker _ _ front (λ z h.
           le_trans lawful _ _ _ h.0 (lt_le lawful _ _ low)) (chain_before line front x rest chain))
           (ends, tt)) starts

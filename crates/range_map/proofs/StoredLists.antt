@@ -1,20 +1,16 @@
 -- Lists of the map's form are coarse over complete keys, and equal exactly where they bind every
 -- key alike.
-use Rattle.std.proofs.Common.{◌≡◌, refl, sym, ap, ◌∙◌, List, [], ◌∷◌, length, inl, inr, ◌↔◌, Bool, IsTrue, Option, Some, None}
-use Rattle.range_map.proofs.Common.{Ordering, Equal, is_eq, eq_by_cmp, IsEquivalence, IsTotalOrder, Equal-is, alike_right, first_so, second_so, KeyOrder, IsLawful, IsComplete, Holds, IsKnownRange, IsEmptyRange, IsKeyless, AnyRange, AllByRecursion, and_from, Item, IsBound, BindsTo, Binds, BindAlike, IsCoarse, AreAlike, IsOnlyCoarse, IsLeastCount, IsStored, same_list, list_cmp, lists_tied, lists_order}
-use Rattle.range_algebra.proofs.Holding.{empty_is_keyless}
-use Rattle.range_algebra.proofs.Completeness.{nonempty_holds}
-use Rattle.range_algebra.proofs.Canonical.{same_is_equal, equal_is_same}
+use Rattle.range_map.proofs.Common.{◌≡◌, refl, sym, ap, ◌∙◌, List, [], ◌∷◌, length, inl, inr, ◌↔◌, Bool, IsTrue, Some, Ordering, Equal, is_eq, eq_by_cmp, IsEquivalence, IsTotalOrder, Equal-is, alike_right, first_so, second_so, KeyOrder, IsLawful, IsComplete, Holds, IsKnownRange, IsEmptyRange, IsKeyless, AnyRange, AllByRecursion, and_from, Item, IsBound, BindsTo, BindAlike, IsCoarse, AreAlike, IsOnlyCoarse, IsLeastCount, IsStored, same_list, list_cmp, lists_tied, lists_order, empty_is_keyless, same_is_equal, equal_is_same, binds_bound, nonempty_holds}
 use Rattle.range_algebra.proofs.Meeting.{not_greater}
-use Rattle.range_change.proofs.Overlaps.{binds_bound}
-use Rattle.range_map.proofs.Coarse.{coarse_alike, coarse_shortest, Follows}
+use Rattle.range_map.proofs.BoundKeys.{bound_value, bound_to_equal, bound_by, binds_by}
+use Rattle.range_map.proofs.Coarse.{coarse_alike, coarse_shortest}
 use Rattle.range_algebra.proofs.Joined.{before_is, ends_below, joined_touch, is_before_of}
 
 module _ {K : Type 0} {order : KeyOrder K} (lawful : IsLawful order) {V : Type 0}
-    {same_value : V → V → Bool} (values : IsEquivalence same_value) where
-  tail_is_stored : (i : Item (AnyRange K) V) (rest : List (Item (AnyRange K) V))
+    {same_value : V → V → Bool} where
+  pub tail_is_stored : {i : Item (AnyRange K) V} {rest : List (Item (AnyRange K) V)}
       → IsStored order same_value (i ∷ rest) → IsStored order same_value rest
-  tail_is_stored i rest stored =
+  tail_is_stored stored =
       record { known = stored.known.1; nonempty = stored.nonempty.1; rising = stored.rising.1 }
 
   has_key : (i : Item (AnyRange K) V) (rest : List (Item (AnyRange K) V))
@@ -33,7 +29,7 @@ module _ {K : Type 0} {order : KeyOrder K} (lawful : IsLawful order) {V : Type 0
   stored_coarse (i ∷ j ∷ rest) stored complete =
       let before =
       before_is order lawful i.key j.key (same_value i.value j.value) stored.rising.0 in
-      let behind = stored_coarse (j ∷ rest) (tail_is_stored i (j ∷ rest) stored) complete in
+      let behind = stored_coarse (j ∷ rest) (tail_is_stored stored) complete in
       record {
         keyed = (has_key i (j ∷ rest) stored complete, behind.keyed);
         rising = (ends_below order lawful i.key j.key before.0, behind.rising);
@@ -45,91 +41,59 @@ module _ {K : Type 0} {order : KeyOrder K} (lawful : IsLawful order) {V : Type 0
         );
       }
 
+module _ {K : Type 0} {order : KeyOrder K} (lawful : IsLawful order) {V : Type 0}
+    {same_value : V → V → Bool} (values : IsEquivalence same_value) where
   pub stored_only : (items : List (Item (AnyRange K) V)) → IsStored order same_value items
       → IsComplete order → IsOnlyCoarse order same_value items
-  stored_only items stored complete others coarse alike =
-      coarse_alike order lawful same_value values items others
-      (stored_coarse items stored complete) coarse alike
+  stored_only items stored complete others =
+      coarse_alike lawful values items others (stored_coarse lawful items stored complete)
 
   pub stored_least : (items : List (Item (AnyRange K) V)) → IsStored order same_value items
       → IsComplete order → IsLeastCount order same_value items (length items)
   stored_least items stored complete others alike =
-      coarse_shortest order lawful same_value values items others
-      (stored_coarse items stored complete) alike
+      coarse_shortest lawful values items others (stored_coarse lawful items stored complete) alike
 
   alike_equal : IsComplete order → (items others : List (Item (AnyRange K) V))
       → IsStored order same_value items → IsStored order same_value others
       → AreAlike order same_value items others → IsTrue (same_list order same_value items others)
   alike_equal complete [] [] stored stored' alike = refl
-  alike_equal complete [] (j ∷ others) stored stored' alike = absurd alike
-  alike_equal complete (i ∷ items) [] stored stored' alike = absurd alike
   alike_equal complete (i ∷ items) (j ∷ others) stored stored' alike =
       and_from _ _ (and_from _ _
       (ap is_eq (same_is_equal order lawful complete i.key j.key stored.known.0 stored'.known.0
       stored.nonempty.0 stored'.nonempty.0 alike.0.0)) alike.0.1)
-      (alike_equal complete items others (tail_is_stored i items stored)
-      (tail_is_stored j others stored') alike.1)
+      (alike_equal complete items others (tail_is_stored lawful stored)
+      (tail_is_stored lawful stored') alike.1)
+  alike_equal complete items others stored stored' alike = absurd alike
 
   equal_alike : (items others : List (Item (AnyRange K) V))
       → IsTrue (same_list order same_value items others) → AreAlike order same_value items others
   equal_alike [] [] e = tt
-  equal_alike [] (j ∷ others) e = cc
-  equal_alike (i ∷ items) [] e = cc
   equal_alike (i ∷ items) (j ∷ others) e =
       let here = first_so _ _ e in
-      let there = second_so _ _ e in
       let ranges = first_so _ _ here in (
         (equal_is_same order lawful i.key j.key ((Equal-is _).0 ranges), second_so _ _ here),
-        equal_alike items others there,
+        equal_alike items others (second_so _ _ e),
       )
+  equal_alike items others e = cc
 
-  alike_turned : (items others : List (Item (AnyRange K) V))
-      → AreAlike order same_value items others → AreAlike order same_value others items
-  alike_turned [] [] alike = tt
-  alike_turned [] (j ∷ others) alike = alike
-  alike_turned (i ∷ items) [] alike = alike
-  alike_turned (i ∷ items) (j ∷ others) alike = (
-    (
-      λ k key. ((alike.0.0 k key).1, (alike.0.0 k key).0),
-      values.symm j.value i.value
-          ∙ alike.0.1,
-    ),
-    alike_turned items others alike.1,
-  )
-
-  alike_follows : (items others : List (Item (AnyRange K) V))
-      → AreAlike order same_value items others → Follows order lawful same_value values items others
-  alike_follows [] others alike k key v h = absurd h
-  alike_follows (i ∷ items) [] alike k key v h = absurd alike
-  alike_follows (i ∷ items) (j ∷ others) alike k key v (inl h) =
-      inl ((alike.0.0 k key).0 h.0, sym (values.congr i.value j.value v alike.0.1) ∙ h.1)
-  alike_follows (i ∷ items) (j ∷ others) alike k key v (inr h) =
-      inr (alike_follows items others alike.1 k key v h)
-
-  alike_bound : (items others : List (Item (AnyRange K) V)) → AreAlike order same_value items others
-      → (k : K) → order.is_key k → IsBound order items k → IsBound order others k
-  alike_bound [] others alike k key h = absurd h
-  alike_bound (i ∷ items) [] alike k key h = absurd alike
-  alike_bound (i ∷ items) (j ∷ others) alike k key (inl h) = inl ((alike.0.0 k key).0 h)
-  alike_bound (i ∷ items) (j ∷ others) alike k key (inr h) =
-      inr (alike_bound items others alike.1 k key h)
+  alike_binds_to : (items others : List (Item (AnyRange K) V))
+      → AreAlike order same_value items others → (k : K) → order.is_key k → (v : V)
+      → BindsTo order same_value items k v ↔ BindsTo order same_value others k v
+  alike_binds_to [] [] alike k key v = (λ h. h, λ h. h)
+  alike_binds_to (i ∷ items) (j ∷ others) alike k key v =
+      let held = alike.0.0 k key in
+      let value = values.congr i.value j.value v alike.0.1 in
+      let behind = alike_binds_to items others alike.1 k key v in (
+        λ h. elim h [ inl g ↦ inl (held.0 g.0, sym value ∙ g.1) | inr g ↦ inr (behind.0 g) ],
+        λ h. elim h [ inl g ↦ inl (held.1 g.0, value ∙ g.1) | inr g ↦ inr (behind.1 g) ],
+      )
+  alike_binds_to items others alike k key v = absurd alike
 
   -- alike lists bind every key alike
-  pub alike_binds : (items others : List (Item (AnyRange K) V))
+  alike_binds : (items others : List (Item (AnyRange K) V))
       → AreAlike order same_value items others → BindAlike order same_value items others
-  alike_binds items others alike k key b = by_answer b
-    where
-      back : AreAlike order same_value others items
-      back = alike_turned items others alike
-
-      by_answer : (b : Option V) → Binds order same_value items k b
-          ↔ Binds order same_value others k b
-      by_answer None = (
-        λ none h. none (alike_bound others items back k key h),
-        λ none h. none (alike_bound items others alike k key h),
-      )
-      by_answer (Some v) =
-          (alike_follows items others alike k key v, alike_follows others items back k key v)
+  alike_binds items others alike k key =
+      binds_by order same_value values items others k (alike_binds_to items others alike k key)
 
   -- equal lists bind every key alike
   pub equal_binds : (items others : List (Item (AnyRange K) V))
@@ -141,10 +105,10 @@ module _ {K : Type 0} {order : KeyOrder K} (lawful : IsLawful order) {V : Type 0
       → IsStored order same_value items → IsStored order same_value others
       → IsTrue (same_list order same_value items others) ↔ BindAlike order same_value items others
   stored_equal complete items others stored stored' = (
-    λ e. alike_binds items others (equal_alike items others e),
+    equal_binds items others,
     λ alike. alike_equal complete items others stored stored'
-        (coarse_alike order lawful same_value values items others
-        (stored_coarse items stored complete) (stored_coarse others stored' complete) alike),
+        (coarse_alike lawful values items others
+        (stored_coarse lawful _ stored complete) (stored_coarse lawful _ stored' complete) alike),
   )
 
   module _ (value_cmp : V → V → Ordering) (total : IsTotalOrder value_cmp)
@@ -174,46 +138,36 @@ module _ {K : Type 0} {order : KeyOrder K} (lawful : IsLawful order) {V : Type 0
 
 module _ {K : Type 0} (order : KeyOrder K) {V : Type 0} (same_value : V → V → Bool)
     (one : (u v : V) → IsTrue (same_value u v)) where
+  all_equal : IsEquivalence same_value
+  all_equal =
+      record {
+        refl = λ u. one u u;
+        symm = λ u v. one u v ∙ sym (one v u);
+        congr = λ u v w e. one u w ∙ sym (one v w);
+      }
+
   binds_any : (items : List (Item (AnyRange K) V)) (k : K) (v : V) → IsBound order items k
       → BindsTo order same_value items k v
-  binds_any [] k v h = h
-  binds_any (i ∷ rest) k v (inl h) = inl (h, one i.value v)
-  binds_any (i ∷ rest) k v (inr h) = inr (binds_any rest k v h)
-
-  some_value : (items : List (Item (AnyRange K) V)) (k : K) → IsBound order items k → V
-  some_value [] k h = absurd h
-  some_value (i ∷ rest) k h = i.value
+  binds_any items k v h =
+      let found = bound_value order same_value all_equal items k h in
+      bound_to_equal order same_value all_equal items k found.0 v (one found.0 v) found.1
 
   -- where all values are equal, as in a set, lists bind alike where they hold the same keys
   pub same_keys : (items others : List (Item (AnyRange K) V))
       → ((k : K) → order.is_key k → IsBound order items k ↔ IsBound order others k)
       ↔ BindAlike order same_value items others
-  same_keys items others =
-      (λ alike k key b. there alike k key b, λ alike k key. (into alike k key, onto alike k key))
-    where
-      there : ((k : K) → order.is_key k → IsBound order items k ↔ IsBound order others k) → (k : K)
-          → order.is_key k → (b : Option V) → Binds order same_value items k b
-          ↔ Binds order same_value others k b
-      there alike k key None =
-          (λ none h. none ((alike k key).1 h), λ none h. none ((alike k key).0 h))
-      there alike k key (Some v) = (
-        λ h. binds_any others k v ((alike k key).0 (binds_bound order same_value items k v h)),
-        λ h. binds_any items k v ((alike k key).1 (binds_bound order same_value others k v h)),
-      )
+  same_keys items others = (
+    λ alike k key. binds_by order same_value all_equal items others k (λ v. (
+      λ h. binds_any others k v ((alike k key).0 (binds_bound order same_value items k v h)),
+      λ h. binds_any items k v ((alike k key).1 (binds_bound order same_value others k v h)),
+    )),
+    λ alike k key. (
+      bound_by order same_value all_equal items others k (λ v. (alike k key (Some v)).0),
+      bound_by order same_value all_equal others items k (λ v. (alike k key (Some v)).1),
+    ),
+  )
 
-      into : BindAlike order same_value items others → (k : K) → order.is_key k
-          → IsBound order items k → IsBound order others k
-      into alike k key h = let v =
-          some_value items k h in binds_bound order same_value others k v
-          ((alike k key (Some v)).0 (binds_any items k v h))
-
-      onto : BindAlike order same_value items others → (k : K) → order.is_key k
-          → IsBound order others k → IsBound order items k
-      onto alike k key h = let v =
-          some_value others k h in binds_bound order same_value items k v
-          ((alike k key (Some v)).1 (binds_any others k v h))
-
-module _ {K : Type 0} (order : KeyOrder K) (lawful : IsLawful order) (complete : IsComplete order)
+module _ {K : Type 0} {order : KeyOrder K} (lawful : IsLawful order) (complete : IsComplete order)
     {V : Type 0} (same_value : V → V → Bool) where
   keyed_full : (r : AnyRange K) → ¬ IsKeyless order r → ¬ IsEmptyRange order r
   keyed_full r keyed empty = keyed (empty_is_keyless order lawful r empty)
@@ -232,8 +186,7 @@ module _ {K : Type 0} (order : KeyOrder K) (lawful : IsLawful order) (complete :
       record { known = known; nonempty = (keyed_full i.key coarse.keyed.0, tt); rising = (tt, tt) }
   coarse_stored (i ∷ j ∷ rest) known coarse =
       let behind =
-      coarse_stored (j ∷ rest) known.1
-      (record {
+      coarse_stored (j ∷ rest) known.1 (record {
         keyed = coarse.keyed.1;
         rising = coarse.rising.1;
         parted = coarse.parted.1;

@@ -1,19 +1,17 @@
 -- A loop that writes items one after the other.
-use Rattle.std.proofs.Common.{◌≡◌, refl, ◌∙◌, ap, subst, ℕ, List, [], ◌∷◌, ◌++◌, append_assoc, Option, Some, None, Result, sym}
-use Rattle.std.specs.Prelude.{IsOk}
+use Rattle.std.proofs.Common.{◌≡◌, refl, ◌∙◌, ap, ℕ, List, [], ◌∷◌, ◌++◌, append_assoc, Option, Some, Result, sym}
+use Rattle.range_map.proofs.Common.{IsOk, AnyRange, Item}
 use Rattle.std.specs.Fmt.{HasWritten, IsPlainFormatter, DisplaysOnOk, option_append}
 use Rattle.std.specs.declared.fmt.Error.{Error}
 use Rattle.std.specs.declared.fmt.Formatter.{Formatter}
 use Rattle.std.proofs.Output.{writes_in_calls_nil, has_written_append}
-use Rattle.range_map.proofs.Common.{AnyRange, Item}
 use Rattle.range_map.specs.Texts.{item_text, items_text}
 
 -- where two texts are known together, each is
 pub both_known : (o p : Option (List ℕ)) (text : List ℕ) → option_append o p ≡ Some text
     → (a b : List ℕ) × (o ≡ Some a) × (p ≡ Some b) × (text ≡ a ++ b)
-both_known None p text e = absurd (cc)
-both_known (Some a) None text e = absurd (cc)
 both_known (Some a) (Some b) text e = (a, b, refl, refl, cc)
+both_known o p text e = absurd (cc)
 
 module _ {K V : Type 0} (key_text : K → Option (List ℕ)) (value_text : V → Option (List ℕ))
     {W : Type 0} (took : W → List ℕ → W → Type 0) where
@@ -36,15 +34,12 @@ module _ {K V : Type 0} (key_text : K → Option (List ℕ)) (value_text : V →
       let before = shown text e plain in
       let parts =
       both_known (item_text key_text value_text i)
-      (items_text key_text value_text left) before.1 before.2 in
-      let wrote : HasWritten took g parts.0 h =
-      (subst (λ o. DisplaysOnOk took g r o h) parts.2 displays) before.4.plain ok in
-      let whole : text ≡ (before.0 ++ parts.0) ++ parts.1 =
-      before.3 ∙ ap (λ (l : List ℕ). before.0 ++ l) parts.4
-      ∙ sym (append_assoc before.0 parts.0 parts.1) in (
+      (items_text key_text value_text left) before.1 before.2 in (
         before.0 ++ parts.0,
         parts.1,
         parts.3,
-        whole,
-        has_written_append took f before.0 g parts.0 h before.4 wrote,
+        before.3 ∙ ap (λ (l : List ℕ). before.0 ++ l) parts.4
+            ∙ sym (append_assoc before.0 parts.0 parts.1),
+        has_written_append took f before.0 g parts.0 h before.4
+            ((rw parts.2 at displays) before.4.plain ok),
       )

@@ -1,12 +1,6 @@
 -- One stored list after another, and the last range of the one joined with the first of the other.
 use Rattle.std.specs.Prelude.{◌≡◌, ◌-◌, ◌<◌, Bool, true, false, ◌&&◌, List, [], ◌∷◌, ◌++◌, length, slice_index_or, ⊤, if◌then◌else◌}
-use Rattle.range_keys.specs.Order.{KeyOrder}
-use Rattle.range_keys.specs.Position.{start_position}
-use Rattle.range_algebra.specs.Compared.{starts_at_end}
-use Rattle.range_algebra.specs.Intervals.{Every}
-use Rattle.range_algebra.specs.Relations.{LiesBefore}
-use Rattle.range_algebra.specs.declared.any.AnyRange.{AnyRange}
-use Rattle.range_store.specs.declared.storage.Item.{Item}
+use Rattle.range_map.specs.Common.{KeyOrder, start_position, starts_at_end, Every, LiesBefore, AnyRange, Item}
 use Rattle.range_change.specs.declared.error.NotAppended.{NotAppended}
 use Rattle.range_change.specs.declared.error.NotAppended.TheVariants.{OutOfOrder, Memory}
 
@@ -16,12 +10,8 @@ IsOutOfOrder OutOfOrder = ⊤
 IsOutOfOrder Memory = ⊥
 
 -- from the start of the one to the end of the other, with the value of the one
-abbrev pub joined : {K V : Type 0} → Item (AnyRange K) V → Item (AnyRange K) V
-    → Item (AnyRange K) V
-joined i j = record {
-  key = record { start = i.key.start; end = j.key.end };
-  value = i.value;
-}
+abbrev pub joined : {K V : Type 0} → Item (AnyRange K) V → Item (AnyRange K) V → Item (AnyRange K) V
+joined i j = record { key = record { start = i.key.start; end = j.key.end }; value = i.value }
 
 module _ {K : Type 0} (order : KeyOrder K) {V : Type 0} where
   -- each range of the one list lies before each of the other
@@ -39,8 +29,7 @@ module _ {K : Type 0} (order : KeyOrder K) {V : Type 0} where
     abbrev pub IsOneWithLast : List (Item (AnyRange K) V) → Item (AnyRange K) V → Type 0
     IsOneWithLast items j =
         (0 < length items)
-        × ((d : Item (AnyRange K) V)
-        → are_one (slice_index_or items (length items - 1) d) j ≡ true)
+        × ((d : Item (AnyRange K) V) → are_one (slice_index_or items (length items - 1) d) j ≡ true)
 
     -- the list is empty, or its last item is not one with this
     abbrev pub IsApartFromLast : List (Item (AnyRange K) V) → Item (AnyRange K) V → Type 0

@@ -1,11 +1,6 @@
 -- What a caller of an update says of its closure: that it may be asked of whatever comes.
 use Rattle.std.specs.Prelude.{List, [], ◌∷◌, Option, Some, None}
-use Rattle.std.specs.Fn.{Shared}
-use denote.Ref.{Bor}
-use Rattle.range_algebra.specs.Intervals.{Every}
-use Rattle.range_algebra.specs.declared.any.AnyRange.{AnyRange}
-use Rattle.range_store.specs.declared.storage.Item.{Item}
-use Rattle.range_change.specs.Answers.{MayBeAsked}
+use Rattle.range_map.specs.Common.{Shared, Bor, Every, AnyRange, Item, MayBeAsked}
 
 -- f may be called where it is shown the value of any of the items
 abbrev pub MayBeAskedOfEach : {K F V A : Type 0} → Shared F (Option (Bor V) × Unit {0}) A → F

@@ -1,12 +1,8 @@
 -- What items that are bound one after the other make of a list, and how far an iterator over them
 -- was taken.
 use Rattle.std.specs.Prelude.{◌≡◌, ◌↔◌, ◌∷◌, ◌++◌, Bool, Option, Some, List, map}
+use Rattle.range_map.specs.Common.{KeyOrder, Holds, IsEmptyRange, AnyRange, Item, Binds, IsBound, IsSomeOf}
 use Rattle.std.specs.Iterator.{Drains, YieldsThen}
-use Rattle.range_keys.specs.Order.{KeyOrder}
-use Rattle.range_algebra.specs.Range.{Holds, IsEmptyRange}
-use Rattle.range_algebra.specs.declared.any.AnyRange.{AnyRange}
-use Rattle.range_store.specs.declared.storage.Item.{Item}
-use Rattle.range_change.specs.Bindings.{Binds, IsBound, IsSomeOf}
 
 -- the item that what is read as a range and a value are
 abbrev pub item_of : {R K V : Type 0} → (R → AnyRange K) → R × V → Item (AnyRange K) V

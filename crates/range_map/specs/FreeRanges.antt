@@ -1,21 +1,7 @@
 -- The gaps of a list: what its ranges leave free of all keys.
 use Rattle.std.specs.Prelude.{◌≡◌, List, [], ◌∷◌, ◌++◌, ◌⊎◌, Option, Some, None, if◌then◌else◌}
-use Rattle.std.specs.Borrow.{Bor}
-use Rattle.std.specs.Option.{option_map}
-use Rattle.std.specs.declared.cmp.Ordering.TheVariants.{Equal}
-use Rattle.std.specs.declared.ops.Bound.{Bound}
+use Rattle.range_map.specs.Common.{Bor, option_map, Equal, Bound, KeyOrder, bound_of, flipped, starts_past_end, Any, Every, Holds, IsKnownRange, range_cmp, LiesBefore, AnyRange, Item, EachNext, IsPiece}
 use Rattle.std.specs.declared.ops.Bound.TheVariants.{Unbounded}
-use Rattle.range_keys.specs.Order.{KeyOrder}
-use Rattle.range_keys.specs.Position.{bound_of}
-use Rattle.range_algebra.specs.Compared.{flipped, starts_past_end}
-use Rattle.range_algebra.specs.Intervals.{Any, Every}
-use Rattle.range_algebra.specs.Range.{Holds, IsKnownRange}
-use Rattle.range_algebra.specs.RangeOrder.{range_cmp}
-use Rattle.range_algebra.specs.Relations.{LiesBefore}
-use Rattle.range_algebra.specs.declared.any.AnyRange.{AnyRange}
-use Rattle.range_store.specs.declared.storage.Item.{Item}
-use Rattle.range_change.specs.Neighbours.{EachNext}
-use Rattle.range_change.specs.Pieces.{IsPiece}
 
 abbrev pub full_range : {K : Type 0} → AnyRange K
 full_range = record { start = Unbounded; end = Unbounded }

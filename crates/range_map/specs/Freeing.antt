@@ -1,6 +1,6 @@
 -- What is said of a range that was not inserted since a stored one is in its way.
 use Rattle.std.specs.Prelude.{⊤}
-use Rattle.range_algebra.specs.declared.any.AnyRange.{AnyRange}
+use Rattle.range_map.specs.Common.{AnyRange}
 use Rattle.range_map.specs.declared.map.try_insert.NotFree.{NotFree}
 use Rattle.range_map.specs.declared.map.try_insert.NotFree.TheVariants.{Occupied, Memory}
 

@@ -1,13 +1,12 @@
 pub mod Appending
 pub mod Askable
-pub mod Combining
+mod Common
 pub mod Extending
 pub mod FreeRanges
 pub mod Freeing
 pub mod Iteration
 pub mod ListOrder
 pub mod MappedValues
-pub mod Merged
 pub mod Overlapping
 pub mod Overlays
 pub mod PartWay

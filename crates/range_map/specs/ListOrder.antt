@@ -1,18 +1,11 @@
 -- Equality, order and hash of lists of ranges with values: item by item, the range first.
 use Rattle.std.specs.Prelude.{◌≡◌, ℕ, ◌++◌, refl, Bool, IsTrue, List, ◌&&◌}
+use Rattle.range_map.specs.Common.{Equal, fold, AllZip, KeyOrder, IsLawful, range_cmp, range_total, range_input, range_respects, AnyRange, Item, BindAlike, IsStored}
 use Rattle.std.specs.declared.cmp.Ordering.{Ordering}
-use Rattle.std.specs.declared.cmp.Ordering.TheVariants.{Equal}
 use Rattle.std.specs.Hash.{slice, items_Alike}
-use Rattle.std.specs.List.{fold, AllZip}
 use Rattle.std.specs.Ordering.{eq_by_cmp, on, then_cmp}
 use Rattle.std.specs.Cmp.{IsEquivalence, IsTotalOrder, on_equiv, and_equiv, on_total, then_total, eq_by_cmp_equiv, both_tied, first_so, second_so}
 use Rattle.std.specs.Cmp.Lexicographic.{pointwise, slice_cmp, lists_equiv, lists_total, lists_ties}
-use Rattle.range_keys.specs.Order.{KeyOrder, IsLawful}
-use Rattle.range_algebra.specs.RangeOrder.{range_cmp, range_total, range_input, range_respects}
-use Rattle.range_algebra.specs.declared.any.AnyRange.{AnyRange}
-use Rattle.range_store.specs.declared.storage.Item.{Item}
-use Rattle.range_change.specs.Bindings.{BindAlike}
-use Rattle.range_change.specs.Stored.{IsStored}
 
 module _ {K : Type 0} (order : KeyOrder K) {V : Type 0} where
   -- equal ranges, by position, with equal values
@@ -93,8 +86,7 @@ module _ {K : Type 0} (order : KeyOrder K) {V : Type 0} where
     items_fed i j e =
         let ranges =
         range_respects order key_input keys i.key j.key
-        (first_so (eq_by_cmp (range_cmp order) i.key j.key) (same_value i.value j.value) e)
-        in
+        (first_so (eq_by_cmp (range_cmp order) i.key j.key) (same_value i.value j.value) e) in
         let rest =
         values i.value j.value (second_so (eq_by_cmp (range_cmp order) i.key j.key)
         (same_value i.value j.value) e) in

@@ -1,19 +1,12 @@
 -- What a list becomes where a closure answers a new value to each of its values.
 use Rattle.std.specs.Prelude.{◌≡◌, ◌↔◌, Bool, List, Option, Result, Ok}
-use Rattle.std.specs.Fn.{Shared, FnReturnsAt}
-use Rattle.std.specs.List.{AllZip}
-use denote.Ref.{Bor}
-use Rattle.range_keys.specs.Order.{KeyOrder}
-use Rattle.range_algebra.specs.Intervals.{Any}
-use Rattle.range_algebra.specs.Range.{HoldSame}
-use Rattle.range_algebra.specs.declared.any.AnyRange.{AnyRange}
-use Rattle.range_store.specs.declared.storage.Item.{Item}
-use Rattle.range_change.specs.Bindings.{BindAlike, Binds, IsBound, IsSomeOf, IsStoredFor}
+use Rattle.range_map.specs.Common.{Shared, FnReturnsAt, AllZip, Bor, KeyOrder, Any, HoldSame, AnyRange, Item, BindAlike, Binds, IsBound, IsSomeOf, IsStoredFor}
 
 -- f may be called where it is shown the value of any of the items
 abbrev pub MayBeAskedOfValues : {K F V A : Type 0} → Shared F (Bor V × Unit {0}) A → F
     → List (Item (AnyRange K) V) → Type 0
-MayBeAskedOfValues {K} {F} {V} calls f items = (shown : Bor V) → Any (λ i. i.value ≡ shown.now) items
+MayBeAskedOfValues {K} {F} {V} calls f items = (shown : Bor V)
+    → Any (λ i. i.value ≡ shown.now) items
     → calls.pre f (shown, tt)
 
 module _ {K : Type 0} (order : KeyOrder K) {F V W E : Type 0}

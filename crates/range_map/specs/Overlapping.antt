@@ -1,11 +1,6 @@
 -- The items that a range meets, as they stand in a list, and the run of items between two of them.
 use Rattle.std.specs.Prelude.{◌≡◌, ℕ, ◌+◌, ◌-◌, ◌≤◌, List, [], ◌∷◌, ◌++◌, take, drop, Option, Some, None, ⊤}
-use Rattle.range_keys.specs.Order.{KeyOrder}
-use Rattle.range_algebra.specs.Intervals.{Every}
-use Rattle.range_algebra.specs.Relations.{LiesBefore}
-use Rattle.range_algebra.specs.declared.any.AnyRange.{AnyRange}
-use Rattle.range_store.specs.declared.storage.Item.{Item}
-use Rattle.range_change.specs.Lookups.{Overlap}
+use Rattle.range_map.specs.Common.{KeyOrder, Every, LiesBefore, AnyRange, Item, Overlap}
 
 module _ {K : Type 0} (order : KeyOrder K) {V : Type 0} where
   -- the list is what lies before the range, what meets it, and what lies after it

@@ -1,11 +1,6 @@
 -- What two lists make together where each key is bound as one of them binds it, or not at all.
 use Rattle.std.specs.Prelude.{◌≡◌, ◌↔◌, Bool, true, false, List, Option, Some, None, Result, Ok}
-use Rattle.std.specs.Fn.{Shared, FnReturnsAt}
-use denote.Ref.{Bor}
-use Rattle.range_keys.specs.Order.{KeyOrder}
-use Rattle.range_algebra.specs.declared.any.AnyRange.{AnyRange}
-use Rattle.range_store.specs.declared.storage.Item.{Item}
-use Rattle.range_change.specs.Bindings.{IsBound, Binds}
+use Rattle.range_map.specs.Common.{Shared, FnReturnsAt, Bor, KeyOrder, AnyRange, Item, IsBound, Binds}
 
 -- the first value where there is a second, or where there is none
 abbrev pub first_where : {V W : Type 0} → Bool → Option V → Option W → Option V
@@ -20,7 +15,7 @@ IsCopyOfValue is_clone None copy = copy ≡ None
 IsCopyOfValue is_clone (Some v) None = ⊥
 IsCopyOfValue is_clone (Some v) (Some w) = is_clone v w
 
--- the answer is what f may make of the second value, or a clone of the first where there is no second
+-- the answer is what f may make of the second value, or where there is none a clone of the first
 abbrev pub IsSecondOrFirst : {F V W E : Type 0} → (V → V → Type 0)
     → Shared F (Bor W × Unit {0}) (Result V E) → F → Option V → Option W → Option V → Type 0
 IsSecondOrFirst is_clone calls f first None answer = IsCopyOfValue is_clone first answer

@@ -1,11 +1,6 @@
 -- How far a call came that goes over a list and failed at one of its elements.
 use Rattle.std.specs.Prelude.{◌≡◌, ◌↔◌, Bool, Option, List, ◌∷◌, ◌++◌}
-use Rattle.range_keys.specs.Order.{KeyOrder}
-use Rattle.range_algebra.specs.Intervals.{Any}
-use Rattle.range_algebra.specs.Range.{Holds}
-use Rattle.range_algebra.specs.declared.any.AnyRange.{AnyRange}
-use Rattle.range_store.specs.declared.storage.Item.{Item}
-use Rattle.range_change.specs.Bindings.{IsBound, Binds}
+use Rattle.range_map.specs.Common.{KeyOrder, Any, Holds, AnyRange, Item, IsBound, Binds}
 use Rattle.range_map.specs.FreeRanges.{AreGaps}
 
 -- P holds of what stands before some element of the list

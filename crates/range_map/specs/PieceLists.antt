@@ -1,22 +1,8 @@
 -- The pieces of a range as a list, read off from the items that meet it.
 use Rattle.std.specs.Prelude.{◌≡◌, List, [], ◌∷◌, ◌++◌, Option, Some, None, map}
-use Rattle.std.specs.Borrow.{Bor}
-use Rattle.std.specs.Option.{option_copied}
-use Rattle.std.specs.declared.cmp.Ordering.TheVariants.{Equal}
-use Rattle.std.specs.declared.ops.Bound.{Bound}
-use Rattle.range_keys.specs.Order.{KeyOrder}
+use Rattle.range_map.specs.Common.{Bor, option_copied, Equal, Bound, KeyOrder, flipped, Any, Every, IsKnownRange, range_cmp, range_of, LiesBefore, AnyRange, Item, EachNext, IsPiece}
 use Rattle.range_algebra.specs.Combined.{common}
-use Rattle.range_algebra.specs.Compared.{flipped}
-use Rattle.range_algebra.specs.Intervals.{Any, Every}
-use Rattle.range_algebra.specs.Range.{IsKnownRange}
-use Rattle.range_algebra.specs.RangeOrder.{range_cmp}
-use Rattle.range_algebra.specs.References.{range_of}
-use Rattle.range_algebra.specs.Relations.{LiesBefore}
-use Rattle.range_algebra.specs.declared.any.AnyRange.{AnyRange}
-use Rattle.range_store.specs.declared.storage.Item.{Item}
 use Rattle.range_map.specs.FreeRanges.{between}
-use Rattle.range_change.specs.Neighbours.{EachNext}
-use Rattle.range_change.specs.Pieces.{IsPiece}
 
 -- the piece that a range over references shows, with its value if it is bound
 abbrev pub shown_piece : {K V : Type 0} → AnyRange (Bor K) × Option (Bor V)

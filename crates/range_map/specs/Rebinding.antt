@@ -1,11 +1,6 @@
 -- What an update makes of what one key is bound to.
 use Rattle.std.specs.Prelude.{◌↔◌, Bool, List, Option, Result, Ok}
-use Rattle.range_keys.specs.Order.{KeyOrder}
-use Rattle.range_algebra.specs.Range.{Holds}
-use Rattle.range_algebra.specs.declared.any.AnyRange.{AnyRange}
-use Rattle.range_store.specs.declared.storage.Item.{Item}
-use Rattle.range_change.specs.Answers.{IsAsAnswered}
-use Rattle.range_change.specs.Bindings.{Binds}
+use Rattle.range_map.specs.Common.{KeyOrder, Holds, AnyRange, Item, IsAsAnswered, Binds}
 
 -- over what the closure may answer to a value, or to none
 module _ {K : Type 0} (order : KeyOrder K) {V : Type 0} (same : V → V → Bool) {E : Type 0}

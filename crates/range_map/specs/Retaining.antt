@@ -1,11 +1,6 @@
 -- What a closure is shown of the stored items, and what is left where it answers which are kept.
 use Rattle.std.specs.Prelude.{◌≡◌, ◌↔◌, Bool, List, Option}
-use Rattle.std.specs.Fn.{Mut, Called}
-use denote.Ref.{Bor}
-use Rattle.range_keys.specs.Order.{KeyOrder}
-use Rattle.range_algebra.specs.declared.any.AnyRange.{AnyRange}
-use Rattle.range_store.specs.declared.storage.Item.{Item}
-use Rattle.range_change.specs.Bindings.{Binds, IsBound}
+use Rattle.range_map.specs.Common.{Mut, Called, Bor, KeyOrder, AnyRange, Item, Binds, IsBound}
 use Rattle.range_map.specs.Iteration.{shown_item}
 
 -- a call of f at references to the range and the value of the item may answer b, and leave f'

@@ -1,13 +1,8 @@
 -- What an update makes of a list where its closure answers alike to all that it is shown: for who
 -- calls `update` with a simple closure. Each follows from the clause `rebound`.
 use Rattle.std.specs.Prelude.{◌≡◌, ◌↔◌, Bool, List, Option, Some, None, Result, Ok}
+use Rattle.range_map.specs.Common.{KeyOrder, Holds, AnyRange, Item, IsAsAnswered, Binds, IsBound, IsSomeOf, IsBoundAfter, IsUnboundAfter}
 use Rattle.std.proofs.Common.{subst, sym}
-use Rattle.range_keys.specs.Order.{KeyOrder}
-use Rattle.range_algebra.specs.Range.{Holds}
-use Rattle.range_algebra.specs.declared.any.AnyRange.{AnyRange}
-use Rattle.range_store.specs.declared.storage.Item.{Item}
-use Rattle.range_change.specs.Answers.{IsAsAnswered}
-use Rattle.range_change.specs.Bindings.{Binds, IsBound, IsSomeOf, IsBoundAfter, IsUnboundAfter}
 use Rattle.range_map.specs.Rebinding.{AreRebound}
 
 module _ {K : Type 0} (order : KeyOrder K) {V : Type 0} (same : V → V → Bool) {E : Type 0}

@@ -1,12 +1,6 @@
 -- When a list of ranges with values is in order, and where it is not.
 use Rattle.std.specs.Prelude.{◌+◌, ℕ, List, [], ◌∷◌, Option, Some, None, take}
-use Rattle.range_keys.specs.Order.{KeyOrder}
-use Rattle.range_algebra.specs.Intervals.{Every}
-use Rattle.range_algebra.specs.Range.{IsEmptyRange}
-use Rattle.range_algebra.specs.Relations.{LiesBefore}
-use Rattle.range_algebra.specs.declared.any.AnyRange.{AnyRange}
-use Rattle.range_store.specs.declared.storage.Item.{Item}
-use Rattle.range_change.specs.Neighbours.{EachNext}
+use Rattle.range_map.specs.Common.{KeyOrder, Every, IsEmptyRange, LiesBefore, AnyRange, Item, EachNext}
 
 module _ {K : Type 0} (order : KeyOrder K) where
   -- the range is nonempty, and lies after the one before it, where there is one

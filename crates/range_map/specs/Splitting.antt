@@ -1,10 +1,6 @@
 -- What a list binds below a key, and what from it on.
 use Rattle.std.specs.Prelude.{◌↔◌, ◌+◌, ◌≤◌, Bool, Option, List, length}
-use Rattle.range_keys.specs.Order.{KeyOrder, Below, NotAbove}
-use Rattle.range_algebra.specs.declared.any.AnyRange.{AnyRange}
-use Rattle.range_store.specs.declared.storage.Item.{Item}
-use Rattle.range_change.specs.Bindings.{Binds, IsBound}
-use Rattle.range_change.specs.Stored.{IsStored}
+use Rattle.range_map.specs.Common.{KeyOrder, Below, NotAbove, AnyRange, Item, Binds, IsBound, IsStored}
 
 module _ {K : Type 0} (order : KeyOrder K) {V : Type 0} (same_value : V → V → Bool) where
   -- the one list binds the keys below one as before, the other those from it on, and no others

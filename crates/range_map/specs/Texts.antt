@@ -1,10 +1,9 @@
 -- How a map is shown, given how its keys and values are; nothing is said where one of them leaves
 -- its text open.
 use Rattle.std.specs.Prelude.{ℕ, List, [], ◌∷◌, Option, Some, codes}
+use Rattle.range_map.specs.Common.{AnyRange, Item}
 use Rattle.std.specs.Fmt.{◌++?◌}
-use Rattle.range_algebra.specs.declared.any.AnyRange.{AnyRange}
 use Rattle.range_algebra.specs.Texts.{range_text}
-use Rattle.range_store.specs.declared.storage.Item.{Item}
 
 module _ {K V : Type 0} (key_text : K → Option (List ℕ)) (value_text : V → Option (List ℕ)) where
   abbrev pub item_text : Item (AnyRange K) V → Option (List ℕ)

@@ -1,12 +1,6 @@
 -- How the ranges of two lists lie to one another.
 use Rattle.std.specs.Prelude.{List}
-use Rattle.range_keys.specs.Order.{KeyOrder}
-use Rattle.range_algebra.specs.Intervals.{Any, Every}
-use Rattle.range_algebra.specs.declared.any.AnyRange.{AnyRange}
-use Rattle.range_store.specs.declared.storage.Item.{Item}
-use Rattle.range_change.specs.Bindings.{IsBound}
-use Rattle.range_change.specs.Lookups.{MeetsSome}
-use Rattle.range_change.specs.Pieces.{LiesIn}
+use Rattle.range_map.specs.Common.{KeyOrder, Any, Every, AnyRange, Item, IsBound, MeetsSome, LiesIn}
 
 module _ {K : Type 0} (order : KeyOrder K) {V W : Type 0} where
   -- no range of the one list meets one of the other

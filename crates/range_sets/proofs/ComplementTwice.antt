@@ -12,14 +12,19 @@ use Rattle.range_algebra.specs.declared.any.AnyRange.{AnyRange}
 use Rattle.range_algebra.proofs.Lists.{every_weaker}
 use Rattle.range_algebra.specs.Intervals.{Any, Every}
 use Rattle.range_algebra.specs.RangeOrder.{range_cmp, range_total}
+use Rattle.range_algebra.specs.Relations.{LiesBefore}
 use Rattle.range_algebra.proofs.Places.{unbounded_start}
 use Rattle.range_store.specs.declared.storage.Item.{Item}
 use Rattle.range_map.specs.FreeRanges.{full_range, AreGaps, free_from}
 use Rattle.range_map.specs.ListOrder.{same_list}
 use Rattle.range_change.specs.Pieces.{LiesIn, IsFreePart, IsPiece}
 use Rattle.range_change.specs.Lookups.{Overlap}
-use Rattle.range_map.proofs.FreeParts.{IsFull, IsRow, gaps_are, stored_row}
-use Rattle.range_map.proofs.JustBefore.{ends_full}
+use Rattle.range_map.proofs.FreeParts.{gaps_are}
+use Rattle.range_map.proofs.PieceSteps.{Pairs}
+use Rattle.range_change.proofs.Forms.{stored_known}
+use Rattle.range_map.proofs.Together.{IsAscending, stored_ascends}
+use Rattle.range_sets.proofs.Filling.{all_equal}
+use Rattle.range_sets.proofs.FullRanges.{IsFull, all_full, ascending_pairs, ends_full}
 use Rattle.range_change.proofs.Listed.{stored_list_is_listed}
 use Rattle.range_sets.specs.Complements.{EqualGapsOf}
 use Rattle.range_sets.specs.KeySets.{IsStoredSet}
@@ -112,8 +117,15 @@ module _ {K : Type 0} (order : KeyOrder K) (lawful : IsLawful order) where
     abbrev IsFree : AnyRange K → Type 0
     IsFree r = IsFreePart order others full_range r
 
-    row : IsRow order lawful items
-    row = stored_row order lawful (λ _ _. true) items form
+    up : IsAscending order items
+    up = stored_ascends lawful form
+
+    full_items : Every (λ i. IsFull order lawful i.key) items
+    full_items =
+        all_full order lawful items (stored_known order lawful (λ _ _. true) all_equal items form) up
+
+    pairs : Pairs (λ i j. LiesBefore order i.key j.key) items
+    pairs = ascending_pairs order lawful items up
 
     free_full : (r : AnyRange K) → IsFree r → IsFull order lawful r
     free_full r free = (
@@ -129,7 +141,7 @@ module _ {K : Type 0} (order : KeyOrder K) (lawful : IsLawful order) where
         let walk = free_from order (Some Unbounded) items in
         every_weaker (λ f. IsPiece order items full_range f None) (λ f. ¬ Overlap order f r) walk
         (λ f piece. missed_equal others gaps f r zip free.free (are.all f piece.0.known piece))
-        (gaps_are order lawful items row).each
+        (gaps_are lawful all_equal items form).each
 
     -- and so it lies in a range of the set
     free_range_is_within_item : (r : AnyRange K) → IsFree r
@@ -164,7 +176,7 @@ module _ {K : Type 0} (order : KeyOrder K) (lawful : IsLawful order) where
     items_wide =
         every_for (λ (other : FreeRange) i. LiesIn order i.key other.0 → LiesIn order other.0 i.key)
         items (λ other. only_one_lies_in_range order lawful
-        (λ i. i.key) other.0 items row.full row.pairs (free_range_is_within_item other.0 other.1))
+        (λ i. i.key) other.0 items full_items pairs (free_range_is_within_item other.0 other.1))
 
     items_missed : Every (λ i. Every (λ j. ¬ Overlap order j.key i.key) others) items
     items_missed =
@@ -180,7 +192,7 @@ module _ {K : Type 0} (order : KeyOrder K) (lawful : IsLawful order) where
         (λ i. Every (λ j. ¬ Overlap order j.key i.key) others)
         (λ i. (other : FreeRange) → LiesIn order i.key other.0 → LiesIn order other.0 i.key)
         (λ i. IsPiece order others full_range i.key None) items
-        (λ i full missed wide. (item_free i full missed, λ other free. wide (other, free))) row.full
+        (λ i full missed wide. (item_free i full missed, λ other free. wide (other, free))) full_items
         items_missed items_wide
 
     -- the gaps of the complement are the ranges of the set
@@ -200,8 +212,8 @@ module _ {K : Type 0} (order : KeyOrder K) (lawful : IsLawful order) where
         (λ i piece. any_more (λ g. range_cmp order g i.key ≡ Equal)
         (λ g. LiesIn order i.key g) again (λ g e. (equal_within order lawful g i.key e).1)
         (were.all i.key piece.0.known piece)) items_pieces in
-        mutual_cover_matches order lawful (λ g. g) (λ i. i.key) again items full row.full
-        (row_pairs order lawful again full were.rising) row.pairs here there
+        mutual_cover_matches order lawful (λ g. g) (λ i. i.key) again items full full_items
+        (row_pairs order lawful again full were.rising) pairs here there
 
   -- the complement of the complement of a set equals it
   pub complement_twice : (items others thirds : List Stored) → IsStoredSet order items

@@ -19,8 +19,7 @@ use Rattle.range_map.specs.FreeRanges.{between, free_from}
 use Rattle.range_change.specs.Pieces.{LiesIn}
 use Rattle.range_change.specs.Lookups.{Overlap}
 use Rattle.range_change.proofs.Forms.{before_is, nonempty_good, touches_is}
-use Rattle.range_map.proofs.FreeParts.{From, IsFull, between_is}
-use Rattle.range_map.proofs.JustBefore.{ends_before, ends_full}
+use Rattle.range_sets.proofs.FullRanges.{From, IsFull, between_is, ends_before, ends_full}
 use Rattle.range_change.proofs.Listed.{IsListed}
 
 module _ {K : Type 0} (order : KeyOrder K) (lawful : IsLawful order) where
@@ -90,11 +89,11 @@ module _ {K : Type 0} (order : KeyOrder K) (lawful : IsLawful order) where
       ((before_is order lawful b p (flipped_known order lawful x b turns known_x) known).0 l)
 
   -- what ends after an end reaches the start just past it
-  end_reaches : (e a q : Bound K) → IsKnownBound order q → flipped e ≡ Some a → PLt (End e) (End q)
-      → PLt (End q) (Start a) → ⊥
-  end_reaches e a q known turns l under =
+  end_reaches : (e a q : Bound K) → IsKnownBound order e → IsKnownBound order q
+      → flipped e ≡ Some a → PLt (End e) (End q) → PLt (End q) (Start a) → ⊥
+  end_reaches e a q known_e known turns l under =
       lt_not_le (position_cmp order.cmp) (position_total order.cmp lawful.total) (End e) (End q) l
-      (ends_before order lawful q a e known (flipped_back order lawful e a turns) under)
+      (ends_before order lawful q a e known known_e (flipped_back order lawful e a turns) under)
 
   -- a range after a bound that misses the gap up to a start does not start before it
   start_is_not_before_item : (s : Option (Bound K)) (x : Bound K) (r : AnyRange K)
@@ -115,14 +114,14 @@ module _ {K : Type 0} (order : KeyOrder K) (lawful : IsLawful order) where
       )
 
   -- a range that misses the gap after an end, the last one, does not reach over it
-  over_last : (e : Bound K) (r : AnyRange K) → IsFull order lawful r
+  over_last : (e : Bound K) (r : AnyRange K) → IsKnownBound order e → IsFull order lawful r
       → Every (λ g. ¬ Overlap order g r) (between order (flipped e) (Some Unbounded))
       → PLt (End e) (End r.end) → ⊥
-  over_last e r full all l =
+  over_last e r known full all l =
       let total = position_total order.cmp lawful.total in
       let cmp = position_cmp order.cmp in
       let turn = end_is_flipped e r.end full.0.1 l in
-      let under = end_reaches e turn.0 r.end full.0.1 turn.1 l in
+      let under = end_reaches e turn.0 r.end known full.0.1 turn.1 l in
       let last = ends_full order lawful r.end full.0.1 in
       let reach =
       le_trans cmp total (Start turn.0) (End r.end) (End Unbounded)
@@ -157,7 +156,7 @@ module _ {K : Type 0} (order : KeyOrder K) (lawful : IsLawful order) where
       (reach_before a next.start b known_a known_next.0 second.1 up) all (
         λ behind. lt_not_le cmp total (Start r.start) (Start next.start) ahead
             (start_after r.start next.start b full.0.0 known_next.0 second.1 behind),
-        end_reaches e a r.end full.0.1 first.1 l,
+        end_reaches e a r.end known full.0.1 first.1 l,
       )
 
   -- what starts past an end is after the bound on the other side of it
@@ -197,7 +196,7 @@ module _ {K : Type 0} (order : KeyOrder K) (lawful : IsLawful order) where
         (r : AnyRange K) → IsSetList (i ∷ rest) → IsFull order lawful r
         → Every (λ g. ¬ Overlap order g r) (free_from order (flipped i.key.end) rest)
         → PLe (Start r.start) (End i.key.end) → PLt (End i.key.end) (End r.end) → ⊥
-    end_is_not_past_item i [] r h full all starts l = over_last i.key.end r full all l
+    end_is_not_past_item i [] r h full all starts l = over_last i.key.end r h.0.1 full all l
     end_is_not_past_item i (j ∷ rest) r h full all starts l =
         let known = first_known j rest h.4 in
         let some = next_known j rest h.4 in

@@ -85,7 +85,7 @@ module _ {K : Type 0} (order : KeyOrder K) where
         let zip =
         zip_more SameRange items filled.done
         (record { key = r; value = tt }) g filled.copied same in
-        copy_stored order lawful (λ _ _. true) all_equal more (set_items front)
+        copy_stored lawful all_equal more (set_items front)
         (as_copy more front zip)
         (All-from_recursion (λ i. IsKnownRange order i.key) more
         (all_more (λ i. IsKnownRange order i.key) items

@@ -7,7 +7,7 @@ use Rattle.range_change.specs.Bindings.{Binds}
 use Rattle.range_change.proofs.Overlaps.{binds_bound}
 use Rattle.range_map.specs.Overlays.{IsOverlaid, IsRestricted, IsWithout}
 use Rattle.range_map.specs.PartWay.{AreUnboundAfter, BeforeOne, BeforeOneGap}
-use Rattle.range_map.proofs.Overlays.{bound_or_not}
+use Rattle.range_map.proofs.BoundKeys.{bound_or_not}
 use Rattle.range_sets.specs.KeySets.{HoldsKey, HoldsWithoutAll, SomeHolds}
 use Rattle.range_sets.specs.TwoSets.{HoldsEither, HoldsBoth, HoldsFirstAlone}
 use Rattle.range_sets.proofs.Membership.{bound_to}

@@ -10,10 +10,10 @@ use Rattle.range_algebra.proofs.Meeting.{held_or_not}
 use Rattle.range_store.specs.declared.storage.Item.{Item}
 use Rattle.range_change.specs.Answers.{IsAsAnswered}
 use Rattle.range_change.specs.Bindings.{Binds}
-use Rattle.range_map.specs.Combining.{AreCombined}
+use Rattle.range_merge.specs.Combining.{AreCombined}
 use Rattle.range_change.proofs.Overlaps.{binds_bound}
 use Rattle.range_sets.specs.KeySets.{HoldsKey}
-use Rattle.range_sets.specs.TwoSets.{HoldsEither, HoldsBoth, HoldsFirstAlone, HoldsJustOne, AreKept}
+use Rattle.range_sets.specs.TwoSets.{HoldsBoth, HoldsFirstAlone, HoldsJustOne, AreKept}
 
 -- two tests that are true in one case are one
 same_test : {P : Type 0} (a b : Bool) → (IsTrue a ↔ P) → (IsTrue b ↔ P) → a ≡ b
@@ -182,11 +182,6 @@ module _ {K : Type 0} (order : KeyOrder K) where
 
     module _ (may : Bool → Bool → Bool → Type 0) (items others new : Items)
         (kept : AreKept order items others new may) where
-      pub kept_either : ((a b r : Bool) → may a b r → r ≡ (a || b))
-          → HoldsEither order items others new
-      kept_either told k key =
-          by_test may (λ a b. a || b) refl told items others new kept k key either_is
-
       pub kept_both : ((a b r : Bool) → may a b r → r ≡ (a && b))
           → HoldsBoth order items others new
       kept_both told k key =

@@ -7,9 +7,11 @@ pub mod Enclosing
 pub mod EndRanges
 pub mod Filled
 pub mod Filling
+pub mod FullRanges
 pub mod InPlace
 pub mod Keeping
 pub mod KeptKeys
+pub mod KeysOfMaps
 pub mod Likeness
 pub mod Matching
 pub mod Membership
@@ -18,3 +20,4 @@ pub mod PairsTogether
 pub mod Retained
 pub mod SetLaws
 pub mod Showing
+pub mod Uniting

@@ -1,14 +1,13 @@
 -- The clone of a string, a tuple, a vector or a set equals its source, where the clones of its
 -- parts do: what a map asks of the clones of its values.
-use Rattle.std.specs.Prelude.{◌≡◌, Bool, true, ◌&&◌, IsTrue, Vec, vec_len, String, string_bytes, string_eq}
+use Rattle.std.specs.Prelude.{◌≡◌, Bool, ◌&&◌, Vec, vec_len, string_bytes, string_eq}
 use Rattle.std.specs.Cmp.{IsEquivalence}
 use Rattle.std.specs.Cmp.Lexicographic.{pointwise}
 use Rattle.std.specs.List.{AllZip}
 use Rattle.std.specs.String.{string_eq_equiv}
 use Rattle.std.specs.BTreeSet as tree
-use Rattle.std.specs.HashSet.{HashSet, hash_set_eq}
+use Rattle.std.specs.HashSet.{hash_set_eq}
 use Rattle.std.specs.HashSet as table
-use Rattle.std.proofs.Common.{subst}
 use Rattle.std.proofs.lemmas.Bool.{and_from}
 use Rattle.range_algebra.specs.Range.{ClonesAreEqual}
 use Rattle.range_sets.specs.ListedMembers.{clones_pointwise, tree_clones, table_clones}

@@ -63,3 +63,8 @@ module _ {K : Type 0} (order : KeyOrder K) where
     abbrev pub IsLeastCount : List (Item (AnyRange K) V) → ℕ → Type 0
     IsLeastCount items n = (others : List (Item (AnyRange K) V)) → HoldAlike items others
         → n ≤ length others
+
+  -- the second holds just the keys of the first, whatever their values
+  abbrev pub HoldsKeysOf : {V W : Type 0} → List (Item (AnyRange K) V) → List (Item (AnyRange K) W)
+      → Type 0
+  HoldsKeysOf items keys = (k : K) → order.is_key k → HoldsKey keys k ↔ HoldsKey items k

@@ -13,3 +13,4 @@ pub mod SetLaws
 pub mod SetOrder
 pub mod SetTexts
 pub mod TwoSets
+pub mod Uniting

@@ -18,6 +18,7 @@ mod in_place;
 mod insert;
 mod into_iter;
 mod iter;
+mod keys;
 mod len;
 mod reads;
 mod relations;
@@ -25,6 +26,7 @@ mod remove;
 mod retain;
 mod text;
 mod try_insert;
+mod union;
 
 pub use crate::laws::{
     complementing_twice_restores, complements_exchange_union_and_intersection,

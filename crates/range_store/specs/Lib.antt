@@ -11,6 +11,7 @@ pub mod Falling
 pub mod Frame
 pub mod Heap
 pub mod Holding
+pub mod Marks
 pub mod Nodes
 pub mod Occurrences
 pub mod Places

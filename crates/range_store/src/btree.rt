@@ -7,6 +7,7 @@ ghost use Rattle.range_store.specs.Nodes.{items_below, IsRoomy, IsRoomy-prop};
 mod blocks;
 mod building;
 mod child_lists;
+pub(crate) mod chunks;
 mod division;
 mod insertion;
 mod nodes;
@@ -15,12 +16,13 @@ mod removal;
 mod searching;
 mod tree;
 
+pub use crate::btree::chunks::Mark;
 use crate::btree::nodes::Nodes;
 pub use crate::btree::nodes::{CAPACITY, MAX_LEN, MIN_LEN};
 pub use crate::btree::path::Edge;
 use crate::btree::path::stands_first;
 use crate::btree::searching::MAX_ASKS;
-use crate::storage::{Probe, Storage};
+use crate::storage::{Chunk, Probe, Storage};
 use std::alloc::{AllocError, Global};
 
 /// Items in a B-tree: insertion, removal and search take steps in the logarithm of their number.
@@ -71,9 +73,14 @@ impl<T: Drop> BoxStorage<T> {
 
 impl<T: Drop> Storage<T> for BoxStorage<T> {
     ghost use Rattle.range_store.specs.declared.btree.searching.TheConstants.{MAX_ASKS};
-    ghost use Rattle.range_store.specs.Holding.{box_items, box_rank, box_room, box_place_before, IsGood, with_box_item, items_with_box_item, room_with_box_item, good_with_box_item, rank_with_box_item, good_in_range, items_fit, none_asked_of_empty};
+    ghost use Rattle.range_store.specs.Marks.{IsGoodMark};
+    ghost use Rattle.range_store.specs.Holding.{box_items, box_place, box_rank, box_room, box_place_before, IsGood, with_box_item, items_with_box_item, room_with_box_item, good_with_box_item, rank_with_box_item, good_in_range, items_fit, none_asked_of_empty};
 
     type Position = Edge;
+
+    ghost is_good_mark = { λ s c. IsGoodMark s c };
+
+    ghost mark_place = { λ s c. box_place s c.edge };
 
     ghost items = { λ s. box_items s };
 
@@ -121,6 +128,15 @@ impl<T: Drop> Storage<T> for BoxStorage<T> {
             return None;
         }
         Some(edge)
+    }
+
+    fn start(&self) -> Mark {
+        self.start_mark()
+    }
+
+    #[inline(never)]
+    fn chunk_from(&self, mark: Mark) -> Chunk<'_, T> {
+        self.chunk_after(mark)
     }
 
     fn get(&self, p: Edge) -> &T {

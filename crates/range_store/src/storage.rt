@@ -1,13 +1,15 @@
 //! An ordered container, seen as a list of items with capacity to spare, and a probe that searches
 //! it.
-ghost use Rattle.std.specs.Prelude.{◌≡◌, ℕ, ◌+◌, ◌-◌, ◌^◌, ◌<◌, ◌≤◌, List, Bool, true, false, [], ◌∷◌, ◌++◌, length, slice_index_or, slice_set, insert, remove, IsTrue, IsSome, IfSome, IfNone, IsOk, OnOk, OnErr, IfOk, MatchOption, All, min, Option};
+ghost use Rattle.std.specs.Prelude.{◌≡◌, ℕ, ◌+◌, ◌-◌, ◌^◌, ◌<◌, ◌≤◌, List, Bool, true, false, [], ◌∷◌, ◌++◌, length, map, take, drop, slice_index_or, slice_set, insert, remove, IsTrue, IsSome, Some, IfSome, IfNone, IsOk, OnOk, OnErr, IfOk, MatchOption, All, min, Option};
 ghost use Rattle.std.specs.List.Sorted.{IsPartitionedBy, IsPartitionPoint};
 ghost use Rattle.std.specs.List.{AllZip};
 ghost use Rattle.std.specs.Option.{ForSome};
 ghost use Rattle.std.specs.Borrow.{Lends, sem};
 ghost use Rattle.range_store.specs.Counting.{one_step_after, AddsSteps, greatest_count};
 ghost use Rattle.range_store.specs.Places.{place_before, IsAt, IsFrontOf};
+ghost use Rattle.range_store.specs.declared.btree.chunks.Mark.{Mark};
 
+use crate::btree::Mark;
 use std::alloc::{AllocError, Global};
 use std::marker::Model;
 
@@ -80,6 +82,29 @@ impl<K, V> Item<K, V> {
     }
 }
 
+/// An item of a container, those after it that lie together, and the mark after these.
+#[derive(Drop)]
+pub struct Chunk<'a, T> {
+    /// The first item.
+    pub first: &'a T,
+    /// The cells after it, each with an item.
+    pub rest: &'a [Option<T>],
+    /// The mark after these.
+    pub after: Mark,
+}
+
+/// The item in a full cell.
+#[inline(always)]
+pub fn item_in<T>(cell: &Option<T>) -> &T
+    requires { IsSome cell.now }
+    ensures { cell.now ≡ Some result.now }
+{
+    match cell {
+        Some(item) => item,
+        None => unreachable!(),
+    }
+}
+
 /// A question to the items of a container, which counts how often it is asked.
 pub trait Probe<T> {
     /// What it answers of each item.
@@ -103,6 +128,11 @@ pub trait Probe<T> {
 pub trait Storage<T>: Drop {
     /// Where an item stands. A change of the container may make it useless.
     type Position: Copy;
+
+    /// Whether a mark may be used, and how many items come before it.
+    ghost is_good_mark: { Self → Mark → Type 0 };
+
+    ghost mark_place: { Self → Mark → ℕ };
 
     /// The items in order.
     ghost items: { Self → List T };
@@ -152,6 +182,27 @@ pub trait Storage<T>: Drop {
         requires { is_good self.now p }
         ensures { MatchOption result (rank self.now p ≡ 0)
             (λ q. is_good self.now q × (rank self.now q + 1 ≡ rank self.now p)) };
+
+    /// The mark before all items.
+    fn start(&self) -> Mark
+        ensures good { is_good_mark self.now result }
+        ensures place { mark_place self.now result ≡ 0 };
+
+    /// The item after a mark, the items after it that lie together, perhaps none, and the mark
+    /// after these. Allocates nothing.
+    ///
+    /// A B-tree gives those that are left in a leaf, a vector the one item.
+    fn chunk_from(&self, mark: Mark) -> Chunk<'_, T>
+        requires good { is_good_mark self.now mark }
+        requires some { mark_place self.now mark < length (items self.now) }
+        ensures first { result.first.now
+            ≡ slice_index_or (items self.now) (mark_place self.now mark) result.first.now }
+        ensures rest { result.rest.now ≡ map (λ x. Some x)
+            (take (length result.rest.now)
+            (drop (mark_place self.now mark + 1) (items self.now))) }
+        ensures good { is_good_mark self.now result.after }
+        ensures place { mark_place self.now result.after
+            ≡ mark_place self.now mark + 1 + length result.rest.now };
 
     /// The item at a position.
     fn get(&self, p: Self::Position) -> &T

@@ -75,6 +75,7 @@ pub static CALLS: &[(&str, Call)] = &[
     ("set: extend", Call::Set(SetCall::Extend)),
     ("set: from_iter", Call::Set(SetCall::FromIter)),
     ("set: complement", Call::Set(SetCall::Complement)),
+    ("set: keys_of", Call::Set(SetCall::KeysOf)),
     ("set: union", Call::Set(SetCall::Union)),
     ("set: intersection", Call::Set(SetCall::Intersection)),
     ("set: difference", Call::Set(SetCall::Difference)),

@@ -33,6 +33,8 @@ pub enum SetCall {
     Extend,
     FromIter,
     Complement,
+    /// Of the set as a map.
+    KeysOf,
     /// With a set that cuts each stored range.
     Union,
     Intersection,
@@ -172,6 +174,17 @@ fn complementing<C: Storage<Entry>>(set: &Set<C>, size: Size) -> Outcome {
                 && others.contains(-1)
                 && !others.contains(key(size.middle(), 0)),
         ),
+        Err(MapError::Memory) => refused(is_filled(set, size.count, 0)),
+    }
+}
+
+fn keys_again<C: Storage<Entry>>(alloc: Global, set: &Set<C>) -> Result<Set<C>, MapError> {
+    RangeSet::keys_of(alloc, set.as_map())
+}
+
+fn taking_keys<C: Storage<Entry>>(alloc: Global, set: &Set<C>, size: Size) -> Outcome {
+    match keys_again(alloc, set) {
+        Ok(keys) => done(is_filled(&keys, size.count, 0)),
         Err(MapError::Memory) => refused(is_filled(set, size.count, 0)),
     }
 }
@@ -393,6 +406,7 @@ fn call<C: Storage<Entry>>(alloc: Global, set: &mut Set<C>, size: Size, call: Se
         SetCall::Extend => extension(set, size),
         SetCall::FromIter => gathering::<C>(alloc),
         SetCall::Complement => complementing(set, size),
+        SetCall::KeysOf => taking_keys(alloc, set, size),
         SetCall::Union
         | SetCall::Intersection
         | SetCall::Difference

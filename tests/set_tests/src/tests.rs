@@ -4,6 +4,7 @@ mod calls;
 mod comparing;
 mod counted;
 mod in_place;
+mod keys;
 mod reads;
 mod support;
 mod surface;

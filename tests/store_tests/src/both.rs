@@ -1,6 +1,6 @@
 //! A tree and a vector that get the same calls.
 
-use crate::calls::{Answer, Call, first_difference, play};
+use crate::calls::{Answer, Call, chunks_agree, first_difference, play};
 use range_store::btree::BoxStorage;
 use range_store::storage::Storage;
 use range_store::vec_storage::VecStorage;
@@ -86,15 +86,21 @@ pub fn len(both: &Both) -> usize {
     both.list.len()
 }
 
+// Whether the chunks of both show what their positions do.
+fn have_chunks(tree: &Tree, list: &List) -> bool {
+    chunks_agree(tree) && chunks_agree(list)
+}
+
 fn difference(tree: &Tree, list: &List) -> Option<usize> {
     first_difference(tree, list)
 }
 
-/// The two hold the same items.
+/// The two hold the same items, and show them in chunks too.
 pub fn expect_same(rt: &impl Abort, tree: &Tree, list: &List) {
     if let Some(rank) = difference(tree, list) {
         assert!(rt; false, "at {rank}");
     }
+    assert!(rt; have_chunks(tree, list));
 }
 
 /// Both do a call, and answer the same.

@@ -1,6 +1,6 @@
 //! Calls on a container, which name their items by rank.
 
-use range_store::storage::Storage;
+use range_store::storage::{Storage, item_in};
 use std::alloc::AllocError;
 
 /// A call at a rank.
@@ -237,4 +237,39 @@ pub fn first_difference<C: Storage<u64>, D: Storage<u64>>(left: &C, right: &D) -
         return Some(len);
     }
     difference_ahead(left, right).or(difference_back(left, right))
+}
+
+// Passes the items of full cells where the positions from one on name the same ones.
+fn passed<C: Storage<u64>>(
+    storage: &C,
+    cells: &[Option<u64>],
+    from: Option<C::Position>,
+) -> Option<Option<C::Position>> {
+    let mut at = from;
+    for cell in cells {
+        let p = at?;
+        if storage.get(p) != item_in(cell) {
+            return None;
+        }
+        at = storage.next(p);
+    }
+    Some(at)
+}
+
+/// Whether a container's chunks show the items that its positions name.
+pub fn chunks_agree<C: Storage<u64>>(storage: &C) -> bool {
+    let mut at = storage.first();
+    let mut mark = storage.start();
+    while let Some(p) = at {
+        let chunk = storage.chunk_from(mark);
+        if storage.get(p) != chunk.first {
+            return false;
+        }
+        match passed(storage, chunk.rest, storage.next(p)) {
+            Some(next) => at = next,
+            None => return false,
+        }
+        mark = chunk.after;
+    }
+    true
 }

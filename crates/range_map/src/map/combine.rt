@@ -1,60 +1,20 @@
 //! Two maps put together, key by key, as a closure answers.
-ghost use Rattle.std.specs.Prelude.{◌≡◌, IfOk, OnOk, Some, None, Ok, Err};
-ghost use Rattle.std.specs.Option.{option_copied};
+ghost use Rattle.std.specs.Prelude.{◌≡◌, IfOk, Err};
 ghost use Rattle.range_keys.specs.Order.{IsComplete};
 ghost use Rattle.range_algebra.specs.Range.{ClonesAreEqual};
-ghost use Rattle.range_algebra.specs.References.{range_of};
-ghost use Rattle.range_change.specs.Questions.{IsPut};
 ghost use Rattle.range_change.specs.Bindings.{IsCoarse, IsOnlyCoarse};
-ghost use Rattle.range_map.specs.Combining.{MayAnswerBoth, MayBeAskedBoth, MayBeAskedOfBoth, IsAnsweredByBoth, AreCombined, IsCombination, MayFailOnBoth};
 ghost use Rattle.range_change.specs.Stored.{IsStored};
 ghost use Rattle.range_change.specs.declared.error.UpdateError.TheVariants.{Closure as ClosureError};
+ghost use Rattle.range_merge.specs.Combining.{MayAnswerBoth, MayBeAskedOfBoth, AreCombined, IsCombination, MayFailOnBoth};
 
+use crate::inner::build::map_of;
 use crate::map::RangeMap;
-use crate::map::merged::{first_piece, next_part, refilled};
+use crate::map::parts::{next_part, refilled};
 use range_algebra::any::AnyRange;
 use range_change::error::UpdateError;
-use range_change::pieces::put;
 use range_keys::traits::PartialEnum;
+use range_merge::asking::ask_first;
 use range_store::storage::{Item, Storage};
-use std::alloc::{AllocError, Global};
-use std::marker::PhantomData;
-
-/// Asks the closure for one piece, and puts its answer after the others.
-#[inline(always)]
-fn ask_both<
-    'a,
-    K: PartialEnum + Clone,
-    V: 'a,
-    W: 'a,
-    X: Eq + Drop,
-    E: Drop,
-    F: Fn(Option<&V>, Option<&W>) -> Result<Option<X>, E>,
->(
-    answers: &mut Vec<Item<AnyRange<K>, X>>,
-    range: AnyRange<&'a K>,
-    value: Option<&'a V>,
-    other_value: Option<&'a W>,
-    f: &F,
-) -> Result<(), UpdateError<E>>
-    requires { MayBeAskedBoth F.Fn f.now (option_copied value) (option_copied other_value) }
-    ensures ok { OnOk result
-        (IsAnsweredByBoth F.Fn f.now (option_copied value.entry) (option_copied other_value.entry)
-        (IsPut K.order X.eq K.is_clone answers.old.items answers.new.items
-        (range_of range.entry))) }
-    ensures closure { (e : E) → result ≡ Err (ClosureError e)
-        → MayAnswerBoth F.Fn f.now (option_copied value.entry) (option_copied other_value.entry)
-        (Err e) }
-{
-    match f(value, other_value) {
-        Ok(Some(answer)) => {
-            put(answers, range, answer)?;
-            Ok(())
-        }
-        Ok(None) => Ok(()),
-        Err(e) => Err(UpdateError::Closure(e)),
-    }
-}
 
 /// What the closure answers to the pieces of two maps, in order, as one list.
 fn gather_both<
@@ -89,30 +49,11 @@ fn gather_both<
     let mut others = other.iter();
     let mut left = next_part(&mut items);
     let mut right = next_part(&mut others);
-    while let Some(piece) = first_piece(left, right) {
-        ask_both(&mut answers, piece.range, piece.value, piece.other_value, f)?;
-        left = refilled(piece.left, &mut items);
-        right = refilled(piece.right, &mut others);
+    while let Some(rests) = ask_first(&mut answers, left, right, f)? {
+        left = refilled(rests.left, &mut items);
+        right = refilled(rests.right, &mut others);
     }
     Ok(answers)
-}
-
-/// A map of just these items.
-pub(crate) fn map_of<K: PartialEnum, X: Eq + Drop, C: Storage<Item<AnyRange<K>, X>>>(
-    alloc: Global,
-    items: Vec<Item<AnyRange<K>, X>>,
-) -> Result<RangeMap<K, X, C>, AllocError>
-    requires { IsStored K.order X.eq items.items }
-    ensures { IfOk result (λ map. C.items map ≡ items.items) }
-{
-    let mut stored = C::new(alloc);
-    stored.reserve(items.len())?;
-    stored.append(items);
-    Ok(RangeMap {
-        stored,
-        alloc,
-        item: PhantomData,
-    })
 }
 
 impl<K: PartialEnum + Clone, V: Eq + Drop, C: Storage<Item<AnyRange<K>, V>>> RangeMap<K, V, C> {

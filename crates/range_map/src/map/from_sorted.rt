@@ -11,9 +11,9 @@ ghost use Rattle.range_map.specs.Extending.{item_of};
 ghost use Rattle.range_map.specs.Sorting.{IsFirstFault, IsNext, IsSorted};
 ghost use Rattle.range_map.specs.declared.map.from_sorted.NotSorted.TheVariants.{OutOfOrder as FaultAt};
 
+use crate::inner::build::map_of;
 use crate::map::RangeMap;
 use crate::map::append::push;
-use crate::map::combine::map_of;
 use range_algebra::any::AnyRange;
 use range_algebra::inner;
 use range_algebra::range::{AsRange, IntoRange};

@@ -1,5 +1,5 @@
 //! The parts of a range that a map leaves free, and whether there is one.
-ghost use Rattle.std.specs.Prelude.{◌≡◌, ◌↔◌, [], ◌∷◌, ◌++◌, IsTrue, None};
+ghost use Rattle.std.specs.Prelude.{◌≡◌, ◌↔◌, [], ◌++◌, IsTrue, None};
 ghost use Rattle.std.specs.Iterator.{YieldsFirstBy, YieldsLastBy, item_count};
 ghost use Rattle.std.specs.Option.{option_map};
 ghost use Rattle.range_keys.specs.Order.{IsComplete};
@@ -123,7 +123,8 @@ impl<K: Measure, V: Eq + Drop, C: Storage<Item<AnyRange<K>, V>>> RangeMap<K, V, 
     ///
     /// It is where no part of the range is free; over keys that leave no gap, nowhere else. An
     /// empty range is bound. Costs two searches and one comparison more, and then a few
-    /// comparisons for each stored range that meets the range, up to its first gap. Allocates nothing.
+    /// comparisons for each stored range that meets the range, up to its first gap. Allocates
+    /// nothing.
     ///
     /// ```
     /// // of a map that binds 0..=5 to 1

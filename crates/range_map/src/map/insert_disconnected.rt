@@ -1,12 +1,11 @@
 //! Binding a range that lies apart from all that is stored.
 ghost use Rattle.std.specs.Prelude.{◌≡◌, ◌↔◌, ◌+◌, ◌≤◌, length, IsErrAnd, IfErr, OnOk, OnErr, IsOk};
-ghost use Rattle.range_store.specs.Places.{place_before};
 ghost use Rattle.range_keys.specs.Order.{IsComplete};
 ghost use Rattle.range_algebra.specs.Range.{IsEmptyRange};
 ghost use Rattle.range_change.specs.Stored.{IsStored};
 ghost use Rattle.range_change.specs.Bindings.{IsBoundAfter, IsCoarse, IsOnlyCoarse};
 ghost use Rattle.range_change.specs.Lookups.{IsConnectedToSome, IsPutInto, MeetAlso};
-ghost use Rattle.range_change.specs.Apart.{IsGap, IsConnectedError, handed_back};
+ghost use Rattle.range_change.specs.Apart.{IsConnectedError, handed_back};
 
 use crate::map::RangeMap;
 use range_algebra::any::AnyRange;

@@ -1,12 +1,13 @@
 //! The stored ranges with their values, from both ends.
-ghost use Rattle.std.specs.Prelude.{◌≡◌, ◌+◌, ◌≤◌, ◌<◌, length, take, drop, List, ⊤};
+ghost use Rattle.std.specs.Prelude.{◌≡◌, ◌+◌, ◌<◌, take, drop, List, ⊤};
 ghost use Rattle.std.specs.Iterator.{YieldsFirstBy, YieldsLastBy, item_count};
 ghost use Rattle.range_algebra.specs.declared.any.AnyRange.{AnyRange};
 ghost use Rattle.range_store.specs.declared.storage.Item.{Item};
 ghost use Rattle.range_map.specs.Iteration.{shown_item};
 
 use range_algebra::any::AnyRange;
-use range_store::storage::{Item, Storage};
+use range_store::btree::Mark;
+use range_store::storage::{Item, Storage, item_in};
 use std::alloc::AllocError;
 use std::marker::{Model, PhantomData};
 
@@ -14,27 +15,28 @@ use std::marker::{Model, PhantomData};
 #[derive(Drop)]
 pub struct Iter<'a, K: 'a, V: 'a, C: Storage<Item<AnyRange<K>, V>> + 'a> {
     stored: &'a C,
-    front: Option<C::Position>,
+    // The next items, and the mark after them.
+    cells: &'a [Option<Item<AnyRange<K>, V>>],
+    front: Mark,
     back: Option<C::Position>,
     left: usize,
     item: PhantomData<(K, V)>,
 }
 
 impl<'a, K: 'a, V: 'a, C: Storage<Item<AnyRange<K>, V>> + 'a> Model for Iter<'a, K, V, C> {
-    ghost use Rattle.std.specs.Prelude.{length, take, drop, List};
+    ghost use Rattle.std.specs.Prelude.{◌-◌, take, drop, List};
     ghost use Rattle.range_algebra.specs.declared.any.AnyRange.{AnyRange};
     ghost use Rattle.range_store.specs.declared.storage.Item.{Item};
-    ghost use Rattle.range_store.specs.Places.{place_before};
-    ghost use Rattle.range_map.specs.Iteration.{IsWalkOver};
+    ghost use Rattle.range_map.specs.Iteration.{place_behind, IsIterator};
 
     ghost Value = { List (Item (AnyRange K) V) };
 
     ghost view = { λ i. take i.left
-        (drop (place_before (C.rank i.stored.now) (length (C.items i.stored.now)) i.front)
-        (C.items i.stored.now)) };
+        (drop (place_behind (C.rank i.stored.now) i.back - i.left) (C.items i.stored.now)) };
 
-    ghost invariant = { λ i. IsWalkOver (C.is_good i.stored.now) (C.rank i.stored.now)
-        (length (C.items i.stored.now)) i.front i.back i.left };
+    ghost invariant = { λ i. IsIterator (C.items i.stored.now) (C.is_good i.stored.now)
+        (C.rank i.stored.now) (C.is_good_mark i.stored.now) (C.mark_place i.stored.now)
+        i.cells.now i.front i.back i.left };
 }
 
 impl<'a, K: 'a, V: 'a, C: Storage<Item<AnyRange<K>, V>> + 'a> Iter<'a, K, V, C> {
@@ -44,7 +46,8 @@ impl<'a, K: 'a, V: 'a, C: Storage<Item<AnyRange<K>, V>> + 'a> Iter<'a, K, V, C> 
     {
         Iter {
             stored,
-            front: stored.first(),
+            cells: &[],
+            front: stored.start(),
             back: stored.last(),
             left: stored.len(),
             item: PhantomData,
@@ -61,6 +64,7 @@ impl<'a, K: 'a, V: 'a, C: Storage<Item<AnyRange<K>, V>> + 'a> Clone for Iter<'a,
     fn clone(&self) -> Result<Self, AllocError> {
         Ok(Iter {
             stored: self.stored,
+            cells: self.cells,
             front: self.front,
             back: self.back,
             left: self.left,
@@ -81,15 +85,20 @@ impl<'a, K: 'a, V: 'a, C: Storage<Item<AnyRange<K>, V>> + 'a> Iterator for Iter<
         if self.left == 0 {
             return None;
         }
-        match self.front {
-            Some(p) => {
-                let item = self.stored.get(p);
-                self.front = self.stored.next(p);
-                self.left -= 1;
-                Some((&item.key, &item.value))
+        let item = match self.cells.split_first() {
+            Some((cell, rest)) => {
+                self.cells = rest;
+                item_in(cell)
             }
-            None => unreachable!(),
-        }
+            None => {
+                let chunk = self.stored.chunk_from(self.front);
+                self.cells = chunk.rest;
+                self.front = chunk.after;
+                chunk.first
+            }
+        };
+        self.left -= 1;
+        Some((&item.key, &item.value))
     }
 
     fn size_hint(&self) -> (usize, Option<usize>) {

@@ -8,17 +8,18 @@ ghost use Rattle.range_algebra.specs.Range.{ClonesAreEqual, IsKnownRange};
 ghost use Rattle.range_change.specs.Bindings.{IsCoarse, IsOnlyCoarse};
 ghost use Rattle.range_change.specs.Stored.{IsStored};
 ghost use Rattle.range_map.specs.MappedValues.{AreMapped, IsAnsweredEach, MayBeAskedOfValues};
-ghost use Rattle.range_map.specs.Merged.{part_item};
+ghost use Rattle.range_merge.specs.Merged.{part_item};
 ghost use Rattle.range_change.specs.declared.error.UpdateError.TheVariants.{Closure as ClosureError};
 
+use crate::inner::build::map_of;
 use crate::map::RangeMap;
 use crate::map::append::push;
-use crate::map::combine::map_of;
-use crate::map::merged::{Part, keys_of, next_part};
+use crate::map::parts::next_part;
 use range_algebra::any::AnyRange;
 use range_algebra::inner;
 use range_change::error::UpdateError;
 use range_keys::traits::PartialEnum;
+use range_merge::merged::{Part, keys_of};
 use range_store::storage::{Item, Storage};
 
 /// A clone of the range, with what the closure answers to the value.

@@ -1,5 +1,5 @@
 //! The stored ranges that a range meets, from both ends.
-ghost use Rattle.std.specs.Prelude.{◌≡◌, ◌↔◌, ◌∷◌, ◌++◌, ◌≤◌, [], ⊤, Some, length, take, drop, ◌-◌};
+ghost use Rattle.std.specs.Prelude.{◌≡◌, ◌∷◌, ◌++◌, [], ⊤, Some, length, take, drop, ◌-◌};
 ghost use Rattle.std.specs.Iterator.{YieldsFirstBy, YieldsLastBy, item_count};
 ghost use Rattle.std.specs.Ordering.{is_gt};
 ghost use Rattle.std.specs.declared.ops.Bound.TheVariants.{Included, Unbounded};

@@ -5,7 +5,7 @@ ghost use Rattle.range_keys.specs.Order.{IsComplete};
 ghost use Rattle.range_algebra.specs.Range.{ClonesAreEqual};
 ghost use Rattle.range_change.specs.Bindings.{IsCoarse, IsOnlyCoarse};
 ghost use Rattle.range_change.specs.Stored.{IsStored};
-ghost use Rattle.range_map.specs.Combining.{AreCombined};
+ghost use Rattle.range_merge.specs.Combining.{AreCombined};
 ghost use Rattle.range_map.specs.Overlays.{IsCopyOfValue, IsOverlaid, IsRestricted, IsSecondOrFirst, IsWithout, MayOverlay, first_where};
 
 use crate::map::RangeMap;

@@ -1,5 +1,5 @@
 //! The parts of a range that a map binds, and those that it leaves free.
-ghost use Rattle.std.specs.Prelude.{◌≡◌, [], ◌∷◌, ◌++◌, Some, None};
+ghost use Rattle.std.specs.Prelude.{◌≡◌, Some, None};
 ghost use Rattle.std.specs.Iterator.{YieldsFirstBy, YieldsLastBy, item_count};
 ghost use Rattle.range_algebra.specs.Combined.{common};
 ghost use Rattle.range_algebra.specs.Intervals.{Any};

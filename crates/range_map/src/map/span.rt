@@ -1,5 +1,5 @@
 //! From the first start to the last end.
-ghost use Rattle.std.specs.Prelude.{◌≡◌, [], ◌∷◌, ◌++◌, MatchOption};
+ghost use Rattle.std.specs.Prelude.{◌≡◌, [], MatchOption};
 ghost use Rattle.range_algebra.specs.References.{range_of};
 ghost use Rattle.range_map.specs.Overlapping.{IsSpan};
 

@@ -1,5 +1,5 @@
 //! Changing what the keys of a range are bound to by a closure.
-ghost use Rattle.std.specs.Prelude.{◌≡◌, ◌+◌, ◌≤◌, IfOk, OnOk, OnErr, IsOk, Some, None, Ok, Err};
+ghost use Rattle.std.specs.Prelude.{◌≡◌, ◌+◌, IfOk, OnOk, OnErr, IsOk, Some, None, Ok, Err};
 ghost use Rattle.range_keys.specs.Order.{IsComplete};
 ghost use Rattle.range_algebra.specs.Intervals.{Every};
 ghost use Rattle.range_algebra.specs.Clones.{IsBoundClone};

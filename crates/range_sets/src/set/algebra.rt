@@ -5,8 +5,10 @@ ghost use Rattle.range_sets.specs.KeySets.{IsStoredSet};
 ghost use Rattle.range_sets.specs.TwoSets.{MayTell, HoldsEither, HoldsBoth, HoldsFirstAlone, HoldsJustOne, AreKept};
 
 use super::RangeSet;
+use crate::set::union::united;
 use range_algebra::any::AnyRange;
 use range_keys::traits::PartialEnum;
+use range_map::inner::build::map_of;
 use range_map::map::{MapError, UpdateError};
 use range_store::storage::{Item, Storage};
 
@@ -76,7 +78,11 @@ impl<T: PartialEnum + Clone, C: Storage<Item<AnyRange<T>, ()>>> RangeSet<T, C> {
             (λ new. HoldsEither T.order (C.items self.now) (D.items other.now) (C.items new)) }
         ensures form { IfOk result (λ new. IsStoredSet T.order (C.items new)) }
     {
-        self.kept(other, |first, second| first || second)
+        let ranges = united(self, other)?;
+        Ok(RangeSet {
+            map: map_of(self.alloc, ranges)?,
+            alloc: self.alloc,
+        })
     }
 
     /// A set of the keys that are in both sets, whatever containers they are kept in.

@@ -43,6 +43,7 @@ impl<'a, T: 'a, C: Storage<Item<AnyRange<T>, ()>> + 'a> Iterator for Iter<'a, T,
 
     ghost remaining = { item_count (λ rest. rest) };
 
+    #[inline(always)]
     fn next(&mut self) -> Option<&'a AnyRange<T>> {
         match self.items.next() {
             Some((range, _)) => Some(range),

@@ -6,9 +6,9 @@ returns g c =
     record {
       coarse =
           λ complete items stored.
-          stored_coarse g.met.K.PartialEnum.lawful g.met.V.Eq.laws items stored complete;
+          stored_coarse g.met.K.PartialEnum.lawful items stored complete;
       stored =
           λ complete.
-          coarse_stored g.K.MaybeBounded.order g.met.K.PartialEnum.lawful complete g.V.PartialEq.eq;
+          coarse_stored g.met.K.PartialEnum.lawful complete g.V.PartialEq.eq;
       equal = stored_equal g.met.K.PartialEnum.lawful g.met.V.Eq.laws;
     }

@@ -2,5 +2,4 @@ use Rattle.range_map.proofs.Once.{bound_once}
 use Rattle.range_map.proofs.laws.stored_lists_bind_once.Goals as goal
 
 pub returns : goal.returns
-returns g c =
-    bound_once g.K.MaybeBounded.order g.met.K.PartialEnum.lawful g.V.PartialEq.eq g.met.V.Eq.laws
+returns g c = bound_once g.met.K.PartialEnum.lawful g.met.V.Eq.laws

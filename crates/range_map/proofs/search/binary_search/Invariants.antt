@@ -1,5 +1,4 @@
-use Rattle.std.proofs.Common.{◌-◌, ◌<◌, ◌≤◌, length, get_or}
-use Rattle.range_map.proofs.Common.{AllWithin, AnyRange, Item}
+use Rattle.range_map.proofs.Common.{◌-◌, ◌<◌, ◌≤◌, length, get_or, AllWithin, AnyRange, Item}
 use Rattle.range_change.specs.Searches.{ElementIsBefore}
 use Rattle.range_map.proofs.search.binary_search.Given as goal
 

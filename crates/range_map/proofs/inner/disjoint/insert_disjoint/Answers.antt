@@ -1,7 +1,4 @@
-use Rattle.std.proofs.lemmas.Grind.{common_steps}
-use Rattle.std.proofs.Common.{◌≡◌, refl, ap, Ok, true, false, arith}
-use Rattle.range_change.proofs.Results.{on_error}
-use Rattle.range_change.proofs.Tests.{either_way, error_is_no_value, not_both, not_both_answers, same_value}
+use Rattle.range_map.proofs.Common.{◌≡◌, refl, ap, Ok, true, false, arith, common_steps, on_error, either_way, error_is_no_value, not_both, not_both_answers, same_value}
 use Rattle.range_map.proofs.inner.disjoint.insert_disjoint.Goals as goal
 
 pub bind_disjoint-requires-clause-stored : goal.bind_disjoint-requires-clause-stored
@@ -56,39 +53,24 @@ returns-in_err-disjoint g c =
 
 pub returns : goal.returns
 returns g c =
+    let done = c.in_ok-disjoint.ensures in
+    let was = c.in_ok-disjoint.disjoint in
+    let full =
+    λ (empty : _). not_both c.if-is_empty.false (c.is_empty.ensures.by_position.1 empty) in
+    let bound = λ (is : was ≡ true). done.bound (ap (λ b. Ok b) is) in
+    let unchanged = λ (is : was ≡ false). done.met_unchanged (ap (λ b. Ok b) is) in
     record {
       met = (
-        λ e. let same : c.in_ok-disjoint.disjoint
-            ≡ false =
-            same_value c.in_ok-disjoint.disjoint false
-            e in (
-              λ empty. not_both c.if-is_empty.false (c.is_empty.ensures.by_position.1 empty),
-              rw (← c.map.view_is) (c.in_ok-disjoint.ensures.met.0 (ap (λ b. Ok b) same)),
-            ),
-        λ h.
-            ap (λ b. Ok b) (same_value c.in_ok-disjoint.disjoint false
-            (c.in_ok-disjoint.ensures.met.1 (rw c.map.view_is h.1))),
+        λ e. (full, rw (← c.map.view_is) (done.met.0 (ap (λ b. Ok b) (same_value was false e)))),
+        λ h. ap (λ b. Ok b) (same_value was false (done.met.1 (rw c.map.view_is h.1))),
       );
-      met_unchanged = λ e. let same : c.in_ok-disjoint.disjoint ≡ false =
-          same_value c.in_ok-disjoint.disjoint false e in rw (← c.map.view_is)
-          (c.in_ok-disjoint.ensures.met_unchanged (ap (λ b. Ok b) same));
-      bound = λ e. let same : c.in_ok-disjoint.disjoint ≡ true =
-          same_value c.in_ok-disjoint.disjoint true e in rw (← c.map.view_is)
-          (c.in_ok-disjoint.ensures.bound (ap (λ b. Ok b) same)).bound;
-      meets = λ e full. let same : c.in_ok-disjoint.disjoint ≡ true =
-          same_value c.in_ok-disjoint.disjoint true e in rw (← c.map.view_is)
-          (c.in_ok-disjoint.ensures.bound (ap (λ b. Ok b) same)).meets;
-      frame = λ e full. let same : c.in_ok-disjoint.disjoint ≡ true =
-          same_value c.in_ok-disjoint.disjoint true e in rw (← c.map.view_is)
-          (c.in_ok-disjoint.ensures.bound (ap (λ b. Ok b) same)).frame;
-      form = either_way c.in_ok-disjoint.disjoint
-          (λ met. (c.in_ok-disjoint.ensures.bound (ap (λ b. Ok b) met)).stored)
-          (λ met.
-          rw (c.in_ok-disjoint.ensures.met_unchanged (ap (λ b. Ok b) met), c.map.view_is)
-          c.in_form.ensures);
+      met_unchanged = λ e. rw (← c.map.view_is) (unchanged (same_value was false e));
+      bound = λ e. rw (← c.map.view_is) (bound (same_value was true e)).bound;
+      meets = λ e _. rw (← c.map.view_is) (bound (same_value was true e)).meets;
+      frame = λ e _. rw (← c.map.view_is) (bound (same_value was true e)).frame;
+      form = either_way was (λ met. (bound met).stored)
+          (λ met. rw (unchanged met, c.map.view_is) c.in_form.ensures);
       refused = tt;
-      empty = λ empty.
-          absurd (not_both c.if-is_empty.false (c.is_empty.ensures.by_position.1 empty));
-      empty_unchanged = λ empty.
-          absurd (not_both c.if-is_empty.false (c.is_empty.ensures.by_position.1 empty));
+      empty = λ empty. absurd (full empty);
+      empty_unchanged = λ empty. absurd (full empty);
     }

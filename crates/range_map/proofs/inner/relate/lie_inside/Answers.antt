@@ -1,38 +1,22 @@
-use Rattle.std.proofs.lemmas.Bool.{false≢true}
-use Rattle.std.proofs.Common.{◌∙◌, arith}
-use Rattle.range_map.specs.Together.{LieInside}
-use Rattle.range_map.proofs.Together.{stepped, drained, shorter, begins, inside_tells, goes_left, goes_right, not_so}
-use Rattle.range_change.proofs.Tests.{not_both}
+use Rattle.range_map.proofs.Common.{arith, false≢true, LieInside, not_both}
+use Rattle.range_map.proofs.Together.{shorter, sets_out, inside_tells, goes_left, goes_right, not_so}
 use Rattle.range_map.proofs.inner.relate.lie_inside.Goals as goal
 
 pub loop-next-init : goal.loop-next-init
 loop-next-init g c =
-    let ranges = c.iter-ranges.ensures.items in
-    let others = c.iter-others.ensures.items in
     let next = c.next-next in
     let near = c.next-near in
-    record {
-      left =
-          begins g.met.K.PartialEnum.lawful (LieInside g.K.MaybeBounded.order)
-          (stepped c.iter-ranges.result next.new.self next.result next.ensures.steps ∙ ranges)
-          (stepped c.iter-others.result near.new.self near.result near.ensures.steps ∙ others)
-          (rw ranges at c.iter-ranges.ensures.form) (rw others at c.iter-others.ensures.form);
-      first = drained c.iter-ranges.result next.new.self next.result next.ensures.steps;
-      second = drained c.iter-others.result near.new.self near.result near.ensures.steps;
-    }
+    sets_out g.met.K.PartialEnum.lawful (LieInside g.K.MaybeBounded.order) c.iter-ranges.result
+    next.new.self _ next.result c.iter-others.result near.new.self _ near.result
+    c.iter-ranges.ensures.items c.iter-others.ensures.items c.iter-ranges.ensures.form
+    c.iter-others.ensures.form next.ensures.steps near.ensures.steps
 
 pub loop-next-preserved-then-lies_in : goal.loop-next-preserved-then-lies_in
 loop-next-preserved-then-lies_in g c =
-    let was = c.loop-next.invariant in
     let next = c.next-next-then-lies_in in
-    record {
-      left =
-          goes_left _ _ _ c.loop-next.ranges _ c.loop-next.others was.left
-          (inside_tells g.met.K.PartialEnum.lawful) _ _ c.in-Some-Some.is-0 c.in-Some-Some.is-1
-          (c.lies_in.ensures.0 c.if-lies_in.true) next.new.self next.result next.ensures.steps;
-      first = drained c.loop-next.ranges next.new.self next.result next.ensures.steps;
-      second = was.second;
-    }
+    goes_left _ _ _ c.loop-next.ranges _ c.loop-next.others c.loop-next.invariant
+    (inside_tells g.met.K.PartialEnum.lawful) _ _ c.in-Some-Some.is-0 c.in-Some-Some.is-1
+    (c.lies_in.ensures.0 c.if-lies_in.true) next.new.self next.result next.ensures.steps
 
 pub loop-next-smaller-then-lies_in : goal.loop-next-smaller-then-lies_in
 loop-next-smaller-then-lies_in g c =
@@ -44,17 +28,10 @@ loop-next-smaller-then-lies_in g c =
 
 pub loop-next-preserved : goal.loop-next-preserved
 loop-next-preserved g c =
-    let was = c.loop-next.invariant in
     let near = c.next-near-then-lies_before in
-    record {
-      left =
-          goes_right _ _ _ c.loop-next.ranges _ c.loop-next.others was.left
-          (inside_tells g.met.K.PartialEnum.lawful) _ _ c.in-Some-Some.is-0 c.in-Some-Some.is-1
-          (c.lies_before.ensures.0 c.if-lies_before.true) near.new.self near.result
-          near.ensures.steps;
-      first = was.first;
-      second = drained c.loop-next.others near.new.self near.result near.ensures.steps;
-    }
+    goes_right _ _ _ c.loop-next.ranges _ c.loop-next.others c.loop-next.invariant
+    (inside_tells g.met.K.PartialEnum.lawful) _ _ c.in-Some-Some.is-0 c.in-Some-Some.is-1
+    (c.lies_before.ensures.0 c.if-lies_before.true) near.new.self near.result near.ensures.steps
 
 pub loop-next-smaller : goal.loop-next-smaller
 loop-next-smaller g c =
@@ -68,7 +45,7 @@ pub returns-else-lies_before : goal.returns-else-lies_before
 returns-else-lies_before g c = (
   λ e. absurd (false≢true e),
   λ h.
-      absurd (not_so _ _ _ c.loop-next.ranges _ c.loop-next.others c.loop-next.invariant.left
+      absurd (not_so _ _ _ c.loop-next.ranges _ c.loop-next.others c.loop-next.invariant
       (inside_tells g.met.K.PartialEnum.lawful) _ _ c.in-Some-Some.is-0 c.in-Some-Some.is-1
       (λ is. not_both c.if-lies_in.false (c.lies_in.ensures.1 is))
       (λ is. not_both c.if-lies_before.false (c.lies_before.ensures.1 is)) h),

@@ -1,5 +1,4 @@
-use Rattle.std.proofs.Common.{take}
-use Rattle.range_map.proofs.Common.{All, Holds}
+use Rattle.range_map.proofs.Common.{take, All, Holds}
 use Rattle.range_map.proofs.inner.scan.find.Given as goal
 
 abbrev pub invariant-loop-item : goal.invariant-loop-item

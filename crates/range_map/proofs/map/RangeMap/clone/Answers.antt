@@ -7,7 +7,7 @@ clone-requires g c =
     let equal =
     clones_tied g.met.K.MaybeBounded.order_is_cmp g.met.K.Ord.matches_eq c.requires.keys in
     λ k d within y h.
-    item_clone g.K.MaybeBounded.order g.met.K.PartialEnum.lawful g.V.PartialEq.eq
+    item_clone g.met.K.PartialEnum.lawful
     g.met.V.Eq.laws g.K.Clone.is_clone equal g.V.Clone.is_clone c.requires.values
     (get_or (g.C.Storage.items c.self.inside.stored) k d) y h.0 h.1
 
@@ -16,17 +16,18 @@ invariant_of-result g c =
     let items = g.C.Storage.items c.self.inside.stored in
     let copy = g.C.Storage.items c.in_ok-stored.stored in
     let equal =
-    equal_items_are_copy g.K.MaybeBounded.order g.met.K.PartialEnum.lawful g.V.PartialEq.eq
+    equal_items_are_copy g.met.K.PartialEnum.lawful
     g.met.V.Eq.laws items copy c.in_ok-stored.ensures in
-    copy_stored g.K.MaybeBounded.order g.met.K.PartialEnum.lawful g.V.PartialEq.eq g.met.V.Eq.laws
+    copy_stored g.met.K.PartialEnum.lawful g.met.V.Eq.laws
     copy items equal c.known_items.ensures c.self.invariant
 
 pub returns-clause-equal : goal.returns-clause-equal
 returns-clause-equal g c =
     let items = g.C.Storage.items c.self.inside.stored in
     let copy = g.C.Storage.items c.in_ok-stored.stored in
-    rw (← c.self.view_is) (equal_items_are_copy g.K.MaybeBounded.order g.met.K.PartialEnum.lawful
-    g.V.PartialEq.eq g.met.V.Eq.laws items copy c.in_ok-stored.ensures)
+    rw (← c.self.view_is)
+    (equal_items_are_copy g.met.K.PartialEnum.lawful g.met.V.Eq.laws items copy
+    c.in_ok-stored.ensures)
 
 pub returns-clause-form : goal.returns-clause-form
 returns-clause-form g c = invariant_of-result g c

@@ -1,5 +1,4 @@
-use Rattle.std.proofs.Common.{rules}
-use Rattle.range_change.proofs.Overlaps.{holding_is}
+use Rattle.range_map.proofs.Common.{rules, holding_is}
 use Rattle.range_map.proofs.map.RangeMap.contains_key_counted.Goals as goal
 
 pub returns : goal.returns

@@ -1,7 +1,5 @@
-use Rattle.std.proofs.Common.{◌∷◌, [], map, rules}
-use Rattle.range_map.proofs.Common.{map-append, item_of}
+use Rattle.range_map.proofs.Common.{◌∷◌, [], map, rules, map-append, item_of, on_error}
 use Rattle.range_map.proofs.Extending.{none_bound_after, one_bound_after}
-use Rattle.range_change.proofs.Results.{on_error}
 use Rattle.range_map.proofs.StoredLists.{stored_coarse, stored_only}
 use Rattle.range_map.proofs.map.RangeMap.extend.Goals as goal
 
@@ -13,8 +11,7 @@ loop-range-init g c =
     record {
       can = ready.0;
       ends = ready.1;
-      bound = none_bound_after g.K.MaybeBounded.order g.V.PartialEq.eq
-          _;
+      bound = none_bound_after g.K.MaybeBounded.order g.V.PartialEq.eq _;
       form = c.in_form.ensures;
     }
 
@@ -25,8 +22,7 @@ loop-range-preserved g c =
     let was = c.loop-range.invariant in
     let more =
     one_bound_after g.K.MaybeBounded.order g.V.PartialEq.eq (items c.args.self.now)
-    (items c.loop-range.self)
-    (items c.insert.new.self) (map (item_of range) c.loop-range.yielded)
+    (items c.loop-range.self) (items c.insert.new.self) (map (item_of range) c.loop-range.yielded)
     (range c.in-Some.range) c.in-Some.value was.bound c.in_ok-insert.ensures.bound in
     record {
       can = (c.in-Some.ensures.goes.on was.ends).0;
@@ -51,8 +47,7 @@ returns-in_err-insert-clause-refused g c =
     )
 
 pub returns-clause-coarse : goal.returns-clause-coarse
-returns-clause-coarse g c =
-    stored_coarse g.met.K.PartialEnum.lawful g.met.V.Eq.laws _ c.loop-range.invariant.form
+returns-clause-coarse g c = stored_coarse g.met.K.PartialEnum.lawful _ c.loop-range.invariant.form
 
 pub returns-clause-only : goal.returns-clause-only
 returns-clause-only g c =

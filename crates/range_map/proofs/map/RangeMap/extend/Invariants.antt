@@ -1,5 +1,4 @@
-use Rattle.std.proofs.Common.{map}
-use Rattle.range_map.proofs.Common.{AreBoundAfter, item_of, IsStored}
+use Rattle.range_map.proofs.Common.{map, AreBoundAfter, item_of, IsStored}
 use Rattle.range_map.proofs.map.RangeMap.extend.Given as goal
 
 abbrev pub invariant-loop-range : goal.invariant-loop-range

@@ -1,5 +1,4 @@
-use Rattle.range_map.proofs.Common.{tied_back, range_clone, range_total, AnyRange, Item, IsOverlaid}
-use Rattle.range_change.proofs.Results.{on_error}
+use Rattle.range_map.proofs.Common.{tied_back, range_clone, range_total, AnyRange, Item, IsOverlaid, on_error}
 use Rattle.range_map.proofs.InPlace.{none_over, one_over}
 use Rattle.range_map.proofs.PartWay.{set_out, one_done, stopped, arrived}
 use Rattle.range_map.proofs.StoredLists.{stored_coarse, stored_only}
@@ -16,7 +15,7 @@ loop-range-init g c =
           (set_out (λ front. IsOverlaid order same items front items) _
           (none_over order same items));
       form = c.in_form.ensures;
-      coarse = stored_coarse g.met.K.PartialEnum.lawful g.met.V.Eq.laws _ c.in_form.ensures;
+      coarse = stored_coarse g.met.K.PartialEnum.lawful _ c.in_form.ensures;
       only = stored_only g.met.K.PartialEnum.lawful g.met.V.Eq.laws _ c.in_form.ensures;
     }
 
@@ -27,7 +26,6 @@ loop-range-preserved g c =
     let same = g.V.PartialEq.eq in
     let items = g.C.Storage.items in
     let first = items c.args.self.now in
-    let before = items c.loop-range.self in
     let after = items c.insert.new.self in
     let others = g.D.Storage.items c.args.other.now in
     let equal =
@@ -46,7 +44,7 @@ loop-range-preserved g c =
           one_done {Q = λ front. IsOverlaid order same first front after} c.in-Some.ensures.steps
           (λ done split so_far. one_over order same lawful g.met.V.Eq.laws others
           (rw (← c.iter-items.ensures.items) c.iter-items.ensures.form) done c.next.new.self item
-          split first before after copy put alike
+          split first (items c.loop-range.self) after copy put alike
           (c.requires.values value put c.in_ok-clone-2.ensures.cases) so_far
           c.in_ok-insert.ensures.bound) c.loop-range.invariant.way;
       form = c.insert.ensures.form;
@@ -55,13 +53,11 @@ loop-range-preserved g c =
     }
 
 pub returns-clause-bound : goal.returns-clause-bound
-returns-clause-bound g c =
-    arrived c.in_default.ensures.steps.0 c.loop-range.invariant.way
+returns-clause-bound g c = arrived c.in_default.ensures.steps.0 c.loop-range.invariant.way
 
 pub returns-in_err-clone-clause-refused : goal.returns-in_err-clone-clause-refused
 returns-in_err-clone-clause-refused g c =
-    on_error _ c.from_residual.result
-    (stopped c.in-Some.ensures.steps c.loop-range.invariant.way)
+    on_error _ c.from_residual.result (stopped c.in-Some.ensures.steps c.loop-range.invariant.way)
 
 pub returns-in_err-clone-2-clause-refused : goal.returns-in_err-clone-2-clause-refused
 returns-in_err-clone-2-clause-refused g c =

@@ -1,6 +1,4 @@
-use Rattle.std.proofs.Common.{◌≡◌, refl, ap, subst, map, Err}
-use Rattle.range_map.specs.Extending.{item_of}
-use Rattle.range_map.specs.Sorting.{IsFirstFault}
+use Rattle.range_map.proofs.Common.{◌≡◌, refl, ap, subst, map, Err, item_of, IsFirstFault}
 use Rattle.range_map.specs.declared.map.from_sorted.NotSorted.TheVariants.{OutOfOrder as FaultAt}
 use Rattle.range_map.proofs.Sorting.{one_fault, sorted_has_none}
 use Rattle.range_map.proofs.StoredLists.{stored_coarse, stored_only}
@@ -33,8 +31,7 @@ returns-in-Ok-clause-out_of_order g c n =
     )
 
 pub returns-in-Ok-clause-coarse : goal.returns-in-Ok-clause-coarse
-returns-in-Ok-clause-coarse g c =
-    stored_coarse g.met.K.PartialEnum.lawful g.met.V.Eq.laws _ c.in-Ok.ensures.form
+returns-in-Ok-clause-coarse g c = stored_coarse g.met.K.PartialEnum.lawful _ c.in-Ok.ensures.form
 
 pub returns-in-Ok-clause-only : goal.returns-in-Ok-clause-only
 returns-in-Ok-clause-only g c =

@@ -3,11 +3,8 @@ use Rattle.range_map.proofs.map.RangeMap.gaps_within.Goals as goal
 
 pub returns-clause-gaps : goal.returns-clause-gaps
 returns-clause-gaps g c =
-    gaps_within_are g.K.MaybeBounded.order g.met.K.PartialEnum.lawful _ _ c.pieces.result
-    c.pieces.ensures.pieces
+    gaps_within_are g.met.K.PartialEnum.lawful _ _ c.pieces.result c.pieces.ensures.pieces
 
 pub returns-clause-none : goal.returns-clause-none
-returns-clause-none g c = λ none part free.
-    none_free g.K.MaybeBounded.order g.met.K.PartialEnum.lawful
-    (g.C.Storage.items c.args.self.now) (g.R.AsRange.range c.args.range.now) c.pieces.result none
-    (c.pieces.ensures.free part free)
+returns-clause-none g c =
+    λ none part free. none_free c.pieces.result none (c.pieces.ensures.free part free)

@@ -1,35 +1,22 @@
-use Rattle.range_map.proofs.Common.{common_steps}
-use Rattle.std.proofs.Common.{refl, rules, arith}
+use Rattle.range_map.proofs.Common.{refl, arith, common_steps, error_has_no_value, on_error, not_both, le_sum}
 use Rattle.range_map.proofs.StoredLists.{stored_coarse, stored_only}
-use Rattle.range_change.proofs.Results.{error_has_no_value, on_error}
-use Rattle.range_change.proofs.Lengths.{le_sum}
-use Rattle.range_change.proofs.Tests.{not_both}
 use Rattle.range_map.proofs.map.RangeMap.insert.Goals as goal
 
 pub returns : goal.returns
 returns g c =
-    let empty_is = rw c.into_range-range.ensures at c.is_empty.ensures.by_position in
+    let range = c.into_range-range.ensures in
+    let done = c.in_ok-bind_in_order.ensures.ok in
+    let empty_is = rw range at c.is_empty.ensures.by_position in
     record {
-      meets =
-          λ full.
-          rw (← c.self.view_is)
-          (rw c.into_range-range.ensures at c.in_ok-bind_in_order.ensures.ok.meets);
-      form = c.in_ok-bind_in_order.ensures.ok.stored;
-      coarse =
-          stored_coarse g.met.K.PartialEnum.lawful g.met.V.Eq.laws _
-          c.in_ok-bind_in_order.ensures.ok.stored;
-      only =
-          stored_only g.met.K.PartialEnum.lawful g.met.V.Eq.laws _
-          c.in_ok-bind_in_order.ensures.ok.stored;
-      bound =
-          rw (← c.self.view_is)
-          (rw c.into_range-range.ensures at c.in_ok-bind_in_order.ensures.ok.bound);
+      meets = λ full. rw (← c.self.view_is) (rw range at done.meets);
+      form = done.stored;
+      coarse = stored_coarse g.met.K.PartialEnum.lawful _ done.stored;
+      only = stored_only g.met.K.PartialEnum.lawful g.met.V.Eq.laws _ done.stored;
+      bound = rw (← c.self.view_is) (rw range at done.bound);
       empty = λ _. refl;
       empty_unchanged = λ e. absurd (not_both c.if-is_empty.false (empty_is.1 e));
       few = rw (← c.self.view_is) c.bind_in_order.ensures.few;
-      frame =
-          λ full. rw (← c.self.view_is)
-          (rw c.into_range-range.ensures at c.in_ok-bind_in_order.ensures.ok.frame);
+      frame = λ full. rw (← c.self.view_is) (rw range at done.frame);
       refused = tt;
     }
 
@@ -39,7 +26,7 @@ returns-then-is_empty g c =
     record {
       bound = grind (arith, common_steps);
       form = c.in_form.ensures;
-      coarse = stored_coarse g.met.K.PartialEnum.lawful g.met.V.Eq.laws _ c.in_form.ensures;
+      coarse = stored_coarse g.met.K.PartialEnum.lawful _ c.in_form.ensures;
       only = stored_only g.met.K.PartialEnum.lawful g.met.V.Eq.laws _ c.in_form.ensures;
       frame = λ full. absurd (full (empty_is.0 c.if-is_empty.true));
       meets = λ full. absurd (full (empty_is.0 c.if-is_empty.true));
@@ -57,23 +44,15 @@ returns-in_err-bind_in_order g c =
     record {
       bound = error_has_no_value _ c.from_residual.result c.from_residual.ensures.0;
       form = form;
-      coarse = stored_coarse g.met.K.PartialEnum.lawful g.met.V.Eq.laws _ form;
+      coarse = stored_coarse g.met.K.PartialEnum.lawful _ form;
       only = stored_only g.met.K.PartialEnum.lawful g.met.V.Eq.laws _ form;
       frame = error_has_no_value _ c.from_residual.result c.from_residual.ensures.0;
       meets = error_has_no_value _ c.from_residual.result c.from_residual.ensures.0;
       few = rw (← c.self.view_is) c.bind_in_order.ensures.few;
-      refused =
-          on_error _ c.from_residual.result
-          (rw (← c.self.view_is) c.in_err-bind_in_order.ensures.refused);
+      refused = on_error _ c.from_residual.result (rw (← c.self.view_is) same);
       empty = λ e. absurd (not_both c.if-is_empty.false (empty_is.1 e));
       empty_unchanged = λ e. absurd (not_both c.if-is_empty.false (empty_is.1 e));
     }
-
-pub invariant_of-self : goal.invariant_of-self
-invariant_of-self g c = search rules
-
-pub invariant_of-self-2 : goal.invariant_of-self-2
-invariant_of-self-2 g c = search rules
 
 pub bind_in_order-requires : goal.bind_in_order-requires
 bind_in_order-requires g c =

@@ -1,27 +1,19 @@
-use Rattle.range_map.proofs.Common.{common_steps}
-use Rattle.std.proofs.Common.{refl, rules, arith}
+use Rattle.range_map.proofs.Common.{refl, rules, arith, common_steps, error_has_no_value, on_error, not_both, le_sum}
 use Rattle.range_map.proofs.StoredLists.{stored_coarse, stored_only}
-use Rattle.range_change.proofs.Results.{error_has_no_value, on_error}
-use Rattle.range_change.proofs.Lengths.{le_sum}
-use Rattle.range_change.proofs.Tests.{not_both}
 use Rattle.range_map.proofs.map.RangeMap.insert_counted.Goals as goal
 
 pub returns : goal.returns
 returns g c =
-    let empty_is = rw c.into_range-range.ensures at c.is_empty.ensures.by_position in
+    let range = c.into_range-range.ensures in
+    let done = c.in_ok-bind.ensures.ok in
+    let empty_is = rw range at c.is_empty.ensures.by_position in
     record {
-      bound =
-          rw (← c.self.view_is) (rw c.into_range-range.ensures at c.in_ok-bind.ensures.ok.bound);
-      form = c.in_ok-bind.ensures.ok.stored;
-      coarse =
-          stored_coarse g.met.K.PartialEnum.lawful g.met.V.Eq.laws _ c.in_ok-bind.ensures.ok.stored;
-      only =
-          stored_only g.met.K.PartialEnum.lawful g.met.V.Eq.laws _ c.in_ok-bind.ensures.ok.stored;
-      frame =
-          λ full. rw (← c.self.view_is)
-          (rw c.into_range-range.ensures at c.in_ok-bind.ensures.ok.frame);
-      meets = λ full.
-          rw (← c.self.view_is) (rw c.into_range-range.ensures at c.in_ok-bind.ensures.ok.meets);
+      bound = rw (← c.self.view_is) (rw range at done.bound);
+      form = done.stored;
+      coarse = stored_coarse g.met.K.PartialEnum.lawful _ done.stored;
+      only = stored_only g.met.K.PartialEnum.lawful g.met.V.Eq.laws _ done.stored;
+      frame = λ full. rw (← c.self.view_is) (rw range at done.frame);
+      meets = λ full. rw (← c.self.view_is) (rw range at done.meets);
       few = grind (arith, common_steps);
       refused = tt;
       empty = λ _. refl;
@@ -37,7 +29,7 @@ returns-then-is_empty g c =
     record {
       bound = grind (arith, common_steps);
       form = c.in_form.ensures;
-      coarse = stored_coarse g.met.K.PartialEnum.lawful g.met.V.Eq.laws _ c.in_form.ensures;
+      coarse = stored_coarse g.met.K.PartialEnum.lawful _ c.in_form.ensures;
       only = stored_only g.met.K.PartialEnum.lawful g.met.V.Eq.laws _ c.in_form.ensures;
       frame = λ full. absurd (full (empty_is.0 c.if-is_empty.true));
       meets = λ full. absurd (full (empty_is.0 c.if-is_empty.true));
@@ -57,7 +49,7 @@ returns-in_err-bind g c =
     record {
       bound = error_has_no_value _ c.from_residual.result c.from_residual.ensures.0;
       form = form;
-      coarse = stored_coarse g.met.K.PartialEnum.lawful g.met.V.Eq.laws _ form;
+      coarse = stored_coarse g.met.K.PartialEnum.lawful _ form;
       only = stored_only g.met.K.PartialEnum.lawful g.met.V.Eq.laws _ form;
       frame = error_has_no_value _ c.from_residual.result c.from_residual.ensures.0;
       meets = error_has_no_value _ c.from_residual.result c.from_residual.ensures.0;
@@ -70,12 +62,6 @@ returns-in_err-bind g c =
       least = λ _. rw (← c.self.view_is) c.bind.ensures.least;
       empty_uncounted = λ e. absurd (not_both c.if-is_empty.false (empty_is.1 e));
     }
-
-pub invariant_of-self : goal.invariant_of-self
-invariant_of-self g c = search rules
-
-pub invariant_of-self-2 : goal.invariant_of-self-2
-invariant_of-self-2 g c = search rules
 
 pub bind-requires : goal.bind-requires
 bind-requires g c =

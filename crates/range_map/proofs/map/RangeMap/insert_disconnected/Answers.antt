@@ -1,8 +1,5 @@
-use Rattle.range_map.proofs.Common.{common_steps, length-insert, IsEmptyRange, IsPutInto, MeetAlso}
-use Rattle.std.proofs.Common.{OnOk, OnErr, Ok, Err, Result, List, ◌≡◌, ◌+◌, ◌≤◌, length, refl, ap, arith, subst}
-use Rattle.range_change.proofs.CoveredPlaces.{on_ok}
+use Rattle.range_map.proofs.Common.{OnOk, OnErr, Ok, Err, Result, List, ◌≡◌, ◌+◌, ◌≤◌, length, refl, ap, arith, subst, common_steps, length-insert, IsEmptyRange, IsPutInto, MeetAlso, not_both, on_ok}
 use Rattle.range_map.proofs.StoredLists.{stored_coarse, stored_only}
-use Rattle.range_change.proofs.Tests.{not_both}
 use Rattle.range_map.proofs.map.RangeMap.insert_disconnected.Goals as goal
 
 -- putting one item in adds one
@@ -33,7 +30,7 @@ returns g c =
           ((IsEmptyRange order range → ⊥) → MeetAlso order items new range) c.bind_apart.result
           (λ h full. h) met);
       form = c.bind_apart.ensures.form;
-      coarse = stored_coarse g.met.K.PartialEnum.lawful g.met.V.Eq.laws _ c.bind_apart.ensures.form;
+      coarse = stored_coarse g.met.K.PartialEnum.lawful _ c.bind_apart.ensures.form;
       only = stored_only g.met.K.PartialEnum.lawful g.met.V.Eq.laws _ c.bind_apart.ensures.form;
       few = rw (← c.self.view_is)
           (put_few c.bind_apart.result _ _ _ c.bind_apart.ensures.put c.bind_apart.ensures.refused);
@@ -52,7 +49,7 @@ returns-then-is_empty g c =
       bound = grind (arith, common_steps);
       meets = λ full. absurd (full (empty_is.0 c.if-is_empty.true));
       form = c.in_form.ensures;
-      coarse = stored_coarse g.met.K.PartialEnum.lawful g.met.V.Eq.laws _ c.in_form.ensures;
+      coarse = stored_coarse g.met.K.PartialEnum.lawful _ c.in_form.ensures;
       only = stored_only g.met.K.PartialEnum.lawful g.met.V.Eq.laws _ c.in_form.ensures;
       few = grind (arith, common_steps);
       refused = tt;

@@ -6,8 +6,7 @@ pub returns : goal.returns
 returns g c =
     record {
       form = search rules;
-      coarse =
-          stored_coarse g.met.K.PartialEnum.lawful g.met.V.Eq.laws (c.new.result) (search rules);
+      coarse = stored_coarse g.met.K.PartialEnum.lawful (c.new.result) (search rules);
       only = stored_only g.met.K.PartialEnum.lawful g.met.V.Eq.laws (c.new.result) (search rules);
       items = search rules;
     }

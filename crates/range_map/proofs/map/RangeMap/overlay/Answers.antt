@@ -11,8 +11,7 @@ returns-clause-bound g c =
     (λ w v returned. rw (← returned.shows) (let says = returned.says in search rules))
 
 pub returns-clause-coarse : goal.returns-clause-coarse
-returns-clause-coarse g c =
-    stored_coarse g.met.K.PartialEnum.lawful g.met.V.Eq.laws _ c.in_ok-new.ensures.form
+returns-clause-coarse g c = stored_coarse g.met.K.PartialEnum.lawful _ c.in_ok-new.ensures.form
 
 pub returns-clause-only : goal.returns-clause-only
 returns-clause-only g c =

@@ -1,29 +1,15 @@
-use Rattle.std.proofs.Common.{◌≡◌, Bool, List, [], ◌∷◌, ◌++◌, Option, Some, None}
-use Rattle.std.specs.Prelude.{MatchOption}
-use Rattle.range_map.proofs.Common.{AllByRecursion, KeyOrder, AnyRange, Item, IsStored}
-use Rattle.range_change.specs.Neighbours.{EachNext}
+use Rattle.range_map.proofs.Common.{◌≡◌, Bool, List, [], ◌∷◌, ◌++◌, Option, Some, None, MatchOption, IsEquivalence, IsLawful, every_left, line_of, KeyOrder, AnyRange, Item, IsStored, chain_left, chain_stored, stored_chain, stored_known}
 use Rattle.range_map.proofs.map.RangeMap.pop_last.Goals as goal
 
-module _ {X : Type 0} where
-  all_front : (P : X → Type 0) (xs ys : List X) → AllByRecursion P (xs ++ ys) → AllByRecursion P xs
-  all_front P [] ys h = tt
-  all_front P (x ∷ xs) ys h = (h.0, all_front P xs ys h.1)
-
-  next_front : (R : X → X → Type 0) (xs ys : List X) → EachNext R (xs ++ ys) → EachNext R xs
-  next_front R [] ys h = tt
-  next_front R (x ∷ []) ys h = (tt, tt)
-  next_front R (x ∷ y ∷ xs) ys h = (h.0, next_front R (y ∷ xs) ys h.1)
-
-module _ {K : Type 0} (order : KeyOrder K) {V : Type 0} (same : V → V → Bool) where
+module _ {K : Type 0} {order : KeyOrder K} (lawful : IsLawful order) {V : Type 0}
+    {same : V → V → Bool} (equal : IsEquivalence same) where
   stored_front : (items rest : List (Item (AnyRange K) V)) → IsStored order same (items ++ rest)
       → IsStored order same items
   stored_front items rest form =
-      record {
-        known = all_front _ items rest form.known;
-        nonempty = all_front _ items rest form.nonempty;
-        rising =
-            next_front _ items rest form.rising;
-      }
+      chain_stored order lawful same equal items
+      (every_left _ items rest (stored_known order lawful same equal _ form))
+      (chain_left (line_of order lawful same equal) items rest
+      (stored_chain order lawful same equal _ form))
 
   stored_without_last : (old new : List (Item (AnyRange K) V)) (last : Option (Item (AnyRange K) V))
       → IsStored order same old
@@ -35,8 +21,9 @@ module _ {K : Type 0} (order : KeyOrder K) {V : Type 0} (same : V → V → Bool
 pub invariant_of-self : goal.invariant_of-self
 invariant_of-self g c =
     let items = g.C.Storage.items in
-    stored_without_last g.K.MaybeBounded.order g.V.PartialEq.eq (items c.self.inside.stored)
-    (items c.pop_last.new.self) c.pop_last.result c.self.invariant c.pop_last.ensures.list
+    stored_without_last g.met.K.PartialEnum.lawful
+    g.met.V.Eq.laws (items c.self.inside.stored) (items c.pop_last.new.self) c.pop_last.result
+    c.self.invariant c.pop_last.ensures.list
 
 pub returns-clause-form : goal.returns-clause-form
 returns-clause-form g c = invariant_of-self g c

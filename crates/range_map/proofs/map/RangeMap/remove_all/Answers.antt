@@ -1,5 +1,4 @@
-use Rattle.range_map.proofs.Common.{AnyRange, Item, IsWithout}
-use Rattle.range_change.proofs.Results.{on_error}
+use Rattle.range_map.proofs.Common.{AnyRange, Item, IsWithout, on_error}
 use Rattle.range_map.proofs.InPlace.{none_without, one_without}
 use Rattle.range_map.proofs.PartWay.{set_out, one_done, stopped, arrived}
 use Rattle.range_map.proofs.StoredLists.{stored_coarse, stored_only}
@@ -15,7 +14,7 @@ loop-range-init g c =
           (set_out (λ front. IsWithout order same items front items) _
           (none_without order same items));
       form = c.in_form.ensures;
-      coarse = stored_coarse g.met.K.PartialEnum.lawful g.met.V.Eq.laws _ c.in_form.ensures;
+      coarse = stored_coarse g.met.K.PartialEnum.lawful _ c.in_form.ensures;
       only = stored_only g.met.K.PartialEnum.lawful g.met.V.Eq.laws _ c.in_form.ensures;
     }
 
@@ -40,8 +39,7 @@ loop-range-preserved g c =
     }
 
 pub returns-clause-bound : goal.returns-clause-bound
-returns-clause-bound g c =
-    arrived c.in_default.ensures.steps.0 c.loop-range.invariant.way
+returns-clause-bound g c = arrived c.in_default.ensures.steps.0 c.loop-range.invariant.way
 
 pub returns-in_err-remove-clause-refused : goal.returns-in_err-remove-clause-refused
 returns-in_err-remove-clause-refused g c =

@@ -1,5 +1,4 @@
-use Rattle.std.proofs.Common.{length}
-use Rattle.range_map.proofs.Common.{IsComplete, IsCoarse, IsOnlyCoarse, IsStored, IsWithout}
+use Rattle.range_map.proofs.Common.{length, IsComplete, IsCoarse, IsOnlyCoarse, IsStored, IsWithout}
 use Rattle.range_map.proofs.PartWay.{IsPartWay}
 use Rattle.range_map.proofs.map.RangeMap.remove_all.Given as goal
 

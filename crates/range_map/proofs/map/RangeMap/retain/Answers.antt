@@ -1,7 +1,4 @@
-use Rattle.std.proofs.Common.{◌≡◌, ◌∙◌, ◌+◌, ◌<◌, ap, arith, length}
-use Rattle.range_map.proofs.Common.{length-remove, place_before}
-use Rattle.range_store.proofs.Places.{place_at}
-use Rattle.range_map.specs.Retaining.{CalledAtItem}
+use Rattle.range_map.proofs.Common.{◌≡◌, ◌∙◌, ◌+◌, ◌<◌, ap, arith, length, rules, length-remove, place_before, IsStored, place_at, CalledAtItem}
 use Rattle.range_map.proofs.Retaining.{retaining_starts, kept_next, removed_next, retained, kept_stored, kept_as_before, fewer_kept}
 use Rattle.range_map.proofs.StoredLists.{stored_coarse, stored_only}
 use Rattle.range_map.proofs.map.RangeMap.retain.Goals as goal
@@ -97,43 +94,26 @@ invariant_of-self g c =
     let done =
     retained (CalledAtItem g.F.FnMut) _ _ c.loop-at.invariant.told
     (ap (place_before (g.C.Storage.rank stored) count) c.in_default.is) in
-    rw done.4 (kept_stored g.K.MaybeBounded.order g.met.K.PartialEnum.lawful g.V.PartialEq.eq
-    g.met.V.Eq.laws done.0 _ c.self.invariant)
+    rw done.4 (kept_stored g.met.K.PartialEnum.lawful g.met.V.Eq.laws done.0 _ c.self.invariant)
 
-pub returns-clause-form : goal.returns-clause-form
-returns-clause-form g c =
-    let stored = c.loop-at.self-inside.stored in
-    let count = length (g.C.Storage.items stored) in
+pub returns : goal.returns
+returns g c =
+    let order = g.K.MaybeBounded.order in
+    let lawful = g.met.K.PartialEnum.lawful in
+    let same = g.V.PartialEq.eq in
+    let equal = g.met.V.Eq.laws in
+    let items = g.C.Storage.items c.loop-at.self-inside.stored in
     let done =
     retained (CalledAtItem g.F.FnMut) _ _ c.loop-at.invariant.told
-    (ap (place_before (g.C.Storage.rank stored) count) c.in_default.is) in
-    rw done.4 (kept_stored g.K.MaybeBounded.order g.met.K.PartialEnum.lawful g.V.PartialEq.eq
-    g.met.V.Eq.laws done.0 _ c.self.invariant)
-
-pub returns-clause-coarse : goal.returns-clause-coarse
-returns-clause-coarse g c =
-    stored_coarse g.met.K.PartialEnum.lawful g.met.V.Eq.laws _ (returns-clause-form g c)
-
-pub returns-clause-only : goal.returns-clause-only
-returns-clause-only g c =
-    stored_only g.met.K.PartialEnum.lawful g.met.V.Eq.laws _ (returns-clause-form g c)
-
-pub returns-clause-kept : goal.returns-clause-kept
-returns-clause-kept g c =
-    let stored = c.loop-at.self-inside.stored in
-    let count = length (g.C.Storage.items stored) in
-    let done =
-    retained (CalledAtItem g.F.FnMut) _ _ c.loop-at.invariant.told
-    (ap (place_before (g.C.Storage.rank stored) count) c.in_default.is) in
-    rw (← c.self.view_is, done.4)
-    (kept_as_before g.K.MaybeBounded.order g.met.K.PartialEnum.lawful g.V.PartialEq.eq
-    g.met.V.Eq.laws done.0 _ c.self.invariant)
-
-pub returns-clause-few : goal.returns-clause-few
-returns-clause-few g c =
-    let stored = c.loop-at.self-inside.stored in
-    let count = length (g.C.Storage.items stored) in
-    let done =
-    retained (CalledAtItem g.F.FnMut) _ _ c.loop-at.invariant.told
-    (ap (place_before (g.C.Storage.rank stored) count) c.in_default.is) in
-    rw (← c.self.view_is, done.4) (fewer_kept done.0 _)
+    (ap (place_before (g.C.Storage.rank c.loop-at.self-inside.stored) (length items))
+    c.in_default.is) in
+    let form : IsStored order same items =
+    rw done.4 (kept_stored lawful equal done.0 _ c.self.invariant) in
+    record {
+      filtered = search rules;
+      kept = rw (← c.self.view_is, done.4) (kept_as_before lawful equal done.0 _ c.self.invariant);
+      form = form;
+      coarse = stored_coarse lawful _ form;
+      only = stored_only lawful equal _ form;
+      few = rw (← c.self.view_is, done.4) (fewer_kept done.0 _);
+    }

@@ -1,6 +1,4 @@
-use Rattle.std.proofs.Common.{◌-◌, length}
-use Rattle.range_store.specs.Places.{place_before, IsAt}
-use Rattle.range_map.specs.Retaining.{CalledAtItem}
+use Rattle.range_map.proofs.Common.{◌-◌, length, place_before, IsAt, CalledAtItem}
 use Rattle.range_map.proofs.Retaining.{IsRetaining}
 use Rattle.range_map.proofs.map.RangeMap.retain.Given as goal
 

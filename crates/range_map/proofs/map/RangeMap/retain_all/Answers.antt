@@ -1,6 +1,4 @@
-use Rattle.range_map.proofs.Common.{tied_back, range_clone, range_total, range_of}
-use Rattle.range_change.proofs.Results.{on_error}
-use Rattle.range_map.specs.PartWay.{AreUnboundAfter}
+use Rattle.range_map.proofs.Common.{tied_back, range_clone, range_total, range_of, on_error, AreUnboundAfter}
 use Rattle.range_map.proofs.InPlace.{none_unbound, one_unbound, all_kept}
 use Rattle.range_map.proofs.PartWay.{set_out, one_done, stopped_at_gap, arrived}
 use Rattle.range_map.proofs.StoredLists.{stored_coarse, stored_only}
@@ -16,7 +14,7 @@ loop-gap-init g c =
       way = set_out (AreUnboundAfter order same items items) c.gaps-gaps.result
           (none_unbound order same items);
       form = c.in_form.ensures;
-      coarse = stored_coarse g.met.K.PartialEnum.lawful g.met.V.Eq.laws _ c.in_form.ensures;
+      coarse = stored_coarse g.met.K.PartialEnum.lawful _ c.in_form.ensures;
       only = stored_only g.met.K.PartialEnum.lawful g.met.V.Eq.laws _ c.in_form.ensures;
     }
 
@@ -48,11 +46,10 @@ loop-gap-preserved g c =
 
 pub returns-clause-bound : goal.returns-clause-bound
 returns-clause-bound g c =
-    let order = g.K.MaybeBounded.order in
     let same = g.V.PartialEq.eq in
     let first = g.C.Storage.items c.args.self.now in
     let now = g.C.Storage.items c.loop-gap.self in
-    all_kept order same first now _ c.gaps-gaps.result c.gaps-gaps.ensures.once
+    all_kept g.K.MaybeBounded.order same first now _ c.gaps-gaps.result c.gaps-gaps.ensures.once
     (arrived c.in_default.ensures.steps.0 c.loop-gap.invariant.way)
 
 pub returns-in_err-cloned-clause-refused : goal.returns-in_err-cloned-clause-refused

@@ -1,6 +1,4 @@
-use Rattle.std.proofs.Common.{length}
-use Rattle.range_map.proofs.Common.{IsComplete, IsCoarse, IsOnlyCoarse, IsStored}
-use Rattle.range_map.specs.PartWay.{AreUnboundAfter}
+use Rattle.range_map.proofs.Common.{length, IsComplete, IsCoarse, IsOnlyCoarse, IsStored, AreUnboundAfter}
 use Rattle.range_map.proofs.PartWay.{IsPartWay}
 use Rattle.range_map.proofs.map.RangeMap.retain_all.Given as goal
 

@@ -1,5 +1,4 @@
 use Rattle.range_map.specs.Iteration.{shown_item}
-use Rattle.range_map.proofs.PieceSteps.{range_by}
 use Rattle.range_map.proofs.map.RangeMap.span.Goals as goal
 
 pub returns-in-Some-Some : goal.returns-in-Some-Some
@@ -12,8 +11,6 @@ returns-in-Some-Some g c =
         last = last;
         starts = c.in-Some-Some.ensures.first;
         ends = c.in-Some-Some.ensures'.last;
-        is =
-            range_by c.new.result _ c.start_bound.result c.end_bound.result c.new.ensures.start
-            c.new.ensures.end (c.start_bound.ensures tt) (c.end_bound.ensures tt);
+        is = cc (c.start_bound.ensures tt, c.end_bound.ensures tt);
       };
     }

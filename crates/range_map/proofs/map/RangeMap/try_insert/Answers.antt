@@ -1,11 +1,7 @@
-use Rattle.range_map.proofs.Common.{common_steps, IsEmptyRange, IsBoundAfter, MeetAlso}
-use Rattle.std.proofs.Common.{OnOk, refl, arith, subst}
+use Rattle.range_map.proofs.Common.{OnOk, refl, arith, subst, common_steps, IsEmptyRange, IsBoundAfter, MeetAlso, not_both, IsInsertionFrame, on_ok}
 use Rattle.range_change.specs.Changes.{IsInserted}
-use Rattle.range_change.specs.Frames.{IsInsertionFrame}
-use Rattle.range_change.proofs.CoveredPlaces.{on_ok}
 use Rattle.range_change.proofs.Freeing.{form_after}
 use Rattle.range_map.proofs.StoredLists.{stored_coarse, stored_only}
-use Rattle.range_change.proofs.Tests.{not_both}
 use Rattle.range_map.proofs.map.RangeMap.try_insert.Goals as goal
 
 pub bind_where_free-requires : goal.bind_where_free-requires
@@ -33,8 +29,7 @@ returns g c =
     c.into_range-range.ensures c.bind_where_free.ensures.ok in
     let form =
     form_after order same c.bind_where_free.result items new c.into_range-range.result
-    c.args.value c.bind_where_free.ensures.ok c.bind_where_free.ensures.refused
-    c.self.invariant in
+    c.args.value c.bind_where_free.ensures.ok c.bind_where_free.ensures.refused c.self.invariant in
     let empty_is = rw c.into_range-range.ensures at c.is_empty.ensures.by_position in
     record {
       occupied = grind (arith, common_steps);
@@ -53,7 +48,7 @@ returns g c =
           ((IsEmptyRange order range → ⊥) → MeetAlso order items new range)
           c.bind_where_free.result (λ h full. h.meets) done);
       form = form;
-      coarse = stored_coarse g.met.K.PartialEnum.lawful g.met.V.Eq.laws _ form;
+      coarse = stored_coarse g.met.K.PartialEnum.lawful _ form;
       only = stored_only g.met.K.PartialEnum.lawful g.met.V.Eq.laws _ form;
       refused = rw (← c.self.view_is) c.bind_where_free.ensures.refused;
       empty = λ e. absurd (not_both c.if-is_empty.false (empty_is.1 e));
@@ -70,7 +65,7 @@ returns-then-is_empty g c =
       frame = λ full. absurd (full (empty_is.0 c.if-is_empty.true));
       meets = λ full. absurd (full (empty_is.0 c.if-is_empty.true));
       form = c.in_form.ensures;
-      coarse = stored_coarse g.met.K.PartialEnum.lawful g.met.V.Eq.laws _ c.in_form.ensures;
+      coarse = stored_coarse g.met.K.PartialEnum.lawful _ c.in_form.ensures;
       only = stored_only g.met.K.PartialEnum.lawful g.met.V.Eq.laws _ c.in_form.ensures;
       refused = tt;
       empty = λ _. refl;

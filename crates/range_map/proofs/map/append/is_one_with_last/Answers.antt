@@ -1,5 +1,4 @@
-use Rattle.range_map.proofs.Common.{false≢true, common_steps}
-use Rattle.std.proofs.Common.{arith}
+use Rattle.range_map.proofs.Common.{arith, false≢true, common_steps}
 use Rattle.range_map.proofs.map.append.is_one_with_last.Goals as goal
 
 pub returns-in-None : goal.returns-in-None

@@ -1,5 +1,4 @@
-use Rattle.std.proofs.Common.{◌≡◌, ◌∙◌, ℕ, ◌+◌, ◌≤◌, List, length, ◌++◌, ◌∷◌, [], arith}
-use Rattle.range_map.proofs.Common.{insert, append_assoc, insert_end}
+use Rattle.range_map.proofs.Common.{◌≡◌, ◌∙◌, ℕ, ◌+◌, ◌≤◌, List, length, ◌++◌, ◌∷◌, [], arith, insert, append_assoc, insert_end}
 use Rattle.range_map.proofs.map.append.move_all.Goals as goal
 
 -- the first of the others comes to be the last that is stored

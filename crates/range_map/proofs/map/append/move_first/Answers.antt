@@ -1,6 +1,4 @@
-use Rattle.std.proofs.Common.{◌≡◌, ◌∙◌, sym, ◌++◌, ◌∷◌, []}
-use Rattle.range_map.proofs.Common.{append_assoc, append-nil, insert_end}
-use Rattle.range_map.specs.Appending.{as_one}
+use Rattle.range_map.proofs.Common.{◌≡◌, ◌∙◌, sym, ◌++◌, ◌∷◌, [], append_assoc, append-nil, insert_end, as_one}
 use Rattle.range_map.proofs.Appending.{appended_last, appended_none}
 use Rattle.range_map.proofs.map.append.move_first.Goals as goal
 

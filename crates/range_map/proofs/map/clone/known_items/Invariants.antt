@@ -1,5 +1,4 @@
-use Rattle.std.proofs.Common.{ℕ, ◌-◌, ◌<◌, length, get_or}
-use Rattle.range_map.proofs.Common.{AnyRange, IsKnownRange, place_before, IsAt, Item}
+use Rattle.range_map.proofs.Common.{ℕ, ◌-◌, ◌<◌, length, get_or, AnyRange, IsKnownRange, place_before, IsAt, Item}
 use Rattle.range_map.proofs.map.clone.known_items.Given as goal
 
 abbrev pub invariant-loop-at : goal.invariant-loop-at

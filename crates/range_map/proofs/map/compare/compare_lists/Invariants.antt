@@ -1,5 +1,4 @@
-use Rattle.std.proofs.Common.{◌≡◌, length}
-use Rattle.range_map.specs.ListOrder.{list_cmp}
+use Rattle.range_map.proofs.Common.{◌≡◌, length, list_cmp}
 use Rattle.range_map.proofs.map.compare.compare_lists.Given as goal
 
 abbrev pub invariant-loop-range : goal.invariant-loop-range

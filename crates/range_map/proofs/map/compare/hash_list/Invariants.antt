@@ -1,5 +1,4 @@
-use Rattle.std.proofs.Common.{◌≡◌, length}
-use Rattle.range_map.proofs.Common.{fold, flat_map, item_input, list_input}
+use Rattle.range_map.proofs.Common.{◌≡◌, length, fold, flat_map, item_input, list_input}
 use Rattle.range_map.proofs.map.compare.hash_list.Given as goal
 
 abbrev pub invariant-loop-range : goal.invariant-loop-range

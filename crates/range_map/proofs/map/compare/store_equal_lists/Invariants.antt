@@ -1,5 +1,4 @@
-use Rattle.std.proofs.Common.{◌≡◌, length}
-use Rattle.range_map.specs.ListOrder.{same_list}
+use Rattle.range_map.proofs.Common.{◌≡◌, length, same_list}
 use Rattle.range_map.proofs.map.compare.store_equal_lists.Given as goal
 
 abbrev pub invariant-loop-range : goal.invariant-loop-range

@@ -1,7 +1,6 @@
 use Rattle.std.proofs.Common.{◌≡◌, ◌∙◌, sym, ap, ◌∷◌, ◌++◌, [], length, map, subst, arith, append_assoc}
-use Rattle.range_map.proofs.Common.{map-append, lower, BindAlike, item_upper, item_of, full_range}
+use Rattle.range_map.proofs.Common.{map-append, lower, BindAlike, item_upper, item_of, full_range, le_refl}
 use Rattle.std.proofs.lemmas.Result.{IfOk-weaker}
-use Rattle.range_map.proofs.PlaceOrder.{le_refl}
 use Rattle.range_change.proofs.OuterBounds.{prefix_is_all}
 use Rattle.range_map.proofs.Joining.{built_more, built_none}
 use Rattle.range_map.proofs.Sorting.{sorted_rises}
@@ -25,7 +24,6 @@ loop-range-init g c =
 
 pub loop-range-preserved : goal.loop-range-preserved
 loop-range-preserved g c =
-    let order = g.K.MaybeBounded.order in
     let lawful = g.met.K.PartialEnum.lawful in
     let item = item_of g.R.AsRange.range in
     let was = c.loop-range.invariant in
@@ -33,7 +31,7 @@ loop-range-preserved g c =
     let done = c.loop-range.yielded in
     let pair : g.row.R.Denot × g.row.V.Denot = (c.in-Some.range, c.in-Some.value) in
     let rises = rw next at was.built.2 in
-    let end = item_upper order (item pair) in
+    let end = item_upper g.K.MaybeBounded.order (item pair) in
     record {
       parted =
           append_assoc done (pair ∷ []) c.next.new.self.rest.items
@@ -41,7 +39,7 @@ loop-range-preserved g c =
       built = (
         end,
         rw (c.in_ok-push.ensures, c.into_range.ensures, map-append item done (pair ∷ []))
-            (built_more order lawful g.V.PartialEq.eq g.met.V.Eq.laws was.built.0 end _
+            (built_more lawful g.met.V.Eq.laws was.built.0 end _
             c.loop-range.items.items (item pair) rises.0 rises.1 rises.2 (le_refl lawful _)
             was.built.1),
         rises.3,

@@ -1,5 +1,4 @@
-use Rattle.std.proofs.Common.{◌≡◌, ◌++◌, map}
-use Rattle.range_map.proofs.Common.{Position, item_of}
+use Rattle.range_map.proofs.Common.{◌≡◌, ◌++◌, map, Position, item_of}
 use Rattle.range_map.proofs.Joining.{IsBuilt, RisesFrom}
 use Rattle.range_map.proofs.map.from_sorted.build.Given as goal
 

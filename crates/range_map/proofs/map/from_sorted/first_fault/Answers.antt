@@ -1,5 +1,4 @@
-use Rattle.std.proofs.Common.{◌≡◌, sym, true, ◌∷◌, [], get_or, take, rules}
-use Rattle.range_map.proofs.Common.{every_append, item_of}
+use Rattle.range_map.proofs.Common.{◌≡◌, sym, true, ◌∷◌, [], get_or, take, rules, every_append, item_of}
 use Rattle.range_map.proofs.Sorting.{last_is, more_sorted, sorted_more, take_next}
 use Rattle.range_map.proofs.map.from_sorted.first_fault.Goals as goal
 

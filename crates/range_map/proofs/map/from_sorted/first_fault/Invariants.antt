@@ -1,6 +1,4 @@
-use Rattle.std.proofs.Common.{◌≡◌, take, map}
-use Rattle.range_map.proofs.Common.{option_map, Every, IsKnownRange, item_of}
-use Rattle.range_map.specs.Sorting.{IsSorted, last_key}
+use Rattle.range_map.proofs.Common.{◌≡◌, take, map, option_map, Every, IsKnownRange, item_of, IsSorted, last_key}
 use Rattle.range_map.proofs.map.from_sorted.first_fault.Given as goal
 
 abbrev pub invariant-loop-index : goal.invariant-loop-index

@@ -1,5 +1,4 @@
-use Rattle.std.proofs.Common.{◌≡◌, length}
-use Rattle.range_map.specs.FreeRanges.{free_after}
+use Rattle.range_map.proofs.Common.{◌≡◌, length, free_after}
 use Rattle.range_map.proofs.map.gaps.next_gap.Given as goal
 
 abbrev pub invariant-loop-range : goal.invariant-loop-range

@@ -1,5 +1,4 @@
-use Rattle.std.proofs.Common.{◌≡◌, length}
-use Rattle.range_map.specs.PieceLists.{free_ranges}
+use Rattle.range_map.proofs.Common.{◌≡◌, length, free_ranges}
 use Rattle.range_map.proofs.map.gaps_within.last_free.Given as goal
 
 abbrev pub invariant-loop-range : goal.invariant-loop-range

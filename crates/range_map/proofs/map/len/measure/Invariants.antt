@@ -1,5 +1,4 @@
-use Rattle.std.proofs.Common.{length}
-use Rattle.range_map.specs.FreeRanges.{item_ranges}
+use Rattle.range_map.proofs.Common.{length, item_ranges}
 use Rattle.range_map.proofs.MeasureTotals.{IsMeasured}
 use Rattle.range_map.proofs.map.len.measure.Given as goal
 

@@ -1,6 +1,5 @@
-use Rattle.std.proofs.Common.{◌≡◌, sym, [], rules, Err}
-use Rattle.range_map.proofs.Common.{FnReturnsAt, lower, full_range}
-use Rattle.range_map.specs.Merged.{part_item}
+use Rattle.range_map.proofs.Common.{◌≡◌, sym, [], rules, Err, FnReturnsAt, lower, full_range}
+use Rattle.range_merge.specs.Merged.{part_item}
 use Rattle.range_map.proofs.Joining.{built_none, stored_rises}
 use Rattle.range_map.proofs.MappedValues.{first_left, mapped_more}
 use Rattle.range_map.proofs.CloneLists.{clones_tied}
@@ -20,8 +19,7 @@ loop-part-init g c =
             rw c.in_ok-answers.ensures.items
             (built_none order g.W.PartialEq.eq (lower order full_range));
         rises =
-            rw c.iter-items.ensures.items
-            (stored_rises order g.met.K.PartialEnum.lawful g.V.PartialEq.eq g.met.V.Eq.laws _
+            rw c.iter-items.ensures.items (stored_rises g.met.K.PartialEnum.lawful g.met.V.Eq.laws _
             c.in_form.ensures);
       };
     }
@@ -42,7 +40,6 @@ returns-in_err-answered-clause-closure g c = λ e failed.
 pub loop-part-preserved : goal.loop-part-preserved
 loop-part-preserved g c =
     let order = g.K.MaybeBounded.order in
-    let was = c.loop-part.invariant in
     let equal_keys =
     clones_tied g.met.K.MaybeBounded.order_is_cmp g.met.K.Ord.matches_eq c.requires.keys in
     record {
@@ -52,7 +49,7 @@ loop-part-preserved g c =
           c.next_part.new.items c.loop-part.answers.items c.in_ok-answered.field-0
           g.K.Clone.is_clone equal_keys c.in_ok-answered.ensures.range
           c.in_ok-answered.ensures.known c.in_ok-answered.ensures.value
-          (rw (← c.in-Some.ensures.items) at was.mapped));
+          (rw (← c.in-Some.ensures.items) at c.loop-part.invariant.mapped));
     }
 
 pub map_of-requires : goal.map_of-requires

@@ -1,6 +1,4 @@
-use Rattle.std.proofs.Common.{◌≡◌, ◌∙◌, refl, ap, ◌++◌, ◌∷◌, [], length}
-use Rattle.range_map.proofs.Common.{Included, insert_end, AnyRange, Item, place_before}
-use Rattle.range_store.proofs.Places.{place_at}
+use Rattle.range_map.proofs.Common.{◌≡◌, ◌∙◌, refl, ap, ◌++◌, ◌∷◌, [], length, Included, insert_end, AnyRange, Item, place_before, place_at}
 use Rattle.range_change.specs.Edits.{with_start}
 use Rattle.range_map.proofs.Splitting.{parted, last_parted, last_cut}
 use Rattle.range_map.proofs.map.split_off.cut_last.Goals as goal
@@ -9,7 +7,7 @@ pub returns-in_default-clause-divided : goal.returns-in_default-clause-divided
 returns-in_default-clause-divided g c =
     let rest = g.C.Storage.items c.args.others.now in
     let none = c.in_default.ensures.list in
-    rw (none.0, none.1) (parted g.K.MaybeBounded.order g.met.K.PartialEnum.lawful g.V.PartialEq.eq
+    rw (none.0, none.1) (parted g.met.K.PartialEnum.lawful
     g.met.V.Eq.laws c.args.key c.known.ensures [] rest (rw none.0 at c.requires.stored) tt
     c.requires.from)
 
@@ -22,8 +20,8 @@ returns-then-not-holds-clause-divided g c =
     let list = c.in-Some.ensures.list in
     let whole : items c.insert_at-position.new.self ≡ front ++ last ∷ [] =
     c.insert_at-position.ensures.list ∙ insert_end front last in
-    rw (list, whole) (last_parted g.K.MaybeBounded.order g.met.K.PartialEnum.lawful
-    g.V.PartialEq.eq g.met.V.Eq.laws c.args.key c.known.ensures front rest last
+    rw (list, whole) (last_parted g.met.K.PartialEnum.lawful g.met.V.Eq.laws c.args.key
+    c.known.ensures front rest last
     (rw list at c.requires.stored) (c.requires.below front last list) c.requires.from
     (λ held. let told = c.holds.ensures.held.1 held in let not =
     c.if-not-holds.true in absurd (cc)))
@@ -50,8 +48,8 @@ returns-in-Ok-clause-divided g c =
     rw start at c.insert_at-back.ensures.list in
     let moved : items c.insert_at-back.new.self ≡ with_start last (Included c.args.key) ∷ rest =
     listed ∙ rw (c.parts-front.ensures.back, c.prepare.ensures.list) refl in
-    rw (list, whole, moved) (last_cut g.K.MaybeBounded.order g.met.K.PartialEnum.lawful
-    g.V.PartialEq.eq g.met.V.Eq.laws c.args.key c.known.ensures front rest last
+    rw (list, whole, moved) (last_cut g.met.K.PartialEnum.lawful g.met.V.Eq.laws c.args.key
+    c.known.ensures front rest last
     (rw list at c.requires.stored) (c.requires.below front last list) c.requires.from c.in-Ok.end
     c.in-Ok.value c.in-Ok.ensures.end.0 c.in-Ok.ensures.end.1 c.in-Ok.ensures.value
     (c.holds.ensures.held.0 (let not = c.if-not-holds.false in cc)))

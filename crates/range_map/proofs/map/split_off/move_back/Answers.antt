@@ -1,8 +1,4 @@
-use Rattle.std.proofs.Common.{rules, ◌≡◌, ◌∙◌, ℕ, ◌+◌, ◌≤◌, ◌<◌, refl, sym, ap, subst, List, length, ◌++◌, ◌∷◌, [], arith}
-use Rattle.range_map.proofs.Common.{insert, Included, append_assoc, append-nil, length-append, insert_end, start_position, Le, Lt, Every, place_before, item_lower}
-use Rattle.range_map.proofs.PlaceOrder.{not_lt}
-use Rattle.range_store.proofs.Places.{place_at}
-use Rattle.range_change.proofs.Forms.{places}
+use Rattle.range_map.proofs.Common.{rules, ◌≡◌, ◌∙◌, ℕ, ◌+◌, ◌≤◌, ◌<◌, refl, sym, ap, subst, List, length, ◌++◌, ◌∷◌, [], arith, insert, Included, append_assoc, append-nil, length-append, insert_end, start_position, Le, Lt, Every, place_before, item_lower, places, not_lt, place_at}
 use Rattle.range_map.proofs.Splitting.{last_same}
 use Rattle.range_map.proofs.map.split_off.move_back.Goals as goal
 
@@ -28,9 +24,6 @@ last_such : {X : Type 0} (P : X → Type 0) (front new rest : List X) (last x : 
 last_such P front new rest last x put such ends =
     subst P (last_same front rest last x (sym (insert_end front last) ∙ sym put ∙ ends)) such
 
-room_kept : (n room less back : ℕ) → n ≤ room → room + 1 ≤ less → less ≡ back + 1 → n ≤ back
-room_kept n room less back h k e = omega arith
-
 room_moved : {X : Type 0} (rest others new : List X) (last : X) (room less : ℕ) → others ≡ rest
     → new ≡ last ∷ others → length rest ≤ room → room + 1 ≤ less → length new ≤ less
 room_moved rest others new last room less same put h k = rw (put, same) (omega arith)
@@ -38,12 +31,6 @@ room_moved rest others new last room less same put h k = rw (put, same) (omega a
 first_such : {X : Type 0} (P : X → Type 0) (rest others new : List X) (last : X) → others ≡ rest
     → new ≡ last ∷ others → P last → Every P rest → Every P new
 first_such P rest others new last same put such all = rw (put, same) (such, all)
-
-room_left : (n room more : ℕ) → n ≤ room → room ≤ more → n ≤ more
-room_left n room more h k = omega arith
-
-room_one : (room more : ℕ) → room + 1 ≤ more → 1 ≤ more
-room_one room more h = omega arith
 
 shorter : {X : Type 0} (stored front : List X) (last : X) → stored ≡ front ++ last ∷ []
     → length front < length stored
@@ -59,14 +46,15 @@ returns-then-starts_before g c =
       list =
           let items = g.C.Storage.items in
           put_back (items c.loop-last.stored) (items c.pop_last.new.self)
-          (items c.insert_at-position.new.self) (items c.loop-last.others) (items c.loop-last.others)
-          (items c.args.stored.now) c.in-Some.last c.in-Some.ensures.list
+          (items c.insert_at-position.new.self) (items c.loop-last.others)
+          (items c.loop-last.others) (items c.args.stored.now) c.in-Some.last c.in-Some.ensures.list
           c.insert_at-position.ensures.list refl c.loop-last.invariant.list;
-      room =
-          let room = g.C.Storage.room in
-          room_kept (length (g.C.Storage.items c.loop-last.others)) (room c.loop-last.stored)
-          (room c.pop_last.new.self) (room c.insert_at-position.new.self) c.loop-last.invariant.room
-          c.in-Some.ensures.space c.insert_at-position.ensures.space;
+      room = omega (
+        arith,
+        c.loop-last.invariant.room,
+        c.in-Some.ensures.space,
+        c.insert_at-position.ensures.space,
+      );
       from = c.loop-last.invariant.from;
       below =
           let order = g.K.MaybeBounded.order in
@@ -88,13 +76,10 @@ returns-then-is_err g c =
           c.insert_at-position-then-is_err.ensures.list c.reserve.ensures.list
           c.loop-last.invariant.list;
       room =
-          let room = g.C.Storage.room in
-          rw c.reserve.ensures.list (room_kept (length (g.C.Storage.items c.loop-last.others))
-          (room c.loop-last.stored) (room c.pop_last.new.self)
-          (room c.insert_at-position-then-is_err.new.self) c.loop-last.invariant.room
-          c.in-Some.ensures.space c.insert_at-position-then-is_err.ensures.space);
-      from =
-          rw c.reserve.ensures.list c.loop-last.invariant.from;
+          let space = c.insert_at-position-then-is_err.ensures.space in
+          rw c.reserve.ensures.list
+          (omega (arith, c.loop-last.invariant.room, c.in-Some.ensures.space, space));
+      from = rw c.reserve.ensures.list c.loop-last.invariant.from;
     }
 
 pub loop-last-preserved : goal.loop-last-preserved
@@ -117,8 +102,7 @@ loop-last-preserved g c =
       list =
           moved (items c.loop-last.stored) (items c.pop_last.new.self) (items c.loop-last.others)
           (items others) (items c.insert_at-position-in-Some.new.self)
-          (items c.args.stored.now) last c.in-Some.ensures.list same put
-          c.loop-last.invariant.list;
+          (items c.args.stored.now) last c.in-Some.ensures.list same put c.loop-last.invariant.list;
       room =
           room_moved (items c.loop-last.others) (items others)
           (items c.insert_at-position-in-Some.new.self) last (storage.room c.loop-last.stored)
@@ -128,8 +112,7 @@ loop-last-preserved g c =
           first_such (λ i. Le (places order lawful) key (item_lower order i))
           (items c.loop-last.others) (items others) (items c.insert_at-position-in-Some.new.self)
           last same put (not_lt lawful _ _ (λ h. let told = c.starts_before.ensures.1 h in let not =
-          c.if-starts_before.false in absurd (cc)))
-          c.loop-last.invariant.from;
+          c.if-starts_before.false in absurd (cc))) c.loop-last.invariant.from;
     }
 
 pub loop-last-init : goal.loop-last-init
@@ -145,26 +128,20 @@ loop-last-smaller g c =
     c.in-Some.last c.in-Some.ensures.list
 
 pub insert_at-position-requires-clause-has_room : goal.insert_at-position-requires-clause-has_room
-insert_at-position-requires-clause-has_room g c =
-    room_one (g.C.Storage.room c.loop-last.stored) (g.C.Storage.room c.pop_last.new.self)
-    c.in-Some.ensures.space
+insert_at-position-requires-clause-has_room g c = omega (arith, c.in-Some.ensures.space)
 
 pub insert_at-position-requires-then-is_err-clause-has_room :
     goal.insert_at-position-requires-then-is_err-clause-has_room
-insert_at-position-requires-then-is_err-clause-has_room g c =
-    room_one (g.C.Storage.room c.loop-last.stored) (g.C.Storage.room c.pop_last.new.self)
-    c.in-Some.ensures.space
+insert_at-position-requires-then-is_err-clause-has_room g c = omega (arith, c.in-Some.ensures.space)
 
 pub returns : goal.returns
 returns g c =
     record {
       list =
-          rw c.in_default.ensures.list.1 (rw c.in_default.ensures.list.0 at c.loop-last.invariant.list);
-      room =
-          room_left (length (g.C.Storage.items c.loop-last.others)) (g.C.Storage.room c.loop-last.stored)
-          (g.C.Storage.room c.pop_last.new.self) c.loop-last.invariant.room c.in_default.ensures.space;
-      from =
-          c.loop-last.invariant.from;
+          rw c.in_default.ensures.list.1
+          (rw c.in_default.ensures.list.0 at c.loop-last.invariant.list);
+      room = omega (arith, c.loop-last.invariant.room, c.in_default.ensures.space);
+      from = c.loop-last.invariant.from;
       below =
           λ front last ends. absurd (none_last front last (rw c.in_default.ensures.list.1 at ends));
     }

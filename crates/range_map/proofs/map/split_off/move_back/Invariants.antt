@@ -1,5 +1,4 @@
-use Rattle.std.proofs.Common.{◌≡◌, ◌≤◌, ◌++◌, length}
-use Rattle.range_map.proofs.Common.{Included, position_cmp, start_position, Le, Every, item_lower}
+use Rattle.range_map.proofs.Common.{◌≡◌, ◌≤◌, ◌++◌, length, Included, position_cmp, start_position, Le, Every, item_lower}
 use Rattle.range_map.proofs.map.split_off.move_back.Given as goal
 
 abbrev pub invariant-loop-last : goal.invariant-loop-last

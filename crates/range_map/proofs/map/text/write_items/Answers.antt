@@ -1,6 +1,4 @@
-use Rattle.std.proofs.Common.{subst, rules, ◌≡◌, ◌∷◌}
-use Rattle.std.specs.Prelude.{IsOk}
-use Rattle.range_map.proofs.Common.{AnyRange, Item}
+use Rattle.range_map.proofs.Common.{subst, rules, ◌≡◌, ◌∷◌, IsOk, AnyRange, Item}
 use Rattle.range_map.proofs.WrittenItems.{HasShown, shown_none, shown_more}
 use Rattle.range_map.proofs.map.text.write_items.Goals as goal
 
@@ -22,14 +20,4 @@ loop-range-preserved g c =
     HasShown g.K.Debug.debug_output g.V.Debug.debug_output g.W.Write.write_str_gives all
     items c.args.f.now c.loop-range.f) step c.loop-range.invariant in
     shown_more g.K.Debug.debug_output g.V.Debug.debug_output g.W.Write.write_str_gives all left item
-    c.args.f.now c.loop-range.f c.write_item.new.f c.write_item.result shown
-    c.write_item.ensures ok
-
-pub loop-range-smaller : goal.loop-range-smaller
-loop-range-smaller g c = search rules
-
-pub returns : goal.returns
-returns g c = search rules
-
-pub returns-in_err-write_item : goal.returns-in_err-write_item
-returns-in_err-write_item g c = search rules
+    c.args.f.now c.loop-range.f c.write_item.new.f c.write_item.result shown c.write_item.ensures ok

@@ -1,5 +1,4 @@
-use Rattle.std.proofs.Common.{◌≡◌, arith}
-use Rattle.range_map.proofs.Common.{any_none}
+use Rattle.range_map.proofs.Common.{◌≡◌, arith, any_none}
 use Rattle.range_change.proofs.InsertionFrames.{meets_some, none_meets}
 use Rattle.range_map.proofs.map.try_insert.bind_where_free.Goals as goal
 

@@ -8,12 +8,12 @@ returns-clause-meets g c = rw (← c.self.view_is, ← c.other.view_is) c.meet_n
 pub returns-clause-held : goal.returns-clause-held
 returns-clause-held g c =
     let met = returns-clause-meets g c in
-    λ apart. apart_share_none g.T.MaybeBounded.order g.met.T.PartialEnum.lawful
+    λ apart. apart_share_none g.met.T.PartialEnum.lawful
     (g.C.Storage.items c.args.self.now) (g.D.Storage.items c.args.other.now) (met.0 apart)
 
 pub returns-clause-complete : goal.returns-clause-complete
 returns-clause-complete g c =
     let met = returns-clause-meets g c in
-    λ complete none. met.1 (share_none_apart g.T.MaybeBounded.order g.met.T.PartialEnum.lawful
+    λ complete none. met.1 (share_none_apart g.met.T.PartialEnum.lawful
     (λ _ _. true) (g.C.Storage.items c.args.self.now) (g.D.Storage.items c.args.other.now)
     c.in_form.ensures complete (λ _ _. true) c.in_form-2.ensures none)

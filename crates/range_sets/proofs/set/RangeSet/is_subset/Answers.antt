@@ -8,12 +8,12 @@ returns-clause-inside g c = rw (← c.self.view_is, ← c.other.view_is) c.lie_i
 pub returns-clause-held : goal.returns-clause-held
 returns-clause-held g c =
     let met = returns-clause-inside g c in
-    λ inside. inside_binds g.T.MaybeBounded.order g.met.T.PartialEnum.lawful
+    λ inside. inside_binds g.met.T.PartialEnum.lawful
     (g.C.Storage.items c.args.self.now) (g.D.Storage.items c.args.other.now) (met.0 inside)
 
 pub returns-clause-complete : goal.returns-clause-complete
 returns-clause-complete g c =
     let met = returns-clause-inside g c in
-    λ complete binds. met.1 (binds_inside g.T.MaybeBounded.order g.met.T.PartialEnum.lawful
+    λ complete binds. met.1 (binds_inside g.met.T.PartialEnum.lawful
     (λ _ _. true) (g.C.Storage.items c.args.self.now) (g.D.Storage.items c.args.other.now)
     c.in_form.ensures complete c.in_form-2.ensures binds)

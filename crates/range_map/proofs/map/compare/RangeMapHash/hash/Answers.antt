@@ -1,5 +1,4 @@
-use Rattle.std.proofs.Common.{rules, ap, ◌∙◌}
-use Rattle.range_map.proofs.Common.{fold, is_eq, lists_fed}
+use Rattle.range_map.proofs.Common.{rules, ap, ◌∙◌, fold, is_eq, lists_fed}
 use Rattle.range_map.proofs.StoredLists.{stored_equal}
 use Rattle.range_map.proofs.map.compare.RangeMapHash.hash.Goals as goal
 
@@ -8,13 +7,12 @@ returns-clause-value g c = search rules
 
 pub returns-clause-same : goal.returns-clause-same
 returns-clause-same g c = λ complete others stored alike.
-    let order = g.K.MaybeBounded.order in
     let items = g.C.Storage.items c.args.self.now in
     let equal =
     (stored_equal g.met.K.PartialEnum.lawful g.met.V.Eq.laws complete items others
     c.in_form.ensures stored).1 alike in
     let fed =
-    lists_fed order g.V.PartialEq.eq g.K.Hash.hash_input g.V.Hash.hash_input
+    lists_fed g.K.MaybeBounded.order g.V.PartialEq.eq g.K.Hash.hash_input g.V.Hash.hash_input
     (λ a b f. g.met.K.Hash.respects_eq a b
     (g.met.K.Ord.matches_eq a b ∙ ap is_eq (g.met.K.MaybeBounded.order_is_cmp a b ∙ f)))
     g.met.V.Hash.respects_eq items others equal in

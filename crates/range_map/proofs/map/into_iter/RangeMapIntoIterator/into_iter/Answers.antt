@@ -10,7 +10,7 @@ returns g c =
         ap g.C.Storage.items c.self.view_is,
         c.self.invariant,
         λ complete. (
-          stored_coarse lawful g.met.V.Eq.laws _ c.self.invariant complete,
+          stored_coarse lawful _ c.self.invariant complete,
           stored_only lawful g.met.V.Eq.laws _ c.self.invariant complete,
         ),
       );

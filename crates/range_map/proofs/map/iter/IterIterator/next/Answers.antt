@@ -1,48 +1,63 @@
-use Rattle.range_map.proofs.Common.{common_steps, place_before}
-use Rattle.std.proofs.Common.{◌≡◌, ◌+◌, arith, length, sym, ◌∙◌, ap, take, drop, ◌-◌, ◌∷◌, rules}
-use Rattle.range_store.proofs.Places.{place_at}
-use Rattle.range_change.proofs.Windows.{first_of_run}
+use Rattle.std.proofs.Common.{◌<◌, length, ap, sym, ◌∙◌, arith}
+use Rattle.range_map.proofs.Chunks.{from_cell, from_chunk, next_iterator, next_steps}
 use Rattle.range_map.proofs.map.iter.IterIterator.next.Goals as goal
-
-pub returns : goal.returns
-returns g c =
-    record {
-      steps =
-          let storage = g.C.Storage in
-          let stored = c.self.inside.stored.now in
-          let items = storage.items stored in
-          let left = c.self.inside.left in
-          let here : place_before (storage.rank stored) (length items) c.self.inside.front
-          ≡ storage.rank stored c.in-Some.p =
-          ap (place_before (storage.rank stored) (length items)) c.in-Some.is in
-          let next =
-          place_at (storage.is_good stored) (storage.rank stored)
-          (length items) c.next-self-inside.result
-          (storage.rank stored c.in-Some.p + 1) c.next-self-inside.ensures in
-          let x = c.get-item.result.now in
-          let rank = storage.rank stored c.in-Some.p in
-          sym c.self.view_is ∙ ap (λ place. take left (drop place items)) here
-          ∙ first_of_run items rank left x (omega arith)
-          (omega (arith, here, c.self.invariant.in_range)) c.get-item.ensures
-          ∙ ap (λ place. x ∷ take (left - 1) (drop place items)) (sym next);
-      goes =
-          grind (arith, common_steps);
-    }
+use Rattle.range_map.proofs.map.iter.IterIterator.next.Goals.{in-Some, in-None}
 
 pub invariant_of-self : goal.invariant_of-self
-invariant_of-self g c = search rules
+invariant_of-self g c =
+    let some : 0 < c.self.inside.left = omega (arith, c.if-self-eq0.false) in
+    elim c.match-split_first.branch [
+      | in-Some w ↦
+          rw w.self-inside-is
+          (next_iterator c.self.invariant some _ _ _
+          (from_cell c.self.invariant some _ _ _ w.in-Some.ensures.cases.0 w.item_in-item.ensures))
+      | in-None w ↦
+          rw w.self-inside-is
+          (next_iterator c.self.invariant some _ _ _
+          (from_chunk c.self.invariant some _ _ _ w.in-None.ensures.cases
+          w.chunk_from-chunk.ensures.first w.chunk_from-chunk.ensures.rest
+          w.chunk_from-chunk.ensures.good w.chunk_from-chunk.ensures.place))
+    ]
 
-pub overflow_sub-self : goal.overflow_sub-self
-overflow_sub-self g c = search rules
+pub returns-clause-steps : goal.returns-clause-steps
+returns-clause-steps g c =
+    let some : 0 < c.self.inside.left = omega (arith, c.if-self-eq0.false) in
+    elim c.match-split_first.branch [
+      | in-Some w ↦
+          rw (w.self-inside-is, w.item-is)
+          (sym c.self.view_is ∙ next_steps c.self.invariant some _ _ _
+          (from_cell c.self.invariant some _ _ _ w.in-Some.ensures.cases.0 w.item_in-item.ensures))
+      | in-None w ↦
+          rw (w.self-inside-is, w.item-is)
+          (sym c.self.view_is ∙ next_steps c.self.invariant some _ _ _
+          (from_chunk c.self.invariant some _ _ _ w.in-None.ensures.cases
+          w.chunk_from-chunk.ensures.first w.chunk_from-chunk.ensures.rest
+          w.chunk_from-chunk.ensures.good w.chunk_from-chunk.ensures.place))
+    ]
 
-pub returns-then-self-eq0 : goal.returns-then-self-eq0
-returns-then-self-eq0 g c =
-    record {
-      goes =
-          search rules;
-      steps =
-          search rules;
-    }
-
-pub unreachable-unreachable : goal.unreachable-unreachable
-unreachable-unreachable g c = search rules
+pub returns-clause-goes : goal.returns-clause-goes
+returns-clause-goes g c =
+    let some : 0 < c.self.inside.left = omega (arith, c.if-self-eq0.false) in
+    elim c.match-split_first.branch [
+      | in-Some w ↦
+          let steps =
+          next_steps c.self.invariant some _ _ _
+          (from_cell c.self.invariant some _ _ _ w.in-Some.ensures.cases.0 w.item_in-item.ensures)
+          in
+          rw (w.self-inside-is, ← c.self.view_is) (record {
+            on = λ _. (tt, tt, omega (arith, ap length steps));
+            keeps = tt;
+            rests = λ _. tt;
+          })
+      | in-None w ↦
+          let steps =
+          next_steps c.self.invariant some _ _ _
+          (from_chunk c.self.invariant some _ _ _ w.in-None.ensures.cases
+          w.chunk_from-chunk.ensures.first w.chunk_from-chunk.ensures.rest
+          w.chunk_from-chunk.ensures.good w.chunk_from-chunk.ensures.place) in
+          rw (w.self-inside-is, ← c.self.view_is) (record {
+            on = λ _. (tt, tt, omega (arith, ap length steps));
+            keeps = tt;
+            rests = λ _. tt;
+          })
+    ]

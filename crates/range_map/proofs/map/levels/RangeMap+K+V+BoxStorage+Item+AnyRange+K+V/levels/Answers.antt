@@ -5,10 +5,7 @@ pub returns : goal.returns
 returns g c =
     record {
       value = search rules;
-      empty =
-          rw (← c.self.view_is) c.levels.ensures.empty;
-      least =
-          rw (← c.self.view_is) c.levels.ensures.least;
-      most =
-          rw (← c.self.view_is) c.levels.ensures.most;
+      empty = rw (← c.self.view_is) c.levels.ensures.empty;
+      least = rw (← c.self.view_is) c.levels.ensures.least;
+      most = rw (← c.self.view_is) c.levels.ensures.most;
     }

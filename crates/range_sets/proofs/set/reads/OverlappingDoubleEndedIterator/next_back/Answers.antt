@@ -1,4 +1,4 @@
-use Rattle.std.proofs.Common.{◌≡◌, ◌∷◌, ◌++◌, [], ap, sym, ◌∙◌}
+use Rattle.std.proofs.Common.{◌∷◌, [], ap, sym, ◌∙◌}
 use Rattle.range_map.specs.FreeRanges.{item_ranges}
 use Rattle.range_map.specs.Iteration.{shown_item}
 use Rattle.range_map.proofs.PieceSteps.{last_is_less}

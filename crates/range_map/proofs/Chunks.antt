@@ -1,0 +1,148 @@
+-- The first and the last of the items that are left of an iterator.
+use Rattle.std.proofs.Common.{◌≡◌, ℕ, suc, ◌+◌, ◌-◌, ◌<◌, ◌≤◌, List, [], ◌∷◌, ◌++◌, length, map, get_or, take, drop, Option, Some, None, refl, ap, subst, sym, ◌∙◌, arith}
+use Rattle.std.specs.Prelude.{MatchOption}
+use Rattle.std.specs.Option.{ForSome, is_some, unwrap_or}
+use Rattle.range_change.proofs.Windows.{last_of_run}
+use Rattle.range_map.proofs.Common.{drop-drop, drop_more, false≢true}
+use Rattle.range_map.specs.Iteration.{place_behind, IsIterator}
+
+module _ {T P F : Type 0} {items : List T} {is_good : P → Type 0} {rank : P → ℕ}
+    {is_good_mark : F → Type 0} {mark_place : F → ℕ} {cells : List (Option T)}
+    {front : F} {back : Option P} {left : ℕ}
+    (before : IsIterator items is_good rank is_good_mark mark_place cells front back left)
+    (some : 0 < left) where
+  abbrev place : ℕ
+  place = place_behind rank back - left
+
+  -- the next item, with the cells and the mark that are left
+  pub record IsNext (item : T) (rest : List (Option T)) (after : F) : Type 0 where
+    pub next : drop place items ≡ item ∷ drop (place + 1) items
+    pub rest_are : rest ≡ map (λ x. Some x) (take (length rest) (drop (place + 1) items))
+    pub after_is_good : is_good_mark after
+    pub after_is : mark_place after ≡ place + 1 + length rest
+
+  pub next_steps : (item : T) (rest : List (Option T)) (after : F) → IsNext item rest after
+      → take left (drop place items)
+      ≡ item ∷ take (left - 1) (drop (place_behind rank back - (left - 1)) items)
+  next_steps item rest after is =
+      let many : left ≡ suc (left - 1) = omega (arith, some) in
+      let moved : place + 1 ≡ place_behind rank back - (left - 1) =
+      omega (arith, some, before.enough) in
+      ap (λ n. take n (drop place items)) many ∙ ap (take (suc (left - 1))) is.next
+      ∙ ap (λ at. item ∷ take (left - 1) (drop at items)) moved
+
+  pub next_iterator : (item : T) (rest : List (Option T)) (after : F) → IsNext item rest after
+      → IsIterator items is_good rank is_good_mark mark_place rest after back (left - 1)
+  next_iterator item rest after is =
+      let moved : place + 1 ≡ place_behind rank back - (left - 1) =
+      omega (arith, some, before.enough) in
+      record {
+        last = before.last;
+        in_range = before.in_range;
+        enough = omega (arith, before.enough);
+        cells_are = rw (← moved) is.rest_are;
+        front_is_good = is.after_is_good;
+        front_is = omega (arith, moved, is.after_is);
+      }
+
+  pub from_cell : (cell : Option T) (rest : List (Option T)) (item : T) → cells ≡ cell ∷ rest
+      → cell ≡ Some item → IsNext item rest front
+  from_cell cell rest item at full =
+      from (drop place items) refl (rw at at before.cells_are)
+    where
+      from : (ys : List T) → drop place items ≡ ys
+          → cell ∷ rest ≡ map (λ x. Some x) (take (suc (length rest)) ys)
+          → IsNext item rest front
+      from [] none same = absurd (omega (arith, ap length same))
+      from (y ∷ ys) here same =
+          let later : ys ≡ drop (place + 1) items =
+          ap (drop 1) (sym here) ∙ drop-drop 1 place items in
+          let first : y ≡ item =
+          ap (λ o. unwrap_or o y) (sym (ap (λ zs. get_or zs 0 cell) same) ∙ full) in
+          record {
+            next = here ∙ ap (λ z. z ∷ ys) first ∙ ap (λ zs. item ∷ zs) later;
+            rest_are =
+                ap (drop 1) same ∙ ap (λ zs. map (λ x. Some x) (take (length rest) zs)) later;
+            after_is_good = before.front_is_good;
+            after_is = omega (arith, before.front_is, ap length at);
+          }
+
+  pub from_chunk : (item : T) (rest : List (Option T)) (after : F) → length cells ≡ 0
+      → item ≡ get_or items (mark_place front) item
+      → rest ≡ map (λ x. Some x) (take (length rest) (drop (mark_place front + 1) items))
+      → is_good_mark after → mark_place after ≡ mark_place front + 1 + length rest
+      → IsNext item rest after
+  from_chunk item rest after none first rest_are good after_is =
+      let here : mark_place front ≡ place = omega (arith, before.front_is, none) in
+      record {
+        next =
+            drop_more items place item (omega (arith, some, before.in_range, before.enough))
+            ∙ ap (λ z. z ∷ drop (place + 1) items)
+            (ap (λ i. get_or items i item) (sym here) ∙ sym first);
+        rest_are = rw (← here) rest_are;
+        after_is_good = good;
+        after_is = omega (arith, here, after_is);
+      }
+
+module _ {T P : Type 0} (items : List T) (is_good : P → Type 0) (rank : P → ℕ) where
+  -- a position before another, or none before the first item
+  pub place_of_prev : (p : P) (prev : Option P)
+      → MatchOption prev (rank p ≡ 0) (λ q. is_good q × (rank q + 1 ≡ rank p))
+      → place_behind rank prev ≡ rank p
+  place_of_prev p None none = sym none
+  place_of_prev p (Some q) is = is.1
+
+  good_prev : (p : P) (prev : Option P)
+      → MatchOption prev (rank p ≡ 0) (λ q. is_good q × (rank q + 1 ≡ rank p))
+      → ForSome prev is_good
+  good_prev p None none = λ q is. absurd (false≢true (ap is_some is))
+  good_prev p (Some q) before = λ r is. subst is_good (ap (λ o. unwrap_or o q) is) before.0
+
+  -- what is left before the last item
+  pub prev_iterator : {F : Type 0} (is_good_mark : F → Type 0) (mark_place : F → ℕ)
+      (cells : List (Option T)) (front : F) (back prev : Option P) (p : P) (left : ℕ)
+      → IsIterator items is_good rank is_good_mark mark_place cells front back left → 0 < left
+      → back ≡ Some p → MatchOption prev (rank p ≡ 0) (λ q. is_good q × (rank q + 1 ≡ rank p))
+      → IsIterator items is_good rank is_good_mark mark_place cells front prev (left - 1)
+  prev_iterator is_good_mark mark_place cells front back prev p left now some is before =
+      let end : place_behind rank back ≡ rank p + 1 = ap (place_behind rank) is in
+      let start : place_behind rank back - left ≡ place_behind rank prev - (left - 1) =
+      omega (arith, end, some, now.enough, place_of_prev p prev before) in
+      record {
+        last = good_prev p prev before;
+        in_range = omega (arith, end, now.in_range, place_of_prev p prev before);
+        enough = omega (arith, end, now.enough, place_of_prev p prev before);
+        cells_are = rw (← start) now.cells_are;
+        front_is_good = now.front_is_good;
+        front_is = rw (← start) now.front_is;
+      }
+
+  -- the last of the items that are left
+  pub last_steps : (back prev : Option P) (p : P) (left : ℕ) (item : T) → back ≡ Some p
+      → MatchOption prev (rank p ≡ 0) (λ q. is_good q × (rank q + 1 ≡ rank p))
+      → item ≡ get_or items (rank p) item → 0 < left → left ≤ place_behind rank back
+      → place_behind rank back ≤ length items
+      → take left (drop (place_behind rank back - left) items)
+      ≡ take (left - 1) (drop (place_behind rank prev - (left - 1)) items) ++ item ∷ []
+  last_steps back prev p left item is before read some enough within =
+      let end : place_behind rank back ≡ rank p + 1 = ap (place_behind rank) is in
+      let start : place_behind rank back - left ≡ place_behind rank prev - (left - 1) =
+      omega (arith, end, some, enough, place_of_prev p prev before) in
+      last_of_run items (place_behind rank back - left) left (rank p) item some
+      (omega (arith, enough, within)) (omega (arith, end, enough)) read
+      ∙ ap (λ place. take (left - 1) (drop place items) ++ item ∷ []) start
+
+module _ {A T : Type 0} (view : A → T) (items rest : List T) where
+  -- what a whole list gives from either end, whatever is left then
+  pub first_given : (result : Option A)
+      → MatchOption result ((items ≡ []) × (rest ≡ [])) (λ x. items ≡ view x ∷ rest)
+      → MatchOption result (items ≡ []) (λ x. (others : List T) × (items ≡ view x ∷ others))
+  first_given None is = is.0
+  first_given (Some x) is = (rest, is)
+
+  pub last_given : (result : Option A)
+      → MatchOption result ((items ≡ []) × (rest ≡ [])) (λ x. items ≡ rest ++ view x ∷ [])
+      → MatchOption result (items ≡ [])
+      (λ x. (others : List T) × (items ≡ others ++ view x ∷ []))
+  last_given None is = is.0
+  last_given (Some x) is = (rest, is)

@@ -1,0 +1,28 @@
+//! A map made of a list in stored form.
+ghost use Rattle.std.specs.Prelude.{◌≡◌, IfOk};
+ghost use Rattle.range_change.specs.Stored.{IsStored};
+
+use crate::map::RangeMap;
+use range_algebra::any::AnyRange;
+use range_keys::traits::PartialEnum;
+use range_store::storage::{Item, Storage};
+use std::alloc::{AllocError, Global};
+use std::marker::PhantomData;
+
+/// A map of just these items.
+pub fn map_of<K: PartialEnum, X: Eq + Drop, C: Storage<Item<AnyRange<K>, X>>>(
+    alloc: Global,
+    items: Vec<Item<AnyRange<K>, X>>,
+) -> Result<RangeMap<K, X, C>, AllocError>
+    requires { IsStored K.order X.eq items.items }
+    ensures { IfOk result (λ map. C.items map ≡ items.items) }
+{
+    let mut stored = C::new(alloc);
+    stored.reserve(items.len())?;
+    stored.append(items);
+    Ok(RangeMap {
+        stored,
+        alloc,
+        item: PhantomData,
+    })
+}

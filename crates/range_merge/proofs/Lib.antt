@@ -1,0 +1,7 @@
+pub mod AskedPieces
+pub mod Combination
+pub mod Combining
+pub mod Common
+pub mod FirstPieces
+pub mod HeldInside
+pub mod PlaceOrder

@@ -1,0 +1,34 @@
+use Rattle.std.proofs.Common.{◌∙◌, sym, Some, None}
+use Rattle.range_merge.specs.Merged.{part_item}
+use Rattle.range_merge.proofs.FirstPieces.{first_ends, past_same, second_ends}
+use Rattle.range_merge.proofs.merged.first_of_both.Goals as goal
+use Rattle.range_merge.proofs.merged.first_of_both.Goals.{in-Less, in-Equal, in-Greater}
+
+pub returns : goal.returns
+returns g c =
+    let lawful = g.met.K.PartialEnum.lawful in
+    let part = part_item c.args.part in
+    let other = part_item c.args.other in
+    let end = c.end_bound-end.ensures tt in
+    let other_end = c.end_bound-other_end.ensures tt in
+    elim c.match-compare_bounds.branch [
+      | in-Less w ↦
+          rw (c.new.ensures.start, c.new.ensures.end, w.cut-is, end)
+          (first_ends lawful part other c.requires.part c.requires.other c.requires.alike
+          (Some (part_item w.part_past.result)) (rw end at w.part_past.ensures))
+      | in-Equal w ↦
+          rw (c.new.ensures.start, c.new.ensures.end, w.cut-is, end)
+          (first_ends lawful part other c.requires.part c.requires.other c.requires.alike None
+          (past_same lawful part.key.end other.key.end c.requires.part.known.1
+          c.requires.other.known.1
+          (rw (← end, ← other_end) (sym c.compare_bounds.ensures ∙ w.in-Equal.is))))
+      | in-Greater w ↦
+          rw (c.new.ensures.start, c.new.ensures.end, w.cut-is, other_end)
+          (second_ends lawful part other c.requires.part c.requires.other c.requires.alike
+          (part_item w.part_past-in-Greater.result)
+          (rw other_end at w.part_past-in-Greater.ensures))
+    ]
+
+pub part_past-requires-clause-before : goal.part_past-requires-clause-before
+part_past-requires-clause-before g c =
+    rw (← c.end_bound-other_end.ensures tt) (sym c.compare_bounds.ensures ∙ c.in-Less.is)

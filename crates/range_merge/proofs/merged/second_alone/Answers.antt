@@ -1,0 +1,5 @@
+use Rattle.range_merge.proofs.merged.second_alone.Goals as goal
+
+pub returns : goal.returns
+returns g c =
+    c.turned.ensures _ _ c.first_alone.ensures

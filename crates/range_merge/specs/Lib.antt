@@ -1,0 +1,3 @@
+pub mod AskedPieces
+pub mod Combining
+pub mod Merged

@@ -1,0 +1,109 @@
+use Rattle.std.proofs.Common.{◌∙◌, sym}
+use Rattle.std.specs.Option.{option_copied}
+use Rattle.range_algebra.specs.Clones.{bound_clone}
+use Rattle.range_algebra.specs.References.{range_of}
+use Rattle.range_map.proofs.CloneLists.{clones_tied}
+use Rattle.range_sets.proofs.Uniting.{stepped, drained, nothing_ahead, first_placed, united_none, united_first, united_left, united_right, united_all}
+use Rattle.range_sets.proofs.set.union.united.Goals as goal
+
+pub returns-in-None-clause-held : goal.returns-in-None-clause-held
+returns-in-None-clause-held g c =
+    let left = c.next-left in
+    let right = c.next-right in
+    rw c.new-ranges.ensures.items (united_none g.met.T.PartialEnum.lawful _ _
+    (sym (nothing_ahead left.result left.new.self c.in-None.ensures.0
+    (drained c.iter-items.result left.new.self left.result left.ensures.steps))
+    ∙ (stepped c.iter-items.result left.new.self left.result left.ensures.steps
+    ∙ c.iter-items.ensures.ranges))
+    (sym (nothing_ahead right.result right.new.self c.in-None.ensures.1
+    (drained c.iter-others.result right.new.self right.result right.ensures.steps))
+    ∙ (stepped c.iter-others.result right.new.self right.result right.ensures.steps
+    ∙ c.iter-others.ensures.ranges))).0
+
+pub loop-range-init : goal.loop-range-init
+loop-range-init g c =
+    let left = c.next-left in
+    let right = c.next-right in
+    let none = drained c.iter-items.result left.new.self left.result left.ensures.steps in
+    let none_other =
+    drained c.iter-others.result right.new.self right.result right.ensures.steps in
+    record {
+      united = λ lawful.
+          rw (c.new-ranges.ensures.items, c.start_bound.ensures tt, c.end_bound.ensures tt)
+          (united_first lawful _ _ (option_copied left.result) (option_copied right.result)
+          left.new.self right.new.self c.in-Some.first.now c.in-Some.field-0-1 none none_other
+          c.iter-items.ensures.form c.iter-others.ensures.form
+          (stepped c.iter-items.result left.new.self left.result left.ensures.steps
+          ∙ c.iter-items.ensures.ranges)
+          (stepped c.iter-others.result right.new.self right.result right.ensures.steps
+          ∙ c.iter-others.ensures.ranges) c.in-Some.ensures);
+      first = none;
+      second = none_other;
+    }
+
+pub add-requires : goal.add-requires
+add-requires g c =
+    let lawful = g.met.T.PartialEnum.lawful in
+    let inv = c.loop-range.invariant in
+    first_placed lawful _ _ (option_copied c.loop-range.left) (option_copied c.loop-range.right)
+    c.loop-range.items c.loop-range.others c.in-Some-first_of.range.now c.in-Some-first_of.is_left
+    c.loop-range.ranges.items (range_of c.loop-range.last) (inv.united lawful)
+    c.in-Some-first_of.ensures
+
+pub loop-range-preserved-then-is_left : goal.loop-range-preserved-then-is_left
+loop-range-preserved-then-is_left g c =
+    let inv = c.loop-range.invariant in
+    let left = c.next-left-then-is_left in
+    let equal_keys =
+    clones_tied g.met.T.MaybeBounded.order_is_cmp g.met.T.Ord.matches_eq c.requires in
+    record {
+      united = λ lawful.
+          rw (stepped c.loop-range.items left.new.self left.result left.ensures.steps)
+          (united_left lawful _ _ g.T.Clone.is_clone
+          (bound_clone g.T.MaybeBounded.order lawful g.T.Clone.is_clone equal_keys)
+          (option_copied c.loop-range.left) (option_copied c.loop-range.right) c.loop-range.items
+          c.loop-range.others c.in-Some-first_of.range.now c.loop-range.ranges.items
+          c.add.new.ranges.items (range_of c.loop-range.last) (range_of c.in_ok-last.last)
+          inv.second (inv.united lawful)
+          (rw c.if-is_left.true at c.in-Some-first_of.ensures) c.in_ok-last.ensures);
+      first = drained c.loop-range.items left.new.self left.result left.ensures.steps;
+      second = inv.second;
+    }
+
+pub loop-range-preserved : goal.loop-range-preserved
+loop-range-preserved g c =
+    let inv = c.loop-range.invariant in
+    let right = c.next-right-else-is_left in
+    let equal_keys =
+    clones_tied g.met.T.MaybeBounded.order_is_cmp g.met.T.Ord.matches_eq c.requires in
+    record {
+      united = λ lawful.
+          rw (stepped c.loop-range.others right.new.self right.result right.ensures.steps)
+          (united_right lawful _ _ g.T.Clone.is_clone
+          (bound_clone g.T.MaybeBounded.order lawful g.T.Clone.is_clone equal_keys)
+          (option_copied c.loop-range.left) (option_copied c.loop-range.right) c.loop-range.items
+          c.loop-range.others c.in-Some-first_of.range.now c.loop-range.ranges.items
+          c.add.new.ranges.items (range_of c.loop-range.last) (range_of c.in_ok-last.last)
+          inv.first (inv.united lawful)
+          (rw c.if-is_left.false at c.in-Some-first_of.ensures) c.in_ok-last.ensures);
+      first = inv.first;
+      second = drained c.loop-range.others right.new.self right.result right.ensures.steps;
+    }
+
+pub returns : goal.returns
+returns g c =
+    let lawful = g.met.T.PartialEnum.lawful in
+    let inv = c.loop-range.invariant in
+    let none = rw c.in_default.is at c.first_of-in-loop-range.ensures in
+    let all =
+    united_all lawful _ _ g.T.Clone.is_clone
+    (bound_clone g.T.MaybeBounded.order lawful g.T.Clone.is_clone
+    (clones_tied g.met.T.MaybeBounded.order_is_cmp g.met.T.Ord.matches_eq c.requires)) _ _
+    c.loop-range.ranges.items c.push_clone.new.ranges.items (range_of c.loop-range.last)
+    (nothing_ahead c.loop-range.left c.loop-range.items none.0 inv.first)
+    (nothing_ahead c.loop-range.right c.loop-range.others none.1 inv.second) (inv.united lawful)
+    c.in_ok-push_clone.ensures in
+    record {
+      held = all.0;
+      form = all.1;
+    }

@@ -1,0 +1,169 @@
+//! The ranges of two sets as one list, in one pass over both.
+ghost use Rattle.std.specs.Prelude.{◌≡◌, ◌↔◌, IfOk, IsTrue, MatchOption, None, OnOk};
+ghost use Rattle.std.specs.Option.{option_copied};
+ghost use Rattle.range_keys.specs.Position.{bound_of, position_cmp};
+ghost use Rattle.range_algebra.specs.Cuts.{lower};
+ghost use Rattle.range_algebra.specs.Intervals.{Le};
+ghost use Rattle.range_algebra.specs.Range.{ClonesAreEqual};
+ghost use Rattle.range_algebra.specs.References.{range_of};
+ghost use Rattle.range_merge.specs.Merged.{IsPlaced};
+ghost use Rattle.range_sets.specs.KeySets.{IsStoredSet};
+ghost use Rattle.range_sets.specs.TwoSets.{HoldsEither};
+ghost use Rattle.range_sets.specs.Uniting.{IsAdded, IsFirstOf, IsLaterEnd, IsPushed, Reaches};
+
+use super::RangeSet;
+use range_algebra::any::AnyRange;
+use range_algebra::inner;
+use range_change::cut::flip;
+use range_keys::bound::Directed;
+use range_keys::traits::PartialEnum;
+use range_store::storage::{Item, Storage};
+use std::alloc::AllocError;
+use std::ops::{Bound, RangeBounds};
+
+/// Whether the range does not start after the other.
+#[inline(always)]
+fn starts_first<T: PartialEnum>(range: &AnyRange<T>, other: &AnyRange<T>) -> bool
+    ensures { IsTrue result
+        ↔ Le (position_cmp T.order.cmp) (lower T.order range.now) (lower T.order other.now) }
+{
+    match (range.start_bound(), other.start_bound()) {
+        (Bound::Included(first), Bound::Included(other_first)) => first.cmp(other_first).is_le(),
+        (start, other_start) => Directed::Start(start) <= Directed::Start(other_start),
+    }
+}
+
+/// The one of two ranges that starts first, and whether it is the one on the left.
+#[inline(always)]
+fn first_of<'a, T: PartialEnum>(
+    left: Option<&'a AnyRange<T>>,
+    right: Option<&'a AnyRange<T>>,
+) -> Option<(&'a AnyRange<T>, bool)>
+    ensures { MatchOption result ((left.entry ≡ None) × (right.entry ≡ None))
+        (λ first. IsFirstOf T.order (option_copied left.entry) (option_copied right.entry)
+        first.0.now first.1) }
+{
+    match (left, right) {
+        (None, None) => None,
+        (Some(range), None) => Some((range, true)),
+        (None, Some(other)) => Some((other, false)),
+        (Some(range), Some(other)) => {
+            if starts_first(range, other) {
+                Some((range, true))
+            } else {
+                Some((other, false))
+            }
+        }
+    }
+}
+
+/// Whether the range meets or touches one that ends there and does not start after it.
+#[inline(always)]
+fn reaches<T: PartialEnum>(end: Bound<&T>, range: &AnyRange<T>) -> bool
+    requires { IsPlaced T.order range.now }
+    ensures { IsTrue result ↔ Reaches T.order (bound_of end.entry) range.now }
+{
+    let start = range.start_bound();
+    match (end, start) {
+        (Bound::Included(last), Bound::Included(first)) => match last.succ() {
+            Some(next) => first.cmp(&next).is_le(),
+            None => first.cmp(last).is_le(),
+        },
+        _ => match flip(end) {
+            Some(past) => Directed::Start(start) <= Directed::Start(past),
+            None => true,
+        },
+    }
+}
+
+/// The later of two ends.
+#[inline(always)]
+fn later_end<'a, T: PartialEnum>(end: Bound<&'a T>, other: Bound<&'a T>) -> Bound<&'a T>
+    ensures { IsLaterEnd T.order (bound_of end.entry) (bound_of other.entry) (bound_of result) }
+{
+    if Directed::End(end) < Directed::End(other) {
+        other
+    } else {
+        end
+    }
+}
+
+/// Puts a clone of the range after the others.
+#[inline(always)]
+fn push_clone<T: PartialEnum + Clone>(
+    ranges: &mut Vec<Item<AnyRange<T>, ()>>,
+    range: AnyRange<&T>,
+) -> Result<(), AllocError>
+    ensures { OnOk result
+        (IsPushed T.order T.is_clone ranges.old.items ranges.new.items (range_of range.entry)) }
+{
+    let key = range.cloned()?;
+    inner::known(&key);
+    ranges.push(Item { key, value: () })?;
+    Ok(())
+}
+
+/// What is the last range once another comes: the last one up to the later end of both, where the
+/// other meets or touches it; or else the other, once the last one stands after those before it.
+#[inline(always)]
+fn add<'a, T: PartialEnum + Clone>(
+    ranges: &mut Vec<Item<AnyRange<T>, ()>>,
+    last: AnyRange<&'a T>,
+    range: &'a AnyRange<T>,
+) -> Result<AnyRange<&'a T>, AllocError>
+    requires { IsPlaced T.order range.now }
+    ensures { IfOk result
+        (λ next. IsAdded T.order T.is_clone ranges.old.items ranges.new.items
+        (range_of last.entry) range.now (range_of next)) }
+{
+    let end = range.end_bound();
+    if reaches(last.end, range) {
+        return Ok(AnyRange {
+            start: last.start,
+            end: later_end(last.end, end),
+        });
+    }
+    push_clone(ranges, last)?;
+    Ok(AnyRange {
+        start: range.start_bound(),
+        end,
+    })
+}
+
+/// The ranges of both sets, where those that meet or touch are one.
+pub(crate) fn united<T, C, D>(
+    set: &RangeSet<T, C>,
+    other: &RangeSet<T, D>,
+) -> Result<Vec<Item<AnyRange<T>, ()>>, AllocError>
+where
+    T: PartialEnum + Clone,
+    C: Storage<Item<AnyRange<T>, ()>>,
+    D: Storage<Item<AnyRange<T>, ()>>,
+    requires { ClonesAreEqual T.is_clone T.eq }
+    ensures held { IfOk result
+        (λ ranges. HoldsEither T.order (C.items set.now) (D.items other.now) ranges.items) }
+    ensures form { IfOk result (λ ranges. IsStoredSet T.order ranges.items) }
+{
+    let mut ranges = Vec::new(set.alloc);
+    let mut items = set.iter();
+    let mut others = other.iter();
+    let mut left = items.next();
+    let mut right = others.next();
+    let mut last = match first_of(left, right) {
+        Some((first, _)) => AnyRange {
+            start: first.start_bound(),
+            end: first.end_bound(),
+        },
+        None => return Ok(ranges),
+    };
+    while let Some((range, is_left)) = first_of(left, right) {
+        last = add(&mut ranges, last, range)?;
+        if is_left {
+            left = items.next();
+        } else {
+            right = others.next();
+        }
+    }
+    push_clone(&mut ranges, last)?;
+    Ok(ranges)
+}
