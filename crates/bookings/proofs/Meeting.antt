@@ -1,4 +1,4 @@
--- The bookings that meet some minutes are among those of the calendar, and have some of the minutes.
+-- The bookings that meet some minutes are among the calendar's, and have some of the minutes.
 use Rattle.std.proofs.Common.{arith, ◌≡◌, inl, inr, ℕ, List, [], ◌∷◌, ◌++◌, length, ap, refl, sym, subst}
 use Rattle.std.specs.Prelude.{Bool}
 use Rattle.std.specs.List.{AllByRecursion}

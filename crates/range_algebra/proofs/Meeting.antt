@@ -423,7 +423,8 @@ module _ {K : Type 0} (order : KeyOrder K) (lawful : IsLawful order) where
         let k_b =
         at_less found.0 high.0 (lt_le_trans cmp total (Beside found.0 At) (lower order s)
         (Beside high.0 At) found.3 over) in
-        elim (connected low.0 high.0 found.0 low.1 high.1 found.1 (inl low.2) (inr high.2) a_k k_b) [
+        elim (connected low.0 high.0 found.0 low.1 high.1 found.1 (inl low.2) (inr high.2) a_k
+        k_b) [
           | inl h ↦
               lt_not_le cmp total (Beside found.0 At) (upper order r)
               ((key_reaches order lawful found.0 r.end found.1 known.1).0

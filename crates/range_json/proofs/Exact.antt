@@ -118,7 +118,8 @@ module _ {K : Type 0} (order : KeyOrder K) (lawful : IsLawful order) where
     parts_one (Some Unbounded) Unbounded (Excluded l) h g = absurd g
     parts_one (Some Unbounded) Unbounded Unbounded h g = tt
 
-    pub range_one : (d : Data) (r s : AnyRange K) → IsRangeRead is_read d r → IsRangeRead is_read d s
+    pub range_one : (d : Data) (r s : AnyRange K) → IsRangeRead is_read d r
+        → IsRangeRead is_read d s
         → range_cmp order r s ≡ Equal
     range_one d r s (ds, e, starts, ends) (es, f, other_starts, other_ends) =
         let same : es ≡ ds = same_Some es ds (sym f ∙ e) in

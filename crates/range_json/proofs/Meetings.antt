@@ -94,10 +94,13 @@ module _ {K : Type 0} (order : KeyOrder K) (is_read : Data → K → Type 0) whe
         → IsFirstOrNone order is_read ds d j → IsFirstMet order x.key items j
     first_is_met ds d items x j h read one found = elim found [
       | inl first ↦
-          let all : AllZip (IsElementRead is_read value_is_read) (first.front ++ first.e ∷ first.rest)
-          items = subst (λ es. AllZip (IsElementRead is_read value_is_read) es items) first.split h in
+          let all : AllZip (IsElementRead is_read value_is_read)
+          (first.front ++ first.e ∷ first.rest)
+          items = subst (λ es. AllZip (IsElementRead is_read value_is_read) es items) first.split
+          h in
           let place =
-          read_at (IsElementRead is_read value_is_read) first.front first.e first.rest items all in (
+          read_at (IsElementRead is_read value_is_read) first.front first.e first.rest items all
+          in (
             place.xs,
             place.x,
             place.ys,

@@ -25,7 +25,8 @@ module _ {K V : Type 0} (order : KeyOrder K) (key_reads value_reads : Data → B
     (key_is_read : Data → K → Type 0) (value_is_read : Data → V → Type 0)
     (same : V → V → Bool) where
   -- the values have no fault, and the list binds what the last of them binds
-  pub record IsOverwrittenSoFar (vs : List Value) (items : List (Item (AnyRange K) V)) : Type 0 where
+  pub record IsOverwrittenSoFar (vs : List Value)
+      (items : List (Item (AnyRange K) V)) : Type 0 where
     pub elements : List (Item (AnyRange K) V)
     pub sound : first_fault (element_fault key_reads value_reads) 0 (map view vs) ≡ None
     pub read : AllZip (IsElementRead key_is_read value_is_read) (map view vs) elements

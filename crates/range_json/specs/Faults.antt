@@ -13,8 +13,8 @@ use Rattle.range_json.specs.declared.error.JsonError.{JsonError}
 use Rattle.range_json.specs.declared.error.JsonError.TheVariants.{Memory, NotArray, NotPair, NotRange, NotBound, Key, Value, Meets, Version}
 use Rattle.range_json.specs.Shapes.{pair_of, bound_of, elements_of}
 
--- what is at fault: the whole, or the element at an index, for `meets_earlier` beside the earlier element
--- that it meets
+-- what is at fault: the whole, or the element at an index, for `meets_earlier` beside the earlier
+-- element that it meets
 pub data Fault : Type 0 where
   no_memory : Fault
   no_array : Fault

@@ -23,7 +23,8 @@ module _ (key_reads value_reads : Data → Bool) where
 module _ {K V : Type 0} (order : KeyOrder K) (key_is_read : Data → K → Type 0)
     (value_is_read : Data → V → Type 0) (same_value : V → V → Bool) where
   -- each is read as the item beside it, whose bounds are keys; the list binds each key as the last
-  -- item does whose range holds it, and no other key; items in the form of a map are kept one by one
+  -- item does whose range holds it, and no other key; items in the form of a map are kept one by
+  -- one
   pub record IsMapOverwritten (d : Data) (items : List (Item (AnyRange K) V)) : Type 0 where
     pub ds : List Data
     pub elements : List (Item (AnyRange K) V)

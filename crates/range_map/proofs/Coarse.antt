@@ -243,10 +243,13 @@ module _ {K : Type 0} {order : KeyOrder K} (lawful : IsLawful order) where
         let fewer : length items ≤ length found.rest =
         covered_list_is_not_longer items found.rest (rest_coarse coarse) (λ l known g.
         any_over (Covers (i ∷ items) l) (Covers items l) found.rest
-        (λ o t. (t.0, λ c in_type in_o. elim (t.1 c in_type in_o) [
-          | inl m ↦ absurd (later o t.1 c l in_type known m.0 g in_o t.0)
-          | inr m ↦ m
-        ]))
+        (λ o t. (
+          t.0,
+          λ c in_type in_o. elim (t.1 c in_type in_o) [
+            | inl m ↦ absurd (later o t.1 c l in_type known m.0 g in_o t.0)
+            | inr m ↦ m
+          ],
+        ))
         (elim (found.others l (covered l known (inr g))) [
           | inl t ↦ absurd (later found.item t.1 k l key known h g found.such.0 t.0)
           | inr t ↦ t

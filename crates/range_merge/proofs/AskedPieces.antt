@@ -112,8 +112,8 @@ module _ {K : Type 0} (order : KeyOrder K) where
           )
 
       module _ (next : Piece K V W)
-          (after : IsFirstPieceOf order (Some (part_item part)) (Some (part_item other)) next)
-          where
+          (after : IsFirstPieceOf order (Some (part_item part))
+          (Some (part_item other)) next) where
         -- the first piece of the two parts comes next
         pub comes_next : IsNextPiece order piece next
         comes_next = record { alike = both_alike; first = rw (is, is_other) after }

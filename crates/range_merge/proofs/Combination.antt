@@ -210,9 +210,9 @@ module _ {K : Type 0} {order : KeyOrder K} (lawful : IsLawful order) {V W X : Ty
             held = held_more;
             free = λ p h. (any_last _ was.answers _).1 (elim ((hold_more p (λ u. true)
                 (respects_any order lawful same equal)).0 h) [
-              | inl before ↦ inl (was.free p before)
-              | inr here ↦ inr here.0
-            ]);
+                  | inl before ↦ inl (was.free p before)
+                  | inr here ↦ inr here.0
+                ]);
           }
 
   as_answered : (new : List (Item (AnyRange K) X)) (k : K) → Known order lawful same equal new

@@ -122,7 +122,8 @@ module _ {K : Type 0} (order : KeyOrder K) (lawful : IsLawful order) where
 
     full_items : Every (λ i. IsFull order lawful i.key) items
     full_items =
-        all_full order lawful items (stored_known order lawful (λ _ _. true) all_equal items form) up
+        all_full order lawful items (stored_known order lawful (λ _ _. true) all_equal items form)
+        up
 
     pairs : Pairs (λ i j. LiesBefore order i.key j.key) items
     pairs = ascending_pairs order lawful items up
@@ -192,7 +193,8 @@ module _ {K : Type 0} (order : KeyOrder K) (lawful : IsLawful order) where
         (λ i. Every (λ j. ¬ Overlap order j.key i.key) others)
         (λ i. (other : FreeRange) → LiesIn order i.key other.0 → LiesIn order other.0 i.key)
         (λ i. IsPiece order others full_range i.key None) items
-        (λ i full missed wide. (item_free i full missed, λ other free. wide (other, free))) full_items
+        (λ i full missed wide. (item_free i full missed, λ other free. wide (other, free)))
+        full_items
         items_missed items_wide
 
     -- the gaps of the complement are the ranges of the set

@@ -68,7 +68,8 @@ module _ {K : Type 0} (order : KeyOrder K) (lawful : IsLawful order) where
       (eq_ge cmp total _ _ (flipped_bound_is_past order lawful i s back)))
 
   module _ {V : Type 0} where
-    pub all_full : (items : List (Item (AnyRange K) V)) → Every (λ i. IsKnownRange order i.key) items
+    pub all_full : (items : List (Item (AnyRange K) V))
+        → Every (λ i. IsKnownRange order i.key) items
         → IsAscending order items → Every (λ i. IsFull i.key) items
     all_full [] known up = tt
     all_full (i ∷ rest) known up = ((known.0, not_greater _ up.0), all_full rest known.1 up.2)

@@ -77,7 +77,8 @@ module _ {K : Type 0} (order : KeyOrder K) where
   pub none_added : (items : Items) → HoldsAllAlso order items items []
   none_added items k key = (λ h. inl h, λ h. elim h [ inl was ↦ was | inr none ↦ absurd none ])
 
-  pub some_either : (ranges others : List (AnyRange K)) (k : K) → SomeHolds order (ranges ++ others) k
+  pub some_either : (ranges others : List (AnyRange K)) (k : K)
+      → SomeHolds order (ranges ++ others) k
       ↔ (SomeHolds order ranges k ⊎ SomeHolds order others k)
   some_either [] others k = (λ h. inr h, λ h. elim h [ inl none ↦ absurd none | inr later ↦ later ])
   some_either (r ∷ ranges) others k = (

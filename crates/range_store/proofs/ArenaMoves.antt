@@ -103,7 +103,8 @@ module _ {T : Type 0} where
     beside_from : (m i : ℕ) → m ≢ from → i < CAPACITY
         → IsOutside (CAPACITY * from + start) many (CAPACITY * m + i)
     beside_from m i other below =
-        outside_block from m i (CAPACITY * from + start) many other below (omega arith) (omega arith)
+        outside_block from m i (CAPACITY * from + start) many other below (omega arith)
+        (omega arith)
 
     beside_to : (m i : ℕ) → m ≢ to → i < CAPACITY
         → IsOutside (CAPACITY * to + end) many (CAPACITY * m + i)
@@ -160,7 +161,11 @@ module _ {T : Type 0} where
         length-take-le end (cells_under cells to) (omega (arith, length-under cells to to_room)) in
         let back_long : length back ≡ many =
         length-take-le many (drop start (cells_under cells from))
-        (omega (arith, length-drop start (cells_under cells from), length-under cells from from_room))
+        (omega (
+          arith,
+          length-drop start (cells_under cells from),
+          length-under cells from from_room,
+        ))
         in
         let long : length (take (end + many) (cells_under new to)) ≡ end + many =
         length-take-le (end + many) (cells_under new to) (omega (arith, long_under to to_room)) in

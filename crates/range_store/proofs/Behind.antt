@@ -77,7 +77,8 @@ module _ {T : Type 0} (s : Heap T) where
         let here = rw (← i_is) at (below_here s left at above way.lies.shaped inner) in
         record {
           ahead = way.ahead + ahead_of s left at i;
-          lies = lies_in_child s below number left at path weight way.ahead above way.lies i turn_low;
+          lies =
+              lies_in_child s below number left at path weight way.ahead above way.lies i turn_low;
           is = rw i_is (below_inside s left at above way.lies.shaped inner way.is);
           leaf_is = way.leaf_is;
           index_is = way.index_is;

@@ -192,7 +192,8 @@ module _ {T : Type 0} (r s t : Heap T) (d n c : ℕ) (inner : 0 < d)
   begun_above = record {
     shape =
         held_shape s t d n [] (c ∷ []) above_holds 0 (omega arith) (omega arith)
-        (sym (child_count_inner d 0 inner)) (All-cons (Shaped s d) c [] shaped (All-nil (Shaped s d)));
+        (sym (child_count_inner d 0 inner)) (All-cons (Shaped s d) c [] shaped
+        (All-nil (Shaped s d)));
     items = ap length stored.items_are;
     moved =
         Moves-then r s t [] (used s d c) (used t (suc d) n) moved

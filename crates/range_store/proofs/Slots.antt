@@ -5,7 +5,8 @@ use Rattle.std.proofs.lemmas.Bool.{cases_lt, false≢true}
 use Rattle.std.proofs.lemmas.List.{get_or-set_same, get_or_past}
 use Rattle.std.proofs.lemmas.List.Sums.{sum_by-set}
 
-module _ {X : Type 0} (slots : List (Option X)) (n : ℕ) (present : IsSome (get_or slots n None)) where
+module _ {X : Type 0} (slots : List (Option X)) (n : ℕ)
+    (present : IsSome (get_or slots n None)) where
   slot_within : n < length slots
   slot_within =
       elim (cases_lt n (length slots)) [

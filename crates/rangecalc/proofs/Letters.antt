@@ -25,7 +25,8 @@ pub each_put_twice : {X Y : Type 0} (f : X → Y) (things : Named X) (name next 
     (x y : X) → next ≡ following
     → each f (put (put things name x) next y) ≡ put (put (each f things) name (f x)) following (f y)
 each_put_twice f things name next following x y is =
-    each_put f (put things name x) next y ∙ ap (λ stored. put stored next (f y)) (each_put f things name x)
+    each_put f (put things name x) next y ∙ ap (λ stored. put stored next (f y))
+    (each_put f things name x)
     ∙ ap (λ n. put (put (each f things) name (f x)) n (f y)) is
 
 module _ {X : Type 0} (things : Named X) where
@@ -55,7 +56,8 @@ module _ {X : Type 0} (things : Named X) where
   at_others D D x differ = absurd (differ refl)
 
 module _ {X Y : Type 0} (f : X → Y) (things : Named X) (name : Name) (x : X) where
-  pub each_put_again : (y : X) → each f (put (put things name x) name y) ≡ put (each f things) name (f y)
+  pub each_put_again : (y : X)
+      → each f (put (put things name x) name y) ≡ put (each f things) name (f y)
   each_put_again y = ap (each f) (put_again things name x y) ∙ each_put f things name y
 
   pub at_each_others : (other : Name) (y : X) → name ≢ other → y ≡ at (put things name x) other

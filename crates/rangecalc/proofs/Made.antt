@@ -88,7 +88,8 @@ module _ {F K V : Type 0} (calls : Mut F (Bor (AnyRange K) × (Bor V × Unit {0}
     (test : V → Bool) (f : F)
     (says : (range : Bor (AnyRange K)) (value : Bor V) (b : Bool) (f' : F)
     → Called calls f (range, (value, tt)) b f' → (b ≡ test value.now) × (f' ≡ f)) where
-  -- where the closure asks for the value alone and stays as it is, those are kept whose value passes
+  -- where the closure asks for the value alone and stays as it is, those are kept whose value
+  -- passes
   pub kept_by_value : (items new : List (Item (AnyRange K) V))
       → IsFiltered (CalledAtItem calls) f items new → new ≡ filter (λ i. test i.value) items
   kept_by_value =

@@ -144,7 +144,8 @@ module _ {K : Type 0} (order : KeyOrder K) where
     pub goes_on : (more rest : List ℕ) → Conversation order stored remaining more rest
         → Conversation order none_stored input (written ++ more) rest
 
-  pub answered_none : (input known : Option (List ℕ)) (stored : Named (Ranges K)) → stored ≡ none_stored
+  pub answered_none : (input known : Option (List ℕ)) (stored : Named (Ranges K))
+      → stored ≡ none_stored
       → IfSome input (λ bytes. HasAnswered bytes input known known stored)
   answered_none None known stored empty = tt
   answered_none (Some bytes) known stored empty = record {
@@ -179,7 +180,8 @@ module _ {K : Type 0} (order : KeyOrder K) where
       }
 
   -- what is written answers the lines before those that are left
-  pub answered_so_far : (input : List ℕ) (left before now : Option (List ℕ)) (stored : Named (Ranges K))
+  pub answered_so_far : (input : List ℕ) (left before now : Option (List ℕ))
+      (stored : Named (Ranges K))
       → (answered : HasAnswered input left before now stored)
       → Writes before now (λ text. Conversation order none_stored input text answered.remaining)
   answered_so_far input left before now stored answered = (
@@ -190,7 +192,8 @@ module _ {K : Type 0} (order : KeyOrder K) where
     answered.appended,
   )
 
-  pub answered_all : (input : List ℕ) (left before now : Option (List ℕ)) (stored : Named (Ranges K))
+  pub answered_all : (input : List ℕ) (left before now : Option (List ℕ))
+      (stored : Named (Ranges K))
       → (answered : HasAnswered input left before now stored) → answered.remaining ≡ []
       → Writes before now (λ text. Conversation order none_stored input text [])
   answered_all input left before now stored answered ended =

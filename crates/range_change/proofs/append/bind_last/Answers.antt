@@ -17,13 +17,15 @@ returns g c =
     record {
       refused = search rules;
       ok =
-          last_inserted g.K.MaybeBounded.order g.met.K.PartialEnum.lawful g.V.PartialEq.eq g.met.V.Eq.laws
+          last_inserted g.K.MaybeBounded.order g.met.K.PartialEnum.lawful g.V.PartialEq.eq
+          g.met.V.Eq.laws
           items c.args.range c.requires.stored c.known.ensures c.requires.nonempty c.requires.last _
           c.args.value done;
       few =
           one_longer items _ (length items) item (omega arith) done;
       apart =
-          last_unmet g.K.MaybeBounded.order g.met.K.PartialEnum.lawful g.V.PartialEq.eq g.met.V.Eq.laws
+          last_unmet g.K.MaybeBounded.order g.met.K.PartialEnum.lawful g.V.PartialEq.eq
+          g.met.V.Eq.laws
           (g.C.Storage.items c.args.stored.now) c.args.range c.requires.stored c.known.ensures
           c.requires.nonempty c.requires.last;
     }

@@ -11,8 +11,8 @@ pub returns-then-window-gt0 : goal.returns-then-window-gt0
 returns-then-window-gt0 g c =
     record {
       met = (
-        λ _. meets_some g.met.K.PartialEnum.lawful g.met.V.Eq.laws c.find_window-window.ensures.window
-            (omega (arith, c.if-window-gt0.true)),
+        λ _. meets_some g.met.K.PartialEnum.lawful g.met.V.Eq.laws
+            c.find_window-window.ensures.window (omega (arith, c.if-window-gt0.true)),
         λ _. refl,
       );
       met_unchanged =

@@ -9,5 +9,6 @@ returns-in-Some g c =
       closure =
           λ e failed. (range_of c.in-Some.gap, c.in-Some.ensures, c.ask.ensures.closure e failed);
       ok =
-          on_ok _ _ c.ask.result (λ h. inr (range_of c.in-Some.gap, c.in-Some.ensures, h)) c.ask.ensures.ok;
+          on_ok _ _ c.ask.result (λ h. inr (range_of c.in-Some.gap, c.in-Some.ensures, h))
+          c.ask.ensures.ok;
     }

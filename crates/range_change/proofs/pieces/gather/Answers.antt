@@ -70,7 +70,8 @@ ask_item-requires g c =
     record {
       free = search rules;
       before =
-          asked_key_full lawful equal window c.loop-met.last met (option_copied c.key_at-before.result)
+          asked_key_full lawful equal window c.loop-met.last met
+          (option_copied c.key_at-before.result)
           was.last_is
           (begins_within place met c.args.window.now.count (length items) more window.in_range)
           c.key_at-before.ensures;

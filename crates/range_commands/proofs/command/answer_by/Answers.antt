@@ -51,8 +51,12 @@ returns-in-Err-Connected g c =
           let refused = c.in-Err-Connected.ensures in
           let is = c.in-Err-Connected.field-0-is in
           let given = rw is at refused.given in
-          rw c.in-InsertDisconnected.is
-          (refused.connected.0 (rw is tt), ap (λ p. p.0) given, ap (λ p. p.1) given, refused.refused);
+          rw c.in-InsertDisconnected.is (
+            refused.connected.0 (rw is tt),
+            ap (λ p. p.0) given,
+            ap (λ p. p.1) given,
+            refused.refused,
+          );
       takes =
           rw c.in-InsertDisconnected.is refl;
     }
@@ -159,7 +163,11 @@ returns-in-Contains g c =
           let told = c.contains_key_counted.ensures in
           rw c.in-Contains.is (lookup_if g.K.MaybeBounded.order c.args.is_counted
           (g.C.Storage.least_asks c.args.map.now) (g.C.Storage.most_asks c.args.map.now) _ _ _ _
-          (record { counted = λ some. told.counted; idle = told.none; none = λ empty. absurd empty }));
+          (record {
+            counted = λ some. told.counted;
+            idle = told.none;
+            none = λ empty. absurd empty;
+          }));
     }
 
 pub returns-in-Intersects : goal.returns-in-Intersects

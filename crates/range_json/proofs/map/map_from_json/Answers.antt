@@ -75,7 +75,8 @@ returns-in_err-item-clause-fault g c =
           (sym c.in_ok-elements.ensures.found)
           (subst (λ l.
           IsFirstFault order g.K.Json.reads g.V.Json.reads g.K.Json.is_read g.V.Json.is_read
-          (map view l) (fault_of e)) all (map_fails order g.K.Json.reads g.V.Json.reads g.K.Json.is_read
+          (map view l) (fault_of e)) all (map_fails order g.K.Json.reads g.V.Json.reads
+          g.K.Json.is_read
           g.V.Json.is_read g.V.PartialEq.eq (take n vs) rest v (fault_of e)
           (g.C.Storage.items c.loop-index.map) c.loop-index.invariant (rw size at))))
     ] in

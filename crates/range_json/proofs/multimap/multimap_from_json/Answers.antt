@@ -82,13 +82,15 @@ returns-in_err-item-clause-fault g c =
           inr
           (subst (λ w. IsFaultOf order g.K.Json.reads
           (reads_some_values g.V.Json.reads) g.K.Json.is_read
-          (AreValuesRead g.V.Ord.cmp g.V.Json.is_read) w (fault_of e)) (sym c.in_ok-elements.ensures.found)
+          (AreValuesRead g.V.Ord.cmp g.V.Json.is_read) w (fault_of e))
+          (sym c.in_ok-elements.ensures.found)
           (subst (λ l. IsFirstFault order g.K.Json.reads
           (reads_some_values g.V.Json.reads) g.K.Json.is_read
           (AreValuesRead g.V.Ord.cmp g.V.Json.is_read) (map view l) (fault_of e)) all
           (map_fails order g.K.Json.reads (reads_some_values g.V.Json.reads) g.K.Json.is_read
           (AreValuesRead g.V.Ord.cmp g.V.Json.is_read) (same_values g.V.PartialEq.eq)
-          (take n vs) rest v (fault_of e) (g.C.Storage.items c.loop-index.multimap) c.loop-index.invariant
+          (take n vs) rest v (fault_of e) (g.C.Storage.items c.loop-index.multimap)
+          c.loop-index.invariant
           (rw size at))))
     ] in
     let is : c.from_residual-in_err-item.result ≡ Err e = search rules in
@@ -122,7 +124,8 @@ returns-in_err-insert_values-clause-fault g c =
           inr
           (subst (λ w. IsFaultOf order g.K.Json.reads
           (reads_some_values g.V.Json.reads) g.K.Json.is_read
-          (AreValuesRead g.V.Ord.cmp g.V.Json.is_read) w (fault_of e)) (sym c.in_ok-elements.ensures.found)
+          (AreValuesRead g.V.Ord.cmp g.V.Json.is_read) w (fault_of e))
+          (sym c.in_ok-elements.ensures.found)
           (subst (λ l. IsFirstFault order g.K.Json.reads
           (reads_some_values g.V.Json.reads) g.K.Json.is_read
           (AreValuesRead g.V.Ord.cmp g.V.Json.is_read) (map view l) (fault_of e)) all

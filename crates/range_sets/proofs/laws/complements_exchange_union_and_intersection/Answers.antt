@@ -8,4 +8,5 @@ pub returns-clause-intersection : goal.returns-clause-intersection
 returns-clause-intersection g c = both_are_dual g.T.MaybeBounded.order g.met.T.PartialEnum.lawful
 
 pub returns-clause-difference : goal.returns-clause-difference
-returns-clause-difference g c = first_alone_takes_complement g.T.MaybeBounded.order g.met.T.PartialEnum.lawful
+returns-clause-difference g c =
+    first_alone_takes_complement g.T.MaybeBounded.order g.met.T.PartialEnum.lawful

@@ -8,4 +8,5 @@ pub returns-clause-intersection : goal.returns-clause-intersection
 returns-clause-intersection g c = both_associate g.T.MaybeBounded.order g.met.T.PartialEnum.lawful
 
 pub returns-clause-symmetric_difference : goal.returns-clause-symmetric_difference
-returns-clause-symmetric_difference g c = just_one_associates g.T.MaybeBounded.order g.met.T.PartialEnum.lawful
+returns-clause-symmetric_difference g c =
+    just_one_associates g.T.MaybeBounded.order g.met.T.PartialEnum.lawful

@@ -5,7 +5,8 @@ use Rattle.rangecalc.proofs.listing.write_pieces.Given as goal
 
 abbrev pub invariant-loop-piece : goal.invariant-loop-piece
 invariant-loop-piece g l =
-    IsListing SpellsPiece l.fn.pieces l.pieces (g.W.Write.contents l.fn.out) (g.W.Write.contents l.out)
+    IsListing SpellsPiece l.fn.pieces l.pieces (g.W.Write.contents l.fn.out)
+    (g.W.Write.contents l.out)
     l.is_empty
 
 abbrev pub decreases-loop-piece : goal.decreases-loop-piece

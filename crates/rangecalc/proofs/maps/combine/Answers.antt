@@ -23,7 +23,8 @@ returns-in-Ok g c =
       made,
       subst (λ xs. AreCombined order int_eq int_eq int_eq (Makes c.args.way) xs
           (at stored c.args.second) made) one
-          (subst (λ xs. AreCombined order int_eq int_eq int_eq (Makes c.args.way) items xs made) other
+          (subst (λ xs. AreCombined order int_eq int_eq int_eq (Makes c.args.way) items xs made)
+          other
           c.in-Ok.ensures.bound),
       each_put box_items maps c.args.name c.in-Ok.made,
     )

@@ -9,5 +9,6 @@ pub returns-clause-each : goal.returns-clause-each
 returns-clause-each c =
     rw (← c.self.view_is)
     (each_in_the_way string_eq _ _ _
-    (subst (IsStored u32_order string_eq) c.iter-bookings.ensures.items c.iter-bookings.ensures.form)
+    (subst (IsStored u32_order string_eq) c.iter-bookings.ensures.items
+    c.iter-bookings.ensures.form)
     (omega arith, omega arith) c.overlapping.ensures.empty c.overlapping.ensures.items)

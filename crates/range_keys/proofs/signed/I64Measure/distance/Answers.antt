@@ -38,4 +38,5 @@ overflow_cast-result-3 c =
     let fits_b : SFits w64 b = search rules in
     let is_a : IsSigned 9223372036854775807 a = (omega (arith, ints), omega (arith, ints)) in
     let is_b : IsSigned 9223372036854775807 b = (omega (arith, ints), omega (arith, ints)) in
-    difference_is_natural w64 9223372036854775807 a b (omega arith) fits_a fits_b is_a is_b c.requires
+    difference_is_natural w64 9223372036854775807 a b (omega arith) fits_a fits_b is_a is_b
+    c.requires

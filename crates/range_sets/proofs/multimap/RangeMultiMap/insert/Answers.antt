@@ -33,7 +33,8 @@ returns g c =
           (g.R.AsRange.range c.args.range) now g.met.K.PartialEnum.lawful once next_once
           (λ k. HasPair order has items k c.args.value)
           (λ k key here old answer was m.
-          subst (λ o. IsTrue (among has o c.args.value) → IsAsAnswered same o answer) m.shows m.says.1.1.1
+          subst (λ o. IsTrue (among has o c.args.value) → IsAsAnswered same o answer) m.shows
+          m.says.1.1.1
           ((values_at order same equal has respects k items old (once k key) was c.args.value).0
           here)));
       others =

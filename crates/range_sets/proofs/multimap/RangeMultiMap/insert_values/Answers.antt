@@ -16,7 +16,8 @@ returns g c =
     let once = c.stored_lists_bind_once.ensures items form in
     let next_once = c.stored_lists_bind_once.ensures next c.update.ensures.form in
     let now = not_refused c.update.result c.update.ensures.rebound c.in_default.not-Err in
-    rw (← c.self.view_is) (all_added order same g.met.S.Eq.laws has g.met.S.SetMut.equal_same _ items
+    rw (← c.self.view_is) (all_added order same g.met.S.Eq.laws has g.met.S.SetMut.equal_same _
+    items
     next c.args.range.now now g.met.K.PartialEnum.lawful once next_once (has values)
     (λ old answer m. subst (λ o. HasAllAlso has o answer values) m.shows m.says.1.0))
 
@@ -29,7 +30,8 @@ invariant_of-self-2 g c =
     g.met.S.MaybeEmpty.void_equal _ _ (g.C.Storage.items c.self.inside.map)
     (g.C.Storage.items c.update.new.self) c.args.range.now
     (not_refused c.update.result c.update.ensures.updated c.in_default.not-Err)
-    (λ old answer m. m.says.1.1 c.requires.nonempty) c.self.invariant c.update.ensures.empty_unchanged
+    (λ old answer m. m.says.1.1 c.requires.nonempty) c.self.invariant
+    c.update.ensures.empty_unchanged
 
 pub invariant_of-self : goal.invariant_of-self
 invariant_of-self g c = rw c.in-Err.ensures.refused c.self.invariant

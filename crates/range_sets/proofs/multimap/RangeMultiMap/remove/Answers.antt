@@ -28,13 +28,15 @@ returns g c =
           (g.R.AsRange.range c.args.range) now g.met.K.PartialEnum.lawful once next_once
           g.V.PartialEq.eq c.args.value.now
           (λ old answer m.
-          subst (λ o. HasAllBut has g.V.PartialEq.eq o answer c.args.value.now) m.shows m.says.1.0));
+          subst (λ o. HasAllBut has g.V.PartialEq.eq o answer c.args.value.now) m.shows
+          m.says.1.0));
       kept =
           rw (← c.self.view_is) (stay_bound order same equal has respects _ items next
           (g.R.AsRange.range c.args.range) now g.met.K.PartialEnum.lawful once next_once
           (λ k. ¬ HasPair order has items k c.args.value.now)
           (λ k key here old answer was m.
-          subst (λ o. IfSome o (λ s. ¬ g.S.MaybeEmpty.is_void s) → ¬ IsTrue (among has o c.args.value.now)
+          subst (λ o. IfSome o (λ s. ¬ g.S.MaybeEmpty.is_void s) → ¬ IsTrue
+          (among has o c.args.value.now)
           → IsAsAnswered same o answer) m.shows m.says.1.1.1
           (full_some order same equal g.S.MaybeEmpty.is_void g.met.S.MaybeEmpty.void_equal k items
           c.self.invariant old was)

@@ -16,7 +16,8 @@ returns g c =
     let once = c.stored_lists_bind_once.ensures items form in
     let next_once = c.stored_lists_bind_once.ensures next c.update.ensures.form in
     let now = not_refused c.update.result c.update.ensures.rebound c.in_default.not-Err in
-    rw (← c.self.view_is) (all_removed order same g.met.S.Eq.laws has g.met.S.SetMut.equal_same _ items
+    rw (← c.self.view_is) (all_removed order same g.met.S.Eq.laws has g.met.S.SetMut.equal_same _
+    items
     next c.args.range.now now g.met.K.PartialEnum.lawful once next_once (has values)
     (λ old answer m. subst (λ o. HasAllWithout has o answer values) m.shows m.says.1.0))
 

@@ -12,8 +12,10 @@ loop-range-init g c =
     let items = g.C.Storage.items c.args.self.now in
     let copy = g.C.Storage.items c.in_ok-new.new in
     rw c.iter-items.ensures.items
-    (set_out (λ done. HasPairsOfEither order has items done copy) (g.D.Storage.items c.args.other.now)
-    (none_united order has g.met.K.PartialEnum.lawful g.S.PartialEq.eq g.met.S.SetMut.equal_same copy
+    (set_out (λ done. HasPairsOfEither order has items done copy)
+    (g.D.Storage.items c.args.other.now)
+    (none_united order has g.met.K.PartialEnum.lawful g.S.PartialEq.eq g.met.S.SetMut.equal_same
+    copy
     items c.in_ok-new.ensures.equal))
 
 pub loop-range-preserved : goal.loop-range-preserved

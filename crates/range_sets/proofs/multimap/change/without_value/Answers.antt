@@ -12,7 +12,8 @@ returns g c =
     (g.met.S.SetMut.clones_equal c.requires old copy c.in_ok-set.ensures.cases) in
     record {
       removed =
-          rw c.in-Some.is (taken_from_copy g.S.SetMut.has g.V.PartialEq.eq old copy c.remove.new.self
+          rw c.in-Some.is (taken_from_copy g.S.SetMut.has g.V.PartialEq.eq old copy
+          c.remove.new.self
           c.args.value.now alike c.remove.ensures);
       nonempty =
           grind (arith, common_steps);

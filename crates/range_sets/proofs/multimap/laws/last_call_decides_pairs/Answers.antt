@@ -6,10 +6,12 @@ returns g c =
     record {
       from_empty =
           λ calls last chain k key v.
-          from_empty g.K.MaybeBounded.order g.met.K.PartialEnum.lawful g.S.SetMut.has g.V.PartialEq.eq
+          from_empty g.K.MaybeBounded.order g.met.K.PartialEnum.lawful g.S.SetMut.has
+          g.V.PartialEq.eq
           k key v last calls chain;
       from_any =
           λ items last calls chain k key v.
-          from_any g.K.MaybeBounded.order g.met.K.PartialEnum.lawful g.S.SetMut.has g.V.PartialEq.eq k
+          from_any g.K.MaybeBounded.order g.met.K.PartialEnum.lawful g.S.SetMut.has
+          g.V.PartialEq.eq k
           key v items last calls chain;
     }

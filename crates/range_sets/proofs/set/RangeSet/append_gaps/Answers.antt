@@ -18,7 +18,8 @@ append-requires g c =
           (sym (g.met.T.Ord.matches_eq x y) ∙ c.requires.clones x y h) in
           let gap = range_of c.in-Some.gap in
           let range = c.in_ok-range.range in
-          let same = clone_same order lawful g.T.Clone.is_clone equal gap range c.in_ok-range.ensures in
+          let same = clone_same order lawful g.T.Clone.is_clone equal gap range
+          c.in_ok-range.ensures in
           let form =
           gaps_stored order lawful (λ _ _. true)
           (items c.args.self.now) c.gaps-gaps.result c.in_form.ensures c.gaps-gaps.ensures.gaps in

@@ -9,7 +9,12 @@ append_gaps-requires g c =
       empty =
           c.reserve.ensures.list ∙ c.new-others.ensures;
       room =
-          omega (arith, c.in-Some.ensures, c.range_count.ensures.value, c.in_ok-reserve.ensures.space);
+          omega (
+            arith,
+            c.in-Some.ensures,
+            c.range_count.ensures.value,
+            c.in_ok-reserve.ensures.space,
+          );
     }
 
 pub returns : goal.returns

@@ -14,7 +14,8 @@ returns g c =
           ∙ same_sets g.T.MaybeBounded.order (g.C.Storage.items c.self.inside.map)
           (g.D.Storage.items c.other.inside.map));
       bound =
-          rw (← c.self.view_is, ← c.other.view_is) (λ equal. alike.1 (c.eq_across.ensures.bound equal));
+          rw (← c.self.view_is, ← c.other.view_is)
+          (λ equal. alike.1 (c.eq_across.ensures.bound equal));
       same =
           rw (← c.self.view_is, ← c.other.view_is)
           (λ complete. (

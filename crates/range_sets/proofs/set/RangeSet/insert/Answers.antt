@@ -14,7 +14,8 @@ returns g c =
           (items c.self.inside.map) (items c.insert.new.self) (g.R.AsRange.range c.args.range))
           c.insert.ensures.bound);
       few =
-          rw (← c.self.view_is) (one_more g.T.MaybeBounded.order c.insert.result (items c.self.inside.map)
+          rw (← c.self.view_is) (one_more g.T.MaybeBounded.order c.insert.result
+          (items c.self.inside.map)
           (items c.insert.new.self)
           (g.R.AsRange.range c.args.range) c.insert.ensures.frame c.insert.ensures.refused
           c.insert.ensures.empty_unchanged);

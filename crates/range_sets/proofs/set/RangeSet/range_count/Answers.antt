@@ -9,7 +9,8 @@ returns g c =
           rw (← c.self.view_is)
           (λ complete others alike.
           c.range_count.ensures.least complete others
-          ((held_bound g.T.MaybeBounded.order (g.C.Storage.items c.self.inside.map) others).0 alike));
+          ((held_bound g.T.MaybeBounded.order (g.C.Storage.items c.self.inside.map) others).0
+          alike));
       value =
           search rules;
     }

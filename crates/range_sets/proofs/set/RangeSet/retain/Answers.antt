@@ -27,5 +27,6 @@ returns g c =
           }) _ (items c.self.inside.map) (items c.retain.new.self) c.retain.ensures.filtered);
       kept =
           rw (← c.self.view_is) (still_held g.T.MaybeBounded.order g.met.T.PartialEnum.lawful
-          (λ _ _. true) (λ _ _. refl) (items c.self.inside.map) (items c.retain.new.self) c.retain.ensures.kept);
+          (λ _ _. true) (λ _ _. refl) (items c.self.inside.map) (items c.retain.new.self)
+          c.retain.ensures.kept);
     }

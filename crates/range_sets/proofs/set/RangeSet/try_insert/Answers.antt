@@ -18,7 +18,8 @@ returns g c =
       added =
           rw (← c.self.view_is) (elim c.match-try_insert.branch [
             | in-Ok w ↦
-                rw w.result-is (added g.T.MaybeBounded.order g.met.T.PartialEnum.lawful (λ _ _. true)
+                rw w.result-is (added g.T.MaybeBounded.order g.met.T.PartialEnum.lawful
+                (λ _ _. true)
                 (λ _ _. refl) (items c.self.inside.map) (items c.try_insert.new.self)
                 (g.R.AsRange.range c.args.range) w.in-Ok.ensures.bound)
             | in-Err-Occupied w ↦ rw w.result-is tt
@@ -33,5 +34,6 @@ returns g c =
       few =
           rw (← c.self.view_is) (one_more g.T.MaybeBounded.order c.try_insert.result
           (items c.self.inside.map) (items c.try_insert.new.self) (g.R.AsRange.range c.args.range)
-          c.try_insert.ensures.frame c.try_insert.ensures.refused c.try_insert.ensures.empty_unchanged);
+          c.try_insert.ensures.frame c.try_insert.ensures.refused
+          c.try_insert.ensures.empty_unchanged);
     }

@@ -133,8 +133,8 @@ pub shrink_root-requires : goal.shrink_root-requires
 shrink_root-requires g c =
     let s = c.args.self.now in
     record {
-      tree = loosened_tree s.nodes c.remove_below-taken.new.nodes s.levels s.root _ c.requires.edge.some
-          s.whole.tree c.remove_below-taken.ensures.shrinks;
+      tree = loosened_tree s.nodes c.remove_below-taken.new.nodes s.levels s.root _
+          c.requires.edge.some s.whole.tree c.remove_below-taken.ensures.shrinks;
       edge = c.remove_below-taken.ensures.edge;
     }
 

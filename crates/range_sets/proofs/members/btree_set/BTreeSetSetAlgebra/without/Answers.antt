@@ -5,5 +5,6 @@ use Rattle.range_sets.proofs.members.btree_set.BTreeSetSetAlgebra.without.Goals 
 pub returns : goal.returns
 returns g c =
     IfOk-weaker c.sub.result _ _
-    (λ new made. tree_first_alone g.V.Ord.cmp g.met.V.Ord.total g.V.PartialEq.eq g.met.V.Ord.matches_eq
+    (λ new made. tree_first_alone g.V.Ord.cmp g.met.V.Ord.total g.V.PartialEq.eq
+    g.met.V.Ord.matches_eq
     g.V.Clone.is_clone c.requires c.args.self.now c.args.other.now new made) c.sub.ensures

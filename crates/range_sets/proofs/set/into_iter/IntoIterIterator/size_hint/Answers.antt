@@ -7,10 +7,17 @@ returns g c =
     record {
       lower =
           λ _. rw (← c.self.view_is)
-          (omega (arith, ranges_length (g.C.Storage.items c.self.inside.map), c.range_count-left.ensures));
+          (omega (
+            arith,
+            ranges_length (g.C.Storage.items c.self.inside.map),
+            c.range_count-left.ensures,
+          ));
       upper = (
         tt,
-        rw (← c.self.view_is) (omega
-            (arith, ranges_length (g.C.Storage.items c.self.inside.map), c.range_count-left.ensures)),
+        rw (← c.self.view_is) (omega (
+          arith,
+          ranges_length (g.C.Storage.items c.self.inside.map),
+          c.range_count-left.ensures,
+        )),
       );
     }

@@ -58,7 +58,8 @@ returns-clause-rest g c =
     let takes = subst (λ xs. WritesBlock blocks c.remove-item.new.self n (remove xs c.args.index))
     (sym (node_items blocks lists n)) c.remove-item.ensures.rest in
     let writes = subst (λ ks. WritesList lists c.take_child-child.new.lists
-    (list_held (block_of blocks n)) (remove ks c.args.place)) (sym (node_children blocks lists c.self.invariant n))
+    (list_held (block_of blocks n)) (remove ks c.args.place))
+    (sym (node_children blocks lists c.self.invariant n))
     (rw key at c.take_child-child.ensures.rest) in
     rw (← c.self.view_is) (written blocks c.remove-item.new.self lists
     c.take_child-child.new.lists n c.self.invariant
