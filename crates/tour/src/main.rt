@@ -17,6 +17,8 @@ mod round_trip;
 mod set_values;
 #[cfg(test)]
 mod sets;
+#[cfg(test)]
+mod together;
 
 use btree_range_map::RangeMap;
 
