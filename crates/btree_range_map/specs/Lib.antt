@@ -29,7 +29,7 @@ pub use Rattle.range_algebra.specs.Texts
 pub use Rattle.range_store.specs.Counting
 pub use Rattle.range_store.specs.Depth
 pub use Rattle.range_store.specs.Holding
-pub use Rattle.range_store.specs.Places
+pub use Rattle.range_store.specs.ListPlaces
 pub use Rattle.range_change.specs.Answers
 pub use Rattle.range_map.specs.Appending
 pub use Rattle.range_map.specs.Askable

@@ -166,8 +166,8 @@ impl<T: PartialEnum + Bounded + Clone> AnyRange<T> {
 }
 
 impl<T: PartialEnum + Bounded + Clone> AnyRange<T> {
-    /// The least and the greatest key of the range, or `None` where the range is empty or one of its
-    /// bounds names no key.
+    /// The least and the greatest key of the range, or `None` where the range is empty or one of
+    /// its bounds names no key.
     ///
     /// Included bounds are cloned, so the call allocates what clones of their keys do, and fails
     /// only where such a clone fails.

@@ -20,8 +20,8 @@ use Rattle.range_algebra.specs.Orders.{eq_ge, eq_le, le_lt_trans, le_refl, lt_le
 use Rattle.range_algebra.specs.Range.{IsEmptyRange, IsKnownRange}
 use Rattle.range_algebra.specs.declared.any.AnyRange.{AnyRange}
 use Rattle.range_algebra.proofs.Lists.{drop_all, list_is_take_and_drop, any_none, any_split, every_append, every_left, every_right, every_weaker}
-use Rattle.range_store.proofs.Places.{kept_at, place_at}
-use Rattle.range_store.specs.Places.{IsAt, place_before}
+use Rattle.range_store.proofs.ListPlaces.{kept_at, place_at}
+use Rattle.range_store.specs.ListPlaces.{IsAt, place_before}
 use Rattle.range_store.specs.declared.storage.Item.{Item}
 use Rattle.range_change.specs.Bindings.{IsBoundAfter}
 use Rattle.range_change.specs.Apart.{IsAnswerAt, IsGap, LiesApart}

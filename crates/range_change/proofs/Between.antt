@@ -10,7 +10,7 @@ use Rattle.range_store.specs.declared.storage.Item.{Item}
 use Rattle.range_change.specs.Changes.{IsInserted}
 use Rattle.range_change.specs.Plans.{IsLeftPlan, IsRightPlan}
 use Rattle.range_change.specs.Window.{IsWindow, option_items}
-use Rattle.range_change.specs.declared.edges.Edge.TheVariants.{Plain}
+use Rattle.range_change.specs.declared.borders.Border.TheVariants.{Plain}
 use Rattle.range_change.specs.declared.window.Window.{Window}
 use Rattle.range_change.proofs.Planned.{planned_insert}
 

@@ -7,13 +7,13 @@ use Rattle.std.specs.declared.ops.Bound.TheVariants.{Unbounded}
 use Rattle.range_algebra.specs.declared.any.AnyRange.{AnyRange}
 use Rattle.range_store.specs.declared.storage.Item.{Item}
 use Rattle.std.specs.Option.{ForSome}
-use Rattle.range_store.specs.Places.{place_before}
+use Rattle.range_store.specs.ListPlaces.{place_before}
 use Rattle.range_change.specs.Edits.{with_start, with_end}
 use Rattle.range_change.specs.Window.{option_items}
 use Rattle.range_algebra.proofs.Lists.{parts_at}
-use Rattle.range_change.specs.Edges.{joined_count, edge_at, IsGoodEdge, IsLeftShape, IsRightShape, IsLeftEdited, IsRightEdited}
-use Rattle.range_change.specs.declared.edges.Edge.{Edge}
-use Rattle.range_change.specs.declared.edges.Edge.TheVariants.{Plain, Cut, Joined}
+use Rattle.range_change.specs.Borders.{joined_count, border_at, IsGoodBorder, IsLeftShape, IsRightShape, IsLeftEdited, IsRightEdited}
+use Rattle.range_change.specs.declared.borders.Border.{Border}
+use Rattle.range_change.specs.declared.borders.Border.TheVariants.{Plain, Cut, Joined}
 
 pub opening_regroups : {X : Type 0} (a b c e : List X) (m : X)
     → (a ++ b) ++ m ∷ (c ++ e) ≡ a ++ b ++ (m ∷ []) ++ c ++ e
@@ -36,7 +36,7 @@ standing_item_splits_list xs n m x within read next =
     ∙ opening_regroups (take n xs) [] [] (drop m xs) x)
 
 pub cut_joins_none : {K P : Type 0} (item : Option P) (b : Bound K)
-    → joined_count (edge_at item b) ≡ 0
+    → joined_count (border_at item b) ≡ 0
 cut_joins_none None b = refl
 cut_joins_none (Some p) b = refl
 
@@ -58,17 +58,17 @@ same_at xs ys n d e =
 module _ {K V P : Type 0} (is_good : P → Type 0) (rank : P → ℕ) (items : List (Item (AnyRange K) V))
     (in_range : (p : P) → is_good p → rank p < length items) where
   -- what the first edit leaves of the list
-  pub record IsOpenedLeft (new : List (Item (AnyRange K) V)) (edge : Edge K P) (at from : ℕ)
+  pub record IsOpenedLeft (new : List (Item (AnyRange K) V)) (border : Border K P) (at from : ℕ)
       (rest : Option (Item (AnyRange K) V)) (start given : Option (Bound K)) : Type 0 where
     pub front : take from new ≡ take at items ++ option_items rest
-    pub behind : (n : ℕ) → from + joined_count edge ≤ n → drop n new ≡ drop n items
+    pub behind : (n : ℕ) → from + joined_count border ≤ n → drop n new ≡ drop n items
     pub same_start : given ≡ start
     pub size : length new ≡ length items
 
-  pub left_opened : (new : List (Item (AnyRange K) V)) (edge : Edge K P) (at from : ℕ)
+  pub left_opened : (new : List (Item (AnyRange K) V)) (border : Border K P) (at from : ℕ)
       (rest : Option (Item (AnyRange K) V)) (start given : Option (Bound K))
-      → IsLeftShape is_good rank items edge at from rest start
-      → IsLeftEdited rank items new edge given → IsOpenedLeft new edge at from rest start given
+      → IsLeftShape is_good rank items border at from rest start
+      → IsLeftEdited rank items new border given → IsOpenedLeft new border at from rest start given
   left_opened new Plain at from rest start given shape edited = record {
     front = rw (edited.0, shape.0, shape.1) (sym (append-nil (take at items)));
     behind = λ n le. ap (drop n) edited.0;
@@ -111,9 +111,10 @@ module _ {K V P : Type 0} (is_good : P → Type 0) (rank : P → ℕ) (items : L
       }
 
   -- what the second edit leaves of the list that the first one left
-  pub record IsOpenedRight (base new : List (Item (AnyRange K) V)) (edge : Edge K P) (upto end : ℕ)
+  pub record IsOpenedRight (base new : List (Item (AnyRange K) V)) (border : Border K P)
+      (upto end : ℕ)
       (rest : Option (Item (AnyRange K) V)) (finish given : Option (Bound K)) : Type 0 where
-    pub front : (n : ℕ) → n + joined_count edge ≤ upto → take n new ≡ take n base
+    pub front : (n : ℕ) → n + joined_count border ≤ upto → take n new ≡ take n base
     pub behind : drop upto new ≡ option_items rest ++ drop end items
     pub same_end : given ≡ finish
     pub size : length new ≡ length base
@@ -121,11 +122,11 @@ module _ {K V P : Type 0} (is_good : P → Type 0) (rank : P → ℕ) (items : L
   pub right_opened : (base new : List (Item (AnyRange K) V)) (rank' : P → ℕ) (clear : ℕ)
       → ((p : P) → is_good p → rank' p ≡ rank p)
       → ((n : ℕ) → clear ≤ n → drop n base ≡ drop n items) → length base ≡ length items
-      → (edge : Edge K P) (upto end : ℕ) (rest : Option (Item (AnyRange K) V))
-      (finish given : Option (Bound K)) → clear + joined_count edge ≤ upto
-      → IsRightShape is_good rank items edge upto end rest finish
-      → IsRightEdited rank' base new edge given
-      → IsOpenedRight base new edge upto end rest finish given
+      → (border : Border K P) (upto end : ℕ) (rest : Option (Item (AnyRange K) V))
+      (finish given : Option (Bound K)) → clear + joined_count border ≤ upto
+      → IsRightShape is_good rank items border upto end rest finish
+      → IsRightEdited rank' base new border given
+      → IsOpenedRight base new border upto end rest finish given
   right_opened base new rank' clear ranks kept same_size Plain upto end rest finish given le shape
       edited = record {
         front = λ n l. ap (take n) edited.0;
@@ -184,9 +185,9 @@ module _ {K V P : Type 0} (is_good is_good' : P → Type 0) (rank rank' : P → 
     (items items' : List (Item (AnyRange K) V))
     (kept : (p : P) → is_good p → is_good' p × (rank' p ≡ rank p)) (same : items' ≡ items) where
   -- a change that keeps positions and items keeps what is planned
-  pub left_kept : (edge : Edge K P) (at from : ℕ) (rest : Option (Item (AnyRange K) V))
-      (start : Option (Bound K)) → IsLeftShape is_good rank items edge at from rest start
-      → IsLeftShape is_good' rank' items' edge at from rest start
+  pub left_kept : (border : Border K P) (at from : ℕ) (rest : Option (Item (AnyRange K) V))
+      (start : Option (Bound K)) → IsLeftShape is_good rank items border at from rest start
+      → IsLeftShape is_good' rank' items' border at from rest start
   left_kept Plain at from rest start h = h
   left_kept (Cut p b) at from rest start h = let k =
       kept p h.0 in (
@@ -205,9 +206,9 @@ module _ {K V P : Type 0} (is_good is_good' : P → Type 0) (rank rank' : P → 
         (h.4.0, h.4.1 ∙ ap (λ ys. get_or ys at h.4.0) (sym same), h.4.2),
       )
 
-  pub right_kept : (edge : Edge K P) (upto end : ℕ) (rest : Option (Item (AnyRange K) V))
-      (finish : Option (Bound K)) → IsRightShape is_good rank items edge upto end rest finish
-      → IsRightShape is_good' rank' items' edge upto end rest finish
+  pub right_kept : (border : Border K P) (upto end : ℕ) (rest : Option (Item (AnyRange K) V))
+      (finish : Option (Bound K)) → IsRightShape is_good rank items border upto end rest finish
+      → IsRightShape is_good' rank' items' border upto end rest finish
   right_kept Plain upto end rest finish h = h
   right_kept (Cut p b) upto end rest finish h = let k =
       kept p h.0 in (
@@ -232,22 +233,22 @@ module _ {K V P : Type 0} (is_good is_good' : P → Type 0) (rank rank' : P → 
         ),
       )
 
-  pub left_good : (edge : Edge K P) (at from : ℕ) (rest : Option (Item (AnyRange K) V))
-      (start : Option (Bound K)) → IsLeftShape is_good rank items edge at from rest start
-      → IsGoodEdge is_good' edge
+  pub left_good : (border : Border K P) (at from : ℕ) (rest : Option (Item (AnyRange K) V))
+      (start : Option (Bound K)) → IsLeftShape is_good rank items border at from rest start
+      → IsGoodBorder is_good' border
   left_good Plain at from rest start h = tt
   left_good (Cut p b) at from rest start h = (kept p h.0).0
   left_good (Joined p) at from rest start h = (kept p h.0).0
 
-  pub right_good : (edge : Edge K P) (upto end : ℕ) (rest : Option (Item (AnyRange K) V))
-      (finish : Option (Bound K)) → IsRightShape is_good rank items edge upto end rest finish
-      → IsGoodEdge is_good' edge
+  pub right_good : (border : Border K P) (upto end : ℕ) (rest : Option (Item (AnyRange K) V))
+      (finish : Option (Bound K)) → IsRightShape is_good rank items border upto end rest finish
+      → IsGoodBorder is_good' border
   right_good Plain upto end rest finish h = tt
   right_good (Cut p b) upto end rest finish h = (kept p h.0).0
   right_good (Joined p) upto end rest finish h = (kept p h.0).0
 
-  pub upto_end : (edge : Edge K P) (upto end : ℕ) (rest : Option (Item (AnyRange K) V))
-      (finish : Option (Bound K)) → IsRightShape is_good rank items edge upto end rest finish
+  pub upto_end : (border : Border K P) (upto end : ℕ) (rest : Option (Item (AnyRange K) V))
+      (finish : Option (Bound K)) → IsRightShape is_good rank items border upto end rest finish
       → upto ≤ end
   upto_end Plain upto end rest finish h = omega (arith, h.0)
   upto_end (Cut p b) upto end rest finish h = omega (arith, h.2)

@@ -18,8 +18,8 @@ use Rattle.range_algebra.specs.declared.any.AnyRange.{AnyRange}
 use Rattle.range_algebra.specs.Range.{Holds, IsEmptyRange}
 use Rattle.range_algebra.proofs.Holding.{holds_by_position}
 use Rattle.range_store.specs.declared.storage.Item.{Item}
-use Rattle.range_store.specs.Places.{IsAt, IsFrontOf}
-use Rattle.range_store.proofs.Places.{place_at}
+use Rattle.range_store.specs.ListPlaces.{IsAt, IsFrontOf}
+use Rattle.range_store.proofs.ListPlaces.{place_at}
 use Rattle.range_algebra.specs.Intervals.{Any, Le, Lt, Every}
 use Rattle.range_algebra.specs.Orders.{lt_le, lt_not_le, le_trans, not_le, not_lt, lt_le_trans, le_lt_trans, lt_trans, lt_of}
 use Rattle.range_change.specs.Stored.{IsStored}

@@ -8,14 +8,14 @@ use Rattle.range_keys.specs.Order.{KeyOrder, IsLawful}
 use Rattle.range_algebra.specs.declared.any.AnyRange.{AnyRange}
 use Rattle.range_store.specs.declared.storage.Item.{Item}
 use Rattle.range_change.specs.Changes.{IsInserted}
-use Rattle.range_change.specs.Edges.{seam_edge}
+use Rattle.range_change.specs.Borders.{seam_border}
 use Rattle.range_change.specs.Stored.{IsStored}
 use Rattle.range_change.specs.Plans.{IsLeftPlan, IsRightPlan}
-use Rattle.range_change.specs.declared.edges.Edge.{Edge}
+use Rattle.range_change.specs.declared.borders.Border.{Border}
 
 -- so it is the same where it would be cut
 pub seam_alike : {K P : Type 0} (found : Option P) (b c : Bound K)
-    → seam_edge found None b ≡ seam_edge found None c
+    → seam_border found None b ≡ seam_border found None c
 seam_alike None b c = refl
 seam_alike (Some q) b c = refl
 
@@ -30,17 +30,17 @@ module _ {K : Type 0} (order : KeyOrder K) {V : Type 0} (same : V → V → Bool
 module _ {K : Type 0} {order : KeyOrder K} {V : Type 0} {same : V → V → Bool}
     {lawful : IsLawful order} {equal : IsEquivalence same} {P : Type 0} {is_good : P → Type 0}
     {rank : P → ℕ} {items : List (Item (AnyRange K) V)} {r : AnyRange K} {v : V}
-    {place count : ℕ} {reaching : Option P} (found : Option P) (b : Bound K) (edge : Edge K P)
-    (none : reaching ≡ None) (is : edge ≡ seam_edge found None b) where
-  -- the plan of a side where no item reaches out, of an edge that is so made
+    {place count : ℕ} {reaching : Option P} (found : Option P) (b : Bound K) (border : Border K P)
+    (none : reaching ≡ None) (is : border ≡ seam_border found None b) where
+  -- the plan of a side where no item reaches out, of an border that is so made
   pub left_alone : {from : Option P}
       → IsLeftPlan order same lawful equal is_good rank items r v place count reaching
-      (seam_edge found reaching b) from
-      → IsLeftPlan order same lawful equal is_good rank items r v place count None edge from
+      (seam_border found reaching b) from
+      → IsLeftPlan order same lawful equal is_good rank items r v place count None border from
   left_alone plan = rw is (rw none at plan)
 
   pub right_alone :
       IsRightPlan order same lawful equal is_good rank items r v place count reaching
-      (seam_edge found reaching b)
-      → IsRightPlan order same lawful equal is_good rank items r v place count None edge
+      (seam_border found reaching b)
+      → IsRightPlan order same lawful equal is_good rank items r v place count None border
   right_alone plan = rw is (rw none at plan)

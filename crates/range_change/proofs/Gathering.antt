@@ -5,7 +5,7 @@ use Rattle.std.specs.Fn.{Shared}
 use denote.Ref.{Bor}
 use Rattle.range_keys.specs.Order.{KeyOrder, IsLawful}
 use Rattle.range_algebra.specs.declared.any.AnyRange.{AnyRange}
-use Rattle.range_store.specs.Places.{IsAt}
+use Rattle.range_store.specs.ListPlaces.{IsAt}
 use Rattle.range_store.specs.declared.storage.Item.{Item}
 use Rattle.range_change.specs.Questions.{gap_lower, IsKeyAt}
 use Rattle.range_change.specs.Spelling.{KeepsSpelling}

@@ -13,15 +13,15 @@ use Rattle.range_algebra.specs.declared.any.AnyRange.{AnyRange}
 use Rattle.range_algebra.specs.Range.{IsKnownBound}
 use Rattle.range_algebra.specs.Clones.{SameBound}
 use Rattle.range_store.specs.declared.storage.Item.{Item}
-use Rattle.range_store.specs.Places.{IsAt}
+use Rattle.range_store.specs.ListPlaces.{IsAt}
 use Rattle.range_change.specs.Window.{IsWindow, option_items}
 use Rattle.range_change.specs.declared.window.Window.{Window}
 use Rattle.range_change.specs.Edits.{flipped_bound, with_start, with_end}
 use Rattle.range_change.specs.Reach.{ReachesBefore, ReachesAfter}
-use Rattle.range_change.specs.Edges.{edge_at, IsLeftShape, IsRightShape, IsLeftRest, IsRightRest, TouchesBefore, TouchesNoneBefore, TouchesAfter, TouchesNoneAfter}
+use Rattle.range_change.specs.Borders.{border_at, IsLeftShape, IsRightShape, IsLeftRest, IsRightRest, TouchesBefore, TouchesNoneBefore, TouchesAfter, TouchesNoneAfter}
 use Rattle.range_change.specs.Plans.{IsLeftFrame, IsRightFrame, IsLeftPlan, IsRightPlan}
-use Rattle.range_change.specs.declared.edges.Edge.TheVariants.{Plain, Cut, Joined}
-use Rattle.range_change.proofs.RangeSides.{element_at, element_at_is_read, left_rest_whole, left_rest_cut, right_rest_whole, right_rest_cut, left_edge_inside, left_edge_rest, left_edge_joined, left_edge_none, right_edge_inside, right_edge_rest, right_edge_joined, right_edge_none}
+use Rattle.range_change.specs.declared.borders.Border.TheVariants.{Plain, Cut, Joined}
+use Rattle.range_change.proofs.RangeSides.{element_at, element_at_is_read, left_rest_whole, left_rest_cut, right_rest_whole, right_rest_cut, left_border_inside, left_border_rest, left_border_joined, left_border_none, right_border_inside, right_border_rest, right_border_joined, right_border_none}
 
 none_last : {X : Type 0} (xs : List X) (y : X) → xs ++ y ∷ [] ≡ [] → ⊥
 none_last [] y e = cc
@@ -161,7 +161,7 @@ module _ {K : Type 0} {order : KeyOrder K} (lawful : IsLawful order) {V : Type 0
         rest = None;
         start = Some x.key.start;
         shape = (reach.0, reach.1, refl, refl, (x, here, refl));
-        side = left_edge_inside lawful equal window v x here reach.2 (reach.3 x here) values;
+        side = left_border_inside lawful equal window v x here reach.2 (reach.3 x here) values;
         run = (reach.0, reach.1);
         frame = left_frame_inside x here reach.2;
         few = omega arith;
@@ -184,7 +184,7 @@ module _ {K : Type 0} {order : KeyOrder K} (lawful : IsLawful order) {V : Type 0
         start = None;
         shape = (reach.0, reach.1, refl, refl, (x, here, refl));
         side =
-            left_edge_rest lawful equal window v (with_end x b)
+            left_border_rest lawful equal window v (with_end x b)
             (left_rest_cut lawful equal window x here reach.2 (reach.3 x here) b known_b same_b)
             values;
         run = next;
@@ -206,7 +206,7 @@ module _ {K : Type 0} {order : KeyOrder K} (lawful : IsLawful order) {V : Type 0
     start = Some x.key.start;
     shape = (is, refl, refl, refl, (x, read, refl));
     side =
-        left_edge_joined lawful equal window v (rank q) x
+        left_border_joined lawful equal window v (rank q) x
         (left_rest_whole lawful equal window reach) at within read touching;
     run = (is, refl);
     frame = record {
@@ -246,7 +246,7 @@ module _ {K : Type 0} {order : KeyOrder K} (lawful : IsLawful order) {V : Type 0
     start = None;
     shape = (refl, refl, refl);
     side =
-        left_edge_none lawful equal window v (omega (arith, window.in_range))
+        left_border_none lawful equal window v (omega (arith, window.in_range))
         (left_rest_whole lawful equal window reach) none;
     run = run;
     frame = record {
@@ -279,7 +279,7 @@ module _ {K : Type 0} {order : KeyOrder K} (lawful : IsLawful order) {V : Type 0
         rest = None;
         finish = Some x.key.end;
         shape = (reach.0, reach.1, refl, refl, (x, read, refl));
-        side = right_edge_inside lawful equal window v x here reach.2 (reach.3 x here) values;
+        side = right_border_inside lawful equal window v x here reach.2 (reach.3 x here) values;
         frame = right_frame_inside x here reach.2;
         few = omega arith;
         ends = omega arith;
@@ -298,7 +298,8 @@ module _ {K : Type 0} {order : KeyOrder K} (lawful : IsLawful order) {V : Type 0
         finish = None;
         shape = (reach.0, omega (arith, reach.1), omega (arith, reach.2), refl, (x, here, refl));
         side =
-            right_edge_rest lawful equal window (place + w.count) v (with_start x b) window.in_range
+            right_border_rest lawful equal window (place + w.count) v (with_start x b)
+            window.in_range
             (right_rest_cut lawful equal window x here reach.2
             (reach.3 x here) b known_b same_b x.value (equal.refl x.value)) values;
         frame = right_frame_cut x here reach.2 b x.value same_b (equal.refl x.value) values;
@@ -320,7 +321,7 @@ module _ {K : Type 0} {order : KeyOrder K} (lawful : IsLawful order) {V : Type 0
         finish = Some x.key.end;
         shape = (is, omega (arith, at), refl, refl, (x, read, refl));
         side =
-            right_edge_joined lawful equal window (place + w.count) v x
+            right_border_joined lawful equal window (place + w.count) v x
             (omega (arith, at, within)) here (right_rest_whole lawful equal window reach) touching;
         frame = record {
           extra = x ∷ [];
@@ -358,7 +359,7 @@ module _ {K : Type 0} {order : KeyOrder K} (lawful : IsLawful order) {V : Type 0
     finish = None;
     shape = (refl, refl, refl);
     side =
-        right_edge_none lawful equal window (place + w.count) v window.in_range
+        right_border_none lawful equal window (place + w.count) v window.in_range
         (right_rest_whole lawful equal window reach) none;
     frame = record {
       extra = [];
@@ -418,7 +419,7 @@ module _ {K : Type 0} {order : KeyOrder K} (lawful : IsLawful order) {V : Type 0
   -- what stands before a range that is unbound
   pub record IsLeftCut (first : Option P) (b : Bound K) : Type 0 where
     pub rest : Option (Item (AnyRange K) V)
-    pub shape : IsLeftShape is_good rank items (edge_at first b) place
+    pub shape : IsLeftShape is_good rank items (border_at first b) place
         (place + length (option_items first)) rest None
     pub side : IsLeftRest order same lawful equal items r place rest
     pub made : Every (IsPart order same (take w.count (drop place items)) r) (option_items rest)
@@ -448,7 +449,7 @@ module _ {K : Type 0} {order : KeyOrder K} (lawful : IsLawful order) {V : Type 0
 
   pub record IsRightCut (last : Option P) (b : Bound K) (upto : ℕ) : Type 0 where
     pub rest : Option (Item (AnyRange K) V)
-    pub shape : IsRightShape is_good rank items (edge_at last b) upto (place + w.count) rest None
+    pub shape : IsRightShape is_good rank items (border_at last b) upto (place + w.count) rest None
     pub side : IsRightRest order same lawful equal items r (place + w.count) rest
     pub made : Every (IsPart order same (take w.count (drop place items)) r) (option_items rest)
     pub few : length (option_items rest) ≤ 1

@@ -23,11 +23,11 @@ use Rattle.range_algebra.specs.Relations.{Touches}
 use Rattle.range_algebra.specs.declared.any.AnyRange.{AnyRange}
 use Rattle.range_algebra.proofs.Places.{reaching_is_before_past, flipped_bound_is_past, flipped_known}
 use Rattle.range_store.specs.declared.storage.Item.{Item}
-use Rattle.range_store.specs.Places.{IsAt}
-use Rattle.range_change.specs.declared.edges.Edge.{Edge}
-use Rattle.range_change.specs.declared.edges.Edge.TheVariants.{Plain, Cut, Joined}
+use Rattle.range_store.specs.ListPlaces.{IsAt}
+use Rattle.range_change.specs.declared.borders.Border.{Border}
+use Rattle.range_change.specs.declared.borders.Border.TheVariants.{Plain, Cut, Joined}
 use Rattle.range_change.specs.declared.window.Window.{Window}
-use Rattle.range_change.specs.Edges.{IsLeftShape, IsRightShape, IsRunStart, joined_count, edge_at, seam_edge, edge_start, edge_end, TouchesBefore, TouchesNoneBefore, TouchesAfter, TouchesNoneAfter}
+use Rattle.range_change.specs.Borders.{IsLeftShape, IsRightShape, IsRunStart, joined_count, border_at, seam_border, border_start, border_end, TouchesBefore, TouchesNoneBefore, TouchesAfter, TouchesNoneAfter}
 use Rattle.range_change.specs.Edits.{flipped_bound, with_start}
 use Rattle.range_change.specs.Frames.{HasValue}
 use Rattle.range_change.specs.Stored.{item_lower, item_upper, IsStored}
@@ -86,18 +86,19 @@ module _ {K : Type 0} (order : KeyOrder K) (lawful : IsLawful order) where
       within_by part r (flipped r.end) refl known others within.ends over)
 
 joins_none_before : {K V P : Type 0} (is_good : P → Type 0) (rank : P → ℕ)
-    (items : List (Item (AnyRange K) V)) (edge : Edge K P) (at from : ℕ)
-    (rest : Option (Item (AnyRange K) V)) → IsLeftShape is_good rank items edge at from rest None
-    → joined_count edge ≡ 0
+    (items : List (Item (AnyRange K) V)) (border : Border K P) (at from : ℕ)
+    (rest : Option (Item (AnyRange K) V)) → IsLeftShape is_good rank items border at from rest None
+    → joined_count border ≡ 0
 joins_none_before is_good rank items Plain at from rest shape = refl
 joins_none_before is_good rank items (Cut p b) at from rest shape = refl
 joins_none_before is_good rank items (Joined p) at from rest shape =
     absurd (let e = shape.4.2 in cc)
 
 joins_none_after : {K V P : Type 0} (is_good : P → Type 0) (rank : P → ℕ)
-    (items : List (Item (AnyRange K) V)) (edge : Edge K P) (upto end : ℕ)
-    (rest : Option (Item (AnyRange K) V)) → IsRightShape is_good rank items edge upto end rest None
-    → joined_count edge ≡ 0
+    (items : List (Item (AnyRange K) V)) (border : Border K P) (upto end : ℕ)
+    (rest : Option (Item (AnyRange K) V)) → IsRightShape is_good rank items border upto end rest
+    None
+    → joined_count border ≡ 0
 joins_none_after is_good rank items Plain upto end rest shape = refl
 joins_none_after is_good rank items (Cut p b) upto end rest shape = refl
 joins_none_after is_good rank items (Joined p) upto end rest shape =
@@ -105,7 +106,7 @@ joins_none_after is_good rank items (Joined p) upto end rest shape =
 
 -- only an item that joins gives way beyond the window
 pub seam_count : {K P : Type 0} (joined reaching : Option P) (b : Bound K)
-    → joined_count (seam_edge joined reaching b) ≡ length (option_items joined)
+    → joined_count (seam_border joined reaching b) ≡ length (option_items joined)
 seam_count None reaching b = cut_joins_none reaching b
 seam_count (Some q) reaching b = refl
 
@@ -138,15 +139,16 @@ module _ {K : Type 0} (order : KeyOrder K) (lawful : IsLawful order) {V : Type 0
         Any (λ j. (j.key.end ≡ i.key.end) × Crosses j × IsTrue (same i.value j.value)) xs
 
     -- the items up to the range, and the middle with the start that it joins
-    pub record IsLeftFill (middle : List (Item (AnyRange K) V)) (first : Option P) (edge : Edge K P)
+    pub record IsLeftFill (middle : List (Item (AnyRange K) V)) (first : Option P)
+        (border : Border K P)
         (from : Option P) : Type 0 where
       pub at : ℕ
       pub begin : ℕ
       pub rest : Option (Item (AnyRange K) V)
       pub start : Option (Bound K)
-      pub shape : IsLeftShape is_good rank items edge at begin rest start
+      pub shape : IsLeftShape is_good rank items border at begin rest start
       pub run : IsAt is_good rank (length items) from begin
-      pub begins : begin + joined_count edge ≡ place + length (option_items first)
+      pub begins : begin + joined_count border ≡ place + length (option_items first)
       pub filled : Filled items middle
           ((take at items ++ option_items rest) ++ with_first_start start middle) (lower order r)
       pub known : Known order lawful same equal
@@ -161,13 +163,13 @@ module _ {K : Type 0} (order : KeyOrder K) (lawful : IsLawful order) {V : Type 0
 
     -- the middle with the end that it joins too, and the items after the range
     pub record IsRightFill (middle front : List (Item (AnyRange K) V)) (start : Option (Bound K))
-        (last : Option P) (edge : Edge K P) : Type 0 where
+        (last : Option P) (border : Border K P) : Type 0 where
       pub upto : ℕ
       pub end : ℕ
       pub rest : Option (Item (AnyRange K) V)
       pub finish : Option (Bound K)
-      pub shape : IsRightShape is_good rank items edge upto end rest finish
-      pub ends : upto + length (option_items last) ≡ place + count + joined_count edge
+      pub shape : IsRightShape is_good rank items border upto end rest finish
+      pub ends : upto + length (option_items last) ≡ place + count + joined_count border
       pub in_range : end ≤ length items
       pub spliced : Spliced items middle
           ((front ++ with_last_end finish (with_first_start start middle))
@@ -187,7 +189,7 @@ module _ {K : Type 0} (order : KeyOrder K) (lawful : IsLawful order) {V : Type 0
 
     start_filled : (start : Option (Bound K)) (front ms : List (Item (AnyRange K) V))
         (m : Item (AnyRange K) V) (s : Position K)
-        → places order lawful (edge_start order same start r) s ≡ Equal
+        → places order lawful (border_start order same start r) s ≡ Equal
         → IsLeftOf (line_of order lawful same equal) items front (lower order r) s m.value
         → Chained order lawful same equal (m ∷ ms)
         → places order lawful (item_lower order m) (lower order r) ≡ Equal
@@ -213,7 +215,7 @@ module _ {K : Type 0} (order : KeyOrder K) (lawful : IsLawful order) {V : Type 0
 
     takes_start : (start : Option (Bound K)) (m : Item (AnyRange K) V)
         (ms : List (Item (AnyRange K) V)) (i : Item (AnyRange K) V) → start ≡ Some i.key.start
-        → Le (places order lawful) (edge_start order same start r) (lower order r)
+        → Le (places order lawful) (border_start order same start r) (lower order r)
         → Lt (places order lawful) (lower order r) (upper order r)
         → Lt (places order lawful) (lower order r) (item_upper order m)
         → IsTrue (same i.value m.value) → TakesStartOf i (with_first_start start (m ∷ ms))
@@ -231,19 +233,19 @@ module _ {K : Type 0} (order : KeyOrder K) (lawful : IsLawful order) {V : Type 0
         )
 
     left_joining : (m : Item (AnyRange K) V) (ms : List (Item (AnyRange K) V)) (first : Option P)
-        (edge : Edge K P) (from : Option P)
+        (border : Border K P) (from : Option P)
         → Lt (places order lawful) (lower order r) (upper order r) → IsStored order same items
         → IsStored order same (m ∷ ms)
         → places order lawful (item_lower order m) (lower order r) ≡ Equal
-        → IsLeftPlan order same lawful equal is_good rank items r m.value place count first edge
-        from → IsLeftFill (m ∷ ms) first edge from
-    left_joining m ms first edge from good stored middle at plan =
+        → IsLeftPlan order same lawful equal is_good rank items r m.value place count first border
+        from → IsLeftFill (m ∷ ms) first border from
+    left_joining m ms first border from good stored middle at plan =
         let cmp = places order lawful in
         let total = position_total order.cmp lawful.total in
         let chain = stored_chain order lawful same equal (m ∷ ms) middle in
         let le =
-        le_trans cmp total (edge_start order same plan.start r) plan.side.s (lower order r)
-        (eq_le cmp total (edge_start order same plan.start r) plan.side.s plan.side.starts)
+        le_trans cmp total (border_start order same plan.start r) plan.side.s (lower order r)
+        (eq_le cmp total (border_start order same plan.start r) plan.side.s plan.side.starts)
         plan.side.left.below in
         let over =
         le_lt_trans cmp total (lower order r) (item_lower order m) (item_upper order m)
@@ -277,14 +279,14 @@ module _ {K : Type 0} (order : KeyOrder K) (lawful : IsLawful order) {V : Type 0
               (λ j h. elim h.value [ inl e ↦ inr (inl e) | inr k ↦ inl k ]) plan.frame.made;
         }
 
-    left_cutting : (middle : List (Item (AnyRange K) V)) (first : Option P) (edge : Edge K P)
+    left_cutting : (middle : List (Item (AnyRange K) V)) (first : Option P) (border : Border K P)
         (from : Option P) → IsStored order same items → IsStored order same middle
         → Every (λ i. Lt (places order lawful) (lower order r) (item_lower order i)) middle
-        → IsLeftCutting order same lawful equal is_good rank items r place count first edge from →
-        IsLeftFill middle first edge from
-    left_cutting middle first edge from stored others starts cut =
+        → IsLeftCutting order same lawful equal is_good rank items r place count first border from →
+        IsLeftFill middle first border from
+    left_cutting middle first border from stored others starts cut =
         let none =
-        joins_none_before is_good rank items edge place
+        joins_none_before is_good rank items border place
         (place + length (option_items first)) cut.rest cut.shape in
         record {
           at = place;
@@ -325,23 +327,23 @@ module _ {K : Type 0} (order : KeyOrder K) (lawful : IsLawful order) {V : Type 0
               (item_upper order m) later chain.0) h) above,
         )
 
-    pub left_fill : (middle : List (Item (AnyRange K) V)) (first : Option P) (edge : Edge K P)
+    pub left_fill : (middle : List (Item (AnyRange K) V)) (first : Option P) (border : Border K P)
         (from : Option P) → Lt (places order lawful) (lower order r) (upper order r)
         → IsStored order same items → IsStored order same middle
         → IsLeftSeam order same lawful equal is_good rank items r place count
-        (slice_get middle 0) first edge from → IsLeftFill middle first edge from
-    left_fill [] first edge from good stored others (inl h) = absurd (let e = h.1 in cc)
-    left_fill [] first edge from good stored others (inr h) =
-        left_cutting [] first edge from stored others tt h.1
-    left_fill (m ∷ ms) first edge from good stored others (inl h) =
+        (slice_get middle 0) first border from → IsLeftFill middle first border from
+    left_fill [] first border from good stored others (inl h) = absurd (let e = h.1 in cc)
+    left_fill [] first border from good stored others (inr h) =
+        left_cutting [] first border from stored others tt h.1
+    left_fill (m ∷ ms) first border from good stored others (inl h) =
         let item : h.0 ≡ m = let e = h.1 in cc in
-        left_joining m ms first edge from good stored others
+        left_joining m ms first border from good stored others
         (subst (λ (i : Item (AnyRange K) V). places order lawful (item_lower order i)
         (lower order r) ≡ Equal) item h.2)
         (subst (λ (i : Item (AnyRange K) V). IsLeftPlan order same lawful equal is_good rank
-        items r i.value place count first edge from) item h.3)
-    left_fill (m ∷ ms) first edge from good stored others (inr h) =
-        left_cutting (m ∷ ms) first edge from stored others
+        items r i.value place count first border from) item h.3)
+    left_fill (m ∷ ms) first border from good stored others (inr h) =
+        left_cutting (m ∷ ms) first border from stored others
         (all_later m ms (stored_chain order lawful same equal (m ∷ ms) others) (h.0 m refl)) h.1
 
     alike_value : (xs : List (Item (AnyRange K) V)) (v u : V) → same u v ≡ true
@@ -358,7 +360,7 @@ module _ {K : Type 0} (order : KeyOrder K) (lawful : IsLawful order) {V : Type 0
         tied_itself (position_total order.cmp lawful.total) (item_lower order z)
 
     ended_upper : (finish : Option (Bound K)) (z : Item (AnyRange K) V) (e : Position K)
-        → places order lawful (edge_end order same finish r) e ≡ Equal
+        → places order lawful (border_end order same finish r) e ≡ Equal
         → places order lawful (item_upper order z) (upper order r) ≡ Equal
         → places order lawful (item_upper order (item_with_end finish z)) e ≡ Equal
     ended_upper None z e ends at =
@@ -388,14 +390,15 @@ module _ {K : Type 0} (order : KeyOrder K) (lawful : IsLawful order) {V : Type 0
     ended_same (Some b) z = refl
 
     right_joining : (middle front init : List (Item (AnyRange K) V)) (m : Item (AnyRange K) V)
-        (start : Option (Bound K)) (last : Option P) (edge : Edge K P) → IsStored order same items
+        (start : Option (Bound K)) (last : Option P) (border : Border K P) → IsStored order same
+        items
         → Lt (places order lawful) (lower order r) (upper order r) → middle ≡ init ++ m ∷ []
         → Filled items middle (front ++ with_first_start start middle) (lower order r)
         → Known order lawful same equal (front ++ with_first_start start middle)
         → places order lawful (item_upper order m) (upper order r) ≡ Equal
-        → IsRightPlan order same lawful equal is_good rank items r m.value place count last edge
-        → IsRightFill middle front start last edge
-    right_joining middle front init m start last edge stored good split fill known at plan =
+        → IsRightPlan order same lawful equal is_good rank items r m.value place count last border
+        → IsRightFill middle front start last border
+    right_joining middle front init m start last border stored good split fill known at plan =
         let own =
         subst (λ ys. HasValue order same ys m.value) (sym split)
         (any_right _ init (m ∷ []) (inl (equal.refl m.value))) in
@@ -445,8 +448,8 @@ module _ {K : Type 0} (order : KeyOrder K) (lawful : IsLawful order) {V : Type 0
         let same_value : m.value ≡ other.value = sym (ended_same plan.finish z ∙ s.4) in
         let beyond =
         lt_le_trans cmp total (lower order r) plan.side.e
-        (edge_end order same plan.finish r) above
-        (eq_ge cmp total (edge_end order same plan.finish r) plan.side.e plan.side.ends) in
+        (border_end order same plan.finish r) above
+        (eq_ge cmp total (border_end order same plan.finish r) plan.side.e plan.side.ends) in
         let done =
         spliced_joined (line_of order lawful same equal) items middle
         (front ++ s.0) behind z other (lower order r)
@@ -485,7 +488,8 @@ module _ {K : Type 0} (order : KeyOrder K) (lawful : IsLawful order) {V : Type 0
                       subst (λ v. IsTrue (same i.value v)) same_value h.1,
                     ))),
               )) plan.frame.touched;
-          reaches = λ b is. subst (λ o. Lt cmp (lower order r) (edge_end order same o r)) is beyond;
+          reaches = λ b is. subst (λ o. Lt cmp (lower order r) (border_end order same o r)) is
+              beyond;
           valued =
               every_weaker _ _ (option_items plan.rest)
               (λ j h.
@@ -496,17 +500,17 @@ module _ {K : Type 0} (order : KeyOrder K) (lawful : IsLawful order) {V : Type 0
         }
 
     right_cutting : (middle front : List (Item (AnyRange K) V)) (start : Option (Bound K))
-        (last : Option P) (edge : Edge K P) (u : Position K) → IsStored order same items
+        (last : Option P) (border : Border K P) (u : Position K) → IsStored order same items
         → place + count ≤ length items → Le (places order lawful) (lower order r) u
         → Lt (places order lawful) u (upper order r)
         → Every (λ i. Le (places order lawful) (item_upper order i) u) middle
         → Filled items middle (front ++ with_first_start start middle) (lower order r)
         → Known order lawful same equal (front ++ with_first_start start middle)
-        → IsRightCutting order same lawful equal is_good rank items r place count last edge
-        → IsRightFill middle front start last edge
-    right_cutting middle front start last edge u stored within le lt all fill known cut =
+        → IsRightCutting order same lawful equal is_good rank items r place count last border
+        → IsRightFill middle front start last border
+    right_cutting middle front start last border u stored within le lt all fill known cut =
         let none =
-        joins_none_after is_good rank items edge cut.upto
+        joins_none_after is_good rank items border cut.upto
         (place + count) cut.rest cut.shape in
         let behind = option_items cut.rest ++ drop (place + count) items in
         record {
@@ -536,29 +540,31 @@ module _ {K : Type 0} (order : KeyOrder K) (lawful : IsLawful order) {V : Type 0
         }
 
     pub right_fill : (middle front : List (Item (AnyRange K) V)) (start : Option (Bound K))
-        (last : Option P) (edge : Edge K P) → IsStored order same items → IsStored order same middle
+        (last : Option P) (border : Border K P) → IsStored order same items → IsStored order same
+        middle
         → AreWithin order middle r → Lt (places order lawful) (lower order r) (upper order r)
         → place + count ≤ length items
         → Filled items middle (front ++ with_first_start start middle) (lower order r)
         → Known order lawful same equal (front ++ with_first_start start middle)
         → IsRightSeam order same lawful equal is_good rank items r place count
-        (slice_get middle (length middle - 1)) last edge → IsRightFill middle front start last edge
-    right_fill [] front start last edge stored others within good in_range fill known (inl h) =
+        (slice_get middle (length middle - 1)) last border → IsRightFill middle front start last
+        border
+    right_fill [] front start last border stored others within good in_range fill known (inl h) =
         absurd (let e = h.1 in cc)
-    right_fill [] front start last edge stored others within good in_range fill known (inr h) =
-        right_cutting [] front start last edge (lower order r) stored in_range
+    right_fill [] front start last border stored others within good in_range fill known (inr h) =
+        right_cutting [] front start last border (lower order r) stored in_range
         (le_refl (places order lawful) (position_total order.cmp lawful.total) (lower order r))
         good tt fill known h.1
-    right_fill (x ∷ xs) front start last edge stored others within good in_range fill known
+    right_fill (x ∷ xs) front start last border stored others within good in_range fill known
         (inl h) =
         let end = last_of x xs in
         let item : h.0 ≡ end.1 = let e = sym end.3 ∙ h.1 in cc in
-        right_joining (x ∷ xs) front end.0 end.1 start last edge stored good end.2 fill known
+        right_joining (x ∷ xs) front end.0 end.1 start last border stored good end.2 fill known
         (subst (λ (i : Item (AnyRange K) V). places order lawful (item_upper order i)
         (upper order r) ≡ Equal) item h.2)
         (subst (λ (i : Item (AnyRange K) V). IsRightPlan order same lawful equal is_good rank
-        items r i.value place count last edge) item h.3)
-    right_fill (x ∷ xs) front start last edge stored others within good in_range fill known
+        items r i.value place count last border) item h.3)
+    right_fill (x ∷ xs) front start last border stored others within good in_range fill known
         (inr h) =
         let cmp = places order lawful in
         let total = position_total order.cmp lawful.total in
@@ -580,7 +586,7 @@ module _ {K : Type 0} (order : KeyOrder K) (lawful : IsLawful order) {V : Type 0
         every_right (λ i. LiesIn order i.key r) end.0 (m ∷ [])
         (subst (λ ys. Every (λ (i : Item (AnyRange K) V). LiesIn order i.key r) ys) end.2
         within) in
-        right_cutting (x ∷ xs) front start last edge (item_upper order m) stored in_range
+        right_cutting (x ∷ xs) front start last border (item_upper order m) stored in_range
         (le_trans cmp total (lower order r) (item_lower order m)
         (item_upper order m) inside.0.starts
         (lt_le cmp total (item_lower order m) (item_upper order m) full)) (h.0 m end.3)
@@ -598,7 +604,7 @@ module _ {K : Type 0} {order : KeyOrder K} (lawful : IsLawful order) {V : Type 0
       → SameBound order (flipped_bound r.start) b
       → IsAt is_good rank (length items) from (place + length (option_items first))
       → IsLeftCutting order same lawful equal is_good rank items r place w.count first
-      (edge_at first b) from
+      (border_at first b) from
   left_cut_out first b from reach known_b same_b next =
       let cut = left_cut_plan lawful equal window first b reach known_b same_b in
       record {
@@ -617,7 +623,7 @@ module _ {K : Type 0} {order : KeyOrder K} (lawful : IsLawful order) {V : Type 0
       (λ q. is_good q × (rank q + 1 ≡ place) × TouchesBefore order same items place r v)
       → IsRunStart is_good rank (length items) place None joined at
       → IsLeftPlan order same lawful equal is_good rank items r v place w.count None
-      (seam_edge joined None b) at
+      (seam_border joined None b) at
   left_touched v None b at in_range reach none start =
       let plus : place + 0 ≡ place = omega arith in
       left_plan_free lawful equal window v at
@@ -631,7 +637,7 @@ module _ {K : Type 0} {order : KeyOrder K} (lawful : IsLawful order) {V : Type 0
       → ReachesAfter order is_good rank items r place w.count last → IsKnownBound order b
       → SameBound order (flipped_bound r.end) b
       → IsRightCutting order same lawful equal is_good rank items r place w.count last
-      (edge_at last b)
+      (border_at last b)
   right_cut_from last b upto at reach known_b same_b =
       let cut = right_cut_plan lawful equal window last b upto at reach known_b same_b in
       record {
@@ -647,7 +653,7 @@ module _ {K : Type 0} {order : KeyOrder K} (lawful : IsLawful order) {V : Type 0
       → ReachesAfter order is_good rank items r place w.count last → IsKnownBound order b
       → SameBound order (flipped_bound r.end) b
       → IsRightCutting order same lawful equal is_good rank items r place w.count last
-      (edge_at last b)
+      (border_at last b)
   right_cut_any None b reach known_b same_b =
       right_cut_from None b (place + w.count) (omega arith) reach known_b same_b
   right_cut_any (Some p) b reach known_b same_b =
@@ -660,7 +666,7 @@ module _ {K : Type 0} {order : KeyOrder K} (lawful : IsLawful order) {V : Type 0
       (λ q. is_good q × (rank q ≡ place + w.count)
       × TouchesAfter order same items (place + w.count) r v)
       → IsRightPlan order same lawful equal is_good rank items r v place w.count None
-      (seam_edge joined None b)
+      (seam_border joined None b)
   right_touched v None b in_range reach none = right_plan_plain lawful equal window v reach none
   right_touched v (Some q) b in_range reach found =
       right_joined_at lawful equal window v q reach found.0 found.1 (in_range q found.0) found.2

@@ -5,9 +5,9 @@ use Rattle.std.specs.declared.ops.Bound.{Bound}
 use Rattle.std.proofs.lemmas.List.{length-take-le}
 use Rattle.range_algebra.specs.declared.any.AnyRange.{AnyRange}
 use Rattle.range_store.specs.declared.storage.Item.{Item}
-use Rattle.range_change.specs.declared.edges.Edge.{Edge}
-use Rattle.range_change.specs.declared.edges.Edge.TheVariants.{Plain, Cut, Joined}
-use Rattle.range_change.specs.Edges.{IsLeftShape, IsRightShape}
+use Rattle.range_change.specs.declared.borders.Border.{Border}
+use Rattle.range_change.specs.declared.borders.Border.TheVariants.{Plain, Cut, Joined}
+use Rattle.range_change.specs.Borders.{IsLeftShape, IsRightShape}
 use Rattle.range_change.specs.Window.{option_items}
 
 -- an option names at most one item
@@ -37,8 +37,8 @@ le_sum a b = omega arith
 module _ {K V P : Type 0} (is_good : P → Type 0) (rank : P → ℕ)
     (items : List (Item (AnyRange K) V)) where
   -- the items that stand before a run, with the rest of a cut one
-  pub left_length : (edge : Edge K P) (at from : ℕ) (rest : Option (Item (AnyRange K) V))
-      (start : Option (Bound K)) → IsLeftShape is_good rank items edge at from rest start
+  pub left_length : (border : Border K P) (at from : ℕ) (rest : Option (Item (AnyRange K) V))
+      (start : Option (Bound K)) → IsLeftShape is_good rank items border at from rest start
       → at + length (option_items rest) ≡ from
   left_length Plain at from rest start h = omega (arith, h.0, ap (λ o. length (option_items o)) h.1)
   left_length (Cut p b) at from rest start h =
@@ -47,8 +47,8 @@ module _ {K V P : Type 0} (is_good : P → Type 0) (rank : P → ℕ)
       omega (arith, h.2, ap (λ o. length (option_items o)) h.3)
 
   -- those after it
-  pub right_length : (edge : Edge K P) (upto end : ℕ) (rest : Option (Item (AnyRange K) V))
-      (finish : Option (Bound K)) → IsRightShape is_good rank items edge upto end rest finish
+  pub right_length : (border : Border K P) (upto end : ℕ) (rest : Option (Item (AnyRange K) V))
+      (finish : Option (Bound K)) → IsRightShape is_good rank items border upto end rest finish
       → end ≡ upto + length (option_items rest)
   right_length Plain upto end rest finish h =
       omega (arith, h.0, ap (λ o. length (option_items o)) h.1)

@@ -87,7 +87,7 @@ module _ {K : Type 0} (order : KeyOrder K) (lawful : IsLawful order) {V : Type 0
   pub record IsUnderway (done : List (Item (AnyRange K) V)) (from : Position K)
       (middle : List (Item (AnyRange K) V)) : Type 0 where
     pub answers : List (Answered K V)
-    pub edge : PLe order lawful from (Lo order lawful r) ⊎ Any
+    pub border : PLe order lawful from (Lo order lawful r) ⊎ Any
         (λ j. PLe order lawful from (Hi order lawful j.key)
         × PLe order lawful (Hi order lawful j.key) from) done
     pub at_least : PLe order lawful (Lo order lawful r) from
@@ -101,7 +101,7 @@ module _ {K : Type 0} (order : KeyOrder K) (lawful : IsLawful order) {V : Type 0
       → IsUnderway done (Lo order lawful r) []
   underway_none done below = record {
     answers = [];
-    edge =
+    border =
         inl (le_refl (position_cmp order.cmp) (position_total order.cmp lawful.total)
         (Lo order lawful r));
     at_least =
@@ -342,7 +342,7 @@ module _ {K : Type 0} (order : KeyOrder K) (lawful : IsLawful order) {V : Type 0
         (begins : position_cmp order.cmp (Lo order lawful gap) from ≡ Equal)
         (stops : position_cmp order.cmp (Hi order lawful gap) to ≡ Equal)
         (room : PLt order lawful (Lo order lawful gap) (Hi order lawful gap))
-        (edge : PLe order lawful from (Lo order lawful r) ⊎ Any
+        (border : PLe order lawful from (Lo order lawful r) ⊎ Any
         (λ j. PLe order lawful from (Hi order lawful j.key)
         × PLe order lawful (Hi order lawful j.key) from) done)
         (at_least : PLe order lawful (Lo order lawful r) from)
@@ -402,7 +402,7 @@ module _ {K : Type 0} (order : KeyOrder K) (lawful : IsLawful order) {V : Type 0
                 below) (every_weaker (λ i. PLe order lawful to (Lo order lawful i.key)) Free tail
                 (λ i le. inr (le_trans cmp total hi to (Lo order lawful i.key) gap_to.1 le))
                 above));
-            left = elim edge [
+            left = elim border [
               | inl le ↦ inl (le_trans cmp total lo from (Lo order lawful r) gap_from.1 le)
               | inr some_item ↦
                   inr
@@ -528,7 +528,7 @@ module _ {K : Type 0} (order : KeyOrder K) (lawful : IsLawful order) {V : Type 0
           let from = gap_lower order r before in
           let c = Lo order lawful (common order x.key r) in
           let inner = both_within x good_at starts_at ends_at in
-          elim was.edge [
+          elim was.border [
             | inl le ↦ le_trans cmp total from (Lo order lawful r) c le inner.0
             | inr some_item ↦
                 any_use (λ j. PLe order lawful from (Hi order lawful j.key)
@@ -552,7 +552,7 @@ module _ {K : Type 0} (order : KeyOrder K) (lawful : IsLawful order) {V : Type 0
           in
           record {
             answers = h.answers;
-            edge =
+            border =
                 inr
                 (any_end (λ j. PLe order lawful hi (Hi order lawful j.key)
                 × PLe order lawful (Hi order lawful j.key) hi) done x
@@ -591,7 +591,7 @@ module _ {K : Type 0} (order : KeyOrder K) (lawful : IsLawful order) {V : Type 0
           (middle, inr (gap, is_gap, (first, said, placed)), (answer, says, put)) =
           let at =
           add_gap done (x ∷ rest) list (gap_lower order r before)
-          (Lo order lawful x.key) gap is_gap.0 is_gap.1 is_gap.2 is_gap.3 was.edge
+          (Lo order lawful x.key) gap is_gap.0 is_gap.1 is_gap.2 is_gap.3 was.border
           was.at_least was.below within_it above_it bounded_it is_clone clones was.answers
           old middle first was.cut was.filled was.given said placed in
           let inner = both_within x good_at starts_at ends_at in
@@ -626,7 +626,7 @@ module _ {K : Type 0} (order : KeyOrder K) (lawful : IsLawful order) {V : Type 0
           (middle, inr (gap, is_gap, (first, said, placed)), (answer, says, put)) =
           let clear =
           gap_open done (x ∷ rest) list (gap_lower order r before)
-          (Lo order lawful x.key) gap is_gap.0 is_gap.1 is_gap.2 is_gap.3 was.edge
+          (Lo order lawful x.key) gap is_gap.0 is_gap.1 is_gap.2 is_gap.3 was.border
           was.at_least was.below within_it above_it bounded_it in
           put_common_keeps_spelling is_clone clones middle new answer
           (put_gap_keeps_spelling gap is_gap.0 is_gap.3 clear.free is_clone clones old middle first
@@ -641,11 +641,11 @@ module _ {K : Type 0} (order : KeyOrder K) (lawful : IsLawful order) {V : Type 0
         is_piece =
             let inside =
             gap_inside done (x ∷ rest) list (gap_lower order r before)
-            (Lo order lawful x.key) gap is_gap.0 is_gap.1 is_gap.2 is_gap.3 was.edge
+            (Lo order lawful x.key) gap is_gap.0 is_gap.1 is_gap.2 is_gap.3 was.border
             was.at_least was.below within_it above_it bounded_it in
             let clear =
             gap_open done (x ∷ rest) list (gap_lower order r before)
-            (Lo order lawful x.key) gap is_gap.0 is_gap.1 is_gap.2 is_gap.3 was.edge
+            (Lo order lawful x.key) gap is_gap.0 is_gap.1 is_gap.2 is_gap.3 was.border
             was.at_least was.below within_it above_it bounded_it in
             a_piece order lawful items r known full gap None inside clear;
         says = says;
@@ -728,11 +728,11 @@ module _ {K : Type 0} (order : KeyOrder K) (lawful : IsLawful order) {V : Type 0
         is_piece =
             let inside =
             gap_inside done rest list (gap_lower order r before)
-            (Hi order lawful r) gap is_gap.0 is_gap.1 is_gap.2 is_gap.3 was.edge
+            (Hi order lawful r) gap is_gap.0 is_gap.1 is_gap.2 is_gap.3 was.border
             was.at_least was.below up_to_end behind (inl up_to_end) in
             let clear =
             gap_open done rest list (gap_lower order r before)
-            (Hi order lawful r) gap is_gap.0 is_gap.1 is_gap.2 is_gap.3 was.edge
+            (Hi order lawful r) gap is_gap.0 is_gap.1 is_gap.2 is_gap.3 was.border
             was.at_least was.below up_to_end behind (inl up_to_end) in
             a_piece order lawful items r known full gap None inside clear;
         says = says;
@@ -757,7 +757,7 @@ module _ {K : Type 0} (order : KeyOrder K) (lawful : IsLawful order) {V : Type 0
         Hi order lawful r,
         up_to_end,
         add_gap done rest list (gap_lower order r before)
-            (Hi order lawful r) gap is_gap.0 is_gap.1 is_gap.2 is_gap.3 was.edge was.at_least
+            (Hi order lawful r) gap is_gap.0 is_gap.1 is_gap.2 is_gap.3 was.border was.at_least
             was.below up_to_end behind
             (inl up_to_end) is_clone clones was.answers old new answer was.cut was.filled
             was.given says put,
@@ -781,7 +781,7 @@ module _ {K : Type 0} (order : KeyOrder K) (lawful : IsLawful order) {V : Type 0
       last_gap_keeps_spelling is_clone clones new kept (inr (gap, is_gap, (answer, says, put))) =
           let clear =
           gap_open done rest list (gap_lower order r before)
-          (Hi order lawful r) gap is_gap.0 is_gap.1 is_gap.2 is_gap.3 was.edge was.at_least
+          (Hi order lawful r) gap is_gap.0 is_gap.1 is_gap.2 is_gap.3 was.border was.at_least
           was.below up_to_end behind (inl up_to_end) in
           put_gap_keeps_spelling gap is_gap.0 is_gap.3 clear.free is_clone clones old new answer
           kept put

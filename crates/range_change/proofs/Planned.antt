@@ -5,27 +5,27 @@ use Rattle.std.specs.Option.{ForSome, unwrap_or}
 use Rattle.std.specs.declared.ops.Bound.{Bound}
 use Rattle.range_keys.specs.Order.{KeyOrder, IsLawful}
 use Rattle.range_algebra.specs.declared.any.AnyRange.{AnyRange}
-use Rattle.range_store.specs.Places.{place_before, IsAt}
+use Rattle.range_store.specs.ListPlaces.{place_before, IsAt}
 use Rattle.range_store.specs.declared.storage.Item.{Item}
-use Rattle.range_store.proofs.Places.{place_at, kept_at, good_at}
+use Rattle.range_store.proofs.ListPlaces.{place_at, kept_at, good_at}
 use Rattle.range_change.specs.Changes.{IsInserted}
-use Rattle.range_change.specs.Edges.{joined_count, IsGoodEdge, IsLeftShape, IsRightShape}
+use Rattle.range_change.specs.Borders.{joined_count, IsGoodBorder, IsLeftShape, IsRightShape}
 use Rattle.range_change.specs.Plans.{IsLeftPlan, IsRightPlan}
 use Rattle.range_change.specs.Window.{option_items, IsWindow}
-use Rattle.range_change.specs.declared.edges.Edge.{Edge}
+use Rattle.range_change.specs.declared.borders.Border.{Border}
 use Rattle.range_change.specs.declared.window.Window.{Window}
-use Rattle.range_change.proofs.RangeSides.{edges_insert}
+use Rattle.range_change.proofs.RangeSides.{borders_insert}
 use Rattle.range_change.proofs.InsertionFrames.{insertion_frame}
 use Rattle.range_change.proofs.Lengths.{one_item, changed_length, left_length, right_length}
 use Rattle.range_change.proofs.BoundEdits.{left_kept, right_kept, left_good, right_good, upto_end}
 
--- the edges and the run are such that a container can be changed so
+-- the borders and the run are such that a container can be changed so
 pub record IsFit {K V P : Type 0} (is_good : P → Type 0) (rank : P → ℕ)
-    (items : List (Item (AnyRange K) V)) (left right : Edge K P) (from : Option P) (count : ℕ)
+    (items : List (Item (AnyRange K) V)) (left right : Border K P) (from : Option P) (count : ℕ)
     (at end : ℕ) (before after : Option (Item (AnyRange K) V))
     (start finish : Option (Bound K)) : Type 0 where
-  pub left_good : IsGoodEdge is_good left
-  pub right_good : IsGoodEdge is_good right
+  pub left_good : IsGoodBorder is_good left
+  pub right_good : IsGoodBorder is_good right
   pub good : ForSome from is_good
   pub in_range : place_before rank (length items) from + count ≤ length items
   pub on_left : IsLeftShape is_good rank items left at
@@ -38,7 +38,7 @@ module _ {K V P : Type 0} {is_good is_good' : P → Type 0} {rank rank' : P → 
     (kept : (p : P) → is_good p → is_good' p × (rank' p ≡ rank p))
     (same_list : items' ≡ items) where
   -- so they are where positions and items are kept since they were planned
-  pub plan_fits : (left right : Edge K P) (from : Option P) (count at begin upto end : ℕ)
+  pub plan_fits : (left right : Border K P) (from : Option P) (count at begin upto end : ℕ)
       (before after : Option (Item (AnyRange K) V)) (start finish : Option (Bound K)) →
       IsLeftShape is_good rank items left at begin before start
       → IsRightShape is_good rank items right upto end after finish →
@@ -78,8 +78,9 @@ module _ {K : Type 0} {order : KeyOrder K} {lawful : IsLawful order} {V : Type 0
     {same : V → V → Bool} {equal : IsEquivalence same} {P : Type 0} {is_good : P → Type 0}
     {rank : P → ℕ} {items : List (Item (AnyRange K) V)} {r : AnyRange K} {w : Window P} {place : ℕ}
     (window : IsWindow order same is_good rank items r w place) {v : V} {first last : Option P}
-    {edge behind : Edge K P} {from : Option P}
-    (left : IsLeftPlan order same lawful equal is_good rank items r v place w.count first edge from)
+    {border behind : Border K P} {from : Option P}
+    (left : IsLeftPlan order same lawful equal is_good rank items r v place w.count first border
+    from)
     (right : IsRightPlan order same lawful equal is_good rank items r v place w.count last behind)
     (apart : length (option_items first) + length (option_items last) ≤ w.count) where
   -- the range with the bounds of those that it joins
@@ -103,7 +104,7 @@ module _ {K : Type 0} {order : KeyOrder K} {lawful : IsLawful order} {V : Type 0
       insertion_frame lawful equal window new v made_item left.at right.end left.rest right.rest
       left.start right.finish left.frame right.frame few refl refl (equal.refl v)
       (λ e. refl) made in
-      edges_insert lawful equal window new v made_item left.at right.end left.rest right.rest
+      borders_insert lawful equal window new v made_item left.at right.end left.rest right.rest
       left.start right.finish left.side right.side refl refl (equal.refl v) frame made
 
   pub planned_size : (new : List (Item (AnyRange K) V))
@@ -112,7 +113,7 @@ module _ {K : Type 0} {order : KeyOrder K} {lawful : IsLawful order} {V : Type 0
       → 2 * length new + w.count ≤ 2 * length items + 4
   planned_size new made =
       let left_is =
-      left_length is_good rank items edge left.at left.begin left.rest left.start left.shape
+      left_length is_good rank items border left.at left.begin left.rest left.start left.shape
       in
       let right_is =
       right_length is_good rank items behind right.upto right.end right.rest right.finish
@@ -135,7 +136,7 @@ module _ {K : Type 0} {order : KeyOrder K} {lawful : IsLawful order} {V : Type 0
       )
 
   -- such a run is within the list
-  pub planned_count : joined_count edge +
+  pub planned_count : joined_count border +
       (w.count - (length (option_items first) + length (option_items last))) + joined_count behind
       ≤ length items
   planned_count =
@@ -147,7 +148,7 @@ module _ {K : Type 0} {order : KeyOrder K} {lawful : IsLawful order} {V : Type 0
 
   -- where the run takes in the items that join, it ends where the plan after it begins
   pub planned_run : (n : ℕ)
-      → n ≡ joined_count edge +
+      → n ≡ joined_count border +
       (w.count - (length (option_items first) + length (option_items last))) + joined_count behind
       → left.begin + n ≡ right.upto
   planned_run n is = omega (arith, left.begins, right.ends, apart, is)

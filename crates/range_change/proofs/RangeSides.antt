@@ -36,7 +36,7 @@ use Rattle.range_algebra.specs.Range.{IsKnownBound}
 use Rattle.range_change.proofs.CoveredPlaces.{meets_bound}
 use Rattle.range_change.proofs.BoundEdits.{opening_regroups, regrouped_out}
 use Rattle.range_change.proofs.CutParts.{cut_end, cut_start, known_turned, same_turned}
-use Rattle.range_change.specs.Edges.{IsLeftRest, IsRightRest, IsLeftEdge, IsRightEdge, TouchesBefore, TouchesNoneBefore, TouchesAfter, TouchesNoneAfter, edge_start, edge_end}
+use Rattle.range_change.specs.Borders.{IsLeftRest, IsRightRest, IsLeftBorder, IsRightBorder, TouchesBefore, TouchesNoneBefore, TouchesAfter, TouchesNoneAfter, border_start, border_end}
 use Rattle.range_change.proofs.Forms.{touches_is, bound_after}
 use Rattle.range_change.proofs.CutOut.{Left, Right, left_all, right_all, left_of, right_of, left_known, right_known, known_take, known_drop}
 
@@ -55,17 +55,17 @@ element_at_is_read [] n within d = absurd (omega arith)
 element_at_is_read (x ∷ xs) zero within d = refl
 element_at_is_read (x ∷ xs) (suc n) within d = element_at_is_read xs n (omega arith) d
 
-edge_start_is : {K : Type 0} (order : KeyOrder K) {V : Type 0} (same : V → V → Bool)
+border_start_is : {K : Type 0} (order : KeyOrder K) {V : Type 0} (same : V → V → Bool)
     (o : Option (Bound K)) (r : AnyRange K)
-    → start_position order (unwrap_or o r.start) ≡ edge_start order same o r
-edge_start_is order same None r = refl
-edge_start_is order same (Some b) r = refl
+    → start_position order (unwrap_or o r.start) ≡ border_start order same o r
+border_start_is order same None r = refl
+border_start_is order same (Some b) r = refl
 
-edge_end_is : {K : Type 0} (order : KeyOrder K) {V : Type 0} (same : V → V → Bool)
+border_end_is : {K : Type 0} (order : KeyOrder K) {V : Type 0} (same : V → V → Bool)
     (o : Option (Bound K)) (r : AnyRange K)
-    → past order (end_position order (unwrap_or o r.end)) ≡ edge_end order same o r
-edge_end_is order same None r = refl
-edge_end_is order same (Some b) r = refl
+    → past order (end_position order (unwrap_or o r.end)) ≡ border_end order same o r
+border_end_is order same None r = refl
+border_end_is order same (Some b) r = refl
 
 module _ {K : Type 0} {order : KeyOrder K} (lawful : IsLawful order) {V : Type 0}
     {same : V → V → Bool} (equal : IsEquivalence same) where
@@ -231,11 +231,11 @@ module _ {K : Type 0} {order : KeyOrder K} (lawful : IsLawful order) {V : Type 0
         )
 
     -- the item has an equal value: the range takes its start
-    pub left_edge_inside : (v : V) (x : Item (AnyRange K) V) → x ≡ get_or items place x
+    pub left_border_inside : (v : V) (x : Item (AnyRange K) V) → x ≡ get_or items place x
         → 0 < w.count → Lt (places order lawful) (item_lower order x) (lower order r)
         → same x.value v ≡ true
-        → IsLeftEdge order same lawful equal items r v place None (Some x.key.start)
-    left_edge_inside v x read some starts values =
+        → IsLeftBorder order same lawful equal items r v place None (Some x.key.start)
+    left_border_inside v x read some starts values =
         let total = position_total order.cmp lawful.total in
         let rest =
         left_rest_cut x read some starts (flipped_bound r.start)
@@ -254,10 +254,10 @@ module _ {K : Type 0} {order : KeyOrder K} (lawful : IsLawful order) {V : Type 0
         }
 
     -- it has another value: its lower part stays
-    pub left_edge_rest : (v : V) (y : Item (AnyRange K) V)
+    pub left_border_rest : (v : V) (y : Item (AnyRange K) V)
         → IsLeftRest order same lawful equal items r place (Some y) → same y.value v ≡ false
-        → IsLeftEdge order same lawful equal items r v place (Some y) None
-    left_edge_rest v y rest values =
+        → IsLeftBorder order same lawful equal items r v place (Some y) None
+    left_border_rest v y rest values =
         let total = position_total order.cmp lawful.total in
         let ends = every_right _ (take place items) (y ∷ []) rest.left.ends in
         record {
@@ -279,11 +279,11 @@ module _ {K : Type 0} {order : KeyOrder K} (lawful : IsLawful order) {V : Type 0
         omega arith in ap (λ m. take m items) (sym last) ∙ take_more items (n - 1) d (omega arith)
 
     -- an item before the range touches it and has an equal value: the range takes its start
-    pub left_edge_joined : (v : V) (n : ℕ) (x : Item (AnyRange K) V)
+    pub left_border_joined : (v : V) (n : ℕ) (x : Item (AnyRange K) V)
         → IsLeftRest order same lawful equal items r place None → n + 1 ≡ place → n < length items
         → x ≡ get_or items n x → TouchesBefore order same items place r v
-        → IsLeftEdge order same lawful equal items r v n None (Some x.key.start)
-    left_edge_joined v n x rest at within read touching =
+        → IsLeftBorder order same lawful equal items r v n None (Some x.key.start)
+    left_border_joined v n x rest at within read touching =
         let cmp = places order lawful in
         let total = position_total order.cmp lawful.total in
         let before : place - 1 ≡ n = omega (arith, at) in
@@ -360,11 +360,11 @@ module _ {K : Type 0} {order : KeyOrder K} (lawful : IsLawful order) {V : Type 0
         (subst (λ (ys : List (Item (AnyRange K) V)). Left order lawful same equal items ys
         (lower order r)) (append-nil (take place items)) rest.left) none e
 
-    pub left_edge_none : (v : V) → place ≤ length items
+    pub left_border_none : (v : V) → place ≤ length items
         → IsLeftRest order same lawful equal items r place None
         → TouchesNoneBefore order same items place r v
-        → IsLeftEdge order same lawful equal items r v place None None
-    left_edge_none v within rest none =
+        → IsLeftBorder order same lawful equal items r v place None None
+    left_border_none v within rest none =
         let total = position_total order.cmp lawful.total in
         record {
           s = lower order r;
@@ -377,11 +377,11 @@ module _ {K : Type 0} {order : KeyOrder K} (lawful : IsLawful order) {V : Type 0
           known_start = window.known.0;
         }
 
-    pub right_edge_inside : (v : V) (x : Item (AnyRange K) V)
+    pub right_border_inside : (v : V) (x : Item (AnyRange K) V)
         → x ≡ get_or items (place + w.count - 1) x → 0 < w.count
         → Lt (places order lawful) (upper order r) (item_upper order x) → same x.value v ≡ true
-        → IsRightEdge order same lawful equal items r v (place + w.count) None (Some x.key.end)
-    right_edge_inside v x read some ends values =
+        → IsRightBorder order same lawful equal items r v (place + w.count) None (Some x.key.end)
+    right_border_inside v x read some ends values =
         let total = position_total order.cmp lawful.total in
         let rest =
         right_rest_cut x read some ends (flipped_bound r.end)
@@ -403,10 +403,10 @@ module _ {K : Type 0} {order : KeyOrder K} (lawful : IsLawful order) {V : Type 0
           known_end = (known_at (place + w.count - 1) x (omega (arith, window.in_range)) read).1;
         }
 
-    pub right_edge_rest : (end : ℕ) (v : V) (y : Item (AnyRange K) V) → end ≤ length items
+    pub right_border_rest : (end : ℕ) (v : V) (y : Item (AnyRange K) V) → end ≤ length items
         → IsRightRest order same lawful equal items r end (Some y) → same y.value v ≡ false
-        → IsRightEdge order same lawful equal items r v end (Some y) None
-    right_edge_rest end v y within rest values =
+        → IsRightBorder order same lawful equal items r v end (Some y) None
+    right_border_rest end v y within rest values =
         let total = position_total order.cmp lawful.total in
         record {
           in_range = within;
@@ -425,11 +425,11 @@ module _ {K : Type 0} {order : KeyOrder K} (lawful : IsLawful order) {V : Type 0
           known_end = window.known.1;
         }
 
-    pub right_edge_joined : (end : ℕ) (v : V) (x : Item (AnyRange K) V) → end < length items
+    pub right_border_joined : (end : ℕ) (v : V) (x : Item (AnyRange K) V) → end < length items
         → x ≡ get_or items end x → IsRightRest order same lawful equal items r end None
         → TouchesAfter order same items end r v
-        → IsRightEdge order same lawful equal items r v (end + 1) None (Some x.key.end)
-    right_edge_joined end v x within read rest touching =
+        → IsRightBorder order same lawful equal items r v (end + 1) None (Some x.key.end)
+    right_border_joined end v x within read rest touching =
         let total = position_total order.cmp lawful.total in
         let known_x = known_at end x within read in
         let split : drop end items ≡ x ∷ drop (end + 1) items =
@@ -466,11 +466,11 @@ module _ {K : Type 0} {order : KeyOrder K} (lawful : IsLawful order) {V : Type 0
               ((touches_is order lawful r.end y.key others.0 right.chain.0 right.starts.0).1 k) t,
         )
 
-    pub right_edge_none : (end : ℕ) (v : V) → end ≤ length items
+    pub right_border_none : (end : ℕ) (v : V) → end ≤ length items
         → IsRightRest order same lawful equal items r end None
         → TouchesNoneAfter order same items end r v
-        → IsRightEdge order same lawful equal items r v end None None
-    right_edge_none end v within rest none =
+        → IsRightBorder order same lawful equal items r v end None None
+    right_border_none end v within rest none =
         let total = position_total order.cmp lawful.total in
         let plus : end + 0 ≡ end = omega arith in
         let others =
@@ -494,17 +494,17 @@ module _ {K : Type 0} {order : KeyOrder K} (lawful : IsLawful order) {V : Type 0
         }
 
     -- the list with the range bound to v
-    pub edges_insert : (new : List (Item (AnyRange K) V)) (v : V) (m : Item (AnyRange K) V)
+    pub borders_insert : (new : List (Item (AnyRange K) V)) (v : V) (m : Item (AnyRange K) V)
         (at end : ℕ) (left right : Option (Item (AnyRange K) V)) (start finish : Option (Bound K)) →
-        IsLeftEdge order same lawful equal items r v at left start
-        → IsRightEdge order same lawful equal items r v end right finish →
+        IsLeftBorder order same lawful equal items r v at left start
+        → IsRightBorder order same lawful equal items r v end right finish →
         m.key.start ≡ unwrap_or start r.start → m.key.end ≡ unwrap_or finish r.end
         → same m.value v ≡ true →
         IsInsertionFrame order same items new r v →
         new ≡ take at items ++ option_items left ++ option_items (Some m) ++ option_items right
         ++ drop end items →
         IsInserted order same items new r v
-    edges_insert new v m at end left right start finish on_left on_right starts ends values frame
+    borders_insert new v m at end left right start finish on_left on_right starts ends values frame
         changed =
         let all = stored_known order lawful same equal items window.stored in
         let front = take at items ++ option_items left in
@@ -514,9 +514,9 @@ module _ {K : Type 0} {order : KeyOrder K} (lawful : IsLawful order) {V : Type 0
         ∙ sym (opening_regroups (take at items) (option_items left) (option_items right)
         (drop end items) m) in
         let at_start : places order lawful (item_lower order m) on_left.s ≡ Equal =
-        rw starts (rw (edge_start_is order same start r) on_left.starts) in
+        rw starts (rw (border_start_is order same start r) on_left.starts) in
         let at_end : places order lawful (item_upper order m) on_right.e ≡ Equal =
-        rw ends (rw (edge_end_is order same finish r) on_right.ends) in
+        rw ends (rw (border_end_is order same finish r) on_right.ends) in
         let result =
         places_between_are_bound (line_of order lawful same equal) items front behind m
         (lower order r) (upper order r) on_left.s on_right.e v on_left.left on_right.right
@@ -546,14 +546,14 @@ module _ {K : Type 0} {order : KeyOrder K} (lawful : IsLawful order) {V : Type 0
         }
 
     -- the list with the range unbound
-    pub edges_remove : (new : List (Item (AnyRange K) V)) (at end : ℕ)
+    pub borders_remove : (new : List (Item (AnyRange K) V)) (at end : ℕ)
         (left right : Option (Item (AnyRange K) V)) →
         IsLeftRest order same lawful equal items r at left
         → IsRightRest order same lawful equal items r end right →
         IsRemovalFrame order same items new r →
         new ≡ take at items ++ option_items left ++ [] ++ option_items right ++ drop end items →
         IsRemoved order same items new r
-    edges_remove new at end left right on_left on_right frame changed =
+    borders_remove new at end left right on_left on_right frame changed =
         let all = stored_known order lawful same equal items window.stored in
         let front = take at items ++ option_items left in
         let behind = option_items right ++ drop end items in

@@ -13,12 +13,12 @@ use Rattle.range_algebra.specs.declared.any.AnyRange.{AnyRange}
 use Rattle.range_algebra.proofs.Lists.{list_is_take_and_drop, any_left, any_right, every_weaker, every_append, every_left, every_right}
 use Rattle.range_algebra.proofs.Places.{held_between}
 use Rattle.range_store.specs.declared.storage.Item.{Item}
-use Rattle.range_change.specs.declared.edges.Edge.{Edge}
+use Rattle.range_change.specs.declared.borders.Border.{Border}
 use Rattle.range_change.specs.Edits.{flipped_bound}
 use Rattle.range_change.specs.Frames.{HasValue}
 use Rattle.range_change.specs.Lookups.{Overlap}
 use Rattle.range_change.specs.Replaced.{AreWithin, IsReplaced}
-use Rattle.range_change.specs.Edges.{IsRunStart, seam_edge}
+use Rattle.range_change.specs.Borders.{IsRunStart, seam_border}
 use Rattle.range_change.specs.Seams.{with_first_start, with_last_end, IsLeftSeam, IsRightSeam}
 use Rattle.range_change.specs.Stored.{IsStored}
 use Rattle.range_change.specs.Window.{option_items}
@@ -63,10 +63,11 @@ module _ {K : Type 0} (order : KeyOrder K) (lawful : IsLawful order) {V : Type 0
       (λ j g own. (g.0, crossing_meets order lawful j.key r own known g.1.0 g.1.1, g.2))))
 
   pub replacement_is_made : (new middle : List (Item (AnyRange K) V)) (first last : Option P)
-      (edge behind : Edge K P) (from : Option P) → IsStored order same items
+      (border behind : Border K P) (from : Option P) → IsStored order same items
       → IsStored order same middle → IsKnownRange order r
       → Every (λ i. Overlap order i.key r) (take count (drop place items)) →
-      (left : IsLeftFill order lawful same equal is_good rank items r place count middle first edge
+      (left : IsLeftFill order lawful same equal is_good rank items r place count middle first
+      border
       from)
       → (right : IsRightFill order lawful same equal is_good rank items r place count middle
       (take left.at items ++ option_items left.rest) left.start last behind) →
@@ -74,7 +75,7 @@ module _ {K : Type 0} (order : KeyOrder K) (lawful : IsLawful order) {V : Type 0
       ++ with_last_end right.finish (with_first_start left.start middle)
       ++ option_items right.rest ++ drop right.end items →
       IsReplaced order same items new middle r
-  replacement_is_made new middle first last edge behind from stored others known meets left right
+  replacement_is_made new middle first last border behind from stored others known meets left right
       changed =
       let met = take count (drop place items) in
       let front = take left.at items in
@@ -165,10 +166,10 @@ module _ {K : Type 0} (order : KeyOrder K) (lawful : IsLawful order) {V : Type 0
   pub record IsReplacement (middle : List (Item (AnyRange K) V))
       (first last joined other from : Option P) : Type 0 where
     pub left : IsLeftFill order lawful same equal is_good rank items r place count middle first
-        (seam_edge joined first (flipped_bound r.start)) from
+        (seam_border joined first (flipped_bound r.start)) from
     pub right : IsRightFill order lawful same equal is_good rank items r place count middle
         (take left.at items ++ option_items left.rest) left.start last
-        (seam_edge other last (flipped_bound r.end))
+        (seam_border other last (flipped_bound r.end))
     pub upto : left.begin + (length (option_items joined) +
         (count - (length (option_items first) + length (option_items last))) + length
         (option_items other)) ≡ right.upto
@@ -185,10 +186,10 @@ module _ {K : Type 0} (order : KeyOrder K) (lawful : IsLawful order) {V : Type 0
       → SameBound order (flipped_bound r.start) b
       → IsRunStart is_good rank (length items) place first joined at
       → IsLeftSeam order same lawful equal is_good rank items r place count next first
-      (seam_edge joined first b) at) →
+      (seam_border joined first b) at) →
       ((b : Bound K) → IsKnownBound order b → SameBound order (flipped_bound r.end) b
       → IsRightSeam order same lawful equal is_good rank items r place count previous last
-      (seam_edge other last b)) →
+      (seam_border other last b)) →
       IsReplacement middle first last joined other from
   plans_replacement middle first last joined other from next previous stored others within known
       full in_range apart is_first is_last begins on_left on_right =
@@ -197,25 +198,25 @@ module _ {K : Type 0} (order : KeyOrder K) (lawful : IsLawful order) {V : Type 0
       let good = (nonempty_good order lawful r known).0 full in
       let left =
       left_fill order lawful same equal is_good rank items r place count middle first
-      (seam_edge joined first before) from good stored others
+      (seam_border joined first before) from good stored others
       (subst (λ o.
       IsLeftSeam order same lawful equal is_good rank items r place count o first
-      (seam_edge joined first before) from) is_first
+      (seam_border joined first before) from) is_first
       (on_left before from (known_turned order lawful r.start known.0)
       (same_turned order lawful r.start) begins)) in
       let right =
       right_fill order lawful same equal is_good rank items r place count middle
       (take left.at items ++ option_items left.rest) left.start last
-      (seam_edge other last behind) stored others within good in_range left.filled
+      (seam_border other last behind) stored others within good in_range left.filled
       left.known
       (subst (λ o.
       IsRightSeam order same lawful equal is_good rank items r place count o last
-      (seam_edge other last behind)) is_last
+      (seam_border other last behind)) is_last
       (on_right behind (known_turned order lawful r.end known.1)
       (same_turned order lawful r.end))) in
       let least =
       upto_end is_good is_good rank rank items items (λ p h. (h, refl)) refl
-      (seam_edge other last behind) right.upto right.end right.rest right.finish right.shape
+      (seam_border other last behind) right.upto right.end right.rest right.finish right.shape
       in
       record {
         left = left;

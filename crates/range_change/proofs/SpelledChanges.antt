@@ -17,7 +17,7 @@ use Rattle.range_algebra.proofs.Lists.{every_weaker, every_append, every_left, e
 use Rattle.range_algebra.proofs.Places.{reaching_is_before_past}
 use Rattle.range_store.specs.declared.storage.Item.{Item}
 use Rattle.range_change.specs.Changes.{IsInserted, IsRemoved}
-use Rattle.range_change.specs.Edges.{IsLeftShape, IsRightShape, joined_count, seam_edge}
+use Rattle.range_change.specs.Borders.{IsLeftShape, IsRightShape, joined_count, seam_border}
 use Rattle.range_change.specs.Edits.{flipped_bound}
 use Rattle.range_change.specs.Frames.{IsStartOf, IsEndOf, IsNewItem, IsPart}
 use Rattle.range_change.specs.Reach.{ReachesBefore, ReachesAfter, IsReach, IsSurrounded}
@@ -72,14 +72,14 @@ module _ {K : Type 0} {order : KeyOrder K} (lawful : IsLawful order) {V : Type 0
       → x ≡ get_or items k x → IsSpelled x
   one_is_spelled k x within read = item_at IsSpelled items k x list_keeps_spelling within read
 
-  -- what the edges leave of the items beside a range, and the bounds that they give away
+  -- what the borders leave of the items beside a range, and the bounds that they give away
   module _ {P : Type 0} {is_good : P → Type 0} {rank : P → ℕ} {r : AnyRange K} {reach : Reach P}
       {place : ℕ} (found : IsReach order same is_good rank items r reach place) where
     left_is_spelled : (joined first : Option P) (at begin : ℕ)
         (rest : Option (Item (AnyRange K) V)) (start : Option (Bound K))
-        → IsLeftShape is_good rank items (seam_edge joined first (flipped_bound r.start)) at begin
+        → IsLeftShape is_good rank items (seam_border joined first (flipped_bound r.start)) at begin
         rest start
-        → begin + joined_count (seam_edge joined first (flipped_bound r.start))
+        → begin + joined_count (seam_border joined first (flipped_bound r.start))
         ≡ place + length (option_items first)
         → length (option_items first) ≤ reach.window.count
         → ReachesBefore order is_good rank items r place reach.window.count first
@@ -121,7 +121,7 @@ module _ {K : Type 0} {order : KeyOrder K} (lawful : IsLawful order) {V : Type 0
 
     right_is_spelled : (joined last : Option P) (upto end : ℕ)
         (rest : Option (Item (AnyRange K) V)) (finish : Option (Bound K))
-        → IsRightShape is_good rank items (seam_edge joined last (flipped_bound r.end)) upto end
+        → IsRightShape is_good rank items (seam_border joined last (flipped_bound r.end)) upto end
         rest finish → end ≤ length items
         → ReachesAfter order is_good rank items r place reach.window.count last
         → KeepsSpelling order items (option_items rest)
@@ -163,12 +163,12 @@ module _ {K : Type 0} {order : KeyOrder K} (lawful : IsLawful order) {V : Type 0
         (new middle : List (Item (AnyRange K) V)) (at begin upto end : ℕ)
         (rest beyond : Option (Item (AnyRange K) V))
         (start finish : Option (Bound K))
-        → IsLeftShape is_good rank items (seam_edge joined reach.first (flipped_bound r.start)) at
+        → IsLeftShape is_good rank items (seam_border joined reach.first (flipped_bound r.start)) at
         begin rest start
-        → begin + joined_count (seam_edge joined reach.first (flipped_bound r.start))
+        → begin + joined_count (seam_border joined reach.first (flipped_bound r.start))
         ≡ place + length (option_items reach.first)
         → IsRightShape is_good rank items
-        (seam_edge other reach.last (flipped_bound r.end)) upto end
+        (seam_border other reach.last (flipped_bound r.end)) upto end
         beyond finish → end ≤ length items
         → new ≡ take at items ++ option_items rest
         ++ with_last_end finish (with_first_start start middle)

@@ -9,22 +9,22 @@ use Rattle.range_algebra.specs.Cuts.{lower, upper}
 use Rattle.range_algebra.specs.Intervals.{Lt, Every}
 use Rattle.range_algebra.specs.Range.{IsKnownBound}
 use Rattle.range_algebra.specs.declared.any.AnyRange.{AnyRange}
-use Rattle.range_store.proofs.Places.{good_at}
+use Rattle.range_store.proofs.ListPlaces.{good_at}
 use Rattle.range_store.specs.declared.storage.Item.{Item}
 use Rattle.range_change.specs.Answers.{AreAnswersTo}
 use Rattle.range_change.specs.Changes.{IsInserted, IsRemoved}
-use Rattle.range_change.specs.Edges.{IsDivided}
+use Rattle.range_change.specs.Borders.{IsDivided}
 use Rattle.range_change.specs.Edits.{flipped_bound, with_end}
 use Rattle.range_change.specs.Lookups.{Overlap, IsConnectedTo}
 use Rattle.range_change.specs.Pieces.{IsPiece}
 use Rattle.range_change.specs.Reach.{ReachesBefore, ReachesAfter, IsReach, IsSurrounded}
 use Rattle.range_change.specs.Stored.{item_upper}
 use Rattle.range_change.specs.Window.{option_items}
-use Rattle.range_change.specs.declared.cut.Parts.{Parts}
+use Rattle.range_change.specs.declared.cut.DividedItem.{DividedItem}
 use Rattle.range_change.specs.declared.reach.Reach.{Reach}
 use Rattle.range_change.specs.declared.window.Window.{Window}
 use Rattle.range_change.proofs.RangePieces.{IsFull}
-use Rattle.range_change.proofs.RangeSides.{edges_insert, edges_remove, left_edge_inside, right_edge_inside, left_rest_cut, right_rest_cut, left_edge_rest, right_edge_rest}
+use Rattle.range_change.proofs.RangeSides.{borders_insert, borders_remove, left_border_inside, right_border_inside, left_rest_cut, right_rest_cut, left_border_rest, right_border_rest}
 use Rattle.range_change.proofs.Forms.{places, Chained, stored_known, stored_chain, nonempty_good}
 use Rattle.range_change.proofs.InsertionFrames.{insertion_frame, cut_way}
 use Rattle.range_change.proofs.PieceAnswers.{all_full, item_at, listed_at}
@@ -126,9 +126,10 @@ module _ {K : Type 0} {order : KeyOrder K} (lawful : IsLawful order) {V : Type 0
   pub stands : (v : V) → same x.value v ≡ true → IsInserted order same items items r v
   stands v values =
       let window = within.window in
-      let left = left_edge_inside lawful equal window v x here some (within.starts x here) values in
+      let left = left_border_inside lawful equal window v x here some (within.starts x here)
+      values in
       let right =
-      right_edge_inside lawful equal window v x here_end some (within.ends x here) values in
+      right_border_inside lawful equal window v x here_end some (within.ends x here) values in
       let list =
       standing_item_splits_list items place (place + w.count) x
       (omega (arith, window.in_range, some)) here next in
@@ -138,11 +139,11 @@ module _ {K : Type 0} {order : KeyOrder K} (lawful : IsLawful order) {V : Type 0
       (left_frame_inside lawful equal window v x here some)
       (right_frame_inside lawful equal window v x here_end some)
       (omega arith) refl refl values (λ e. absurd (omega (arith, within.one, e))) list in
-      edges_insert lawful equal window items v x place (place + w.count) None None
+      borders_insert lawful equal window items v x place (place + w.count) None None
       (Some x.key.start) (Some x.key.end) left right refl refl values frame list
 
   -- the range is cut out of it: what the copies are, and the list with the parts
-  module _ (parts : Parts K V)
+  module _ (parts : DividedItem K V)
       (end_is : IsKnownBound order parts.end × SameBound order (flipped_bound r.start) parts.end)
       (start_is : IsKnownBound order parts.start
       × SameBound order (flipped_bound r.end) parts.start)
@@ -191,11 +192,11 @@ module _ {K : Type 0} {order : KeyOrder K} (lawful : IsLawful order) {V : Type 0
         let other : same parts.value v ≡ false =
         equal.congr parts.value x.value v copied ∙ differs in
         let left =
-        left_edge_rest lawful equal window v front
+        left_border_rest lawful equal window v front
         (left_rest_cut lawful equal window x here some
         (within.starts x here) parts.end end_is.0 end_is.1) differs in
         let right =
-        right_edge_rest lawful equal window (place + w.count) v behind window.in_range
+        right_border_rest lawful equal window (place + w.count) v behind window.in_range
         (right_rest_cut lawful equal window x here_end some
         (within.ends x here) parts.start start_is.0 start_is.1 parts.value copied) other in
         let list = list_is (Some m) divided in
@@ -205,7 +206,7 @@ module _ {K : Type 0} {order : KeyOrder K} (lawful : IsLawful order) {V : Type 0
         end_is.1 differs) (right_frame_cut lawful equal window v x here_end some parts.start
         parts.value start_is.1 copied other) (omega (arith, within.one)) refl refl
         (equal.refl v) (λ e. refl) list in
-        edges_insert lawful equal window new v m place (place + w.count) (Some front)
+        borders_insert lawful equal window new v m place (place + w.count) (Some front)
         (Some behind) None None left right refl refl (equal.refl v) frame list
 
     -- the range is unbound
@@ -226,7 +227,7 @@ module _ {K : Type 0} {order : KeyOrder K} (lawful : IsLawful order) {V : Type 0
               copied,
           tt,
         ) (omega arith) (omega arith) list in
-        edges_remove lawful equal window new place (place + w.count) (Some front)
+        borders_remove lawful equal window new place (place + w.count) (Some front)
         (Some behind) left right frame list
 
   within_list : place < length items

@@ -1,10 +1,10 @@
 pub mod Answers
 pub mod Apart
 pub mod Bindings
+pub mod Borders
 pub mod Chains
 pub mod Changes
 pub mod Costs
-pub mod Edges
 pub mod Edits
 pub mod Frames
 pub mod Lookups

@@ -7,15 +7,15 @@ use Rattle.range_algebra.specs.Clones.{SameBound}
 use Rattle.range_algebra.specs.Range.{IsKnownBound}
 use Rattle.range_algebra.specs.declared.any.AnyRange.{AnyRange}
 use Rattle.range_store.specs.declared.storage.Item.{Item}
-use Rattle.range_store.specs.Places.{IsAt, place_before}
-use Rattle.range_change.specs.declared.edges.Edge.{Edge}
+use Rattle.range_store.specs.ListPlaces.{IsAt, place_before}
+use Rattle.range_change.specs.declared.borders.Border.{Border}
 use Rattle.std.specs.Option.{unwrap_or}
 use Rattle.range_algebra.specs.Intervals.{Every}
 use Rattle.range_algebra.specs.Relations.{Touches}
 use Rattle.range_change.specs.Frames.{IsStartOf, IsEndOf, IsNewItem}
 use Rattle.range_change.specs.Window.{option_items}
 use Rattle.range_change.specs.declared.reach.Reach.{Reach}
-use Rattle.range_change.specs.Edges.{IsLeftEdge, IsRightEdge, IsLeftShape, IsRightShape, IsRunStart, joined_count, seam_edge}
+use Rattle.range_change.specs.Borders.{IsLeftBorder, IsRightBorder, IsLeftShape, IsRightShape, IsRunStart, joined_count, seam_border}
 use Rattle.range_change.specs.Edits.{flipped_bound}
 
 module _ {K : Type 0} (order : KeyOrder K) {V : Type 0} (same : V → V → Bool)
@@ -51,30 +51,30 @@ module _ {K : Type 0} (order : KeyOrder K) {V : Type 0} (same : V → V → Bool
     (lawful : IsLawful order) (equal : IsEquivalence same) {P : Type 0} (is_good : P → Type 0)
     (rank : P → ℕ) (items : List (Item (AnyRange K) V)) (r : AnyRange K) (v : V) where
   -- before the range: `first` is the item that reaches out of it
-  pub record IsLeftPlan (place count : ℕ) (first : Option P) (edge : Edge K P)
+  pub record IsLeftPlan (place count : ℕ) (first : Option P) (border : Border K P)
       (from : Option P) : Type 0 where
     pub at : ℕ
     pub begin : ℕ
     pub rest : Option (Item (AnyRange K) V)
     pub start : Option (Bound K)
-    pub shape : IsLeftShape is_good rank items edge at begin rest start
-    pub side : IsLeftEdge order same lawful equal items r v at rest start
+    pub shape : IsLeftShape is_good rank items border at begin rest start
+    pub side : IsLeftBorder order same lawful equal items r v at rest start
     pub run : IsAt is_good rank (length items) from begin
     pub frame : IsLeftFrame order same items r v place count at rest start
     pub few : length (option_items rest) ≤ length (option_items first)
-    pub begins : begin + joined_count edge ≡ place + length (option_items first)
+    pub begins : begin + joined_count border ≡ place + length (option_items first)
 
   -- after the range
-  pub record IsRightPlan (place count : ℕ) (last : Option P) (edge : Edge K P) : Type 0 where
+  pub record IsRightPlan (place count : ℕ) (last : Option P) (border : Border K P) : Type 0 where
     pub upto : ℕ
     pub end : ℕ
     pub rest : Option (Item (AnyRange K) V)
     pub finish : Option (Bound K)
-    pub shape : IsRightShape is_good rank items edge upto end rest finish
-    pub side : IsRightEdge order same lawful equal items r v end rest finish
+    pub shape : IsRightShape is_good rank items border upto end rest finish
+    pub side : IsRightBorder order same lawful equal items r v end rest finish
     pub frame : IsRightFrame order same items r v place count end rest finish
     pub few : length (option_items rest) ≤ length (option_items last)
-    pub ends : upto + length (option_items last) ≡ place + count + joined_count edge
+    pub ends : upto + length (option_items last) ≡ place + count + joined_count border
 
 module _ {K : Type 0} (order : KeyOrder K) {V : Type 0} (same : V → V → Bool) {P : Type 0}
     {S : Type 0} (is_good : S → P → Type 0) (rank : S → P → ℕ)
@@ -89,7 +89,7 @@ module _ {K : Type 0} (order : KeyOrder K) {V : Type 0} (same : V → V → Bool
       → SameBound order (flipped_bound r.start) b
       → IsRunStart (is_good stored) (rank stored) (length (items stored)) place reach.first found at
       → IsLeftPlan order same lawful equal (is_good stored) (rank stored)
-      (items stored) r v place reach.window.count reach.first (seam_edge found reach.first b) at
+      (items stored) r v place reach.window.count reach.first (seam_border found reach.first b) at
 
   -- the one that it joins where it ends
   abbrev pub JoinsAfter : Option P → Type 0
@@ -97,4 +97,4 @@ module _ {K : Type 0} (order : KeyOrder K) {V : Type 0} (same : V → V → Bool
       → IsKnownBound order b → SameBound order (flipped_bound r.end) b
       → IsRightPlan order same lawful equal (is_good stored) (rank stored) (items stored) r v
       (place_before (rank stored) (length (items stored)) reach.window.from) reach.window.count
-      reach.last (seam_edge found reach.last b)
+      reach.last (seam_border found reach.last b)

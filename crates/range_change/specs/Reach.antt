@@ -6,7 +6,7 @@ use Rattle.range_algebra.specs.declared.any.AnyRange.{AnyRange}
 use Rattle.range_store.specs.declared.storage.Item.{Item}
 use Rattle.range_algebra.specs.Intervals.{Le, Lt}
 use Rattle.range_algebra.specs.Cuts.{lower, upper}
-use Rattle.range_store.specs.Places.{place_before}
+use Rattle.range_store.specs.ListPlaces.{place_before}
 use Rattle.range_change.specs.Stored.{item_lower, item_upper}
 use Rattle.range_change.specs.Window.{option_items, IsWindow}
 use Rattle.range_change.specs.declared.reach.Reach.{Reach}

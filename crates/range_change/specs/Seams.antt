@@ -11,9 +11,9 @@ use Rattle.range_algebra.specs.Range.{IsKnownBound}
 use Rattle.range_algebra.specs.Intervals.{Lt, Every}
 use Rattle.range_algebra.specs.declared.any.AnyRange.{AnyRange}
 use Rattle.range_store.specs.declared.storage.Item.{Item}
-use Rattle.range_store.specs.Places.{IsAt, place_before}
-use Rattle.range_change.specs.declared.edges.Edge.{Edge}
-use Rattle.range_change.specs.Edges.{IsLeftRest, IsRightRest, IsLeftShape, IsRightShape, IsRunStart, seam_edge}
+use Rattle.range_store.specs.ListPlaces.{IsAt, place_before}
+use Rattle.range_change.specs.declared.borders.Border.{Border}
+use Rattle.range_change.specs.Borders.{IsLeftRest, IsRightRest, IsLeftShape, IsRightShape, IsRunStart, seam_border}
 use Rattle.range_change.specs.Edits.{flipped_bound, with_start, with_end}
 use Rattle.range_change.specs.Frames.{HasValue}
 use Rattle.range_change.specs.Stored.{item_lower, item_upper}
@@ -41,9 +41,9 @@ module _ {K : Type 0} (order : KeyOrder K) {V : Type 0} (same : V → V → Bool
     (lawful : IsLawful order) (equal : IsEquivalence same) {P : Type 0} (is_good : P → Type 0)
     (rank : P → ℕ) (items : List (Item (AnyRange K) V)) (r : AnyRange K) (place count : ℕ) where
   -- nothing joins the range from before: `first`, which reaches out of it, is cut
-  pub record IsLeftCutting (first : Option P) (edge : Edge K P) (from : Option P) : Type 0 where
+  pub record IsLeftCutting (first : Option P) (border : Border K P) (from : Option P) : Type 0 where
     pub rest : Option (Item (AnyRange K) V)
-    pub shape : IsLeftShape is_good rank items edge place
+    pub shape : IsLeftShape is_good rank items border place
         (place + length (option_items first)) rest None
     pub side : IsLeftRest order same lawful equal items r place rest
     pub run : IsAt is_good rank (length items) from (place + length (option_items first))
@@ -51,34 +51,34 @@ module _ {K : Type 0} (order : KeyOrder K) {V : Type 0} (same : V → V → Bool
         (option_items rest)
 
   -- nothing joins it on the other side: `last` is cut
-  pub record IsRightCutting (last : Option P) (edge : Edge K P) : Type 0 where
+  pub record IsRightCutting (last : Option P) (border : Border K P) : Type 0 where
     pub upto : ℕ
     pub rest : Option (Item (AnyRange K) V)
-    pub shape : IsRightShape is_good rank items edge upto (place + count) rest None
+    pub shape : IsRightShape is_good rank items border upto (place + count) rest None
     pub side : IsRightRest order same lawful equal items r (place + count) rest
     pub valued : Every (λ j. HasValue order same (take count (drop place items)) j.value)
         (option_items rest)
     pub ends : upto + length (option_items last) ≡ place + count
 
   -- an item that starts where the range does may join, and before any other the range is cut out
-  abbrev pub IsLeftSeam : Option (Item (AnyRange K) V) → Option P → Edge K P → Option P → Type 0
-  IsLeftSeam next first edge from =
+  abbrev pub IsLeftSeam : Option (Item (AnyRange K) V) → Option P → Border K P → Option P → Type 0
+  IsLeftSeam next first border from =
       ((m : Item (AnyRange K) V) × (next ≡ Some m)
       × (position_cmp order.cmp (item_lower order m) (lower order r) ≡ Equal)
-      × IsLeftPlan order same lawful equal is_good rank items r m.value place count first edge
+      × IsLeftPlan order same lawful equal is_good rank items r m.value place count first border
       from)
       ⊎ (((m : Item (AnyRange K) V) → next ≡ Some m
       → Lt (position_cmp order.cmp) (lower order r) (item_lower order m))
-      × IsLeftCutting first edge from)
+      × IsLeftCutting first border from)
 
-  abbrev pub IsRightSeam : Option (Item (AnyRange K) V) → Option P → Edge K P → Type 0
-  IsRightSeam previous last edge =
+  abbrev pub IsRightSeam : Option (Item (AnyRange K) V) → Option P → Border K P → Type 0
+  IsRightSeam previous last border =
       ((m : Item (AnyRange K) V) × (previous ≡ Some m)
       × (position_cmp order.cmp (item_upper order m) (upper order r) ≡ Equal)
-      × IsRightPlan order same lawful equal is_good rank items r m.value place count last edge)
+      × IsRightPlan order same lawful equal is_good rank items r m.value place count last border)
       ⊎ (((m : Item (AnyRange K) V) → previous ≡ Some m
       → Lt (position_cmp order.cmp) (item_upper order m) (upper order r))
-      × IsRightCutting last edge)
+      × IsRightCutting last border)
 
 module _ {K : Type 0} (order : KeyOrder K) {V : Type 0} (same : V → V → Bool) {P : Type 0}
     {S : Type 0} (is_good : S → P → Type 0) (rank : S → P → ℕ)
@@ -92,7 +92,8 @@ module _ {K : Type 0} (order : KeyOrder K) {V : Type 0} (same : V → V → Bool
       → SameBound order (flipped_bound r.start) b
       → IsRunStart (is_good stored) (rank stored) (length (items stored)) place reach.first found at
       → IsLeftSeam order same lawful equal (is_good stored) (rank stored)
-      (items stored) r place reach.window.count next reach.first (seam_edge found reach.first b) at
+      (items stored) r place reach.window.count next reach.first (seam_border found reach.first b)
+      at
 
   -- the item that the last of a run is to join, where there is one
   abbrev pub IsJoiningLast : Option (Item (AnyRange K) V) → Option P → Type 0
@@ -102,4 +103,4 @@ module _ {K : Type 0} (order : KeyOrder K) {V : Type 0} (same : V → V → Bool
       → (equal : IsEquivalence same) → (b : Bound K) → IsKnownBound order b
       → SameBound order (flipped_bound r.end) b
       → IsRightSeam order same lawful equal (is_good stored) (rank stored)
-      (items stored) r place reach.window.count previous reach.last (seam_edge found reach.last b)
+      (items stored) r place reach.window.count previous reach.last (seam_border found reach.last b)

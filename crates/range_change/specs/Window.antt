@@ -7,7 +7,7 @@ use Rattle.range_keys.specs.declared.inner.position.Position.{Position}
 use Rattle.range_algebra.specs.Range.{IsEmptyRange, IsKnownRange}
 use Rattle.range_algebra.specs.declared.any.AnyRange.{AnyRange}
 use Rattle.range_store.specs.declared.storage.Item.{Item}
-use Rattle.range_store.specs.Places.{IsAt, place_before}
+use Rattle.range_store.specs.ListPlaces.{IsAt, place_before}
 use Rattle.range_algebra.specs.Intervals.{Le, Lt, Every}
 use Rattle.range_algebra.specs.Cuts.{lower, upper}
 use Rattle.range_change.specs.Stored.{item_lower, item_upper, IsStored}

@@ -1,6 +1,6 @@
 //! Binding a range that neither meets nor touches a stored one.
 ghost use Rattle.std.specs.Prelude.{◌≡◌, ◌↔◌, length, IsErrAnd, IfErr, OnOk, OnErr};
-ghost use Rattle.range_store.specs.Places.{place_before};
+ghost use Rattle.range_store.specs.ListPlaces.{place_before};
 ghost use Rattle.range_algebra.specs.Range.{IsEmptyRange};
 ghost use Rattle.range_change.specs.Stored.{IsStored};
 ghost use Rattle.range_change.specs.Bindings.{IsBoundAfter};

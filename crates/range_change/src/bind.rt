@@ -11,8 +11,8 @@ ghost use Rattle.range_change.specs.Costs.{TakesAtLeast, TakesAsChange};
 ghost use Rattle.range_change.specs.Changes.{IsInserted};
 
 use crate::append::{bind_first, bind_last, comes_first, comes_last};
+use crate::borders::{Joins, Sides, joins_after, joins_before, run_length, seam_at};
 use crate::cut::prepare_parts;
-use crate::edges::{Joins, Sides, joins_after, joins_before, run_length, seam_at};
 use crate::reach::{Reach, reaching, run_start, surrounding};
 use crate::splice::{change, divide};
 use crate::window::{Window, find_window};

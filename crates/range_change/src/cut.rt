@@ -79,7 +79,7 @@ pub fn cut_bound<K: PartialEnum + Clone>(bound: Bound<&K>) -> Result<Bound<K>, A
 
 /// What the parts of an item need where a range is cut out of it.
 #[derive(Drop)]
-pub struct Parts<K, V> {
+pub struct DividedItem<K, V> {
     /// Where the part before the range ends.
     pub end: Bound<K>,
     /// Where the part after it starts.
@@ -96,7 +96,7 @@ pub fn prepare_parts<K: PartialEnum + Clone, V: Eq + Clone, C: Storage<Item<AnyR
     start: Bound<&K>,
     end: Bound<&K>,
     room: usize,
-) -> Result<Parts<K, V>, AllocError>
+) -> Result<DividedItem<K, V>, AllocError>
     requires keys { ClonesAreEqual K.is_clone K.eq }
     requires values { ClonesAreEqual V.is_clone V.eq }
     requires good { C.is_good stored.old p }
@@ -115,7 +115,7 @@ pub fn prepare_parts<K: PartialEnum + Clone, V: Eq + Clone, C: Storage<Item<AnyR
     ensures positions { KeepsPositions C.is_good C.rank stored.old stored.new }
 {
     stored.reserve(room)?;
-    Ok(Parts {
+    Ok(DividedItem {
         value: stored.get(p).value.clone()?,
         end: cut_bound(start)?,
         start: cut_bound(end)?,

@@ -6,7 +6,7 @@ ghost use Rattle.range_change.specs.Reach.{IsReachOf};
 ghost use Rattle.range_change.specs.Plans.{JoinsBefore, JoinsAfter};
 ghost use Rattle.range_change.specs.Changes.{IsInserted};
 
-use crate::edges::{Joins, Sides, joins_after, joins_before, run_length, seam};
+use crate::borders::{Joins, Sides, joins_after, joins_before, run_length, seam};
 use crate::reach::{Reach, run_start};
 use crate::splice::change;
 use crate::window::Window;

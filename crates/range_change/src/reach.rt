@@ -2,9 +2,9 @@
 ghost use Rattle.std.specs.Prelude.{◌≡◌, ◌+◌, ◌≤◌, length, Some, IsSome, MatchOption};
 ghost use Rattle.std.specs.Option.{ForSome};
 ghost use Rattle.range_store.specs.Counting.{AddsSteps};
-ghost use Rattle.range_store.specs.Places.{place_before};
+ghost use Rattle.range_store.specs.ListPlaces.{place_before};
 ghost use Rattle.range_change.specs.Window.{option_items, IsWindowOf};
-ghost use Rattle.range_change.specs.Edges.{IsRunStart};
+ghost use Rattle.range_change.specs.Borders.{IsRunStart};
 ghost use Rattle.range_change.specs.Reach.{AreApart, IsFirstReaching, IsLastReaching, IsReachOf};
 
 use crate::cut::{ends_after, starts_before};

@@ -7,8 +7,8 @@ ghost use Rattle.range_change.specs.Seams.{IsJoiningFirst, IsJoiningLast};
 ghost use Rattle.range_change.specs.Spelling.{KeepsSpelling};
 ghost use Rattle.range_change.specs.Stored.{IsStored};
 
+use crate::borders::{Joins, Sides, joins_after, joins_before, run_length, seam};
 use crate::cut::{ends_after, flip_bound, starts_before};
-use crate::edges::{Joins, Sides, joins_after, joins_before, run_length, seam};
 use crate::reach::{Reach, run_start};
 use crate::splice::change_to;
 use range_algebra::any::AnyRange;

@@ -3,15 +3,15 @@ ghost use Rattle.std.specs.Prelude.{◌≡◌, ◌+◌, ◌≤◌, ◌++◌, len
 ghost use Rattle.std.specs.Option.{ForSome, option_map, unwrap_or};
 ghost use Rattle.std.specs.declared.ops.Bound.{Bound};
 ghost use Rattle.range_store.specs.declared.storage.Item.{Item};
-ghost use Rattle.range_store.specs.Places.{place_before, IsAt};
+ghost use Rattle.range_store.specs.ListPlaces.{place_before, IsAt};
 ghost use Rattle.range_algebra.specs.declared.any.AnyRange.{AnyRange};
 ghost use Rattle.range_change.specs.Edits.{with_start, with_end, IsEditedAt, KeepsPositions};
 ghost use Rattle.range_change.specs.Window.{option_items};
-ghost use Rattle.range_change.specs.Edges.{IsGoodEdge, IsLeftEdited, IsRightEdited, AreOpened, IsSpliced, IsDivided, joined_item};
+ghost use Rattle.range_change.specs.Borders.{IsGoodBorder, IsLeftEdited, IsRightEdited, AreOpened, IsSpliced, IsDivided, joined_item};
 ghost use Rattle.range_change.specs.Seams.{with_first_start, with_last_end};
 
-use crate::cut::Parts;
-use crate::edges::{Edge, Sides};
+use crate::borders::{Border, Sides};
+use crate::cut::DividedItem;
 use range_algebra::any::AnyRange;
 use range_store::inner::cursor::{Cursor, put, remove_rest, replace_run};
 use range_store::storage::{Item, Storage};
@@ -57,55 +57,55 @@ pub fn replace_end<K: Drop, V: Drop, C: Storage<Item<AnyRange<K>, V>>>(
 /// Shortens the item before a range, or takes the start of the one that the range joins.
 fn open_left<K: Drop, V: Drop, C: Storage<Item<AnyRange<K>, V>>>(
     stored: &mut C,
-    edge: Edge<K, C::Position>,
+    border: Border<K, C::Position>,
 ) -> Option<Bound<K>>
-    requires { IsGoodEdge (C.is_good stored.old) edge }
-    ensures edited { IsLeftEdited (C.rank stored.old) (C.items stored.old) (C.items stored.new) edge
-        result }
+    requires { IsGoodBorder (C.is_good stored.old) border }
+    ensures edited { IsLeftEdited (C.rank stored.old) (C.items stored.old) (C.items stored.new)
+        border result }
     ensures size { length (C.items stored.new) ≡ length (C.items stored.old) }
     ensures space { C.room stored.new ≡ C.room stored.old }
     ensures positions { KeepsPositions C.is_good C.rank stored.old stored.new }
 {
-    match edge {
-        Edge::Plain => None,
-        Edge::Cut(p, end) => {
+    match border {
+        Border::Plain => None,
+        Border::Cut(p, end) => {
             let _before = replace_end::<K, V, C>(stored, p, end);
             None
         }
-        Edge::Joined(p) => Some(replace_start::<K, V, C>(stored, p, Bound::Unbounded)),
+        Border::Joined(p) => Some(replace_start::<K, V, C>(stored, p, Bound::Unbounded)),
     }
 }
 
 /// Shortens the item after a range, or takes the end of the one that the range joins.
 fn open_right<K: Drop, V: Drop, C: Storage<Item<AnyRange<K>, V>>>(
     stored: &mut C,
-    edge: Edge<K, C::Position>,
+    border: Border<K, C::Position>,
 ) -> Option<Bound<K>>
-    requires { IsGoodEdge (C.is_good stored.old) edge }
+    requires { IsGoodBorder (C.is_good stored.old) border }
     ensures edited { IsRightEdited (C.rank stored.old) (C.items stored.old) (C.items stored.new)
-        edge result }
+        border result }
     ensures size { length (C.items stored.new) ≡ length (C.items stored.old) }
     ensures space { C.room stored.new ≡ C.room stored.old }
     ensures positions { KeepsPositions C.is_good C.rank stored.old stored.new }
 {
-    match edge {
-        Edge::Plain => None,
-        Edge::Cut(p, start) => {
+    match border {
+        Border::Plain => None,
+        Border::Cut(p, start) => {
             let _before = replace_start::<K, V, C>(stored, p, start);
             None
         }
-        Edge::Joined(p) => Some(replace_end::<K, V, C>(stored, p, Bound::Unbounded)),
+        Border::Joined(p) => Some(replace_end::<K, V, C>(stored, p, Bound::Unbounded)),
     }
 }
 
-/// Edits the items beside a run as the edges say, and returns the bounds that the run joins.
+/// Edits the items beside a run as the borders say, and returns the bounds that the run joins.
 fn open_sides<K: Drop, V: Drop, C: Storage<Item<AnyRange<K>, V>>>(
     stored: &mut C,
-    left: Edge<K, C::Position>,
-    right: Edge<K, C::Position>,
+    left: Border<K, C::Position>,
+    right: Border<K, C::Position>,
 ) -> (Option<Bound<K>>, Option<Bound<K>>)
-    requires left { IsGoodEdge (C.is_good stored.old) left }
-    requires right { IsGoodEdge (C.is_good stored.old) right }
+    requires left { IsGoodBorder (C.is_good stored.old) left }
+    requires right { IsGoodBorder (C.is_good stored.old) right }
     ensures opened { AreOpened (C.is_good stored.old) (C.rank stored.old) (C.items stored.old)
         (C.items stored.new) left right result }
     ensures size { length (C.items stored.new) ≡ length (C.items stored.old) }
@@ -134,8 +134,8 @@ pub fn change<K: Drop, V: Drop, C: Storage<Item<AnyRange<K>, V>>>(
     sides: Sides<K, C::Position>,
     item: Option<Item<AnyRange<K>, V>>,
 )
-    requires left { IsGoodEdge (C.is_good stored.old) sides.left }
-    requires right { IsGoodEdge (C.is_good stored.old) sides.right }
+    requires left { IsGoodBorder (C.is_good stored.old) sides.left }
+    requires right { IsGoodBorder (C.is_good stored.old) sides.right }
     requires good { ForSome sides.run.at (C.is_good stored.old) }
     requires in_range { place_before (C.rank stored.old) (length (C.items stored.old)) sides.run.at
         + sides.run.left ≤ length (C.items stored.old) }
@@ -207,8 +207,8 @@ pub fn change_to<K: Drop, V: Drop, C: Storage<Item<AnyRange<K>, V>>>(
     sides: Sides<K, C::Position>,
     items: Vec<Item<AnyRange<K>, V>>,
 )
-    requires left { IsGoodEdge (C.is_good stored.old) sides.left }
-    requires right { IsGoodEdge (C.is_good stored.old) sides.right }
+    requires left { IsGoodBorder (C.is_good stored.old) sides.left }
+    requires right { IsGoodBorder (C.is_good stored.old) sides.right }
     requires good { ForSome sides.run.at (C.is_good stored.old) }
     requires in_range { place_before (C.rank stored.old) (length (C.items stored.old)) sides.run.at
         + sides.run.left ≤ length (C.items stored.old) }
@@ -230,7 +230,7 @@ pub fn change_to<K: Drop, V: Drop, C: Storage<Item<AnyRange<K>, V>>>(
 pub fn divide<K: Drop, V: Drop, C: Storage<Item<AnyRange<K>, V>>>(
     stored: &mut C,
     p: C::Position,
-    parts: Parts<K, V>,
+    parts: DividedItem<K, V>,
     middle: Option<Item<AnyRange<K>, V>>,
     after: Option<C::Position>,
 )
@@ -241,7 +241,7 @@ pub fn divide<K: Drop, V: Drop, C: Storage<Item<AnyRange<K>, V>>>(
     ensures { IsDivided (C.items stored.old) (C.items stored.new) (C.rank stored.old p) parts
         middle }
 {
-    let Parts { end, start, value } = parts;
+    let DividedItem { end, start, value } = parts;
     let old_end = replace_end::<K, V, C>(stored, p, end);
     let key = AnyRange {
         start,

@@ -10,8 +10,8 @@ ghost use Rattle.range_change.specs.Lookups.{Overlap};
 ghost use Rattle.range_change.specs.Costs.{TakesAtLeast, TakesAsChange};
 ghost use Rattle.range_change.specs.Changes.{IsRemoved};
 
+use crate::borders::{Joins, Sides, run_length, seam_at};
 use crate::cut::prepare_parts;
-use crate::edges::{Joins, Sides, run_length, seam_at};
 use crate::reach::{Reach, reaching, run_start, surrounding};
 use crate::splice::{change, divide};
 use crate::window::{Window, find_window};

@@ -6,7 +6,7 @@ ghost use Rattle.range_keys.specs.Position.{position_cmp, start_position, end_po
 ghost use Rattle.std.specs.Ordering.{is_gt, is_lt};
 ghost use Rattle.range_algebra.specs.Range.{IsEmptyRange};
 ghost use Rattle.range_store.specs.Counting.{AddsSteps};
-ghost use Rattle.range_store.specs.Places.{place_before};
+ghost use Rattle.range_store.specs.ListPlaces.{place_before};
 ghost use Rattle.range_change.specs.Stored.{IsStored};
 ghost use Rattle.range_change.specs.Window.{IsFound, IsLastStarting, IsWalk, IsWindowOf, place_after};
 

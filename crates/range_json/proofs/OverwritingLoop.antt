@@ -15,7 +15,7 @@ use Rattle.range_change.specs.Bindings.{IsBoundAfter}
 use Rattle.range_change.specs.Frames.{IsInsertionFrame}
 use Rattle.range_change.specs.Stored.{IsStored}
 use Rattle.range_map.specs.Extending.{AreBoundAfter}
-use Rattle.range_map.proofs.Extending.{none_bound_after, one_bound_after}
+use Rattle.range_map.proofs.ExtendedLists.{none_bound_after, one_bound_after}
 use Rattle.range_json.specs.Faults.{Fault, first_fault}
 use Rattle.range_json.specs.MapFaults.{element_fault, IsElementRead}
 use Rattle.range_json.proofs.Keeping.{of_last, stored_before, stands_last}

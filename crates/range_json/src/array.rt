@@ -11,7 +11,8 @@ use serde_json::Value;
 /// The elements of an array.
 pub(crate) fn elements_of_array(value: &Value) -> Result<&[Value], JsonError>
     ensures found { IfOk result (λ vs. elements_of (view value.now) ≡ Some (map view vs.now)) }
-    ensures fault { IfErr result (λ e. (fault_of e ≡ no_array) × (elements_of (view value.now) ≡ None)) }
+    ensures fault { IfErr result
+        (λ e. (fault_of e ≡ no_array) × (elements_of (view value.now) ≡ None)) }
 {
     match value.as_array() {
         Some(elements) => Ok(elements.as_slice()),

@@ -52,7 +52,8 @@ pub(crate) fn element_from_json<K: Json, V: Json>(
     ensures read { IfOk result (IsElementRead K.is_read V.is_read (view value.now)) }
     ensures sound { OnOk result (element_fault K.reads V.reads index (view value.now) ≡ None) }
     ensures fault { IfErr result
-        (λ e. (e ≡ Memory) ⊎ (element_fault K.reads V.reads index (view value.now) ≡ Some (fault_of e))) }
+        (λ e. (e ≡ Memory)
+        ⊎ (element_fault K.reads V.reads index (view value.now) ≡ Some (fault_of e))) }
 {
     match pair(value) {
         Some((range, value)) => Ok(Item {

@@ -44,7 +44,8 @@ pub trait Json: Sized + Drop {
         ensures readable { OnOk result (IsTrue (reads (view value.now))) }
         ensures refused { IsErrOf result Refused → reads (view value.now) ≡ false };
 
-    /// What a JSON value has to be to be read as such a value, as errors say it: `a u32`, `a string`.
+    /// What a JSON value has to be to be read as such a value, as errors say it: `a u32`,
+    /// `a string`.
     fn name() -> &'static str;
 }
 

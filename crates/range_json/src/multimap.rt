@@ -70,7 +70,8 @@ fn element_with_values<K: Json, V: Json + Ord + Clone>(
         (element_fault K.reads (reads_some_values V.reads) index (view value.now) ≡ None) }
     ensures fault { IfErr result
         (λ e. (e ≡ Memory)
-        ⊎ (element_fault K.reads (reads_some_values V.reads) index (view value.now) ≡ Some (fault_of e))) }
+        ⊎ (element_fault K.reads (reads_some_values V.reads) index (view value.now)
+        ≡ Some (fault_of e))) }
 {
     let element = element_from_json::<K, BTreeSet<V>>(alloc, value, index)?;
     if element.value.is_empty() {
@@ -159,6 +160,7 @@ pub fn multimap_from_json<
         let item = element_with_values(alloc, element, index)?;
         insert_values(alloc, &mut multimap, item, &elements[..index], element)?;
     }
+    // For the proof: `iter` promises the form of the list.
     drop(multimap.iter());
     Ok(multimap)
 }

@@ -37,8 +37,8 @@ pub use Rattle.range_algebra.specs.RangeOrder.{range_cmp, range_total}
 pub use Rattle.range_algebra.specs.References.{range_of}
 pub use Rattle.range_algebra.specs.Relations.{LiesBefore, LiesBetween, Touches}
 pub use Rattle.range_algebra.specs.declared.any.AnyRange.{AnyRange}
-pub use Rattle.range_store.proofs.Places.{place_at}
-pub use Rattle.range_store.specs.Places.{IsAt, place_before}
+pub use Rattle.range_store.proofs.ListPlaces.{place_at}
+pub use Rattle.range_store.specs.ListPlaces.{IsAt, place_before}
 pub use Rattle.range_store.specs.declared.storage.Item.{Item}
 pub use Rattle.range_change.proofs.Chains.{chain_above, chain_before, chain_left, chain_right, follows_above, follows_like, same_is_symmetric, strictly_leads}
 pub use Rattle.range_change.proofs.CoveredPlaces.{on_ok}

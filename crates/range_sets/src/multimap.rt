@@ -92,6 +92,7 @@ impl<K: PartialEnum, S: MaybeEmpty, C: Storage<Item<AnyRange<K>, S>>> RangeMulti
         ensures nonempty { HasNoEmptySet S.is_void (C.items self.now) }
         ensures only { IsComplete K.order → IsOnlyCoarse K.order S.eq (C.items self.now) }
     {
+        // `iter` of the map promises it.
         let _items = self.map.iter();
     }
 

@@ -100,6 +100,7 @@ impl<T: PartialEnum, C: Storage<Item<AnyRange<T>, ()>>> RangeSet<T, C> {
     pub(crate) fn in_form(&self)
         ensures { IsStoredSet T.order (C.items self.now) }
     {
+        // `iter` of the map promises it.
         let _items = self.map.iter();
     }
 

@@ -12,7 +12,7 @@ use Rattle.range_store.specs.Nodes.{items_below, ShapedBut}
 use Rattle.range_store.proofs.Below.{items_below_leaf}
 use Rattle.range_store.proofs.Edges.{leaf_is, leaf_index, leaf_place}
 use Rattle.range_store.proofs.Paths.{level_of_children, below_turn, below_inside, below_here, past_last, before_next}
-use Rattle.range_store.proofs.Ways.{ahead_of, LiesBelow, lies_itself, lies_in_child, first_below}
+use Rattle.range_store.proofs.PathsBelow.{ahead_of, LiesBelow, lies_itself, lies_in_child, first_below}
 
 module _ {T : Type 0} (s : Heap T) where
   -- a subtree whose first edge stands behind so many items

@@ -15,7 +15,7 @@ use Rattle.range_store.proofs.Below.{items_below_leaf}
 use Rattle.range_store.proofs.Edges.{leaf_edge, leaf_place}
 use Rattle.range_store.proofs.Searching.{kid_falls, search_step}
 use Rattle.range_store.proofs.Paths.{level_of_children}
-use Rattle.range_store.proofs.Ways.{ahead_of, LiesBelow, lies_itself, lies_in_child}
+use Rattle.range_store.proofs.PathsBelow.{ahead_of, LiesBelow, lies_itself, lies_in_child}
 
 module _ {T : Type 0} (p : T → Bool) (s : Heap T) where
   -- the edge after what passes below a node

@@ -9,7 +9,7 @@ use Rattle.range_store.specs.declared.btree.nodes.TheConstants.{CAPACITY}
 use Rattle.range_store.specs.declared.btree.searching.TheConstants.{MAX_ASKS}
 use Rattle.range_store.specs.Counting.{one_step_after, greatest_count}
 use Rattle.range_store.specs.Heap.{full_cells}
-use Rattle.range_store.specs.Places.{IsFrontOf}
+use Rattle.range_store.specs.ListPlaces.{IsFrontOf}
 use Rattle.range_store.specs.Falling.{Falls, at_item}
 
 module _ {X : Type 0} (p : X → Bool) where

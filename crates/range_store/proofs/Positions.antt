@@ -6,7 +6,7 @@ use Rattle.range_store.specs.Edges.{IsEdge, place}
 use Rattle.range_store.specs.Nodes.{items_below}
 use Rattle.range_store.specs.Holding.{box_items, box_place, box_rank, edge_or_end, IsBoxEdge, IsGood, IsNextEdge, rank_is}
 use Rattle.range_store.specs.Falling.{Falls}
-use Rattle.range_store.specs.Places.{IsAt, IsFrontOf}
+use Rattle.range_store.specs.ListPlaces.{IsAt, IsFrontOf}
 use Rattle.range_store.specs.declared.btree.BoxStorage.{BoxStorage}
 use Rattle.range_store.specs.declared.btree.path.Edge.{Edge}
 use Rattle.range_store.proofs.Front.{falling_front}

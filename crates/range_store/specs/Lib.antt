@@ -11,10 +11,10 @@ pub mod Falling
 pub mod Frame
 pub mod Heap
 pub mod Holding
+pub mod ListPlaces
 pub mod Marks
 pub mod Nodes
 pub mod Occurrences
-pub mod Places
 pub mod Rewriting
 pub mod Weave
 pub mod Written

@@ -50,6 +50,7 @@ impl<T> BoxStorage<T> {
         ensures most { 0 < length (box_items self.now)
             → length (box_items self.now) + 1 ≤ (CAPACITY + 1) ^ result }
     {
+        // For the proof: the number of items is a `usize`.
         let _many = self.len;
         self.levels
     }

@@ -6,7 +6,7 @@ ghost use Rattle.std.specs.List.{AllZip};
 ghost use Rattle.std.specs.Option.{ForSome};
 ghost use Rattle.std.specs.Borrow.{Lends, sem};
 ghost use Rattle.range_store.specs.Counting.{one_step_after, AddsSteps, greatest_count};
-ghost use Rattle.range_store.specs.Places.{place_before, IsAt, IsFrontOf};
+ghost use Rattle.range_store.specs.ListPlaces.{place_before, IsAt, IsFrontOf};
 ghost use Rattle.range_store.specs.declared.btree.chunks.Mark.{Mark};
 
 use crate::btree::Mark;

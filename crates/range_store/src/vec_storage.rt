@@ -3,7 +3,7 @@ ghost use Rattle.std.specs.Prelude.{◌≡◌, ⊤, ℕ, ◌+◌, ◌-◌, ◌<�
 ghost use Rattle.std.specs.Option.{ForSome};
 ghost use Rattle.std.proofs.Common.{arith, refl};
 ghost use Rattle.range_store.specs.Rewriting.{with_vec_item, good_with};
-ghost use Rattle.range_store.specs.Places.{place_before};
+ghost use Rattle.range_store.specs.ListPlaces.{place_before};
 
 use crate::btree::Mark;
 use crate::btree::chunks::{first_mark, moved_to};

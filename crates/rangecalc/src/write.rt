@@ -50,7 +50,8 @@ pub fn write_item<K: NumberKey, W: Write>(
     out: &mut W,
 ) -> io::Result<()>
     ensures { OnOk result
-        (Writes (W.contents out.old) (W.contents out.new) (SpellsItem (item_of range.now value.now))) }
+        (Writes (W.contents out.old) (W.contents out.new)
+        (SpellsItem (item_of range.now value.now))) }
 {
     write_item_line(&span_of(range), value, out)
 }

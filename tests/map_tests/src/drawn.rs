@@ -3,7 +3,7 @@
 use crate::comparing::{Across, order_of};
 use crate::containers::{PairTable, Table, check_over_vector, find_over_pair};
 use range_algebra::any::AnyRange;
-use range_map::inner::scan::find;
+use range_map::inner::scan::scan;
 use range_map::map::{MapError, RangeMap};
 use range_store::storage::{Item, Storage};
 use std::alloc::{AllocError, Global};
@@ -54,7 +54,7 @@ type Bound = [Option<i64>; 8];
 fn binds<M: Bytes>(map: &M, items: &[ByteItem], bound: &Bound) -> bool {
     for key in 0..8u8 {
         let here = bound[key as usize];
-        if map.value_at(key) != here || find(items, &key).copied() != here {
+        if map.value_at(key) != here || scan(items, &key).copied() != here {
             return false;
         }
     }
@@ -143,7 +143,7 @@ fn next_number(number: u32) -> u32 {
 
 fn scan_finds_the_same(items: &[ByteItem], others: &[ByteItem]) -> bool {
     for key in 0..=255u8 {
-        if find(items, &key) != find(others, &key) {
+        if scan(items, &key) != scan(others, &key) {
             return false;
         }
     }

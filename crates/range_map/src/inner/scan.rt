@@ -10,7 +10,7 @@ use range_store::storage::Item;
 /// The value of the first item whose range holds the key.
 ///
 /// Asks each item in turn, so that it can be held against a map.
-pub fn find<'a, K: PartialEnum, V: Eq>(items: &'a [Item<AnyRange<K>, V>], key: &K) -> Option<&'a V>
+pub fn scan<'a, K: PartialEnum, V: Eq>(items: &'a [Item<AnyRange<K>, V>], key: &K) -> Option<&'a V>
     ensures { Binds K.order V.eq items.now key.now (option_map (λ v. v.now) result) }
 {
     for item in items {

@@ -12,7 +12,8 @@ use range_store::storage::{Item, Storage};
 use std::alloc::{AllocError, Global};
 use std::marker::PhantomData;
 
-/// Does nothing, and promises that the bounds of all items are keys.
+/// Goes over the items, and promises that their bounds are keys: a clone of a key promises no such
+/// thing.
 fn known_items<K: PartialEnum, V, C: Storage<Item<AnyRange<K>, V>>>(stored: &C)
     ensures { All (λ i. IsKnownRange K.order i.key) (C.items stored.now) }
 {

@@ -6,7 +6,7 @@ ghost use Rattle.std.specs.declared.ops.Bound.TheVariants.{Included, Unbounded};
 ghost use Rattle.range_keys.specs.Order.{IsComplete};
 ghost use Rattle.range_keys.specs.Position.{position_cmp, start_position};
 ghost use Rattle.range_algebra.specs.Range.{IsEmptyRange, with_bounds};
-ghost use Rattle.range_store.specs.Places.{IsAt, place_before};
+ghost use Rattle.range_store.specs.ListPlaces.{IsAt, place_before};
 ghost use Rattle.range_map.specs.Iteration.{shown_item};
 ghost use Rattle.range_change.specs.Lookups.{BindsKeyOf};
 ghost use Rattle.range_map.specs.Overlapping.{AreOverlapping, IsRun, run_items};

@@ -42,8 +42,8 @@ impl<T: Measure + Clone, C: Storage<Item<AnyRange<T>, ()>>> RangeSet<T, C> {
     ///
     /// Searches once for each range of the other set, where `difference` goes over both sets.
     /// Allocates a clone of each bound at which a stored range is cut, and where more ranges are
-    /// stored than the container has capacity for. After an error the keys of the other set's ranges
-    /// before the one at which it failed are gone, and no other key.
+    /// stored than the container has capacity for. After an error the keys of the other set's
+    /// ranges before the one at which it failed are gone, and no other key.
     ///
     /// ```
     /// // of a set of the keys 0..=5, and one of the keys 4..9

@@ -174,7 +174,8 @@ impl<T: Measure, C: Storage<Item<AnyRange<T>, ()>>> RangeSet<T, C> {
     ///
     /// It is where no part of the range is free; over keys that leave no gap, nowhere else. An
     /// empty range is covered. Costs two searches and one comparison more, and then a few
-    /// comparisons for each stored range that meets the range, up to its first gap. Allocates nothing.
+    /// comparisons for each stored range that meets the range, up to its first gap. Allocates
+    /// nothing.
     ///
     /// ```
     /// // of a set of the keys 0..=5

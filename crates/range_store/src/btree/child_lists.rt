@@ -53,6 +53,7 @@ fn list_from(
     ensures left { list.new.items ≡ take start list.old.items }
     ensures right { result.items ≡ drop start list.old.items }
 {
+    // For the proof: the number of children is a `usize`.
     let _many = list.len();
     let mut upper = ArrayVec::new();
     upper

@@ -11,7 +11,7 @@ use crate::btree::path::{Edge, MAX_LEVELS, edge_at, first_turn, seen_above, seen
 // What became of a node: it stands alone, or is the first of two; and an edge below it (`side` is
 // 0) or below the second (1).
 #[derive(Drop)]
-pub struct Parts<T> {
+pub struct Insertion<T> {
     pub split: Option<Split<T>>,
     pub side: usize,
     pub edge: Edge,
@@ -28,7 +28,7 @@ pub fn put_or_cut<T: Drop>(
     child: Option<usize>,
     seat: usize,
     inner: Edge,
-) -> Parts<T>
+) -> Insertion<T>
     requires present { HasNode nodes.old number }
     requires within { index ≤ length (items_of (node_of nodes.old number)) }
     requires fits { length (items_of (node_of nodes.old number)) ≤ CAPACITY }
@@ -57,7 +57,7 @@ pub fn put_or_cut<T: Drop>(
 {
     if nodes.item_count(number) < CAPACITY {
         nodes.put(number, index, item, child);
-        return Parts {
+        return Insertion {
             split: None,
             side: 0,
             edge: edge_at(below, number, seat, inner),
@@ -65,14 +65,14 @@ pub fn put_or_cut<T: Drop>(
     }
     let split = nodes.split(number, index, item, child);
     if seat <= HALF {
-        return Parts {
+        return Insertion {
             split: Some(split),
             side: 0,
             edge: edge_at(below, number, seat, inner),
         };
     }
     let edge = edge_at(below, split.right, seat - HALF - 1, inner);
-    Parts {
+    Insertion {
         split: Some(split),
         side: 1,
         edge,
@@ -86,7 +86,7 @@ pub fn insert_below<T: Drop>(
     number: usize,
     edge: Edge,
     item: T,
-) -> Parts<T>
+) -> Insertion<T>
     requires shaped { ShapedBut 1 CAPACITY nodes.old below number }
     requires owned { Owned nodes.old (suc below) number }
     requires edge { IsEdge nodes.old below number edge }
@@ -117,9 +117,9 @@ pub fn insert_below<T: Drop>(
     let index = first_turn(edge);
     let child = nodes.child_at(number, index);
     let inserted = insert_below(nodes, below - 1, child, seen_inside(edge), item);
-    let Parts { split, side, edge } = inserted;
+    let Insertion { split, side, edge } = inserted;
     match split {
-        None => Parts {
+        None => Insertion {
             split: None,
             side: 0,
             edge: seen_above(edge, index),

@@ -25,7 +25,7 @@ pub const MIN_LEN: usize = 5;
 /// The most items of a tree, 2^42: the path to any of them is one `u64`.
 pub const MAX_LEN: usize = 1 << 42;
 
-// How many items of an overfull node stay in its first half.
+// How many items of a node with one item too many stay in its first half.
 pub const HALF: usize = (CAPACITY + 1) / 2;
 
 pub const CHILD_PLACES: usize = CAPACITY + 1;
@@ -285,6 +285,7 @@ impl<T: Drop> Nodes<T> {
         requires room { length (left_items self.old number index) < CAPACITY }
         ensures { RotatesLeft self.old self.new number index }
     {
+        // For the proof: the number of items is a `usize`, so `index + 1` is one.
         let _many = self.item_count(number);
         let left = self.child_at(number, index);
         let right = self.child_at(number, index + 1);
@@ -301,6 +302,7 @@ impl<T: Drop> Nodes<T> {
         requires room { length (right_items self.old number index) < CAPACITY }
         ensures { RotatesRight self.old self.new number index }
     {
+        // For the proof: the number of items is a `usize`, so `index + 1` is one.
         let _many = self.item_count(number);
         let left = self.child_at(number, index);
         let right = self.child_at(number, index + 1);
@@ -317,6 +319,7 @@ impl<T: Drop> Nodes<T> {
             + length (right_items self.old number index) ≤ CAPACITY }
         ensures { Merges self.old self.new number index }
     {
+        // For the proof: the number of items is a `usize`, so `index + 1` is one.
         let _many = self.item_count(number);
         let left = self.child_at(number, index);
         let right = self.child_at(number, index + 1);

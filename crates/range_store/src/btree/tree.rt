@@ -7,7 +7,7 @@ ghost use Rattle.range_store.specs.Holding.{box_items, box_room, IsBoxEdge, box_
 
 use crate::btree::BoxStorage;
 use crate::btree::building::{build, layout_of};
-use crate::btree::insertion::{Parts, insert_below};
+use crate::btree::insertion::{Insertion, insert_below};
 use crate::btree::nodes::{CAPACITY, MIN_LEN};
 use crate::btree::path::{
     Edge, Home, edge_before, end_edge, find_home, first_edge, following, seen_above, stands_first,
@@ -155,7 +155,7 @@ impl<T: Drop> BoxStorage<T> {
             };
         }
         let inserted = insert_below(&mut self.nodes, self.levels - 1, self.root, edge, item);
-        let Parts { split, side, edge } = inserted;
+        let Insertion { split, side, edge } = inserted;
         match split {
             None => edge,
             Some(split) => {

@@ -2,7 +2,7 @@
 //! is inserted or removed.
 ghost use Rattle.std.specs.Prelude.{◌≡◌, ◌+◌, ◌-◌, ◌≤◌, ◌∷◌, ◌++◌, length, take, drop};
 ghost use Rattle.std.specs.Option.{ForSome};
-ghost use Rattle.range_store.specs.Places.{place_before, IsAt};
+ghost use Rattle.range_store.specs.ListPlaces.{place_before, IsAt};
 
 use crate::storage::Storage;
 

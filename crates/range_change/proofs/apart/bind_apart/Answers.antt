@@ -1,7 +1,7 @@
 use Rattle.std.proofs.Common.{◌≡◌, length, IsTrue, rules}
 use Rattle.std.specs.Prelude.{insert}
 use Rattle.range_algebra.specs.declared.any.AnyRange.{AnyRange}
-use Rattle.range_store.specs.Places.{place_before}
+use Rattle.range_store.specs.ListPlaces.{place_before}
 use Rattle.range_store.specs.declared.storage.Item.{Item}
 use Rattle.range_change.proofs.CoveredPlaces.{meets_put}
 use Rattle.range_change.proofs.ApartRanges.{free_not, put_at, put_in}

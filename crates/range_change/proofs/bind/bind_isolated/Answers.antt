@@ -1,7 +1,7 @@
 use Rattle.std.proofs.Common.{◌≡◌, ◌+◌, ap, length, arith}
 use Rattle.std.specs.Prelude.{insert}
 use Rattle.std.proofs.lemmas.List.Edits.{length-insert}
-use Rattle.range_store.specs.Places.{place_before}
+use Rattle.range_store.specs.ListPlaces.{place_before}
 use Rattle.range_change.specs.Edits.{flipped_bound}
 use Rattle.range_change.proofs.Between.{put_between}
 use Rattle.range_change.proofs.CutParts.{known_turned, same_turned}

@@ -1,6 +1,6 @@
 use Rattle.std.proofs.lemmas.Grind.{common_steps}
 use Rattle.std.proofs.Common.{◌≡◌, ◌+◌, ap, ◌∙◌, arith, refl}
-use Rattle.range_change.specs.Edges.{joined_count}
+use Rattle.range_change.specs.Borders.{joined_count}
 use Rattle.range_change.specs.Reach.{inner_count}
 use Rattle.range_change.proofs.Planned.{plan_fits, planned_count, planned_insert, planned_size, planned_run}
 use Rattle.range_change.proofs.Results.{error_has_no_value, on_error}

@@ -1,5 +1,5 @@
 use Rattle.std.proofs.Common.{◌≡◌, ◌+◌, ◌-◌, ap, ◌∙◌, arith, refl, None}
-use Rattle.range_change.specs.Edges.{joined_count, seam_edge}
+use Rattle.range_change.specs.Borders.{joined_count, seam_border}
 use Rattle.range_change.specs.Edits.{flipped_bound}
 use Rattle.range_change.proofs.CutParts.{known_turned, same_turned}
 use Rattle.range_change.proofs.Freeing.{left_alone, right_alone, seam_alike}
@@ -26,9 +26,9 @@ run_length-requires g c =
     let r = c.args.item.key in
     let window = c.requires.reach.window in
     let none = none_reach c.requires.reach c.requires.none in
-    let on_left : c.seam-left.result ≡ seam_edge joins.before None (flipped_bound r.start) =
+    let on_left : c.seam-left.result ≡ seam_border joins.before None (flipped_bound r.start) =
     c.seam-left.ensures ∙ seam_alike joins.before _ _ in
-    let on_right : c.seam-right.result ≡ seam_edge joins.after None (flipped_bound r.end) =
+    let on_right : c.seam-right.result ≡ seam_border joins.after None (flipped_bound r.end) =
     c.seam-right.ensures ∙ seam_alike joins.after _ _ in
     let left =
     left_alone joins.before (flipped_bound r.start) c.seam-left.result none.0 on_left
@@ -65,9 +65,9 @@ change-requires g c =
     let r = c.args.item.key in
     let window = c.requires.reach.window in
     let none = none_reach c.requires.reach c.requires.none in
-    let on_left : c.seam-left.result ≡ seam_edge joins.before None (flipped_bound r.start) =
+    let on_left : c.seam-left.result ≡ seam_border joins.before None (flipped_bound r.start) =
     c.seam-left.ensures ∙ seam_alike joins.before _ _ in
-    let on_right : c.seam-right.result ≡ seam_edge joins.after None (flipped_bound r.end) =
+    let on_right : c.seam-right.result ≡ seam_border joins.after None (flipped_bound r.end) =
     c.seam-right.ensures ∙ seam_alike joins.after _ _ in
     let left =
     left_alone joins.before (flipped_bound r.start) c.seam-left.result none.0 on_left
@@ -109,9 +109,9 @@ returns g c =
     let r = c.args.item.key in
     let window = c.requires.reach.window in
     let none = none_reach c.requires.reach c.requires.none in
-    let on_left : c.seam-left.result ≡ seam_edge joins.before None (flipped_bound r.start) =
+    let on_left : c.seam-left.result ≡ seam_border joins.before None (flipped_bound r.start) =
     c.seam-left.ensures ∙ seam_alike joins.before _ _ in
-    let on_right : c.seam-right.result ≡ seam_edge joins.after None (flipped_bound r.end) =
+    let on_right : c.seam-right.result ≡ seam_border joins.after None (flipped_bound r.end) =
     c.seam-right.ensures ∙ seam_alike joins.after _ _ in
     let left =
     left_alone joins.before (flipped_bound r.start) c.seam-left.result none.0 on_left

@@ -1,6 +1,6 @@
 use Rattle.std.proofs.Common.{◌≡◌, ◌+◌, length, arith}
 use Rattle.std.specs.Prelude.{insert}
-use Rattle.range_store.specs.Places.{place_before}
+use Rattle.range_store.specs.ListPlaces.{place_before}
 use Rattle.range_change.specs.Edits.{flipped_bound}
 use Rattle.range_change.proofs.Between.{put_between as stands_between}
 use Rattle.range_change.proofs.CutParts.{known_turned, same_turned}

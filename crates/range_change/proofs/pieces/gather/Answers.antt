@@ -5,7 +5,7 @@ use Rattle.std.specs.Option.{option_copied}
 use Rattle.range_algebra.specs.Clones.{bound_clone}
 use Rattle.range_algebra.specs.declared.any.AnyRange.{AnyRange}
 use Rattle.range_store.specs.declared.storage.Item.{Item}
-use Rattle.range_store.specs.Places.{place_before}
+use Rattle.range_store.specs.ListPlaces.{place_before}
 use Rattle.range_change.specs.Answers.{MayBeAsked}
 use Rattle.range_change.proofs.Counts.{none_added, one_added, is_positive, is_reached, begins_within, end_within, is_not_end}
 use Rattle.range_change.proofs.Asked.{asked_good, asked_key_full, met_holds, met_nonempty, met_fails, met_is_underway, met_keeps_spelling, last_fails, all_gathered, all_keep_spelling}

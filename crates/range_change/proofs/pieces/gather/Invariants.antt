@@ -1,5 +1,5 @@
 use Rattle.std.proofs.Common.{length}
-use Rattle.range_store.specs.Places.{place_before}
+use Rattle.range_store.specs.ListPlaces.{place_before}
 use Rattle.range_change.proofs.Gathering.{IsAskedUpTo}
 use Rattle.range_change.proofs.pieces.gather.Given as goal
 

@@ -5,7 +5,7 @@ use Rattle.range_keys.specs.PositionOrder.{position_total}
 use Rattle.range_algebra.specs.Cuts.{lower}
 use Rattle.range_algebra.specs.Intervals.{Le, Lt}
 use Rattle.range_algebra.specs.Orders.{not_lt}
-use Rattle.range_store.specs.Places.{place_before}
+use Rattle.range_store.specs.ListPlaces.{place_before}
 use Rattle.range_change.specs.Stored.{item_lower}
 use Rattle.range_change.proofs.Tests.{not_both}
 use Rattle.range_change.proofs.reach.reaching_before.Goals as goal

@@ -1,8 +1,8 @@
 use Rattle.std.proofs.lemmas.Grind.{common_steps}
 use Rattle.std.proofs.Common.{◌≡◌, ◌+◌, ◌-◌, length, ap, ◌∙◌, arith}
 use Rattle.std.specs.Prelude.{slice_get, option_copied}
-use Rattle.range_store.specs.Places.{place_before}
-use Rattle.range_change.specs.Edges.{joined_count, seam_edge}
+use Rattle.range_store.specs.ListPlaces.{place_before}
+use Rattle.range_change.specs.Borders.{joined_count, seam_border}
 use Rattle.range_change.specs.Edits.{flipped_bound}
 use Rattle.range_change.proofs.InsertionFrames.{all_meet}
 use Rattle.range_change.proofs.Planned.{plan_fits}
@@ -76,26 +76,26 @@ change_to-requires g c =
     let r = c.args.range in
     let joined = c.joined_left-before.result in
     let other = c.joined_right-after.result in
-    let edge = seam_edge joined reach.first (flipped_bound r.start) in
-    let behind = seam_edge other reach.last (flipped_bound r.end) in
-    let edge_is : c.seam-left.result ≡ edge =
+    let border = seam_border joined reach.first (flipped_bound r.start) in
+    let behind = seam_border other reach.last (flipped_bound r.end) in
+    let border_is : c.seam-left.result ≡ border =
     c.seam-left.ensures
-    ∙ ap (seam_edge joined reach.first)
+    ∙ ap (seam_border joined reach.first)
     (c.flip_bound.ensures ∙ ap flipped_bound c.into_bounds-start.ensures.start) in
     let behind_is : c.seam-right.result ≡ behind =
     c.seam-right.ensures
-    ∙ ap (seam_edge other reach.last)
+    ∙ ap (seam_border other reach.last)
     (c.flip_bound-2.ensures ∙ ap flipped_bound c.into_bounds-start.ensures.end) in
     let left = plan.left in
     let right = plan.right in
     let sum : left.begin + c.run_length.result ≡ right.upto =
     omega (arith, plan.upto, c.run_length.ensures) in
     let fit =
-    plan_fits c.reserve.ensures.positions c.reserve.ensures.list edge behind
+    plan_fits c.reserve.ensures.positions c.reserve.ensures.list border behind
     c.run_start.result c.run_length.result left.at left.begin right.upto right.end left.rest
     right.rest left.start right.finish left.shape right.shape left.run sum right.in_range in
     record {
-      left = rw edge_is fit.left_good;
+      left = rw border_is fit.left_good;
       right = rw behind_is fit.right_good;
       good = fit.good;
       in_range = fit.in_range;
@@ -110,32 +110,32 @@ returns g c =
     let r = c.args.range in
     let joined = c.joined_left-before.result in
     let other = c.joined_right-after.result in
-    let edge = seam_edge joined reach.first (flipped_bound r.start) in
-    let behind = seam_edge other reach.last (flipped_bound r.end) in
-    let edge_is : c.seam-left.result ≡ edge =
+    let border = seam_border joined reach.first (flipped_bound r.start) in
+    let behind = seam_border other reach.last (flipped_bound r.end) in
+    let border_is : c.seam-left.result ≡ border =
     c.seam-left.ensures
-    ∙ ap (seam_edge joined reach.first)
+    ∙ ap (seam_border joined reach.first)
     (c.flip_bound.ensures ∙ ap flipped_bound c.into_bounds-start.ensures.start) in
     let behind_is : c.seam-right.result ≡ behind =
     c.seam-right.ensures
-    ∙ ap (seam_edge other reach.last)
+    ∙ ap (seam_border other reach.last)
     (c.flip_bound-2.ensures ∙ ap flipped_bound c.into_bounds-start.ensures.end) in
     let left = plan.left in
     let right = plan.right in
     let sum : left.begin + c.run_length.result ≡ right.upto =
     omega (arith, plan.upto, c.run_length.ensures) in
     let fit =
-    plan_fits c.reserve.ensures.positions c.reserve.ensures.list edge behind
+    plan_fits c.reserve.ensures.positions c.reserve.ensures.list border behind
     c.run_start.result c.run_length.result left.at left.begin right.upto right.end left.rest
     right.rest left.start right.finish left.shape right.shape left.run sum right.in_range in
     let joins = seam_count joined reach.first (flipped_bound r.start) in
     let joins_behind = seam_count other reach.last (flipped_bound r.end) in
     let done =
     c.change_to.ensures left.at right.end left.rest right.rest left.start right.finish
-    (rw edge_is fit.on_left) (rw behind_is fit.on_right)
+    (rw border_is fit.on_left) (rw behind_is fit.on_right)
     (omega (
       arith,
-      ap joined_count edge_is ∙ joins,
+      ap joined_count border_is ∙ joins,
       ap joined_count behind_is
           ∙ joins_behind,
       c.run_length.ensures,
@@ -151,7 +151,7 @@ returns g c =
           (g.C.Storage.rank stored) items r
           (place_before (g.C.Storage.rank stored) (length items) reach.window.from)
           reach.window.count (g.C.Storage.items c.change_to.new.stored) c.args.middle.items
-          reach.first reach.last edge behind c.run_start.result window.stored c.requires.middle
+          reach.first reach.last border behind c.run_start.result window.stored c.requires.middle
           window.known (all_meet lawful equal window) left right
           (rw c.reserve.ensures.list at done);
       spelled =

@@ -2,7 +2,7 @@ use Rattle.std.proofs.Common.{◌≡◌, ◌+◌, ◌∷◌, ◌++◌, length, t
 use Rattle.std.specs.Option.{unwrap_or}
 use Rattle.range_algebra.specs.declared.any.AnyRange.{AnyRange}
 use Rattle.range_store.specs.declared.storage.Item.{Item}
-use Rattle.range_store.specs.Places.{place_before}
+use Rattle.range_store.specs.ListPlaces.{place_before}
 use Rattle.range_change.specs.Window.{option_items}
 use Rattle.range_change.proofs.BoundEdits.{kept_place, opening_regroups, regrouped_out}
 use Rattle.range_change.proofs.splice.change.Goals as goal

@@ -1,8 +1,8 @@
 use Rattle.std.proofs.Common.{◌≡◌, ◌+◌, length, get_or, ap, ◌∙◌, arith}
 use Rattle.range_algebra.specs.declared.any.AnyRange.{AnyRange}
 use Rattle.range_store.specs.declared.storage.Item.{Item}
-use Rattle.range_store.specs.Places.{place_before}
-use Rattle.range_store.proofs.Places.{place_at, kept_at, good_at}
+use Rattle.range_store.specs.ListPlaces.{place_before}
+use Rattle.range_store.proofs.ListPlaces.{place_at, kept_at, good_at}
 use Rattle.range_change.specs.Edits.{with_end}
 use Rattle.range_change.proofs.DividedItems.{parted_alone, parted_around}
 use Rattle.range_change.proofs.Tests.{same_some}

@@ -2,8 +2,8 @@ use Rattle.std.proofs.lemmas.Grind.{common_steps}
 use Rattle.std.proofs.Common.{◌≡◌, ◌+◌, ◌-◌, ◌∷◌, ◌++◌, [], length, take, ap, sym, ◌∙◌, arith, length-append, append_assoc}
 use Rattle.std.proofs.lemmas.List.{append-nil}
 use Rattle.range_algebra.proofs.Lists.{list_is_take_and_drop}
-use Rattle.range_store.specs.Places.{place_before}
-use Rattle.range_store.proofs.Places.{place_at, at_place, good_at}
+use Rattle.range_store.specs.ListPlaces.{place_before}
+use Rattle.range_store.proofs.ListPlaces.{place_at, at_place, good_at}
 use Rattle.range_change.proofs.OuterBounds.{put_next, put_all, prefix_is_all}
 use Rattle.range_change.proofs.splice.replace_run_by.Goals as goal
 

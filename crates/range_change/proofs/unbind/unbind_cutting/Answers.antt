@@ -1,10 +1,10 @@
 use Rattle.std.proofs.Common.{refl, ◌≡◌, [], ◌+◌, length, ap, ◌∙◌, arith, None}
-use Rattle.range_store.specs.Places.{place_before}
-use Rattle.range_change.specs.Edges.{joined_count, seam_edge}
+use Rattle.range_store.specs.ListPlaces.{place_before}
+use Rattle.range_change.specs.Borders.{joined_count, seam_border}
 use Rattle.range_change.specs.Window.{option_items}
 use Rattle.range_change.proofs.InsertionFrames.{cut_way}
 use Rattle.range_change.proofs.Lengths.{one_item, changed_length}
-use Rattle.range_change.proofs.RangeSides.{edges_remove}
+use Rattle.range_change.proofs.RangeSides.{borders_remove}
 use Rattle.range_change.proofs.Planned.{plan_fits}
 use Rattle.range_change.proofs.InsertionPlans.{left_cut_plan, right_cut_plan}
 use Rattle.range_change.proofs.Results.{error_has_no_value, on_error}
@@ -61,8 +61,8 @@ change-requires g c =
     let fit =
     plan_fits {is_good = storage.is_good stored} {is_good' = storage.is_good stored}
     {rank = storage.rank stored} {rank' = storage.rank stored} {items = items}
-    {items' = items} (λ p h. (h, refl)) refl (seam_edge None reach.first before.cut)
-    (seam_edge None reach.last behind.cut) c.run_start.result c.run_length.result place
+    {items' = items} (λ p h. (h, refl)) refl (seam_border None reach.first before.cut)
+    (seam_border None reach.last behind.cut) c.run_start.result c.run_length.result place
     begin (begin + c.run_length.result) end left.rest right.rest None None left.shape
     right.shape c.run_start.ensures refl window.in_range in
     record {
@@ -99,8 +99,8 @@ returns g c =
     let fit =
     plan_fits {is_good = storage.is_good stored} {is_good' = storage.is_good stored}
     {rank = storage.rank stored} {rank' = storage.rank stored} {items = items}
-    {items' = items} (λ p h. (h, refl)) refl (seam_edge None reach.first before.cut)
-    (seam_edge None reach.last behind.cut) c.run_start.result c.run_length.result place
+    {items' = items} (λ p h. (h, refl)) refl (seam_border None reach.first before.cut)
+    (seam_border None reach.last behind.cut) c.run_start.result c.run_length.result place
     begin (begin + c.run_length.result) end left.rest right.rest None None left.shape
     right.shape c.run_start.ensures refl window.in_range in
     let none = ap joined_count before.at ∙ seam_count None reach.first before.cut in
@@ -117,7 +117,7 @@ returns g c =
     (omega (arith, window.in_range)) window.in_range done in
     record {
       ok =
-          edges_remove lawful equal window new place end left.rest right.rest left.side right.side
+          borders_remove lawful equal window new place end left.rest right.rest left.side right.side
           frame done;
       few = omega (arith, size, one_item left.rest, one_item right.rest, c.requires.some);
       refused = tt;

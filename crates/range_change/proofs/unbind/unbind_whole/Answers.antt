@@ -1,7 +1,7 @@
 use Rattle.std.proofs.Common.{◌≡◌, [], ◌+◌, ◌++◌, length, take, drop, arith, None}
 use Rattle.std.proofs.lemmas.List.{append-nil}
-use Rattle.range_store.specs.Places.{place_before}
-use Rattle.range_change.proofs.RangeSides.{edges_remove, left_rest_whole, right_rest_whole}
+use Rattle.range_store.specs.ListPlaces.{place_before}
+use Rattle.range_change.proofs.RangeSides.{borders_remove, left_rest_whole, right_rest_whole}
 use Rattle.range_change.proofs.InsertionFrames.{cut_way}
 use Rattle.range_change.proofs.Lengths.{changed_length}
 use Rattle.range_change.proofs.unbind.unbind_whole.Goals as goal
@@ -35,7 +35,7 @@ returns g c =
     changed_length items new [] [] [] place end
     (omega (arith, window.in_range)) window.in_range done in
     record {
-      removed = edges_remove lawful equal window new place end None None left right frame
+      removed = borders_remove lawful equal window new place end None None left right frame
           done;
       few = omega (arith, size);
     }

@@ -6,8 +6,8 @@ use Rattle.range_keys.specs.Position.{start_position, position_cmp}
 use Rattle.range_keys.specs.PositionOrder.{position_total}
 use Rattle.range_algebra.specs.Intervals.{Lt}
 use Rattle.range_algebra.specs.Orders.{not_le}
-use Rattle.range_store.specs.Places.{place_before}
-use Rattle.range_store.proofs.Places.{at_place}
+use Rattle.range_store.specs.ListPlaces.{place_before}
+use Rattle.range_store.proofs.ListPlaces.{at_place}
 use Rattle.range_change.proofs.WalkStarts.{place_is_in_range}
 use Rattle.range_change.proofs.window.walk.Goals as goal
 

@@ -4,7 +4,7 @@ use Rattle.range_keys.specs.Position.{start_position, position_cmp}
 use Rattle.range_algebra.specs.declared.any.AnyRange.{AnyRange}
 use Rattle.range_store.specs.declared.storage.Item.{Item}
 use Rattle.range_store.specs.Counting.{AddsSteps}
-use Rattle.range_store.specs.Places.{place_before, IsAt}
+use Rattle.range_store.specs.ListPlaces.{place_before, IsAt}
 use Rattle.range_algebra.specs.Intervals.{Le}
 use Rattle.range_change.specs.Window.{IsLastOf}
 use Rattle.range_change.proofs.window.walk.Given as goal

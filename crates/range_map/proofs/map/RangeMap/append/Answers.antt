@@ -1,5 +1,5 @@
 use Rattle.range_map.proofs.Common.{◌≡◌, ◌∙◌, ap, rules, LieBefore, appended}
-use Rattle.range_map.proofs.Appending.{appended_binds, appended_length, appended_stored}
+use Rattle.range_map.proofs.AppendedLists.{appended_binds, appended_length, appended_stored}
 use Rattle.range_map.proofs.StoredLists.{stored_coarse, stored_only}
 use Rattle.range_map.proofs.map.RangeMap.append.Goals as goal
 

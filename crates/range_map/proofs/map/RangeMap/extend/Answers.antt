@@ -1,5 +1,5 @@
 use Rattle.range_map.proofs.Common.{◌∷◌, [], map, rules, map-append, item_of, on_error}
-use Rattle.range_map.proofs.Extending.{none_bound_after, one_bound_after}
+use Rattle.range_map.proofs.ExtendedLists.{none_bound_after, one_bound_after}
 use Rattle.range_map.proofs.StoredLists.{stored_coarse, stored_only}
 use Rattle.range_map.proofs.map.RangeMap.extend.Goals as goal
 

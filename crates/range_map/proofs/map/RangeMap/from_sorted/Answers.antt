@@ -1,6 +1,6 @@
 use Rattle.range_map.proofs.Common.{◌≡◌, refl, ap, subst, map, Err, item_of, IsFirstFault}
 use Rattle.range_map.specs.declared.map.from_sorted.NotSorted.TheVariants.{OutOfOrder as FaultAt}
-use Rattle.range_map.proofs.Sorting.{one_fault, sorted_has_none}
+use Rattle.range_map.proofs.SortedLists.{one_fault, sorted_has_none}
 use Rattle.range_map.proofs.StoredLists.{stored_coarse, stored_only}
 use Rattle.range_map.proofs.map.RangeMap.from_sorted.Goals as goal
 

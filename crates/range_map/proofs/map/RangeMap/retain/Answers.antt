@@ -1,5 +1,5 @@
 use Rattle.range_map.proofs.Common.{◌≡◌, ◌∙◌, ◌+◌, ◌<◌, ap, arith, length, rules, length-remove, place_before, IsStored, place_at, CalledAtItem}
-use Rattle.range_map.proofs.Retaining.{retaining_starts, kept_next, removed_next, retained, kept_stored, kept_as_before, fewer_kept}
+use Rattle.range_map.proofs.KeptItems.{retaining_starts, kept_next, removed_next, retained, kept_stored, kept_as_before, fewer_kept}
 use Rattle.range_map.proofs.StoredLists.{stored_coarse, stored_only}
 use Rattle.range_map.proofs.map.RangeMap.retain.Goals as goal
 

@@ -1,5 +1,5 @@
 use Rattle.range_map.proofs.Common.{◌-◌, length, place_before, IsAt, CalledAtItem}
-use Rattle.range_map.proofs.Retaining.{IsRetaining}
+use Rattle.range_map.proofs.KeptItems.{IsRetaining}
 use Rattle.range_map.proofs.map.RangeMap.retain.Given as goal
 
 abbrev pub invariant-loop-at : goal.invariant-loop-at

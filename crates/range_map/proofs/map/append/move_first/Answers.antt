@@ -1,5 +1,5 @@
 use Rattle.range_map.proofs.Common.{◌≡◌, ◌∙◌, sym, ◌++◌, ◌∷◌, [], append_assoc, append-nil, insert_end, as_one}
-use Rattle.range_map.proofs.Appending.{appended_last, appended_none}
+use Rattle.range_map.proofs.AppendedLists.{appended_last, appended_none}
 use Rattle.range_map.proofs.map.append.move_first.Goals as goal
 
 pub returns-in-Some-pop_first-clause-list : goal.returns-in-Some-pop_first-clause-list

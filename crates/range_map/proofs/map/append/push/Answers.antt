@@ -1,5 +1,5 @@
 use Rattle.std.proofs.Common.{◌-◌, length, ◌∙◌, refl, arith}
-use Rattle.range_map.proofs.Appending.{joined_last, pushed_apart}
+use Rattle.range_map.proofs.AppendedLists.{joined_last, pushed_apart}
 use Rattle.range_map.proofs.map.append.push.Goals as goal
 
 pub returns-then-is_one_with_last : goal.returns-then-is_one_with_last

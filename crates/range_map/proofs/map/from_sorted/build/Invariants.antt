@@ -1,5 +1,5 @@
 use Rattle.range_map.proofs.Common.{◌≡◌, ◌++◌, map, Position, item_of}
-use Rattle.range_map.proofs.Joining.{IsBuilt, RisesFrom}
+use Rattle.range_map.proofs.JoinedItems.{IsBuilt, RisesFrom}
 use Rattle.range_map.proofs.map.from_sorted.build.Given as goal
 
 abbrev pub invariant-loop-range : goal.invariant-loop-range

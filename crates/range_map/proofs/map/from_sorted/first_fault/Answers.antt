@@ -1,5 +1,5 @@
 use Rattle.range_map.proofs.Common.{◌≡◌, sym, true, ◌∷◌, [], get_or, take, rules, every_append, item_of}
-use Rattle.range_map.proofs.Sorting.{last_is, more_sorted, sorted_more, take_next}
+use Rattle.range_map.proofs.SortedLists.{last_is, more_sorted, sorted_more, take_next}
 use Rattle.range_map.proofs.map.from_sorted.first_fault.Goals as goal
 
 pub returns-then-not-is_next-clause-fault : goal.returns-then-not-is_next-clause-fault

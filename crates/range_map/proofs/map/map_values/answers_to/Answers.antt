@@ -1,6 +1,6 @@
 use Rattle.range_map.proofs.Common.{◌≡◌, sym, [], rules, Err, FnReturnsAt, lower, full_range}
 use Rattle.range_merge.specs.Merged.{part_item}
-use Rattle.range_map.proofs.Joining.{built_none, stored_rises}
+use Rattle.range_map.proofs.JoinedItems.{built_none, stored_rises}
 use Rattle.range_map.proofs.MappedValues.{first_left, mapped_more}
 use Rattle.range_map.proofs.CloneLists.{clones_tied}
 use Rattle.range_map.proofs.map.map_values.answers_to.Goals as goal

@@ -1,5 +1,5 @@
 use Rattle.std.proofs.Common.{◌≡◌, ◌+◌, ◌-◌, arith, refl, sym}
-use Rattle.range_map.proofs.Overlapping.{stored_order}
+use Rattle.range_map.proofs.OverlappingItems.{stored_order}
 use Rattle.range_map.proofs.map.overlapping.run_between.Goals as goal
 
 pub returns-then-stands_before-clause-items : goal.returns-then-stands_before-clause-items

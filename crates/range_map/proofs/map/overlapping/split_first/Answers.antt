@@ -1,5 +1,5 @@
 use Rattle.std.proofs.Common.{arith, sym}
-use Rattle.range_map.proofs.Overlapping.{stored_order, run_first, run_alone_first}
+use Rattle.range_map.proofs.OverlappingItems.{stored_order, run_first, run_alone_first}
 use Rattle.range_map.proofs.map.overlapping.split_first.Goals as goal
 
 pub unreachable-requires : goal.unreachable-requires

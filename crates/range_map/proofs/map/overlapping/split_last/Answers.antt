@@ -1,5 +1,5 @@
 use Rattle.std.proofs.Common.{sym}
-use Rattle.range_map.proofs.Overlapping.{stored_order, run_last, run_alone}
+use Rattle.range_map.proofs.OverlappingItems.{stored_order, run_last, run_alone}
 use Rattle.range_map.proofs.map.overlapping.split_last.Goals as goal
 
 pub returns-in-Some-clause-items : goal.returns-in-Some-clause-items

@@ -1,6 +1,6 @@
 use Rattle.range_map.proofs.Common.{◌≡◌, ◌∙◌, refl, ap, ◌++◌, ◌∷◌, [], length, Included, insert_end, AnyRange, Item, place_before, place_at}
 use Rattle.range_change.specs.Edits.{with_start}
-use Rattle.range_map.proofs.Splitting.{parted, last_parted, last_cut}
+use Rattle.range_map.proofs.SplitLists.{parted, last_parted, last_cut}
 use Rattle.range_map.proofs.map.split_off.cut_last.Goals as goal
 
 pub returns-in_default-clause-divided : goal.returns-in_default-clause-divided

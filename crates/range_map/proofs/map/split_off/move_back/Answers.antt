@@ -1,5 +1,5 @@
 use Rattle.range_map.proofs.Common.{rules, ◌≡◌, ◌∙◌, ℕ, ◌+◌, ◌≤◌, ◌<◌, refl, sym, ap, subst, List, length, ◌++◌, ◌∷◌, [], arith, insert, Included, append_assoc, append-nil, length-append, insert_end, start_position, Le, Lt, Every, place_before, item_lower, places, not_lt, place_at}
-use Rattle.range_map.proofs.Splitting.{last_same}
+use Rattle.range_map.proofs.SplitLists.{last_same}
 use Rattle.range_map.proofs.map.split_off.move_back.Goals as goal
 
 -- the last item is put back

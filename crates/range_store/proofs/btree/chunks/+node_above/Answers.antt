@@ -2,7 +2,7 @@ use Rattle.std.proofs.Common.{◌≡◌, ◌≢◌, ◌-◌, suc, arith, refl}
 use Rattle.range_store.specs.Edges.{turn}
 use Rattle.range_store.proofs.Marks.{above_here, above_below, above_weight}
 use Rattle.range_store.proofs.Paths.{child_within, below_kid, below_turn, below_inside}
-use Rattle.range_store.proofs.Ways.{weight_fits}
+use Rattle.range_store.proofs.PathsBelow.{weight_fits}
 use Rattle.range_store.proofs.btree.chunks.+node_above.Goals as goal
 
 pub returns-then-below-lt2 : goal.returns-then-below-lt2

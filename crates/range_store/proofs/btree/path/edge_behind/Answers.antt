@@ -4,7 +4,7 @@ use Rattle.range_store.specs.Heap.{items_of, node_of}
 use Rattle.range_store.specs.declared.btree.nodes.TheConstants.{CAPACITY}
 use Rattle.range_store.proofs.Behind.{sets_out, turn_low, goes_by_another, goes_by_the_last, comes_to_the_end}
 use Rattle.range_store.proofs.Paths.{child_within}
-use Rattle.range_store.proofs.Ways.{weight_fits}
+use Rattle.range_store.proofs.PathsBelow.{weight_fits}
 use Rattle.range_store.proofs.btree.path.edge_behind.Goals as goal
 use Rattle.range_store.proofs.btree.path.edge_behind.Given.{Over}
 use Rattle.range_store.proofs.btree.path.edge_behind.Goals.{After-first_turn-index}

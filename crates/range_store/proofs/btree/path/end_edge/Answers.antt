@@ -5,7 +5,7 @@ use Rattle.range_store.specs.Nodes.{items_below}
 use Rattle.range_store.specs.declared.btree.nodes.TheConstants.{CAPACITY}
 use Rattle.range_store.proofs.Descending.{begins, descends, descent_ends}
 use Rattle.range_store.proofs.Front.{count_all, falls_all}
-use Rattle.range_store.proofs.Ways.{weight_fits}
+use Rattle.range_store.proofs.PathsBelow.{weight_fits}
 use Rattle.range_store.proofs.btree.path.end_edge.Goals as goal
 
 pub down-init : goal.down-init

@@ -7,7 +7,7 @@ use Rattle.range_store.proofs.Descending.{adds_more, adds_none, begins, descends
 use Rattle.range_store.proofs.Front.{cells_full, count_cells, falls_cells}
 use Rattle.range_store.proofs.Searching.{node_falls}
 use Rattle.range_store.proofs.Paths.{child_within}
-use Rattle.range_store.proofs.Ways.{weight_fits}
+use Rattle.range_store.proofs.PathsBelow.{weight_fits}
 use Rattle.range_store.proofs.btree.searching.search_below.Goals as goal
 use Rattle.range_store.proofs.btree.searching.search_below.Given.{Over}
 use Rattle.range_store.proofs.btree.searching.search_below.Goals.{After-halve-index}

@@ -1,5 +1,5 @@
 use Rattle.std.proofs.Common.{◌≡◌, ◌+◌, ◌≤◌, length, ap, sym, arith, rules}
-use Rattle.range_store.specs.Places.{place_before}
+use Rattle.range_store.specs.ListPlaces.{place_before}
 use Rattle.range_store.proofs.Edits.{put_over}
 use Rattle.range_store.proofs.inner.cursor.put.Goals as goal
 

@@ -1,6 +1,6 @@
 use Rattle.std.proofs.Common.{arith, length, rules}
 use Rattle.std.proofs.lemmas.Grind.{common_steps}
-use Rattle.range_store.specs.Places.{place_before}
+use Rattle.range_store.specs.ListPlaces.{place_before}
 use Rattle.range_store.proofs.Edits.{removed_one}
 use Rattle.range_store.proofs.inner.cursor.remove_rest.Goals as goal
 

@@ -1,5 +1,5 @@
 use Rattle.std.proofs.Common.{◌≡◌, ◌+◌, ◌≤◌, ◌++◌, length, take, drop}
-use Rattle.range_store.specs.Places.{place_before, IsAt}
+use Rattle.range_store.specs.ListPlaces.{place_before, IsAt}
 use Rattle.range_store.proofs.inner.cursor.remove_rest.Given as goal
 
 abbrev pub invariant-loop-removed : goal.invariant-loop-removed

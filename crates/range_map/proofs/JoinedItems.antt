@@ -2,7 +2,7 @@
 use Rattle.range_map.proofs.Common.{inl, inr, Bool, true, false, Some, None, List, [], ◌∷◌, ◌++◌, if◌then◌else◌, IsEquivalence, KeyOrder, IsLawful, position_cmp, Position, Beside, At, lower, Le, Lt, Every, Holds, IsEmptyRange, IsKnownRange, AnyRange, every_weaker, Item, BindAlike, BindsTo, IsBound, IsStored, item_lower, item_upper, full_range, held_between, unbounded_start, every_with, before_is, nonempty_good, stored_known, LieBefore, appended, are_one, joined, lt_le, le_trans, lt_not_le, lt_le_trans}
 use Rattle.range_map.proofs.BoundKeys.{bound_split, binds_split}
 use Rattle.range_map.proofs.Together.{IsAscending, stored_ascends}
-use Rattle.range_map.proofs.Appending.{appended_binds, appended_stored, lie_before_from}
+use Rattle.range_map.proofs.AppendedLists.{appended_binds, appended_stored, lie_before_from}
 
 module _ {K : Type 0} (order : KeyOrder K) {V : Type 0} where
   module _ (same : V → V → Bool) where

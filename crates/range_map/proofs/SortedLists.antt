@@ -1,6 +1,6 @@
 -- Lists that are sorted up to a place, and what a map is built of.
 use Rattle.range_map.proofs.Common.{◌≡◌, refl, ap, ◌∙◌, ◌+◌, ◌<◌, ◌≤◌, ℕ, zero, suc, take, map, get_or, length, Some, List, [], ◌∷◌, ◌++◌, arith, map_more, take-map, KeyOrder, IsLawful, lower, Every, IsKnownRange, AnyRange, Item, full_range, IsFirstFault, IsNext, IsSorted, last_key}
-use Rattle.range_map.proofs.Joining.{RisesFrom, ascending_rises}
+use Rattle.range_map.proofs.JoinedItems.{RisesFrom, ascending_rises}
 use Rattle.range_map.proofs.Together.{ascends}
 
 pub last_is : {K V : Type 0} (xs : List (Item (AnyRange K) V)) (x : Item (AnyRange K) V)

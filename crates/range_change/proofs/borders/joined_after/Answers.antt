@@ -1,7 +1,7 @@
 use Rattle.std.proofs.lemmas.Grind.{common_steps}
 use Rattle.std.proofs.Common.{sym, arith}
 use Rattle.std.proofs.lemmas.List.{get_or_read}
-use Rattle.range_change.proofs.edges.joined_after.Goals as goal
+use Rattle.range_change.proofs.borders.joined_after.Goals as goal
 
 pub returns-else-touching-clause-joined : goal.returns-else-touching-clause-joined
 returns-else-touching-clause-joined g c = grind (arith, common_steps)

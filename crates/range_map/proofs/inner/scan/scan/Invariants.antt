@@ -1,5 +1,5 @@
 use Rattle.range_map.proofs.Common.{take, All, Holds}
-use Rattle.range_map.proofs.inner.scan.find.Given as goal
+use Rattle.range_map.proofs.inner.scan.scan.Given as goal
 
 abbrev pub invariant-loop-item : goal.invariant-loop-item
 invariant-loop-item g l =

@@ -1,6 +1,6 @@
 use Rattle.std.proofs.Common.{arith}
 use Rattle.std.proofs.lemmas.Grind.{common_steps}
-use Rattle.range_change.proofs.edges.touches.Goals as goal
+use Rattle.range_change.proofs.borders.touches.Goals as goal
 
 pub returns-clause-touching : goal.returns-clause-touching
 returns-clause-touching g c = grind (arith, common_steps)

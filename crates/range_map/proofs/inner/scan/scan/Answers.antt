@@ -1,6 +1,6 @@
 use Rattle.range_map.proofs.Common.{Holds, bound_at, not_both, All-more}
 use Rattle.range_map.proofs.Scans.{none_holds}
-use Rattle.range_map.proofs.inner.scan.find.Goals as goal
+use Rattle.range_map.proofs.inner.scan.scan.Goals as goal
 
 pub returns-then-holds : goal.returns-then-holds
 returns-then-holds g c =

@@ -6,7 +6,7 @@ ghost use Rattle.range_algebra.specs.Range.{ClonesAreEqual};
 ghost use Rattle.range_store.specs.Counting.{AddsSteps};
 ghost use Rattle.range_change.specs.Window.{IsWindowOf};
 ghost use Rattle.range_change.specs.Reach.{AreApart, IsReachOf};
-ghost use Rattle.range_change.specs.Edges.{seam_edge, run_length, IsSeamAt, IsJoinedBefore, IsJoinedAfter};
+ghost use Rattle.range_change.specs.Borders.{seam_border, run_length, IsSeamAt, IsJoinedBefore, IsJoinedAfter};
 ghost use Rattle.range_change.specs.Plans.{JoinsBefore, JoinsAfter};
 
 use crate::cut::cut_bound;
@@ -23,7 +23,7 @@ use std::ops::{Bound, RangeBounds};
 
 /// What becomes of an item at one side of a range.
 #[derive(Drop)]
-pub enum Edge<K, P: Copy> {
+pub enum Border<K, P: Copy> {
     /// Nothing stands there that the range cuts or joins.
     Plain,
     /// The item is shortened to this bound.
@@ -35,8 +35,8 @@ pub enum Edge<K, P: Copy> {
 /// What a range leaves or joins on both sides, and the items that are replaced.
 #[derive(Drop)]
 pub struct Sides<K, P: Copy> {
-    pub left: Edge<K, P>,
-    pub right: Edge<K, P>,
+    pub left: Border<K, P>,
+    pub right: Border<K, P>,
     pub run: Cursor<P>,
 }
 
@@ -164,13 +164,17 @@ pub fn joins_after<K: PartialEnum, V: Eq + Drop, C: Storage<Item<AnyRange<K>, V>
 
 /// What becomes of the item that joins a range on one side, or else of the one that reaches out of
 /// it, which is cut at the bound.
-pub fn seam<K: Drop, P: Copy>(joined: Option<P>, reaching: Option<P>, bound: Bound<K>) -> Edge<K, P>
-    ensures { result ≡ seam_edge joined reaching bound }
+pub fn seam<K: Drop, P: Copy>(
+    joined: Option<P>,
+    reaching: Option<P>,
+    bound: Bound<K>,
+) -> Border<K, P>
+    ensures { result ≡ seam_border joined reaching bound }
 {
     match (joined, reaching) {
-        (Some(p), _) => Edge::Joined(p),
-        (None, Some(p)) => Edge::Cut(p, bound),
-        (None, None) => Edge::Plain,
+        (Some(p), _) => Border::Joined(p),
+        (None, Some(p)) => Border::Cut(p, bound),
+        (None, None) => Border::Plain,
     }
 }
 
@@ -179,18 +183,18 @@ pub fn seam_at<K: PartialEnum + Clone, P: Copy>(
     joined: Option<P>,
     reaching: Option<P>,
     bound: Bound<&K>,
-) -> Result<Edge<K, P>, AllocError>
+) -> Result<Border<K, P>, AllocError>
     requires { ClonesAreEqual K.is_clone K.eq }
     ensures { IfOk result (IsSeamAt K.order joined reaching (bound_of bound.entry)) }
 {
     inner::known_bound(bound);
     match (joined, reaching) {
-        (Some(p), _) => Ok(Edge::Joined(p)),
+        (Some(p), _) => Ok(Border::Joined(p)),
         (None, Some(p)) => {
             let cut = cut_bound(bound)?;
-            Ok(Edge::Cut(p, cut))
+            Ok(Border::Cut(p, cut))
         }
-        (None, None) => Ok(Edge::Plain),
+        (None, None) => Ok(Border::Plain),
     }
 }
 

@@ -1,7 +1,7 @@
 use Rattle.std.proofs.Common.{sym}
 use Rattle.range_change.proofs.InsertionPlans.{right_plan_inside, right_plan_cut}
 use Rattle.range_change.proofs.JoinedMiddle.{right_touched}
-use Rattle.range_change.proofs.edges.joins_after.Goals as goal
+use Rattle.range_change.proofs.borders.joins_after.Goals as goal
 
 pub returns-then-eq-clause-joins : goal.returns-then-eq-clause-joins
 returns-then-eq-clause-joins g c = λ lawful equal b known_b same_b.

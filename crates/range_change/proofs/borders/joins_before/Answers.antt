@@ -1,7 +1,7 @@
 use Rattle.std.proofs.Common.{sym}
 use Rattle.range_change.proofs.InsertionPlans.{left_plan_inside, left_plan_cut}
 use Rattle.range_change.proofs.JoinedMiddle.{left_touched}
-use Rattle.range_change.proofs.edges.joins_before.Goals as goal
+use Rattle.range_change.proofs.borders.joins_before.Goals as goal
 
 pub returns-then-eq-clause-joins : goal.returns-then-eq-clause-joins
 returns-then-eq-clause-joins g c = λ lawful equal b at known_b same_b start.

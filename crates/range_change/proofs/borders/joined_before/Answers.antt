@@ -1,6 +1,6 @@
 use Rattle.std.proofs.lemmas.Grind.{common_steps}
 use Rattle.std.proofs.Common.{arith}
-use Rattle.range_change.proofs.edges.joined_before.Goals as goal
+use Rattle.range_change.proofs.borders.joined_before.Goals as goal
 
 pub returns-then-eq-clause-joined : goal.returns-then-eq-clause-joined
 returns-then-eq-clause-joined g c = grind (arith, common_steps)

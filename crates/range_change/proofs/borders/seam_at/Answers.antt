@@ -2,7 +2,7 @@ use Rattle.std.proofs.Common.{refl}
 use Rattle.range_keys.specs.Position.{bound_of}
 use Rattle.range_change.specs.Edits.{flipped_bound}
 use Rattle.range_change.proofs.CutParts.{known_turned, same_turned}
-use Rattle.range_change.proofs.edges.seam_at.Goals as goal
+use Rattle.range_change.proofs.borders.seam_at.Goals as goal
 
 pub returns-in-Some-default : goal.returns-in-Some-default
 returns-in-Some-default g c =

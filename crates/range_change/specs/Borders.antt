@@ -9,17 +9,17 @@ use Rattle.range_keys.specs.declared.inner.position.Position.{Position}
 use Rattle.range_algebra.specs.Range.{IsKnownRange, IsKnownBound}
 use Rattle.std.specs.Option.{unwrap_or}
 use Rattle.std.specs.declared.ops.Bound.TheVariants.{Unbounded}
-use Rattle.range_change.specs.declared.edges.Edge.{Edge}
-use Rattle.range_change.specs.declared.edges.Edge.TheVariants.{Plain, Cut, Joined}
-use Rattle.range_change.specs.declared.edges.Joins.{Joins}
+use Rattle.range_change.specs.declared.borders.Border.{Border}
+use Rattle.range_change.specs.declared.borders.Border.TheVariants.{Plain, Cut, Joined}
+use Rattle.range_change.specs.declared.borders.Joins.{Joins}
 use Rattle.range_change.specs.declared.reach.Reach.{Reach}
 use Rattle.range_change.specs.Edits.{flipped_bound, with_start, with_end}
 use Rattle.range_algebra.specs.Clones.{SameBound}
 use Rattle.range_algebra.specs.declared.any.AnyRange.{AnyRange}
-use Rattle.range_store.specs.Places.{place_before, IsAt}
+use Rattle.range_store.specs.ListPlaces.{place_before, IsAt}
 use Rattle.range_store.specs.declared.inner.cursor.Cursor.{Cursor}
 use Rattle.range_store.specs.declared.storage.Item.{Item}
-use Rattle.range_change.specs.declared.cut.Parts.{Parts}
+use Rattle.range_change.specs.declared.cut.DividedItem.{DividedItem}
 use Rattle.range_change.specs.declared.window.Window.{Window}
 use Rattle.range_algebra.specs.Intervals.{Every, Le}
 use Rattle.range_change.specs.Chains.{line_of, IsLeft, IsRight, IsLeftOf, IsRightOf}
@@ -31,13 +31,13 @@ use Rattle.range_change.specs.Window.{option_items}
 
 module _ {K : Type 0} (order : KeyOrder K) {V : Type 0} (same : V → V → Bool) where
   -- where a range starts that has another start bound in the place of its own
-  abbrev pub edge_start : Option (Bound K) → AnyRange K → Position K
-  edge_start None r = lower order r
-  edge_start (Some b) r = start_position order b
+  abbrev pub border_start : Option (Bound K) → AnyRange K → Position K
+  border_start None r = lower order r
+  border_start (Some b) r = start_position order b
 
-  abbrev pub edge_end : Option (Bound K) → AnyRange K → Position K
-  edge_end None r = upper order r
-  edge_end (Some b) r = past order (end_position order b)
+  abbrev pub border_end : Option (Bound K) → AnyRange K → Position K
+  border_end None r = upper order r
+  border_end (Some b) r = past order (end_position order b)
 
   -- no item just before the place touches the range with an equal value
   abbrev pub TouchesNoneBefore : List (Item (AnyRange K) V) → ℕ → AnyRange K → V → Type 0
@@ -81,21 +81,21 @@ module _ {K : Type 0} (order : KeyOrder K) {V : Type 0} (same : V → V → Bool
 
     -- what stands before the range when it is bound to v: the first `at` items and a rest, after
     -- which the range starts at `start`
-    pub record IsLeftEdge (items : List (Item (AnyRange K) V)) (r : AnyRange K) (v : V) (at : ℕ)
+    pub record IsLeftBorder (items : List (Item (AnyRange K) V)) (r : AnyRange K) (v : V) (at : ℕ)
         (rest : Option (Item (AnyRange K) V)) (start : Option (Bound K)) : Type 0 where
       pub s : Position K
-      pub starts : position_cmp order.cmp (edge_start start r) s ≡ Equal
+      pub starts : position_cmp order.cmp (border_start start r) s ≡ Equal
       pub left : IsLeftOf (line_of order lawful same equal) items
           (take at items ++ option_items rest) (lower order r) s v
       pub known : Every (λ i. IsKnownRange order i.key) (option_items rest)
       pub known_start : IsKnownBound order (unwrap_or start r.start)
 
     -- what stands after it
-    pub record IsRightEdge (items : List (Item (AnyRange K) V)) (r : AnyRange K) (v : V) (end : ℕ)
+    pub record IsRightBorder (items : List (Item (AnyRange K) V)) (r : AnyRange K) (v : V) (end : ℕ)
         (rest : Option (Item (AnyRange K) V)) (finish : Option (Bound K)) : Type 0 where
       pub in_range : end ≤ length items
       pub e : Position K
-      pub ends : position_cmp order.cmp (edge_end finish r) e ≡ Equal
+      pub ends : position_cmp order.cmp (border_end finish r) e ≡ Equal
       pub right : IsRightOf (line_of order lawful same equal) items
           (option_items rest ++ drop end items) (upper order r) e v
       pub known : Every (λ i. IsKnownRange order i.key) (option_items rest)
@@ -111,39 +111,39 @@ pub record IsOpened {K V : Type 0} (items new : List (Item (AnyRange K) V))
   pub behind : drop upto new ≡ option_items after ++ drop end items
 
 module _ {K P : Type 0} where
-  -- how many items an edge adds to those that give way
-  abbrev pub joined_count : Edge K P → ℕ
+  -- how many items an border adds to those that give way
+  abbrev pub joined_count : Border K P → ℕ
   joined_count Plain = 0
   joined_count (Cut p b) = 0
   joined_count (Joined p) = 1
 
   -- an item that is cut at the bound, if there is one
-  abbrev pub edge_at : Option P → Bound K → Edge K P
-  edge_at None b = Plain
-  edge_at (Some p) b = Cut p b
+  abbrev pub border_at : Option P → Bound K → Border K P
+  border_at None b = Plain
+  border_at (Some p) b = Cut p b
 
   -- what becomes of an item that joins, or else of one that reaches out and is cut at the bound
-  abbrev pub seam_edge : Option P → Option P → Bound K → Edge K P
-  seam_edge None reaching b = edge_at reaching b
-  seam_edge (Some q) reaching b = Joined q
+  abbrev pub seam_border : Option P → Option P → Bound K → Border K P
+  seam_border None reaching b = border_at reaching b
+  seam_border (Some q) reaching b = Joined q
 
   -- the same where the cut is just outside the bound of a range
   pub record IsSeamAt (order : KeyOrder K) (joined reaching : Option P) (bound : Bound K)
-      (edge : Edge K P) : Type 0 where
+      (border : Border K P) : Type 0 where
     pub cut : Bound K
-    pub at : edge ≡ seam_edge joined reaching cut
+    pub at : border ≡ seam_border joined reaching cut
     pub known : IsKnownBound order cut
     pub flipped : SameBound order (flipped_bound bound) cut
 
-  abbrev pub IsGoodEdge : (P → Type 0) → Edge K P → Type 0
-  IsGoodEdge is_good Plain = ⊤
-  IsGoodEdge is_good (Cut p b) = is_good p
-  IsGoodEdge is_good (Joined p) = is_good p
+  abbrev pub IsGoodBorder : (P → Type 0) → Border K P → Type 0
+  IsGoodBorder is_good Plain = ⊤
+  IsGoodBorder is_good (Cut p b) = is_good p
+  IsGoodBorder is_good (Joined p) = is_good p
 
   module _ {V : Type 0} where
-    -- how an edge before a range changes the items, and the start that it gives the range
+    -- how an border before a range changes the items, and the start that it gives the range
     abbrev pub IsLeftEdited : (P → ℕ) → List (Item (AnyRange K) V) → List (Item (AnyRange K) V)
-        → Edge K P → Option (Bound K) → Type 0
+        → Border K P → Option (Bound K) → Type 0
     IsLeftEdited rank items new Plain start = (new ≡ items) × (start ≡ None)
     IsLeftEdited rank items new (Cut p b) start =
         ((d : Item (AnyRange K) V)
@@ -154,7 +154,7 @@ module _ {K P : Type 0} where
         × (start ≡ Some (slice_index_or items (rank p) d).key.start)
 
     abbrev pub IsRightEdited : (P → ℕ) → List (Item (AnyRange K) V) → List (Item (AnyRange K) V)
-        → Edge K P → Option (Bound K) → Type 0
+        → Border K P → Option (Bound K) → Type 0
     IsRightEdited rank items new Plain finish = (new ≡ items) × (finish ≡ None)
     IsRightEdited rank items new (Cut p b) finish =
         ((d : Item (AnyRange K) V)
@@ -165,8 +165,8 @@ module _ {K P : Type 0} where
         × (finish ≡ Some (slice_index_or items (rank p) d).key.end)
 
     -- `at` items and a rest stand before the run, which begins at `from`
-    abbrev pub IsLeftShape : (P → Type 0) → (P → ℕ) → List (Item (AnyRange K) V) → Edge K P → ℕ → ℕ
-        → Option (Item (AnyRange K) V) → Option (Bound K) → Type 0
+    abbrev pub IsLeftShape : (P → Type 0) → (P → ℕ) → List (Item (AnyRange K) V) → Border K P
+        → ℕ → ℕ → Option (Item (AnyRange K) V) → Option (Bound K) → Type 0
     IsLeftShape is_good rank items Plain at from rest start =
         (from ≡ at) × (rest ≡ None) × (start ≡ None)
     IsLeftShape is_good rank items (Cut p b) at from rest start =
@@ -178,8 +178,8 @@ module _ {K P : Type 0} where
         × ((x : Item (AnyRange K) V) × (x ≡ slice_index_or items at x) × (start ≡ Some x.key.start))
 
     -- a rest and the items from `end` on stand after the run, which ends at `upto`
-    abbrev pub IsRightShape : (P → Type 0) → (P → ℕ) → List (Item (AnyRange K) V) → Edge K P → ℕ → ℕ
-        → Option (Item (AnyRange K) V) → Option (Bound K) → Type 0
+    abbrev pub IsRightShape : (P → Type 0) → (P → ℕ) → List (Item (AnyRange K) V) → Border K P
+        → ℕ → ℕ → Option (Item (AnyRange K) V) → Option (Bound K) → Type 0
     IsRightShape is_good rank items Plain upto end rest finish =
         (upto ≡ end) × (rest ≡ None) × (finish ≡ None)
     IsRightShape is_good rank items (Cut p b) upto end rest finish =
@@ -191,9 +191,9 @@ module _ {K P : Type 0} where
         × ((x : Item (AnyRange K) V) × (x ≡ slice_index_or items (rank p) x)
         × (finish ≡ Some x.key.end))
 
-    -- the items beside a run are edited as the edges say
+    -- the items beside a run are edited as the borders say
     abbrev pub AreOpened : (P → Type 0) → (P → ℕ) → List (Item (AnyRange K) V)
-        → List (Item (AnyRange K) V) → Edge K P → Edge K P → Option (Bound K) × Option (Bound K)
+        → List (Item (AnyRange K) V) → Border K P → Border K P → Option (Bound K) × Option (Bound K)
         → Type 0
     AreOpened is_good rank items new left right bounds =
         (at from upto end : ℕ) (before after : Option (Item (AnyRange K) V))
@@ -202,9 +202,9 @@ module _ {K P : Type 0} where
         → from + joined_count left + joined_count right ≤ upto
         → IsOpened items new bounds at from upto end before after start finish
 
-    -- `put` stands in the place of the run, between what the edges leave of the items beside it
+    -- `put` stands in the place of the run, between what the borders leave of the items beside it
     abbrev pub IsSpliced : (P → Type 0) → (P → ℕ) → List (Item (AnyRange K) V)
-        → List (Item (AnyRange K) V) → Edge K P → Edge K P → Cursor P
+        → List (Item (AnyRange K) V) → Border K P → Border K P → Cursor P
         → (Option (Bound K) → Option (Bound K) → List (Item (AnyRange K) V)) → Type 0
     IsSpliced is_good rank items new left right run put =
         (at end : ℕ) (before after : Option (Item (AnyRange K) V)) (start finish : Option (Bound K))
@@ -217,7 +217,7 @@ module _ {K P : Type 0} where
 
 -- an item in two parts, with `middle` between them
 abbrev pub IsDivided : {K V : Type 0} → List (Item (AnyRange K) V) → List (Item (AnyRange K) V) → ℕ
-    → Parts K V → Option (Item (AnyRange K) V) → Type 0
+    → DividedItem K V → Option (Item (AnyRange K) V) → Type 0
 IsDivided {K} {V} items new place parts middle = (d : Item (AnyRange K) V) → let item =
     slice_index_or items place d in new ≡ take place items
     ++ option_items (Some (with_end item parts.end)) ++ option_items middle
