@@ -76,7 +76,7 @@ module _ {K : Type 0} (order : KeyOrder K) (lawful : IsLawful order) where
             }
       ]
 
-  shared_place_is_overlap : (r s : AnyRange K) (p : Position K) → IsKnownRange order r
+  pub shared_place_is_overlap : (r s : AnyRange K) (p : Position K) → IsKnownRange order r
       → IsKnownRange order s → Le (places order lawful) (lower order r) p
       → Lt (places order lawful) p (upper order r) → Le (places order lawful) (lower order s) p
       → Lt (places order lawful) p (upper order s) → Overlap order r s

@@ -1,25 +1,21 @@
 -- A merged pass over two lists: what the answers so far make of both.
 use Rattle.std.proofs.Common.{◌≡◌, refl, sym, ◌∙◌, ◌↔◌, ◌⊎◌, inl, inr, arith, Bool, true, Option, Some, None, Result, Ok, Err, List, [], ◌∷◌, ◌++◌}
 use Rattle.range_merge.proofs.Common.{IsEquivalence, Bound, KeyOrder, IsLawful, Position, Beside, At, IsBoundClone, SameBound, lower, upper, Any, Every, Holds, LiesBefore, AnyRange, any_left, any_none, any_split, every_append, every_weaker, Item, Answered, IsAsAnswered, IsBound, Binds, BindsTo, LiesIn, IsStored}
-use Rattle.range_merge.specs.Combining.{Combined, IsConstantOn, IsSharedPart, AreCombined, IsCombination, MayFailOnBoth}
+use Rattle.range_merge.specs.Combining.{Combined, IsConstantOn, IsSharedPart, IsSharedPiece, AreCombined, IsCombination, MayFailOnBoth}
 use Rattle.range_merge.proofs.PlaceOrder.{le_refl, lt_le, le_trans, lt_not_le}
 use Rattle.range_algebra.proofs.Places.{held_between, unbounded_start, unbounded_end}
 use Rattle.range_change.specs.Questions.{IsPut}
 use Rattle.range_merge.specs.Merged.{IsFirstPiece}
 use Rattle.range_change.specs.Neighbours.{EachNext}
 use Rattle.range_change.specs.Window.{option_items}
-use Rattle.range_merge.proofs.Combining.{full_range, PLe, HoldsAt, IsSideUpTo, IsTaken, taken, side_none, side_more, side_all, constant_on}
+use Rattle.range_merge.proofs.Combining.{full_range, PLe, HoldsAt, IsSideUpTo, IsTaken, taken, side_none, side_more, side_all, constant_on, some_of}
+use Rattle.range_merge.proofs.WidestPieces.{LiesBetweenEnds, LieBetweenEnds, widest, rest_between, piece_between, items_between, others_between}
 use Rattle.range_change.proofs.RangePieces.{any_end, any_over, any_use, any_with, every_with, next_last}
 use Rattle.range_change.proofs.AnswerLists.{IsFilledUpTo, filled_none, fill_more, Alike, Gives}
 use Rattle.range_change.proofs.Forms.{Known, Hold, before_is, nonempty_good, chain_stored, binds_hold, bound_hold, respects_any}
 use Rattle.range_change.proofs.Overlaps.{binding_meets}
 use Rattle.range_change.proofs.Windows.{every_both}
 use Rattle.range_merge.proofs.HeldInside.{inside_holds, lies_in_holds}
-
-some_of : {V W : Type 0} (v : Option V) (w : Option W) → (v ≡ None → w ≡ None → ⊥)
-    → (v ≡ None → ⊥) ⊎ (w ≡ None → ⊥)
-some_of (Some v) w some = inl (λ e. cc)
-some_of None w some = inr (λ e. some refl e)
 
 any_last : {X : Type 0} (P : X → Type 0) (xs : List X) (x : X)
     → Any P (xs ++ x ∷ []) ↔ (Any P xs ⊎ P x)
@@ -65,7 +61,9 @@ module _ {K : Type 0} {order : KeyOrder K} (lawful : IsLawful order) {V W X : Ty
     pub upto : Position K
     pub first : IsSideUpTo order items upto left (IsDone answers)
     pub second : IsSideUpTo order others upto right (IsDone answers)
-    pub each : Every (λ c. IsSharedPart order items others c.key c.left c.right) answers
+    pub between : LieBetweenEnds lawful items others left
+    pub others_between : LieBetweenEnds lawful items others right
+    pub each : Every (λ c. IsSharedPiece order items others c.key c.left c.right) answers
     pub rising : EachNext (λ c d. LiesBefore order c.key d.key) answers
     pub below : Every (λ c. PLe order (upper order c.key) upto) answers
     pub given : Every (λ c. may c.left c.right (Ok c.answer)) answers
@@ -85,6 +83,8 @@ module _ {K : Type 0} {order : KeyOrder K} (lawful : IsLawful order) {V W X : Ty
     upto = lower order full_range;
     first = side_none lawful equal_left items stored (IsDone []);
     second = side_none lawful equal_right others stored_others (IsDone []);
+    between = items_between lawful items others;
+    others_between = others_between lawful items others;
     each = tt;
     rising = tt;
     below = tt;
@@ -126,20 +126,26 @@ module _ {K : Type 0} {order : KeyOrder K} (lawful : IsLawful order) {V W X : Ty
         lt_not_le lawful _ _ held.1
         (le_trans lawful _ _ _ below (le_trans lawful _ _ _ starts_after at.0))) done
 
-    -- both lists are constant on it
-    is_shared : IsSharedPart order items others key value other
+    ends : LiesBetweenEnds order items others key
+    ends = piece_between lawful items others piece rest others_rest was.between was.others_between
+
+    -- both lists are constant on it, and it is as wide as it goes
+    is_shared : IsSharedPiece order items others key value other
     is_shared = record {
-      known = piece.placed.known;
-      nonempty = (nonempty_good order lawful key piece.placed.known).1 piece.placed.good;
-      first = constant_on lawful was.first value piece.placed took not_done;
-      second = constant_on lawful was.second other piece.placed took_other not_done;
-      bound = piece.bound;
+      part = record {
+        known = piece.placed.known;
+        nonempty = (nonempty_good order lawful key piece.placed.known).1 piece.placed.good;
+        first = constant_on lawful was.first value piece.placed took not_done;
+        second = constant_on lawful was.second other piece.placed took_other not_done;
+        bound = piece.bound;
+      };
+      widest = widest lawful was.first was.second key piece.placed ends value other;
     }
 
     -- what an error to it is answered to
     pub failed_piece : (e : E) → may value other (Err e) → MayFailOnBoth order may items others e
     failed_piece e says =
-        record { part = key; left = value; right = other; is_part = is_shared; says = says }
+        record { piece = key; left = value; right = other; is_piece = is_shared; says = says }
 
     abbrev more : Option X → List Answer
     more answer =
@@ -194,11 +200,17 @@ module _ {K : Type 0} {order : KeyOrder K} (lawful : IsLawful order) {V W X : Ty
             upto = upper order key;
             first = side_more lawful was.first took _ (λ p. (any_last _ was.answers _).1);
             second = side_more lawful was.second took_other _ (λ p. (any_last _ was.answers _).1);
+            between =
+                rest_between lawful items others key first value last rest piece.first ends.1
+                was.between;
+            others_between =
+                rest_between lawful items others key second other last_other others_rest
+                piece.second ends.1 was.others_between;
             each = every_append _ was.answers _ was.each (is_shared, tt);
             rising =
                 next_last _ was.answers _ was.rising
                 (every_with _ _ _ was.answers was.each was.below (λ c part below.
-                (before_is order lawful c.key.end key.start part.known.1 piece.placed.known.0).1
+                (before_is order lawful c.key.end key.start part.part.known.1 piece.placed.known.0).1
                 (le_trans lawful _ _ _ below starts_after)));
             below =
                 every_append _ was.answers _
@@ -260,19 +272,20 @@ module _ {K : Type 0} {order : KeyOrder K} (lawful : IsLawful order) {V W X : Ty
             | inr b ↦ side_all lawful was.second no_right k key b
           ] in
           any_with _ _ _ was.answers (was.held (Beside k At) done) was.each (λ c at part. (
-            (held_between order lawful c.key k part.known key).1 at.0,
+            (held_between order lawful c.key k part.part.known key).1 at.0,
             λ b. as_answered new k was.filled.known key c.answer b at.1,
           ));
       free = λ k key unbound unbound_other bound.
           any_use _ _ was.answers (was.free (Beside k At)
           ((bound_hold order lawful same equal new k was.filled.known key).0 bound)) was.each
           (λ c at part.
-          let held = (held_between order lawful c.key k part.known key).1 at in
-          elim (some_of c.left c.right part.bound) [
+          let shared = part.part in
+          let held = (held_between order lawful c.key k shared.known key).1 at in
+          elim (some_of c.left c.right shared.bound) [
             | inl some ↦
-                unbound (constant_bound items c.key c.left k key held part.first some)
+                unbound (constant_bound items c.key c.left k key held shared.first some)
             | inr some ↦
-                unbound_other (constant_bound others c.key c.right k key held part.second some)
+                unbound_other (constant_bound others c.key c.right k key held shared.second some)
           ]);
     },
   )
@@ -312,8 +325,8 @@ module _ {K : Type 0} {order : KeyOrder K} (lawful : IsLawful order) where
           left = c.left;
           right = c.right;
           answer = c.answer;
-          first = constant_binds equal_left items c.key c.left k key at.0 part.0.first;
-          second = constant_binds equal_right others c.key c.right k key at.0 part.0.second;
+          first = constant_binds equal_left items c.key c.left k key at.0 part.0.part.first;
+          second = constant_binds equal_right others c.key c.right k key at.0 part.0.part.second;
           given = part.1;
           is = at.1;
         });

@@ -15,6 +15,11 @@ use Rattle.range_change.proofs.Forms.{Known, Chained, bound_hold, stored_chain, 
 abbrev pub full_range : {K : Type 0} → AnyRange K
 full_range = record { start = Unbounded; end = Unbounded }
 
+pub some_of : {V W : Type 0} (v : Option V) (w : Option W) → (v ≡ None → w ≡ None → ⊥)
+    → (v ≡ None → ⊥) ⊎ (w ≡ None → ⊥)
+some_of (Some v) w some = inl (λ e. cc)
+some_of None w some = inr (λ e. some refl e)
+
 -- all values are one
 abbrev alike : {V : Type 0} → V → V → Bool
 alike a b = true
@@ -53,6 +58,7 @@ module _ {K : Type 0} (order : KeyOrder K) where
     pub record IsSideUpTo (items : List (Item (AnyRange K) V)) (m : Position K)
         (left : List (Item (AnyRange K) V)) (Done : Position K → Type 0) : Type 0 where
       pub placed : Every (λ i. IsPlaced order i.key) items
+      pub apart : IsLeftFrom items (lower order full_range) items
       pub from : IsLeftFrom items m left
       pub seen : (p : Position K) → SomeHoldsAt p items → SomeHoldsAt p left ⊎ Done p
 
@@ -72,7 +78,7 @@ module _ {K : Type 0} {order : KeyOrder K} (lawful : IsLawful order) {V : Type 0
   left_lower items (x ∷ xs) m n le was =
       (le_trans lawful m n _ le was.0, was.1, was.2, was.3)
 
-  not_left : (items xs : List (Item (AnyRange K) V)) (m p : Position K)
+  pub not_left : (items xs : List (Item (AnyRange K) V)) (m p : Position K)
       → IsLeftFrom order items m xs → Lt (position_cmp order.cmp) p m → SomeHoldsAt order p xs → ⊥
   not_left items [] m p was less at = at
   not_left items (x ∷ xs) m p was less (inl at) =
@@ -186,6 +192,7 @@ module _ {K : Type 0} {order : KeyOrder K} (lawful : IsLawful order) {V : Type 0
           → IsSideUpTo order items (upper order key) after Next
       side_more taken Next next = record {
         placed = was.placed;
+        apart = was.apart;
         from = taken.from;
         seen = λ p h. elim (was.seen p h) [
           | inl later ↦ elim (taken.places p later) [
@@ -244,15 +251,17 @@ module _ {K : Type 0} {order : KeyOrder K} (lawful : IsLawful order) {V : Type 0
   side_none stored Done =
       let known = stored_known order lawful same equal items stored in
       let chain = stored_chain order lawful same equal items stored in
+      let all =
+      all_left items (lower order full_range) known chain
+      (every_weaker _ _ items (λ i k. unbounded_start order lawful i.key.start k.0) known)
+      (λ x h. h) in
       record {
         placed =
             every_with _ _ _ items known
             (chained_items_have_places order lawful same equal items chain)
             (λ i known good. record { known = known; good = good });
-        from =
-            all_left items (lower order full_range) known chain
-            (every_weaker _ _ items (λ i k. unbounded_start order lawful i.key.start k.0) known)
-            (λ x h. h);
+        apart = all;
+        from = all;
         seen = λ p h. inl h;
       }
 

@@ -5,3 +5,4 @@ pub mod Common
 pub mod FirstPieces
 pub mod HeldInside
 pub mod PlaceOrder
+pub mod WidestPieces

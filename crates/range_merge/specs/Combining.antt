@@ -85,6 +85,14 @@ module _ {K : Type 0} (order : KeyOrder K) where
       pub second : IsConstantOn others part right
       pub bound : left ≡ None → right ≡ None → ⊥
 
+    -- such a range that is as wide as it goes
+    pub record IsSharedPiece (items : List (Item (AnyRange K) V))
+        (others : List (Item (AnyRange K) W)) (piece : AnyRange K) (left : Option V)
+        (right : Option W) : Type 0 where
+      pub part : IsSharedPart items others piece left right
+      pub widest : (other : AnyRange K) → IsSharedPart items others other left right
+          → LiesIn order piece other → LiesIn order other piece
+
     module _ {X : Type 0} (same_left : V → V → Bool) (same_right : W → W → Bool)
         (same : X → X → Bool) {E : Type 0}
         (may : Option V → Option W → Result (Option X) E → Type 0) where
@@ -109,12 +117,12 @@ module _ {K : Type 0} (order : KeyOrder K) where
         pub free : (k : K) → order.is_key k → ¬ IsBound order items k → ¬ IsBound order others k
             → ¬ IsBound order new k
 
-      -- one answer for each of some ranges, each before the next, on which both lists are constant,
-      -- and each key that a list binds is bound as the answer to its range says
+      -- one answer for each of some pieces on which both lists are constant, each before the next,
+      -- and each key that a list binds is bound as the answer to its piece says
       pub record IsCombination (items : List (Item (AnyRange K) V))
           (others : List (Item (AnyRange K) W)) (new : List (Item (AnyRange K) X)) : Type 0 where
         pub answers : List (Combined K V W X)
-        pub each : Every (λ c. IsSharedPart items others c.key c.left c.right) answers
+        pub each : Every (λ c. IsSharedPiece items others c.key c.left c.right) answers
         pub rising : EachNext (λ c d. LiesBefore order c.key d.key) answers
         pub given : Every (λ c. may c.left c.right (Ok c.answer)) answers
         pub held : (k : K) → order.is_key k → IsBound order items k ⊎ IsBound order others k
@@ -123,13 +131,13 @@ module _ {K : Type 0} (order : KeyOrder K) where
         pub free : (k : K) → order.is_key k → ¬ IsBound order items k → ¬ IsBound order others k
             → ¬ IsBound order new k
 
-    -- the closure may answer an error to what a part is bound to
+    -- the closure may answer an error to what a piece is bound to
     pub record MayFailOnBoth {X E : Type 0}
         (may : Option V → Option W → Result (Option X) E → Type 0)
         (items : List (Item (AnyRange K) V)) (others : List (Item (AnyRange K) W))
         (e : E) : Type 0 where
-      pub part : AnyRange K
+      pub piece : AnyRange K
       pub left : Option V
       pub right : Option W
-      pub is_part : IsSharedPart items others part left right
+      pub is_piece : IsSharedPiece items others piece left right
       pub says : may left right (Err e)

@@ -48,10 +48,10 @@ module _ {K V W X E : Type 0} (order : KeyOrder K) (same_left : V → V → Bool
   pub fails_as : (e : E) → MayFailOnBoth order may items others e
       → MayFailOnBoth order kept items others e
   fails_as e fails = record {
-    part = fails.part;
+    piece = fails.piece;
     left = fails.left;
     right = fails.right;
-    is_part = fails.is_part;
+    is_piece = fails.is_piece;
     says = keeps fails.left fails.right (Err e) fails.says;
   }
 

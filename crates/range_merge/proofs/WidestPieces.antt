@@ -1,0 +1,312 @@
+-- Where ranges start and end, and that a piece between two such places is as wide as it goes.
+use Rattle.std.proofs.Common.{◌≡◌, refl, sym, ◌∙◌, ◌⊎◌, inl, inr, Option, Some, None, List, [], ◌∷◌, ◌++◌}
+use Rattle.range_merge.proofs.Common.{every_weaker, KeyOrder, IsLawful, IsKnownRange, position_cmp, Position, Equal, lower, upper, Lt, Any, Every, AnyRange, Item, LiesIn}
+use Rattle.range_merge.specs.Combining.{IsConstantOn, IsSharedPart}
+use Rattle.range_merge.specs.Merged.{IsPlaced, IsCutFrom, IsUsedUp, StartAlike, IsFirstPiece}
+use Rattle.range_change.specs.Window.{option_items}
+use Rattle.range_change.proofs.CoveredPlaces.{shared_place_is_overlap}
+use Rattle.range_change.proofs.Extents.{past_le}
+use Rattle.range_change.proofs.RangePieces.{any_over, any_use, lies_in}
+use Rattle.range_merge.proofs.Combining.{PLe, HoldsAt, IsLeftFrom, IsSideUpTo, not_left, some_of}
+use Rattle.range_merge.proofs.PlaceOrder.{le_refl, lt_le, eq_le, eq_ge, le_trans, le_lt_trans, lt_le_trans, lt_not_le, not_lt, cases, both}
+
+module _ {K : Type 0} (order : KeyOrder K) {V : Type 0} where
+  -- the place is one where an item starts or ends
+  abbrev pub IsEndIn : List (Item (AnyRange K) V) → Position K → Type 0
+  IsEndIn items p =
+      Any (λ i. (position_cmp order.cmp p (lower order i.key) ≡ Equal)
+      ⊎ (position_cmp order.cmp p (upper order i.key) ≡ Equal)) items
+
+-- a place where an item of either list starts or ends
+abbrev pub IsEnd : {K V W : Type 0} → KeyOrder K → List (Item (AnyRange K) V)
+    → List (Item (AnyRange K) W) → Position K → Type 0
+IsEnd order items others p = IsEndIn order items p ⊎ IsEndIn order others p
+
+-- the range starts and ends at such places
+abbrev pub LiesBetweenEnds : {K V W : Type 0} → KeyOrder K → List (Item (AnyRange K) V)
+    → List (Item (AnyRange K) W) → AnyRange K → Type 0
+LiesBetweenEnds order items others r =
+    IsEnd order items others (lower order r) × IsEnd order items others (upper order r)
+
+all_in : {X : Type 0} (items xs : List X)
+    → ((x : X) → Any (λ i. i ≡ x) xs → Any (λ i. i ≡ x) items)
+    → Every (λ x. Any (λ i. i ≡ x) items) xs
+all_in items [] within = tt
+all_in items (x ∷ xs) within = (within x (inl refl), all_in items xs (λ y h. within y (inr h)))
+
+-- each item of a list is in it
+members : {X : Type 0} (items : List X) → Every (λ x. Any (λ i. i ≡ x) items) items
+members items = all_in items items (λ x h. h)
+
+module _ {K : Type 0} {order : KeyOrder K} (lawful : IsLawful order) where
+  same_place : (p q r : Position K) → position_cmp order.cmp p q ≡ Equal
+      → position_cmp order.cmp q r ≡ Equal → position_cmp order.cmp p r ≡ Equal
+  same_place p q r one other =
+      both lawful p r (le_trans lawful p q r (eq_le lawful p q one) (eq_le lawful q r other))
+      (le_trans lawful r q p (eq_ge lawful q r other) (eq_ge lawful p q one))
+
+  module _ {V : Type 0} where
+    end_moved : (items : List (Item (AnyRange K) V)) (p q : Position K)
+        → position_cmp order.cmp p q ≡ Equal → IsEndIn order items q → IsEndIn order items p
+    end_moved items p q same at =
+        any_over _ _ items (λ i at. elim at [
+          | inl start ↦ inl (same_place p q _ same start)
+          | inr end ↦ inr (same_place p q _ same end)
+        ]) at
+
+    -- two items that hold one place are one
+    once : (items xs : List (Item (AnyRange K) V)) (m p : Position K) (a b : Item (AnyRange K) V)
+        → IsLeftFrom order items m xs → Any (λ i. i ≡ a) xs → Any (λ i. i ≡ b) xs
+        → HoldsAt order p a.key → HoldsAt order p b.key → a ≡ b
+    once items [] m p a b was in_a in_b at_a at_b = absurd in_a
+    once items (x ∷ xs) m p a b was (inl e) (inl f) at_a at_b = sym e ∙ f
+    once items (x ∷ xs) m p a b was (inl e) (inr later) at_a at_b =
+        absurd (not_left lawful items xs (upper order x.key) p was.3 (rw e at_a.1)
+        (any_over _ _ xs (λ i f. rw f at_b) later))
+    once items (x ∷ xs) m p a b was (inr later) (inl f) at_a at_b =
+        absurd (not_left lawful items xs (upper order x.key) p was.3 (rw f at_b.1)
+        (any_over _ _ xs (λ i e. rw e at_a) later))
+    once items (x ∷ xs) m p a b was (inr later) (inr too) at_a at_b =
+        once items xs (upper order x.key) p a b was.3 later too at_a at_b
+
+    module _ {items left : List (Item (AnyRange K) V)} {m : Position K}
+        {Done : Position K → Type 0} (was : IsSideUpTo order items m left Done)
+        (r : AnyRange K) (known : IsKnownRange order r) where
+      -- an item holds all places of a range on which the list is constant, or none
+      held_alike : (value : Option V) → IsConstantOn order items r value → (p q : Position K)
+          → HoldsAt order p r → HoldsAt order q r → (z : Item (AnyRange K) V)
+          → IsPlaced order z.key → Any (λ i. i ≡ z) items → HoldsAt order p z.key
+          → HoldsAt order q z.key
+      held_alike None constant p q at_p at_q z placed in_z held =
+          absurd (constant (any_over _ _ items (λ i same. rw same
+          (shared_place_is_overlap order lawful z.key r p placed.known known held.0 held.1 at_p.0
+          at_p.1)) in_z))
+      held_alike (Some v) constant p q at_p at_q z placed in_z held =
+          any_use _ _ items constant (members items) (λ x inside in_x.
+          let own = any_use _ _ items in_x was.placed (λ i same placed. rw (← same) placed) in
+          let ends = past_le order lawful r.end x.key.end known.1 own.known.1 inside.0.ends in
+          let within : (s : Position K) → HoldsAt order s r → HoldsAt order s x.key =
+          λ s at. (
+            le_trans lawful _ _ _ inside.0.starts at.0,
+            lt_le_trans lawful _ _ _ at.1 ends,
+          ) in
+          rw (← once items items _ p x z was.apart in_x in_z (within p at_p) held) (within q at_q))
+
+      -- so no item starts or ends past a place of the range and not past another
+      no_end_within : (value : Option V) → IsConstantOn order items r value → (p q : Position K)
+          → HoldsAt order p r → HoldsAt order q r → Lt (position_cmp order.cmp) p q
+          → IsEndIn order items q → ⊥
+      no_end_within value constant p q at_p at_q less ends =
+          any_use _ _ items ends (members items) (λ z at in_z.
+          let placed = any_use _ _ items in_z was.placed (λ i same placed. rw (← same) placed) in
+          let alike = held_alike value constant in
+          elim at [
+            | inl start ↦
+                let here = (
+                  eq_ge lawful _ _ start,
+                  le_lt_trans lawful _ _ _ (eq_le lawful _ _ start) placed.good,
+                ) in
+                lt_not_le lawful p q less (le_trans lawful _ _ _ (eq_le lawful _ _ start)
+                (alike q p at_q at_p z placed in_z here).0)
+            | inr end ↦
+                let past : (s : Position K) → HoldsAt order s r → PLe order (lower order z.key) s
+                → Lt (position_cmp order.cmp) s q → ⊥ =
+                λ s at_s from before.
+                lt_not_le lawful q (upper order z.key) (alike s q at_s at_q z placed in_z (
+                  from,
+                  lt_le_trans lawful _ _ _ before (eq_le lawful _ _ end),
+                )).1 (eq_ge lawful _ _ end) in
+                elim (cases lawful p (lower order z.key)) [
+                  | inl later ↦
+                      let before =
+                      lt_le_trans lawful _ _ _ placed.good (eq_ge lawful _ _ end) in
+                      past (lower order z.key) (
+                        le_trans lawful _ _ _ at_p.0 (lt_le lawful _ _ later),
+                        le_lt_trans lawful _ _ _ (lt_le lawful _ _ before) at_q.1,
+                      ) (le_refl lawful _) before
+                  | inr from ↦ past p at_p from less
+                ]
+          ])
+
+  module _ {V W : Type 0} {items left : List (Item (AnyRange K) V)}
+      {others right : List (Item (AnyRange K) W)} {m : Position K} {Done : Position K → Type 0}
+      (first : IsSideUpTo order items m left Done) (second : IsSideUpTo order others m right Done)
+    where
+      -- a range between two such places is as wide as those go on which both lists are constant
+      pub widest : (key : AnyRange K) → IsPlaced order key → LiesBetweenEnds order items others key
+          → (value : Option V) (other_value : Option W) (r : AnyRange K)
+          → IsSharedPart order items others r value other_value → LiesIn order key r
+          → LiesIn order r key
+      widest key placed ends value other_value r part within =
+          let upto = past_le order lawful key.end r.end placed.known.1 part.known.1 within.ends in
+          let no_end : (p q : Position K) → HoldsAt order p r → HoldsAt order q r
+          → Lt (position_cmp order.cmp) p q → IsEnd order items others q → ⊥ =
+          λ p q at_p at_q less end. elim end [
+            | inl own ↦ no_end_within first r part.known value part.first p q at_p at_q less own
+            | inr own ↦
+                no_end_within second r part.known other_value part.second p q at_p at_q less own
+          ] in
+          let good = lt_le_trans lawful _ _ _ placed.good upto in
+          lies_in order lawful r key part.known placed.known
+          (not_lt lawful (lower order key) (lower order r) (λ less.
+          no_end (lower order r) (lower order key)
+          (le_refl lawful _, le_lt_trans lawful _ _ _ (lt_le lawful _ _ less) good)
+          (lt_le lawful _ _ less, good) less ends.0))
+          (not_lt lawful (upper order r) (upper order key) (λ less.
+          no_end (lower order key) (upper order key) (within.starts, good)
+          (le_trans lawful _ _ _ within.starts (lt_le lawful _ _ placed.good), less) placed.good
+          ends.1))
+
+  module _ {V W : Type 0} (items : List (Item (AnyRange K) V))
+      (others : List (Item (AnyRange K) W)) where
+    moved : (p q : Position K) → position_cmp order.cmp p q ≡ Equal → IsEnd order items others q
+        → IsEnd order items others p
+    moved p q same at = elim at [
+      | inl own ↦ inl (end_moved items p q same own)
+      | inr own ↦ inr (end_moved others p q same own)
+    ]
+
+    back : (p q : Position K) → position_cmp order.cmp p q ≡ Equal
+        → position_cmp order.cmp q p ≡ Equal
+    back p q same = both lawful q p (eq_ge lawful p q same) (eq_le lawful p q same)
+
+    module _ {U : Type 0} where
+      abbrev pub LieBetweenEnds : List (Item (AnyRange K) U) → Type 0
+      LieBetweenEnds xs = Every (λ x. LiesBetweenEnds order items others x.key) xs
+
+      module _ (key : AnyRange K) where
+        -- what is left past a piece that ends at such a place
+        pub rest_between : (first : Option (Item (AnyRange K) U)) (value : Option U)
+            (last : Option (Item (AnyRange K) U)) (rest : List (Item (AnyRange K) U))
+            → IsCutFrom order first key value last → IsEnd order items others (upper order key)
+            → LieBetweenEnds (option_items first ++ rest)
+            → LieBetweenEnds (option_items last ++ rest)
+        rest_between None None last rest cut end all = rw cut all
+        rest_between None (Some v) last rest cut end all = absurd cut
+        rest_between (Some i) None last rest cut end all = rw cut.0 all
+        rest_between (Some i) (Some v) None rest cut end all = all.1
+        rest_between (Some i) (Some v) (Some j) rest cut end all = (
+          (
+            moved _ _ (back _ _ cut.2.from) end,
+            moved _ _ cut.2.upto all.0.1,
+          ),
+          all.1,
+        )
+
+        starts_at_end : (first : Option (Item (AnyRange K) U)) (value : Option U)
+            (last : Option (Item (AnyRange K) U)) (rest : List (Item (AnyRange K) U))
+            → IsCutFrom order first key value last → (value ≡ None → ⊥)
+            → LieBetweenEnds (option_items first ++ rest)
+            → IsEnd order items others (lower order key)
+        starts_at_end None None last rest cut some all = absurd (some refl)
+        starts_at_end None (Some v) last rest cut some all = absurd cut
+        starts_at_end (Some i) None last rest cut some all = absurd (some refl)
+        starts_at_end (Some i) (Some v) last rest cut some all = moved _ _ cut.1 all.0.0
+
+        ends_at_end : (first : Option (Item (AnyRange K) U)) (value : Option U)
+            (last : Option (Item (AnyRange K) U)) (rest : List (Item (AnyRange K) U))
+            → IsCutFrom order first key value last → IsUsedUp first last
+            → LieBetweenEnds (option_items first ++ rest)
+            → IsEnd order items others (upper order key)
+        ends_at_end None value last rest cut used all = absurd (used.0 refl)
+        ends_at_end (Some i) None last rest cut used all =
+            let whole : Some i ≡ None = sym cut.0 ∙ used.1 in absurd (cc)
+        ends_at_end (Some i) (Some v) None rest cut used all = moved _ _ cut.2 all.0.1
+        ends_at_end (Some i) (Some v) (Some j) rest cut used all =
+            let none = used.1 in absurd (cc)
+
+        -- a side that goes on, as it was or from the end of the piece
+        goes_on : (first : Option (Item (AnyRange K) U)) (value : Option U)
+            (last : Option (Item (AnyRange K) U)) (j : Item (AnyRange K) U)
+            → IsCutFrom order first key value last → last ≡ Some j
+            → ((value ≡ None) × (first ≡ Some j))
+            ⊎ ((position_cmp order.cmp (upper order key) (lower order j.key) ≡ Equal)
+            × ((i : Item (AnyRange K) U) × (first ≡ Some i)
+            × (position_cmp order.cmp (lower order key) (lower order i.key) ≡ Equal)))
+        goes_on None None last j cut is =
+            let none : None ≡ Some j = sym cut ∙ is in absurd (cc)
+        goes_on None (Some v) last j cut is = absurd cut
+        goes_on (Some i) None last j cut is = inl (refl, sym cut.0 ∙ is)
+        goes_on (Some i) (Some v) None j cut is = absurd (cc)
+        goes_on (Some i) (Some v) (Some k) j cut is =
+            let same : k ≡ j = cc in inr (rw (← same) cut.2.from, (i, refl, cut.1))
+
+      first_start : (first : Option (Item (AnyRange K) U)) (i : Item (AnyRange K) U)
+          (rest : List (Item (AnyRange K) U)) → first ≡ Some i
+          → LieBetweenEnds (option_items first ++ rest)
+          → IsEnd order items others (lower order i.key)
+      first_start None i rest is all = absurd (cc)
+      first_start (Some j) i rest is all = let same : j ≡ i = cc in rw (← same) all.0.0
+
+    -- the first piece of two lists whose ranges lie between such places
+    module _ {left left_rest : Option (Item (AnyRange K) V)}
+        {right right_rest : Option (Item (AnyRange K) W)} {key : AnyRange K} {value : Option V}
+        {other : Option W}
+        (piece : IsFirstPiece order left right key value other left_rest right_rest)
+        (xs : List (Item (AnyRange K) V)) (ys : List (Item (AnyRange K) W))
+        (all : LieBetweenEnds (option_items left ++ xs))
+        (all_others : LieBetweenEnds (option_items right ++ ys)) where
+      piece_start : IsEnd order items others (lower order key)
+      piece_start =
+          elim (some_of value other piece.bound) [
+            | inl some ↦ starts_at_end key left value left_rest xs piece.first some all
+            | inr some ↦ starts_at_end key right other right_rest ys piece.second some all_others
+          ]
+
+      piece_end : IsEnd order items others (upper order key)
+      piece_end =
+          elim piece.progress [
+            | inl used ↦ ends_at_end key left value left_rest xs piece.first used all
+            | inr (inl used) ↦
+                ends_at_end key right other right_rest ys piece.second used all_others
+            | inr (inr now) ↦
+                let alike = now.1 in
+                elim (goes_on key left value left_rest alike.0 piece.first alike.2) [
+                  | inl whole ↦
+                      elim (goes_on key right other right_rest alike.1 piece.second alike.3) [
+                        | inl also ↦ absurd (piece.bound whole.0 also.0)
+                        | inr on ↦
+                            moved _ _ (same_place _ _ _ on.0 (back _ _ alike.4))
+                            (first_start left alike.0 xs whole.1 all)
+                      ]
+                  | inr on ↦
+                      elim (goes_on key right other right_rest alike.1 piece.second alike.3) [
+                        | inl whole ↦
+                            moved _ _ (same_place _ _ _ on.0 alike.4)
+                            (first_start right alike.1 ys whole.1 all_others)
+                        | inr also ↦ absurd (now.0 (
+                          on.1,
+                          also.1,
+                          on.2,
+                          also.2,
+                          same_place _ _ _ (back _ _ on.3) also.3,
+                        ))
+                      ]
+                ]
+          ]
+
+      pub piece_between : LiesBetweenEnds order items others key
+      piece_between = (piece_start, piece_end)
+
+  itself : (p : Position K) → position_cmp order.cmp p p ≡ Equal
+  itself p = both lawful p p (le_refl lawful p) (le_refl lawful p)
+
+  own_end : {V : Type 0} (items : List (Item (AnyRange K) V))
+      → Every (λ x. IsEndIn order items (lower order x.key) × IsEndIn order items (upper order x.key))
+      items
+  own_end items =
+      every_weaker _ _ items (λ x in_x. (
+        any_over _ _ items (λ i same. rw same (inl (itself _))) in_x,
+        any_over _ _ items (λ i same. rw same (inr (itself _))) in_x,
+      )) (members items)
+
+  -- the ranges of the two lists do
+  pub items_between : {V W : Type 0} (items : List (Item (AnyRange K) V))
+      (others : List (Item (AnyRange K) W)) → LieBetweenEnds items others items
+  items_between items others =
+      every_weaker _ _ items (λ x ends. (inl ends.0, inl ends.1)) (own_end items)
+
+  pub others_between : {V W : Type 0} (items : List (Item (AnyRange K) V))
+      (others : List (Item (AnyRange K) W)) → LieBetweenEnds items others others
+  others_between items others =
+      every_weaker _ _ others (λ x ends. (inr ends.0, inr ends.1)) (own_end others)
