@@ -1,15 +1,15 @@
 -- A merged pass over two lists: what the answers so far make of both.
 use Rattle.std.proofs.Common.{◌≡◌, refl, sym, ◌∙◌, ◌↔◌, ◌⊎◌, inl, inr, arith, Bool, true, Option, Some, None, Result, Ok, Err, List, [], ◌∷◌, ◌++◌}
 use Rattle.range_merge.proofs.Common.{IsEquivalence, Bound, KeyOrder, IsLawful, Position, Beside, At, IsBoundClone, SameBound, lower, upper, Any, Every, Holds, LiesBefore, AnyRange, any_left, any_none, any_split, every_append, every_weaker, Item, Answered, IsAsAnswered, IsBound, Binds, BindsTo, LiesIn, IsStored}
-use Rattle.range_merge.specs.Combining.{Combined, IsConstantOn, IsSharedPart, IsSharedPiece, AreCombined, IsCombination, MayFailOnBoth}
+use Rattle.range_merge.specs.Combining.{Combined, IsConstantOn, IsSharedPiece, AreCombined, IsCombination, MayFailOnBoth}
 use Rattle.range_merge.proofs.PlaceOrder.{le_refl, lt_le, le_trans, lt_not_le}
 use Rattle.range_algebra.proofs.Places.{held_between, unbounded_start, unbounded_end}
 use Rattle.range_change.specs.Questions.{IsPut}
 use Rattle.range_merge.specs.Merged.{IsFirstPiece}
 use Rattle.range_change.specs.Neighbours.{EachNext}
 use Rattle.range_change.specs.Window.{option_items}
-use Rattle.range_merge.proofs.Combining.{full_range, PLe, HoldsAt, IsSideUpTo, IsTaken, taken, side_none, side_more, side_all, constant_on, some_of}
-use Rattle.range_merge.proofs.WidestPieces.{LiesBetweenEnds, LieBetweenEnds, widest, rest_between, piece_between, items_between, others_between}
+use Rattle.range_merge.proofs.Combining.{full_range, PLe, HoldsAt, SomeHoldsAt, IsSideUpTo, IsTaken, taken, side_none, side_more, side_all, constant_on, some_of}
+use Rattle.range_merge.proofs.WidestPieces.{IsEnd, LiesBetweenEnds, LieBetweenEnds, constant_held, same_piece, widest, rest_between, piece_between, items_between, others_between}
 use Rattle.range_change.proofs.RangePieces.{any_end, any_over, any_use, any_with, every_with, next_last}
 use Rattle.range_change.proofs.AnswerLists.{IsFilledUpTo, filled_none, fill_more, Alike, Gives}
 use Rattle.range_change.proofs.Forms.{Known, Hold, before_is, nonempty_good, chain_stored, binds_hold, bound_hold, respects_any}
@@ -64,6 +64,7 @@ module _ {K : Type 0} {order : KeyOrder K} (lawful : IsLawful order) {V W X : Ty
     pub between : LieBetweenEnds lawful items others left
     pub others_between : LieBetweenEnds lawful items others right
     pub each : Every (λ c. IsSharedPiece order items others c.key c.left c.right) answers
+    pub ended : Every (λ c. IsEnd order items others (upper order c.key)) answers
     pub rising : EachNext (λ c d. LiesBefore order c.key d.key) answers
     pub below : Every (λ c. PLe order (upper order c.key) upto) answers
     pub given : Every (λ c. may c.left c.right (Ok c.answer)) answers
@@ -86,6 +87,7 @@ module _ {K : Type 0} {order : KeyOrder K} (lawful : IsLawful order) {V W X : Ty
     between = items_between lawful items others;
     others_between = others_between lawful items others;
     each = tt;
+    ended = tt;
     rising = tt;
     below = tt;
     given = tt;
@@ -207,6 +209,7 @@ module _ {K : Type 0} {order : KeyOrder K} (lawful : IsLawful order) {V W X : Ty
                 rest_between lawful items others key second other last_other others_rest
                 piece.second ends.1 was.others_between;
             each = every_append _ was.answers _ was.each (is_shared, tt);
+            ended = every_append _ was.answers _ was.ended (ends.1, tt);
             rising =
                 next_last _ was.answers _ was.rising
                 (every_with _ _ _ was.answers was.each was.below (λ c part below.
@@ -252,6 +255,14 @@ module _ {K : Type 0} {order : KeyOrder K} (lawful : IsLawful order) {V W X : Ty
   constant_bound xs r (Some v) k key held constant some =
       inside_holds lawful r xs k key held (any_over _ _ xs (λ i h. h.0) constant)
 
+  seen_done : {U : Type 0} {xs left : List (Item (AnyRange K) U)} {m p : Position K}
+      {Done : Position K → Type 0} → IsSideUpTo order xs m left Done → left ≡ []
+      → SomeHoldsAt order p xs → Done p
+  seen_done side none at = elim (side.seen _ at) [
+    | inl later ↦ absurd (rw none at later)
+    | inr done ↦ done
+  ]
+
   -- where nothing is left, the answers are the combination
   pub combined_all : {left : List (Item (AnyRange K) V)}
       {right : List (Item (AnyRange K) W)} {new : List (Item (AnyRange K) X)}
@@ -264,6 +275,20 @@ module _ {K : Type 0} {order : KeyOrder K} (lawful : IsLawful order) {V W X : Ty
       answers = was.answers;
       each = was.each;
       rising = was.rising;
+      all = λ piece left right is.
+          let part = is.part in
+          let good = (nonempty_good order lawful piece part.known).0 part.nonempty in
+          let at : HoldsAt order (lower order piece) piece = (le_refl lawful _, good) in
+          let done : IsDone was.answers (lower order piece) =
+          elim (some_of left right part.bound) [
+            | inl some ↦ seen_done was.first no_left (constant_held lawful was.first piece
+                part.known left part.first some _ at)
+            | inr some ↦ seen_done was.second no_right (constant_held lawful was.second piece
+                part.known right part.second some _ at)
+          ] in
+          any_with _ _ _ was.answers done (every_both _ _ was.answers was.each was.ended)
+          (λ c held own. same_piece lawful was.first was.second c.key piece c.left left c.right
+          right own.0.part own.1 is at held);
       given = was.given;
       held = λ k key bound.
           let done : IsDone was.answers (Beside k At) =

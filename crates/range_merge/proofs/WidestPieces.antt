@@ -1,13 +1,17 @@
 -- Where ranges start and end, and that a piece between two such places is as wide as it goes.
-use Rattle.std.proofs.Common.{◌≡◌, refl, sym, ◌∙◌, ◌⊎◌, inl, inr, Option, Some, None, List, [], ◌∷◌, ◌++◌}
+use Rattle.std.proofs.Common.{◌≡◌, refl, sym, ap, ◌∙◌, ◌⊎◌, inl, inr, Option, Some, None, List, [], ◌∷◌, ◌++◌}
 use Rattle.range_merge.proofs.Common.{every_weaker, KeyOrder, IsLawful, IsKnownRange, position_cmp, Position, Equal, lower, upper, Lt, Any, Every, AnyRange, Item, LiesIn}
-use Rattle.range_merge.specs.Combining.{IsConstantOn, IsSharedPart}
-use Rattle.range_merge.specs.Merged.{IsPlaced, IsCutFrom, IsUsedUp, StartAlike, IsFirstPiece}
+use Rattle.range_merge.specs.Combining.{IsConstantOn, IsSharedPart, IsSharedPiece}
+use Rattle.range_merge.specs.Merged.{IsPlaced, IsCutFrom, IsUsedUp, IsFirstPiece}
 use Rattle.range_change.specs.Window.{option_items}
 use Rattle.range_change.proofs.CoveredPlaces.{shared_place_is_overlap}
 use Rattle.range_change.proofs.Extents.{past_le}
-use Rattle.range_change.proofs.RangePieces.{any_over, any_use, lies_in}
-use Rattle.range_merge.proofs.Combining.{PLe, HoldsAt, IsLeftFrom, IsSideUpTo, not_left, some_of}
+use Rattle.range_change.proofs.RangePieces.{any_over, any_use, any_with, lies_in}
+use Rattle.range_change.proofs.Windows.{every_both}
+use Rattle.range_keys.specs.Position.{end_position}
+use Rattle.range_keys.proofs.Orderings.{equal_then_equal}
+use Rattle.range_algebra.specs.RangeOrder.{range_cmp}
+use Rattle.range_merge.proofs.Combining.{PLe, HoldsAt, SomeHoldsAt, IsLeftFrom, IsSideUpTo, not_left, some_of}
 use Rattle.range_merge.proofs.PlaceOrder.{le_refl, lt_le, eq_le, eq_ge, le_trans, le_lt_trans, lt_le_trans, lt_not_le, not_lt, cases, both}
 
 module _ {K : Type 0} (order : KeyOrder K) {V : Type 0} where
@@ -70,6 +74,52 @@ module _ {K : Type 0} {order : KeyOrder K} (lawful : IsLawful order) where
         once items xs (upper order x.key) p a b was.3 later too at_a at_b
 
     module _ {items left : List (Item (AnyRange K) V)} {m : Position K}
+        {Done : Position K → Type 0} (was : IsSideUpTo order items m left Done) where
+      -- what a range with a value holds, an item of this value holds
+      inside : (r : AnyRange K) → IsKnownRange order r → (v : V)
+          → IsConstantOn order items r (Some v) → (p : Position K) → HoldsAt order p r
+          → Any (λ i. HoldsAt order p i.key × (i.value ≡ v)) items
+      inside r known v constant p at =
+          any_with _ _ _ items constant was.placed (λ x within own. (
+            (
+              le_trans lawful _ _ _ within.0.starts at.0,
+              lt_le_trans lawful _ _ _ at.1
+                  (past_le order lawful r.end x.key.end known.1 own.known.1 within.0.ends),
+            ),
+            within.1,
+          ))
+
+      pub constant_held : (r : AnyRange K) → IsKnownRange order r → (v : Option V)
+          → IsConstantOn order items r v → (v ≡ None → ⊥) → (p : Position K)
+          → HoldsAt order p r → SomeHoldsAt order p items
+      constant_held r known None constant some p at = absurd (some refl)
+      constant_held r known (Some v) constant some p at =
+          any_over _ _ items (λ i h. h.0) (inside r known v constant p at)
+
+      not_inside : (r : AnyRange K) → IsKnownRange order r → IsConstantOn order items r None
+          → (p : Position K) → HoldsAt order p r → SomeHoldsAt order p items → ⊥
+      not_inside r known constant p at held =
+          constant (any_with _ _ _ items held was.placed (λ i own placed.
+          shared_place_is_overlap order lawful i.key r p placed.known known own.0 own.1 at.0 at.1))
+
+      -- two ranges that share a place have one value
+      one_value : (r s : AnyRange K) → IsKnownRange order r → IsKnownRange order s
+          → (v w : Option V) → IsConstantOn order items r v → IsConstantOn order items s w
+          → (p : Position K) → HoldsAt order p r → HoldsAt order p s → v ≡ w
+      one_value r s known others None None constant also p at_r at_s = refl
+      one_value r s known others None (Some w) constant also p at_r at_s =
+          absurd (not_inside r known constant p at_r
+          (constant_held s others (Some w) also (λ e. cc) p at_s))
+      one_value r s known others (Some v) None constant also p at_r at_s =
+          absurd (not_inside s others also p at_s
+          (constant_held r known (Some v) constant (λ e. cc) p at_r))
+      one_value r s known others (Some v) (Some w) constant also p at_r at_s =
+          any_use _ _ items (inside r known v constant p at_r) (members items) (λ x at_x in_x.
+          any_use _ _ items (inside s others w also p at_s) (members items) (λ y at_y in_y.
+          let same = once items items _ p x y was.apart in_x in_y at_x.0 at_y.0 in
+          ap Some (sym at_x.1 ∙ ap (λ i. i.value) same ∙ at_y.1)))
+
+    module _ {items left : List (Item (AnyRange K) V)} {m : Position K}
         {Done : Position K → Type 0} (was : IsSideUpTo order items m left Done)
         (r : AnyRange K) (known : IsKnownRange order r) where
       -- an item holds all places of a range on which the list is constant, or none
@@ -78,19 +128,18 @@ module _ {K : Type 0} {order : KeyOrder K} (lawful : IsLawful order) where
           → IsPlaced order z.key → Any (λ i. i ≡ z) items → HoldsAt order p z.key
           → HoldsAt order q z.key
       held_alike None constant p q at_p at_q z placed in_z held =
-          absurd (constant (any_over _ _ items (λ i same. rw same
-          (shared_place_is_overlap order lawful z.key r p placed.known known held.0 held.1 at_p.0
-          at_p.1)) in_z))
+          absurd (not_inside was r known constant p at_p
+          (any_over _ _ items (λ i same. rw same held) in_z))
       held_alike (Some v) constant p q at_p at_q z placed in_z held =
-          any_use _ _ items constant (members items) (λ x inside in_x.
-          let own = any_use _ _ items in_x was.placed (λ i same placed. rw (← same) placed) in
-          let ends = past_le order lawful r.end x.key.end known.1 own.known.1 inside.0.ends in
+          any_use _ _ items constant (every_both _ _ items was.placed (members items)) (λ x in_r own.
+          let ends = past_le order lawful r.end x.key.end known.1 own.0.known.1 in_r.0.ends in
           let within : (s : Position K) → HoldsAt order s r → HoldsAt order s x.key =
           λ s at. (
-            le_trans lawful _ _ _ inside.0.starts at.0,
+            le_trans lawful _ _ _ in_r.0.starts at.0,
             lt_le_trans lawful _ _ _ at.1 ends,
           ) in
-          rw (← once items items _ p x z was.apart in_x in_z (within p at_p) held) (within q at_q))
+          rw (← once items items _ p x z was.apart own.1 in_z (within p at_p) held)
+          (within q at_q))
 
       -- so no item starts or ends past a place of the range and not past another
       no_end_within : (value : Option V) → IsConstantOn order items r value → (p q : Position K)
@@ -102,7 +151,7 @@ module _ {K : Type 0} {order : KeyOrder K} (lawful : IsLawful order) where
           let alike = held_alike value constant in
           elim at [
             | inl start ↦
-                let here = (
+                let here : HoldsAt order q z.key = (
                   eq_ge lawful _ _ start,
                   le_lt_trans lawful _ _ _ (eq_le lawful _ _ start) placed.good,
                 ) in
@@ -130,32 +179,61 @@ module _ {K : Type 0} {order : KeyOrder K} (lawful : IsLawful order) where
 
   module _ {V W : Type 0} {items left : List (Item (AnyRange K) V)}
       {others right : List (Item (AnyRange K) W)} {m : Position K} {Done : Position K → Type 0}
-      (first : IsSideUpTo order items m left Done) (second : IsSideUpTo order others m right Done)
-    where
-      -- a range between two such places is as wide as those go on which both lists are constant
-      pub widest : (key : AnyRange K) → IsPlaced order key → LiesBetweenEnds order items others key
-          → (value : Option V) (other_value : Option W) (r : AnyRange K)
-          → IsSharedPart order items others r value other_value → LiesIn order key r
-          → LiesIn order r key
-      widest key placed ends value other_value r part within =
-          let upto = past_le order lawful key.end r.end placed.known.1 part.known.1 within.ends in
-          let no_end : (p q : Position K) → HoldsAt order p r → HoldsAt order q r
-          → Lt (position_cmp order.cmp) p q → IsEnd order items others q → ⊥ =
-          λ p q at_p at_q less end. elim end [
-            | inl own ↦ no_end_within first r part.known value part.first p q at_p at_q less own
-            | inr own ↦
-                no_end_within second r part.known other_value part.second p q at_p at_q less own
-          ] in
-          let good = lt_le_trans lawful _ _ _ placed.good upto in
-          lies_in order lawful r key part.known placed.known
-          (not_lt lawful (lower order key) (lower order r) (λ less.
-          no_end (lower order r) (lower order key)
-          (le_refl lawful _, le_lt_trans lawful _ _ _ (lt_le lawful _ _ less) good)
-          (lt_le lawful _ _ less, good) less ends.0))
-          (not_lt lawful (upper order r) (upper order key) (λ less.
-          no_end (lower order key) (upper order key) (within.starts, good)
-          (le_trans lawful _ _ _ within.starts (lt_le lawful _ _ placed.good), less) placed.good
-          ends.1))
+      (first : IsSideUpTo order items m left Done)
+      (second : IsSideUpTo order others m right Done) where
+    no_end : (r : AnyRange K) (v : Option V) (w : Option W) → IsSharedPart order items others r v w
+        → (p q : Position K) → HoldsAt order p r → HoldsAt order q r
+        → Lt (position_cmp order.cmp) p q → IsEnd order items others q → ⊥
+    no_end r v w part p q at_p at_q less end = elim end [
+      | inl own ↦ no_end_within first r part.known v part.first p q at_p at_q less own
+      | inr own ↦ no_end_within second r part.known w part.second p q at_p at_q less own
+    ]
+
+    -- a range between two such places is as wide as those go on which both lists are constant
+    pub widest : (key : AnyRange K) → IsPlaced order key → LiesBetweenEnds order items others key
+        → (value : Option V) (other_value : Option W) (r : AnyRange K)
+        → IsSharedPart order items others r value other_value → LiesIn order key r
+        → LiesIn order r key
+    widest key placed ends value other_value r part within =
+        let upto = past_le order lawful key.end r.end placed.known.1 part.known.1 within.ends in
+        let good = lt_le_trans lawful _ _ _ placed.good upto in
+        lies_in order lawful r key part.known placed.known
+        (not_lt lawful (lower order key) (lower order r) (λ less.
+        no_end r value other_value part (lower order r) (lower order key)
+        (le_refl lawful _, le_lt_trans lawful _ _ _ (lt_le lawful _ _ less) good)
+        (lt_le lawful _ _ less, good) less ends.0))
+        (not_lt lawful (upper order r) (upper order key) (λ less.
+        no_end r value other_value part (lower order key) (upper order key) (within.starts, good)
+        (le_trans lawful _ _ _ within.starts (lt_le lawful _ _ placed.good), less) placed.good
+        ends.1))
+
+    -- a piece whose first place lies in a part that ends at such a place is that part
+    pub same_piece : (key piece : AnyRange K) (value v : Option V) (other_value w : Option W)
+        → IsSharedPart order items others key value other_value
+        → IsEnd order items others (upper order key)
+        → IsSharedPiece order items others piece v w → HoldsAt order (lower order piece) piece
+        → HoldsAt order (lower order piece) key
+        → (range_cmp order key piece ≡ Equal) × (value ≡ v) × (other_value ≡ w)
+    same_piece key piece value v other_value w shared end is first_at at =
+        let part = is.part in
+        let one =
+        one_value first key piece shared.known part.known value v shared.first part.first _ at
+        first_at in
+        let other =
+        one_value second key piece shared.known part.known other_value w shared.second part.second _
+        at first_at in
+        let within : LiesIn order piece key =
+        lies_in order lawful piece key part.known shared.known at.0
+        (not_lt lawful (upper order piece) (upper order key) (λ less.
+        no_end piece v w part (lower order piece) (upper order key) first_at
+        (lt_le lawful _ _ at.1, less) at.1 end)) in
+        let wide = is.widest key (rw (← one, ← other) shared) within in (
+          equal_then_equal _ _ (both lawful _ _ within.starts wide.starts)
+              (both lawful (end_position order key.end) (end_position order piece.end) wide.ends
+              within.ends),
+          one,
+          other,
+        )
 
   module _ {V W : Type 0} (items : List (Item (AnyRange K) V))
       (others : List (Item (AnyRange K) W)) where
@@ -275,11 +353,11 @@ module _ {K : Type 0} {order : KeyOrder K} (lawful : IsLawful order) where
                             moved _ _ (same_place _ _ _ on.0 alike.4)
                             (first_start right alike.1 ys whole.1 all_others)
                         | inr also ↦ absurd (now.0 (
-                          on.1,
-                          also.1,
-                          on.2,
-                          also.2,
-                          same_place _ _ _ (back _ _ on.3) also.3,
+                          on.1.0,
+                          also.1.0,
+                          on.1.1,
+                          also.1.1,
+                          same_place _ _ _ (back _ _ on.1.2) also.1.2,
                         ))
                       ]
                 ]

@@ -3,9 +3,11 @@ use Rattle.std.specs.Prelude.{◌≡◌, ◌↔◌, ◌⊎◌, Bool, List, Optio
 use Rattle.std.specs.Fn.{Shared}
 use Rattle.std.specs.Option.{option_copied}
 use Rattle.std.specs.Borrow.{Bor}
+use Rattle.std.specs.declared.cmp.Ordering.TheVariants.{Equal}
 use Rattle.range_keys.specs.Order.{KeyOrder}
 use Rattle.range_algebra.specs.Intervals.{Any, Every}
 use Rattle.range_algebra.specs.Range.{Holds, IsEmptyRange, IsKnownRange}
+use Rattle.range_algebra.specs.RangeOrder.{range_cmp}
 use Rattle.range_algebra.specs.Relations.{LiesBefore}
 use Rattle.range_algebra.specs.declared.any.AnyRange.{AnyRange}
 use Rattle.range_store.specs.declared.storage.Item.{Item}
@@ -117,13 +119,17 @@ module _ {K : Type 0} (order : KeyOrder K) where
         pub free : (k : K) → order.is_key k → ¬ IsBound order items k → ¬ IsBound order others k
             → ¬ IsBound order new k
 
-      -- one answer for each of some pieces on which both lists are constant, each before the next,
-      -- and each key that a list binds is bound as the answer to its piece says
+      -- one answer for each piece on which both lists are constant, each before the next, and each
+      -- key that a list binds is bound as the answer to its piece says
       pub record IsCombination (items : List (Item (AnyRange K) V))
           (others : List (Item (AnyRange K) W)) (new : List (Item (AnyRange K) X)) : Type 0 where
         pub answers : List (Combined K V W X)
         pub each : Every (λ c. IsSharedPiece items others c.key c.left c.right) answers
         pub rising : EachNext (λ c d. LiesBefore order c.key d.key) answers
+        pub all : (piece : AnyRange K) (left : Option V) (right : Option W)
+            → IsSharedPiece items others piece left right
+            → Any (λ c. (range_cmp order c.key piece ≡ Equal) × (c.left ≡ left)
+            × (c.right ≡ right)) answers
         pub given : Every (λ c. may c.left c.right (Ok c.answer)) answers
         pub held : (k : K) → order.is_key k → IsBound order items k ⊎ IsBound order others k
             → Any (λ c. Holds order c.key k
