@@ -125,8 +125,8 @@ impl<K: Measure + Clone, V: Eq + Clone, C: Storage<Item<AnyRange<K>, V>>> RangeM
     ///
     /// For each part that the range has in common with a stored range the closure is asked once,
     /// with that value, and once with `None` for each gap in the range; it answers the new value,
-    /// `None` to unbind the keys, or an error, which ends the call. Only when all answers are there is
-    /// anything changed; after an error the map is as it was. An empty range asks nothing and
+    /// `None` to unbind the keys, or an error, which ends the call. Only when all answers are there
+    /// is anything changed; after an error the map is as it was. An empty range asks nothing and
     /// changes nothing. A stored range that the range only touches keeps its bounds and its value,
     /// unless keys beside it come to have an equal value: then it is one range with them. A range
     /// that starts or ends where a stored one did keeps that bound as it was written: where `0..10`
