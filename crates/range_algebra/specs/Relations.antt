@@ -65,7 +65,7 @@ module _ {K : Type 0} (order : KeyOrder K) where
   abbrev pub ShareKey : AnyRange K → AnyRange K → Type 0
   ShareKey r s = (k : K) × order.is_key k × Holds order r k × Holds order s k
 
-  -- no key between keys of the two is outside both
+  -- together the two leave out no key between their keys
   abbrev pub AreConnected : AnyRange K → AnyRange K → Type 0
   AreConnected r s = (a b k : K) → order.is_key a → order.is_key b → order.is_key k
       → EitherHolds r s a → EitherHolds r s b → Below order a k → Below order k b

@@ -194,7 +194,8 @@ impl<T: PartialEnum + Bounded + Clone> AnyRange<T> {
     }
 
     /// A key of the range: the least, or else the greatest, or `None` where the range is empty or
-    /// its bounds name no key. Fails only where a clone of an included bound's key fails.
+    /// its bounds name no key. Allocates what a clone of an included bound's key does, and fails
+    /// only where that fails.
     pub fn pick(&self) -> Result<Option<T>, AllocError>
         requires clones { ClonesAreEqual T.is_clone T.eq }
         ensures empty { IsEmptyRange T.order self.now → result ≡ Ok None }

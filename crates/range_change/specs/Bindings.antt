@@ -82,7 +82,7 @@ module _ {K : Type 0} (order : KeyOrder K) where
             ↔ Binds before k b
 
 module _ {K : Type 0} (order : KeyOrder K) {V : Type 0} (same_value : V → V → Bool) where
-  -- every coarse list with the same bindings is alike
+  -- each coarse list that binds the same is alike
   abbrev pub IsOnlyCoarse : List (Item (AnyRange K) V) → Type 0
   IsOnlyCoarse items = (others : List (Item (AnyRange K) V)) → IsCoarse order same_value others
       → BindAlike order same_value items others → AreAlike order same_value items others

@@ -7,7 +7,7 @@ every_one P (x ∷ xs) each = (each x, every_one P xs each)
 
 module _ {K : Type 0} (order : KeyOrder K) {V : Type 0} (same : V → V → Bool) {E : Type 0}
     (may : Option V → Result (Option V) E → Type 0) {F : Type 0} where
-  -- what a closure may answer is what its calls may
+  -- a closure may answer just what a call of it may
   pub answered_as : {calls : Shared F (Option (Bor V) × Unit {0}) (Result (Option V) E)} {f : F}
       (items next : List (Item (AnyRange K) V)) (r : AnyRange K)
       → IsUpdated order same calls f items next r

@@ -178,7 +178,7 @@ impl<K: PartialEnum, V: Eq + Drop, C: Storage<Item<AnyRange<K>, V>>> RangeMap<K,
     /// The value to which the key is bound, or none, as `get` answers; adds the steps it takes.
     ///
     /// A step is one range that the search asks, or one comparison of the key with a stored range.
-    /// The empty map takes none.
+    /// The empty map takes none. Allocates nothing.
     ///
     /// ```
     /// // of a map that binds 0..=5 to 1, but not 4

@@ -150,7 +150,7 @@ impl<T: PartialEnum, C: Storage<Item<AnyRange<T>, ()>>> RangeSet<T, C> {
     /// Whether the key is in the set, as `contains` answers; adds the steps that it takes.
     ///
     /// A step is one range that the search asks, or one comparison of the key with a stored range.
-    /// The empty set takes none.
+    /// The empty set takes none. Allocates nothing.
     ///
     /// ```
     /// let mut steps = Steps::new();

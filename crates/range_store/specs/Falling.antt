@@ -1,4 +1,4 @@
--- A test that is true on a front of a list and false after it.
+-- A test that items of a list pass up to some place, and none after it.
 use Rattle.std.specs.Prelude.{◌≡◌, Bool, false, List, [], ◌∷◌, Option, Some, None, count_by}
 
 module _ {X : Type 0} where

@@ -13,7 +13,7 @@ use crate::btree::Mark;
 use std::alloc::{AllocError, Global};
 use std::marker::Model;
 
-/// A count of steps. It stays at the greatest `u64` once it is there.
+/// A count of steps, at most the greatest `u64`, where it stops.
 #[derive(Drop)]
 pub struct Steps {
     count: u64,

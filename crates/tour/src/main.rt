@@ -19,6 +19,8 @@ mod set_values;
 mod sets;
 #[cfg(test)]
 mod together;
+#[cfg(test)]
+mod unions;
 
 use btree_range_map::RangeMap;
 

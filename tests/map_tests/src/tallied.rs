@@ -18,8 +18,8 @@ use std::ops::Bound::{self, Excluded, Included};
 use std::rc::Rc;
 use std::test::Fail;
 
-/// A number that tells no neighbour and no end, and counts each comparison in a cell that such
-/// numbers share.
+/// A number whose type tells neither neighbours nor ends. Each comparison is counted in a cell that
+/// such numbers share.
 #[derive(Drop)]
 struct Tallied {
     number: i32,

@@ -52,7 +52,7 @@ impl<T: PartialEnum> AnyRange<T> {
 impl<T: PartialEnum + Clone> AnyRange<T> {
     /// What the two ranges have in common, with clones of the bounds.
     ///
-    /// Fails only where a clone of a bound fails.
+    /// Allocates what clones of the keys do, and fails only where one of them fails.
     pub fn intersection(&self, other: &AnyRange<T>) -> Result<AnyRange<T>, AllocError>
         requires clones { ClonesAreEqual T.is_clone T.eq }
         ensures start { IfOk result
@@ -71,8 +71,8 @@ impl<T: PartialEnum + Clone> AnyRange<T> {
     /// Widens the range to the hull of it and the other: the earlier start and the later end.
     ///
     /// A hole between the two is included: `0..3` becomes `0..10` by `add(&(8..10))`. The bounds of
-    /// the other are cloned where they are taken. Fails only where a clone fails, and leaves the
-    /// range as it was.
+    /// the other are cloned where they are taken. Allocates what such a clone does; fails only
+    /// where one fails, and leaves the range as it was then.
     pub fn add<S: RangeBounds<T>>(&mut self, other: &S) -> Result<(), AllocError>
         requires clones { ClonesAreEqual T.is_clone T.eq }
         ensures start { S.has_bounds other.now

@@ -14,6 +14,8 @@ use std::alloc::AllocError;
 
 impl<T: Clone> AnyRange<T> {
     /// The range by its bounds, which are cloned.
+    ///
+    /// Allocates what clones of the keys do, and fails only where one of them fails.
     pub fn from<R: AsRange<Item = T>>(range: R) -> Result<AnyRange<T>, AllocError>
         ensures { MatchResult result (IsRangeClone T.is_clone (R.range range))
             (λ _. ¬ IsRangeInfallible T.is_infallible (R.range range)) }
@@ -27,6 +29,8 @@ impl<T: Clone> AnyRange<T> {
 
 impl<'a, T: Clone> AnyRange<&'a T> {
     /// The same range over clones of the keys.
+    ///
+    /// Allocates what clones of the keys do, and fails only where one of them fails.
     pub fn cloned(self) -> Result<AnyRange<T>, AllocError>
         ensures { MatchResult result (IsRangeClone T.is_clone (range_of self.entry))
             (λ _. ¬ IsRangeInfallible T.is_infallible (range_of self.entry)) }

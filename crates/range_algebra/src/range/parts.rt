@@ -50,6 +50,8 @@ pub struct Product<T> {
 
 impl<'a, T: Clone> ProductArg<&'a T> {
     /// The same part over clones of the keys.
+    ///
+    /// Allocates what clones of the keys do, and fails only where one of them fails.
     pub fn cloned(&self) -> Result<ProductArg<T>, AllocError>
         ensures { MatchResult result (IsPartClone T.is_clone (part_of self.now))
             (λ _. ¬ IsPartInfallible T.is_infallible (part_of self.now)) }
@@ -63,6 +65,8 @@ impl<'a, T: Clone> ProductArg<&'a T> {
 
 impl<'a, T: Clone> Product<&'a T> {
     /// The same parts over clones of the keys.
+    ///
+    /// Allocates what clones of the keys do, and fails only where one of them fails.
     pub fn cloned(&self) -> Result<Product<T>, AllocError>
         ensures { MatchResult result (IsProductClone T.is_clone (product_of self.now))
             (λ _. ¬ IsProductInfallible T.is_infallible (product_of self.now)) }

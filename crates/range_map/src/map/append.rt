@@ -156,11 +156,12 @@ impl<K: PartialEnum, V: Eq + Drop, C: Storage<Item<AnyRange<K>, V>>> RangeMap<K,
     /// Moves all ranges of the other map, with their values, to the end of this one, and leaves the
     /// other without any.
     ///
-    /// Each of them has to lie after all ranges of this map. The first of them may touch the last
-    /// of this map, and becomes one with it where their values are equal; all others stand as they
-    /// were. After an error both maps are as they were. Clones nothing, and searches nothing;
-    /// allocates where the container has no capacity for so many ranges more. Costs a step for each
-    /// range of the other map. The two maps may be kept in two kinds of containers.
+    /// Each of them has to lie after all ranges of this map, or the call fails with `OutOfOrder`.
+    /// The first of them may touch the last of this map, and becomes one with it where their values
+    /// are equal; all others stand as they were. After an error both maps are as they were. Clones
+    /// nothing, and searches nothing; allocates where the container has no capacity for so many
+    /// ranges more. Costs a step for each range of the other map. The two maps may be kept in two
+    /// kinds of containers.
     ///
     /// ```
     /// // of a map that binds 0..=5 to 1, and one that binds 6..9 to 1

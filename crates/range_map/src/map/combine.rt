@@ -59,14 +59,15 @@ fn gather_both<
 impl<K: PartialEnum + Clone, V: Eq + Drop, C: Storage<Item<AnyRange<K>, V>>> RangeMap<K, V, C> {
     /// A map that binds each key as the closure answers to what this map and the other bind it to.
     ///
-    /// The closure is asked once for each piece of the keys on which neither map changes its
-    /// value, with the two values, or `None` in place of the one that is missing; it answers the
-    /// new value, `None` to leave the keys unbound, or an error, which ends the call. It is not
+    /// The closure is asked once for each piece, as wide as it goes, on which neither map changes
+    /// its value, with the two values, or `None` in place of the one that is missing; it answers
+    /// the new value, `None` to leave the keys unbound, or an error, which ends the call. It is not
     /// asked for keys that neither map binds, and they stay unbound. The three maps may be kept in
     /// three kinds of containers.
     ///
     /// Allocates a list of what the closure returns, clones of the bounds of its pieces, and the
-    /// new map's ranges, all at once. Goes once over both maps, and searches neither.
+    /// new map's ranges, all at once; fails with `Memory` where an allocation does. Goes once over
+    /// both maps, and searches neither.
     ///
     /// ```
     /// // of a map that binds 0..=5 to 1, and one that binds 4..9 to 10

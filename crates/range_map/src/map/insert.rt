@@ -65,7 +65,7 @@ impl<K: Measure + Clone, V: Eq + Clone, C: Storage<Item<AnyRange<K>, V>>> RangeM
     /// Binds each key of the range to the value, as `insert` does; adds the steps that it takes.
     ///
     /// A step is one range that the search asks, or one comparison of the range with a stored one.
-    /// An empty range takes none.
+    /// An empty range takes none. Allocates and fails as `insert` does.
     ///
     /// ```
     /// let mut steps = Steps::new();

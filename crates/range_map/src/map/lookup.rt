@@ -43,7 +43,8 @@ impl<K: PartialEnum, V: Eq + Drop, C: Storage<Item<AnyRange<K>, V>>> RangeMap<K,
         self.contains_key_counted(key, &mut steps)
     }
 
-    /// Whether the key is bound; adds the steps that it takes, as `get_counted` does.
+    /// Whether the key is bound; adds the steps that it takes, as `get_counted` does. Allocates
+    /// nothing.
     ///
     /// ```
     /// // of a map that binds 0..=5 to 1, but not 4
@@ -85,7 +86,7 @@ impl<K: Measure, V: Eq + Drop, C: Storage<Item<AnyRange<K>, V>>> RangeMap<K, V, 
     /// Whether the range is nonempty and meets a stored one; adds the steps that it takes.
     ///
     /// A step is one range that the search asks, or one comparison of the range with a stored one.
-    /// An empty range and the empty map take none.
+    /// An empty range and the empty map take none. Allocates nothing.
     ///
     /// ```
     /// // of a map that binds 0..=5 to 1, but not 4

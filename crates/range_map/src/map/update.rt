@@ -123,10 +123,10 @@ fn clone_range<K: Clone, R: AsRange<Item = K>>(range: &R) -> Result<AnyRange<K>,
 impl<K: Measure + Clone, V: Eq + Clone, C: Storage<Item<AnyRange<K>, V>>> RangeMap<K, V, C> {
     /// Binds each piece of the range as the closure answers to what its keys are bound to.
     ///
-    /// The closure is asked once for each part that the range has in common with a stored range,
-    /// with its value, and once for each gap inside, with `None`; it answers the new value, `None`
-    /// to unbind the keys, or an error, which ends the call. Only when all answers are there is
-    /// anything changed; after an error the map is as it was. An empty range asks nothing and
+    /// For each part that the range has in common with a stored range the closure is asked once,
+    /// with that value, and once with `None` for each gap in the range; it answers the new value,
+    /// `None` to unbind the keys, or an error, which ends the call. Only when all answers are there
+    /// is anything changed; after an error the map is as it was. An empty range asks nothing and
     /// changes nothing. A stored range that the range only touches keeps its bounds and its value,
     /// unless keys beside it come to have an equal value: then it is one range with them. A range
     /// that starts or ends where a stored one did keeps that bound as it was written: where `0..10`
@@ -134,8 +134,8 @@ impl<K: Measure + Clone, V: Eq + Clone, C: Storage<Item<AnyRange<K>, V>>> RangeM
     ///
     /// Allocates a list of what the closure returns, clones of the bounds of its pieces
     /// and of the stored ranges that are cut, and where more ranges are stored than the container
-    /// has capacity for. Costs one search, and a step for each stored range that the range meets or
-    /// touches.
+    /// has capacity for; fails with `Memory` where an allocation does. Costs one search, and a step
+    /// for each stored range that the range meets or touches.
     ///
     /// ```
     /// // of a map that binds 0..=5 to 1

@@ -47,7 +47,7 @@ impl<T: Measure + Clone, C: Storage<Item<AnyRange<T>, ()>>> RangeSet<T, C> {
     /// Adds each key of the range, as `insert` does; adds the steps that it takes.
     ///
     /// A step is one range that the search asks, or one comparison of the range with a stored one.
-    /// An empty range takes none.
+    /// An empty range takes none. Allocates and fails as `insert` does.
     ///
     /// ```
     /// let mut steps = Steps::new();
