@@ -213,7 +213,8 @@ module _ {K : Type 0} {order : KeyOrder K} (lawful : IsLawful order) {V W X : Ty
             rising =
                 next_last _ was.answers _ was.rising
                 (every_with _ _ _ was.answers was.each was.below (λ c part below.
-                (before_is order lawful c.key.end key.start part.part.known.1 piece.placed.known.0).1
+                (before_is order lawful c.key.end key.start part.part.known.1
+                piece.placed.known.0).1
                 (le_trans lawful _ _ _ below starts_after)));
             below =
                 every_append _ was.answers _

@@ -131,7 +131,8 @@ module _ {K : Type 0} {order : KeyOrder K} (lawful : IsLawful order) where
           absurd (not_inside was r known constant p at_p
           (any_over _ _ items (λ i same. rw same held) in_z))
       held_alike (Some v) constant p q at_p at_q z placed in_z held =
-          any_use _ _ items constant (every_both _ _ items was.placed (members items)) (λ x in_r own.
+          any_use _ _ items constant (every_both _ _ items was.placed (members items))
+          (λ x in_r own.
           let ends = past_le order lawful r.end x.key.end known.1 own.0.known.1 in_r.0.ends in
           let within : (s : Position K) → HoldsAt order s r → HoldsAt order s x.key =
           λ s at. (
@@ -370,8 +371,8 @@ module _ {K : Type 0} {order : KeyOrder K} (lawful : IsLawful order) where
   itself p = both lawful p p (le_refl lawful p) (le_refl lawful p)
 
   own_end : {V : Type 0} (items : List (Item (AnyRange K) V))
-      → Every (λ x. IsEndIn order items (lower order x.key) × IsEndIn order items (upper order x.key))
-      items
+      → Every (λ x. IsEndIn order items (lower order x.key)
+      × IsEndIn order items (upper order x.key)) items
   own_end items =
       every_weaker _ _ items (λ x in_x. (
         any_over _ _ items (λ i same. rw same (inl (itself _))) in_x,
