@@ -1,8 +1,9 @@
 #!/bin/sh
-# compare.sh [RANGES]: makes a map or a set out of two of so many ranges (100,000) beside a loop in Rust over std's
-# BTreeMap, where both have to make the same, by processor time; and puts 100 ranges into one, or takes them out of it,
-# in place, beside 100 look-ups and 100 insertions one by one, by the least time. Counts instructions too, where there
-# is valgrind. Builds the library without its proof. Needs `rt`, `rustc`, `cc`, python3 and `/usr/bin/time`.
+# compare.sh [RANGES]: makes a map or a set out of two, one of so many ranges (100,000) and one of as many or of 100,
+# beside a loop in Rust over std's BTreeMap; and changes one in place by such another, beside the same changes of std's
+# map, and beside as many look-ups and insertions one by one. Both sides have to make the same. Prints the quickest of
+# 200 times of making and of 40 of changing, and where there is valgrind the instructions; of changing, less those of
+# copying what is changed. Builds the library without its proof. Needs `rt`, `rustc` 1.91 or later, `cc` and python3.
 set -eu
 bench=$(cd "$(dirname "$0")" && pwd)
 top=$(cd "$bench/../../.." && pwd)
@@ -21,22 +22,28 @@ python3 "$top/bindings/unproved.py" "$work" "$work/crates/algebra"
 rustc -O -o "$work/standard" "$bench/standard.rs"
 cd "$work"
 
-# What 20 times more of the words take, each: nanoseconds of the processor, the least of three runs.
-spent() {
-    for _ in 1 2 3; do
-        for times in 1 21; do
-            /usr/bin/time -f '%U %S' "$@" $times 2>&1 >said
-        done
-    done | awk '{ now = $1 + $2; if (NR % 2) before = now; else if (NR == 2 || now - before < least) least = now - before }
-        END { printf "%.0f\n", least / 20 * 1e9 }'
+# The quickest of so many times: quickest TIMES PROGRAM maps|sets KIND all|few
+quickest() {
+    times=$1
+    shift
+    "$@" "$ranges" "$times" | cut -d ' ' -f 1
 }
 
-# The instructions of one time more, or 0.
+# The instructions of one time more, or 0: counted PROGRAM maps|sets KIND all|few
 counted() {
     for times in 1 2; do
-        valgrind --tool=cachegrind --cache-sim=no --cachegrind-out-file=/dev/null "$@" $times 2>&1 >said |
+        valgrind --tool=cachegrind --cache-sim=no --cachegrind-out-file=/dev/null "$@" "$ranges" $times 2>&1 >said |
             awk '/I *refs/ { gsub(",", "", $NF); print $NF }'
     done | awk '{ more = $1 - before; before = $1 } END { printf "%.0f\n", more }'
+}
+
+# Fails where the two sides do not make the same.
+same() {
+    ./standard "$@" "$ranges" 1 > standard.said
+    ./algebra "$@" "$ranges" 1 > algebra.said
+    read -r _ sum < standard.said
+    read -r _ made < algebra.said
+    [ "$sum" = "$made" ] || { echo "$*: not the same is made" >&2; exit 1; }
 }
 
 row() {
@@ -44,25 +51,33 @@ row() {
         'BEGIN { if (theirs > 0) printf "%s: %d and %d %s, ratio %.2f\n", name, theirs, ours, unit, ours / theirs }'
 }
 
-for kind in "maps combine" "maps overlay" "sets union"; do
-    ./standard $kind "$ranges" 1 > standard.said
-    ./algebra $kind "$ranges" 1 > algebra.said
-    read -r _ sum < standard.said
-    read -r _ made < algebra.said
-    [ "$sum" = "$made" ] || { echo "$kind: not the same is made" >&2; exit 1; }
-    row "$kind" ns "$(spent ./standard $kind "$ranges")" "$(spent ./algebra $kind "$ranges")"
-    row "$kind" instructions "$(counted ./standard $kind "$ranges")" "$(counted ./algebra $kind "$ranges")"
-done
+calls="maps combine,maps overlay,maps restrict,maps without"
+calls="$calls,sets union,sets intersection,sets difference,sets symmetric_difference"
+for size in all few; do
+    echo "$calls" | tr , '\n' | while read -r of kind; do
+        same "$of" "$kind" $size
+        set -- "$of" "$kind" $size
+        row "$*" ns "$(quickest 200 ./standard "$@")" "$(quickest 200 ./algebra "$@")"
+        row "$*" instructions "$(counted ./standard "$@")" "$(counted ./algebra "$@")"
+    done
 
-for of in maps sets; do
-    copy=$(counted ./algebra $of copy "$ranges")
-    each=$(($(counted ./algebra $of one_by_one "$ranges") - copy))
-    ./algebra $of one_by_one "$ranges" 40 > each.said
-    read -r one _ < each.said
-    for kind in extend_from remove_all; do
-        ./algebra $of $kind "$ranges" 40 > algebra.said
-        read -r ours _ < algebra.said
-        row "$of $kind" ns "$one" "$ours"
-        row "$of $kind" instructions "$each" $(($(counted ./algebra $of $kind "$ranges") - copy))
+    for of in maps sets; do
+        same $of copy $size
+        theirs=$(counted ./standard $of copy $size)
+        ours=$(counted ./algebra $of copy $size)
+        one=$(quickest 40 ./algebra $of one_by_one $size)
+        each=$(($(counted ./algebra $of one_by_one $size) - ours))
+        for kind in extend extend_from remove_all retain_all; do
+            set -- $of $kind $size
+            same "$@"
+            time=$(quickest 40 ./algebra "$@")
+            steps=$(($(counted ./algebra "$@") - ours))
+            row "$*" ns "$(quickest 40 ./standard "$@")" "$time"
+            row "$*" instructions $(($(counted ./standard "$@") - theirs)) $steps
+            # that one takes out many more ranges than the other has
+            [ $kind = retain_all ] && continue
+            row "$* beside one by one" ns "$one" "$time"
+            row "$* beside one by one" instructions $each $steps
+        done
     done
 done
