@@ -84,10 +84,11 @@ impl<K: Measure + Clone, V: Eq + Clone, C: Storage<Item<AnyRange<K>, V>>> RangeM
     /// Keeps only the bindings of keys that the other map binds, whatever its values and its
     /// container.
     ///
-    /// Searches once for each gap of the other map, where `restrict` goes over both maps.
-    /// Allocates a clone of each bound of a gap, and what `remove` does. After an error the keys of
-    /// the other map's gaps before the one at which it failed are unbound, and each other key is
-    /// bound as before.
+    /// Searches once for each gap of the other map, and takes each stored range out by itself:
+    /// where little is left, `restrict`, which goes once over both maps, costs less. Allocates a
+    /// clone of each bound of a gap, and what `remove` does. After an error the keys of the other
+    /// map's gaps before the one at which it failed are unbound, and each other key is bound as
+    /// before.
     ///
     /// ```
     /// // of a map that binds 0..=5 to 1, and one that binds 4..9 to 10
