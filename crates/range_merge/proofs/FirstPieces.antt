@@ -149,19 +149,19 @@ module _ {K : Type 0} {order : KeyOrder K} (lawful : IsLawful order) where
         progress = inr (inl (λ e. cc, refl));
       }
 
-  alike_turned : {V W : Type 0} {left : Option (Item (AnyRange K) V)}
+  alike_swapped : {V W : Type 0} {left : Option (Item (AnyRange K) V)}
       {right : Option (Item (AnyRange K) W)} → StartAlike order left right
       → StartAlike order right left
-  alike_turned h =
+  alike_swapped h =
       (h.1, h.0, h.3, h.2, tied_back (position_total order.cmp lawful.total) _ _ h.4)
 
   -- the sides exchanged
-  pub turned : {V W : Type 0} {left left_rest : Option (Item (AnyRange K) V)}
+  pub swapped : {V W : Type 0} {left left_rest : Option (Item (AnyRange K) V)}
       {right right_rest : Option (Item (AnyRange K) W)} {key : AnyRange K} {value : Option V}
       {other : Option W}
       → IsFirstPiece order left right key value other left_rest right_rest
       → IsFirstPiece order right left key other value right_rest left_rest
-  turned piece = record {
+  swapped piece = record {
     placed = piece.placed;
     bound = λ e f. piece.bound f e;
     first = piece.second;
@@ -170,7 +170,7 @@ module _ {K : Type 0} {order : KeyOrder K} (lawful : IsLawful order) where
         elim piece.progress [
           | inl used ↦ inr (inl used)
           | inr (inl used) ↦ inl used
-          | inr (inr now) ↦ inr (inr (λ h. now.0 (alike_turned h), alike_turned now.1))
+          | inr (inr now) ↦ inr (inr (λ h. now.0 (alike_swapped h), alike_swapped now.1))
         ];
   }
 

@@ -155,7 +155,7 @@ pub fn first_of_both<'a, K: PartialEnum, V, W>(
 
 /// The piece with its two sides exchanged.
 #[inline(always)]
-fn turned<'a, K: PartialEnum, V, W>(piece: Piece<'a, K, V, W>) -> Piece<'a, K, W, V>
+fn swapped<'a, K: PartialEnum, V, W>(piece: Piece<'a, K, V, W>) -> Piece<'a, K, W, V>
     ensures { (left : Option (Item (AnyRange K) V)) → (right : Option (Item (AnyRange K) W))
         → IsFirstPieceOf K.order left right piece.entry
         → IsFirstPieceOf K.order right left result }
@@ -197,7 +197,7 @@ pub fn second_alone<'a, K: PartialEnum, V, W>(
     ensures { IsFirstPieceOf K.order (Some (part_item later.entry)) (Some (part_item other.entry))
         result }
 {
-    turned(first_alone(other, later))
+    swapped(first_alone(other, later))
 }
 
 /// The same of a part on the second side.
@@ -206,5 +206,5 @@ pub fn whole_other<'a, K: PartialEnum, V, W>(other: Part<'a, K, W>) -> Piece<'a,
     requires { IsPlaced K.order (part_item other).key }
     ensures { IsFirstPieceOf K.order None (Some (part_item other.entry)) result }
 {
-    turned(whole_part(other))
+    swapped(whole_part(other))
 }
