@@ -36,6 +36,13 @@ pub const NEVER: Asked = Asked {
 };
 
 impl Asked {
+    /// How often in all.
+    fn all(self) -> usize {
+        self.first
+            .saturating_add(self.second)
+            .saturating_add(self.both)
+    }
+
     /// Once more, by what the maps bind the keys to.
     fn and_of(self, first: Option<i64>, second: Option<i64>) -> Asked {
         let mut asked = self;
@@ -61,17 +68,33 @@ fn told(first: Option<i64>, second: Option<i64>) -> Option<i64> {
     }
 }
 
-/// The answer to a piece, once it is counted. Fails where neither map binds it.
+/// The answer to a piece, once it is counted. Fails where neither map binds it, and where so many
+/// were answered before.
 fn answer(
     asked: &Cell<Asked>,
+    most: usize,
     first: Option<i64>,
     second: Option<i64>,
-) -> Result<Option<i64>, MapError> {
-    if first.is_none() && second.is_none() {
-        return Err(MapError::Memory);
+) -> Result<Option<i64>, usize> {
+    let before = asked.get().all();
+    if before == most || first.is_none() && second.is_none() {
+        return Err(before);
     }
     asked.set(asked.get().and_of(first, second));
     Ok(told(first, second))
+}
+
+/// The two maps, combined as `told` says, and an error once so many pieces are answered.
+fn combined_of<C: Storage<ByteItem>, D: Storage<ByteItem>>(
+    first: &Bytes<C>,
+    second: &Bytes<D>,
+    asked: &Cell<Asked>,
+    most: usize,
+) -> Result<Bytes<C>, UpdateError<usize>> {
+    first.combine(
+        second,
+        |one, other| answer(asked, most, one.copied(), other.copied()),
+    )
 }
 
 /// The two maps, combined as `told` says.
@@ -80,11 +103,7 @@ pub fn combined<C: Storage<ByteItem>, D: Storage<ByteItem>>(
     second: &Bytes<D>,
     asked: &Cell<Asked>,
 ) -> Result<Bytes<C>, MapError> {
-    let both: Result<Bytes<C>, UpdateError<MapError>> = first.combine(
-        second,
-        |one, other| answer(asked, one.copied(), other.copied()),
-    );
-    match both {
+    match combined_of(first, second, asked, usize::MAX) {
         Ok(map) => Ok(map),
         Err(_) => Err(MapError::Memory),
     }
@@ -216,18 +235,21 @@ fn drawn<C: Storage<ByteItem>>(alloc: Global, draw: Draw) -> Result<(Bytes<C>, C
     Ok((map, cells))
 }
 
-/// The two maps of a seed. Over a hundred seeds each number of ranges meets each, also none.
+/// Over so many seeds each of seven numbers of ranges meets each, also none.
+const SEEDS: u32 = 49;
+
+/// How the two maps of a seed are drawn.
 fn draws(seed: u32) -> (Draw, Draw) {
     let number = seed.wrapping_mul(77777);
     let first = Draw {
         number,
-        ranges: seed % 10 * 10,
-        longest: 1 << (seed % 6),
+        ranges: seed % 7 * 15,
+        longest: 1 << (seed % 5),
     };
     let second = Draw {
         number: !number,
-        ranges: seed / 10 % 10 * 10,
-        longest: 1 << (seed % 7),
+        ranges: seed / 7 * 15,
+        longest: 1 << (seed % 6),
     };
     (first, second)
 }
@@ -255,7 +277,7 @@ fn goes_so<C: Storage<ByteItem>, D: Storage<ByteItem>>(
     )
 }
 
-/// Maps that are drawn from a hundred seeds, and put together by a call.
+/// Maps that are drawn from each seed, and put together by a call.
 #[derive(Clone, Copy)]
 struct Together(Call);
 
@@ -266,7 +288,7 @@ impl PairTable<ByteItem> for Together {
         &self,
         alloc: Global,
     ) -> Result<Option<u32>, MapError> {
-        for seed in 0..100u32 {
+        for seed in 0..SEEDS {
             if !goes_so::<C, D>(alloc, self.0, seed)? {
                 return Ok(Some(seed));
             }
@@ -284,6 +306,52 @@ fn check(rt: &impl Abort, alloc: Global, call: Call) -> Result<(), Fail> {
 #[test]
 fn combined_bytes(rt: HostRuntime) -> Result<(), Fail> {
     check(&rt, rt.alloc(), Call::Combine)
+}
+
+/// Whether `combine` ends with the closure's error where that answers fewer pieces than there are,
+/// and asks of no piece after that.
+fn fails_so<C: Storage<ByteItem>, D: Storage<ByteItem>>(
+    alloc: Global,
+    seed: u32,
+) -> Result<bool, MapError> {
+    let draws = draws(seed);
+    let (first, cells) = drawn::<C>(alloc, draws.0)?;
+    let (second, others) = drawn::<D>(alloc, draws.1)?;
+    let all = pieces(&cells, &others).all();
+    let most = seed as usize * 3 % all.saturating_add(2);
+    let asked = Cell::new(NEVER);
+    let ended = match combined_of(&first, &second, &asked, most) {
+        Ok(_) => most >= all,
+        Err(UpdateError::Closure(before)) => before == most && most < all,
+        Err(UpdateError::Memory) => false,
+    };
+    Ok(ended && asked.get().all() == most.min(all))
+}
+
+/// Maps that are drawn from each seed, and combined until the closure fails.
+#[derive(Clone, Copy)]
+struct Failing;
+
+impl PairTable<ByteItem> for Failing {
+    type Found = Option<u32>;
+
+    fn find<C: Storage<ByteItem>, D: Storage<ByteItem>>(
+        &self,
+        alloc: Global,
+    ) -> Result<Option<u32>, MapError> {
+        for seed in 0..SEEDS {
+            if !fails_so::<C, D>(alloc, seed)? {
+                return Ok(Some(seed));
+            }
+        }
+        Ok(None)
+    }
+}
+
+#[test]
+fn bytes_combined_until_an_error(rt: HostRuntime) -> Result<(), Fail> {
+    assert_eq!(rt; find_over_each_pair(rt.alloc(), &Failing)?, [None; 4]);
+    Ok(())
 }
 
 #[test]
