@@ -264,7 +264,7 @@ fn is_combined_so<C: Storage<ByteItem>, D: Storage<ByteItem>>(
     let one: Bytes<C> = bound(alloc, row.one)?;
     let other: Bytes<D> = bound(alloc, row.other)?;
     let asked = Cell::new(NEVER);
-    let both = combined(&one, &other, &asked)?;
+    let both: Bytes<D> = combined(&one, &other, &asked)?;
     let asked = asked.get();
     Ok(stores(&both, row.both) && (asked.first, asked.second, asked.both) == row.asked)
 }

@@ -85,12 +85,12 @@ fn answer(
 }
 
 /// The two maps, combined as `told` says, and an error once so many pieces are answered.
-fn combined_of<C: Storage<ByteItem>, D: Storage<ByteItem>>(
+fn combined_of<C: Storage<ByteItem>, D: Storage<ByteItem>, B: Storage<ByteItem>>(
     first: &Bytes<C>,
     second: &Bytes<D>,
     asked: &Cell<Asked>,
     most: usize,
-) -> Result<Bytes<C>, UpdateError<usize>> {
+) -> Result<Bytes<B>, UpdateError<usize>> {
     first.combine(
         second,
         |one, other| answer(asked, most, one.copied(), other.copied()),
@@ -98,11 +98,11 @@ fn combined_of<C: Storage<ByteItem>, D: Storage<ByteItem>>(
 }
 
 /// The two maps, combined as `told` says.
-pub fn combined<C: Storage<ByteItem>, D: Storage<ByteItem>>(
+pub fn combined<C: Storage<ByteItem>, D: Storage<ByteItem>, B: Storage<ByteItem>>(
     first: &Bytes<C>,
     second: &Bytes<D>,
     asked: &Cell<Asked>,
-) -> Result<Bytes<C>, MapError> {
+) -> Result<Bytes<B>, MapError> {
     match combined_of(first, second, asked, usize::MAX) {
         Ok(map) => Ok(map),
         Err(_) => Err(MapError::Memory),
@@ -320,7 +320,7 @@ fn fails_so<C: Storage<ByteItem>, D: Storage<ByteItem>>(
     let all = pieces(&cells, &others).all();
     let most = seed as usize * 3 % all.saturating_add(2);
     let asked = Cell::new(NEVER);
-    let ended = match combined_of(&first, &second, &asked, most) {
+    let ended = match combined_of::<C, D, C>(&first, &second, &asked, most) {
         Ok(_) => most >= all,
         Err(UpdateError::Closure(before)) => before == most && most < all,
         Err(UpdateError::Memory) => false,
