@@ -52,13 +52,18 @@ struct Draw {
     way: Way,
 }
 
+/// A key that is taken from the number. About one in ten is the first key, and one in ten the last.
+fn key_of(number: u32) -> u8 {
+    (number / 256 % 320).saturating_sub(32).min(255) as u8
+}
+
 /// Inserts or removes a range that is taken from the number.
 fn change<C: Storage<Entry<u8>>>(
     (set, cells): &mut Modelled<C>,
     number: u32,
     draw: Draw,
 ) -> Result<(), MapError> {
-    let first = (number / 256 % 256) as u8;
+    let first = key_of(number);
     let last = first.saturating_add((number / 65536 % draw.longest) as u8);
     let inserts = draw.way.inserts(number);
     for key in first..=last {
