@@ -67,3 +67,15 @@ pub fn find_over_pair<S: Drop, T: PairTable<S>>(
 ) -> Result<T::Found, MapError> {
     table.find::<VecStorage<S>, BoxStorage<S>>(alloc)
 }
+
+/// What comes of two maps over each two containers.
+pub fn find_over_each_pair<S: Drop, T: PairTable<S>>(
+    alloc: Global,
+    table: &T,
+) -> Result<[T::Found; 4], MapError> {
+    let vectors = table.find::<VecStorage<S>, VecStorage<S>>(alloc)?;
+    let to_tree = find_over_pair(alloc, table)?;
+    let to_vector = table.find::<BoxStorage<S>, VecStorage<S>>(alloc)?;
+    let trees = table.find::<BoxStorage<S>, BoxStorage<S>>(alloc)?;
+    Ok([vectors, to_tree, to_vector, trees])
+}

@@ -112,7 +112,7 @@ fn many_calls_bind_what_the_last_one_says(rt: HostRuntime) -> Result<(), Fail> {
 }
 
 /// The keys from the first to the last, written in one of four ways.
-fn spelled(first: u8, last: u8, spelling: u32) -> AnyRange<u8> {
+pub fn spelled(first: u8, last: u8, spelling: u32) -> AnyRange<u8> {
     let start = match first.checked_sub(1) {
         Some(before) if spelling % 2 == 1 => Excluded(before),
         None if spelling % 2 == 1 => Unbounded,
@@ -120,6 +120,7 @@ fn spelled(first: u8, last: u8, spelling: u32) -> AnyRange<u8> {
     };
     let end = match last.checked_add(1) {
         Some(behind) if spelling / 2 == 1 => Excluded(behind),
+        None if spelling / 2 == 1 => Unbounded,
         _ => Included(last),
     };
     AnyRange::new(start, end)
@@ -137,7 +138,7 @@ fn change_as_drawn<M: Bytes>(map: &mut M, drawn: u32) -> Result<bool, MapError> 
     map.change(spelled(first, last, drawn / 4096 % 4), value)
 }
 
-fn next_number(number: u32) -> u32 {
+pub fn next_number(number: u32) -> u32 {
     number.wrapping_mul(1664525).wrapping_add(1013904223)
 }
 

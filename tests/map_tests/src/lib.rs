@@ -78,6 +78,8 @@ mod tallied;
 #[cfg(test)]
 mod text;
 #[cfg(test)]
+mod together;
+#[cfg(test)]
 mod uncloned;
 #[cfg(test)]
 mod updates;

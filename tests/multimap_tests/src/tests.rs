@@ -1,3 +1,4 @@
+mod drawn;
 mod rows;
 mod support;
 mod surface;

@@ -361,33 +361,74 @@ fn either(first: Option<&String>, second: Option<&String>) -> Result<Option<Stri
     }
 }
 
-/// How two maps are put together.
+/// How a map is put together with one whose ranges cut each stored one, and reach out of it. One
+/// more of them comes after all stored ones.
 #[derive(Clone, Copy)]
 pub enum PairCall {
-    /// With a map of as many ranges that come after all stored ones.
     Combine,
-    /// With the same.
     Overlay,
-    /// With a map of the first half of the ranges.
     Restrict,
-    /// With the same.
     Without,
 }
 
-impl PairCall {
-    /// The indices of the ranges of the other map, and of the map that is made.
-    fn places(self, size: Size) -> (Range<u16>, Range<u16>) {
-        let (middle, count, twice) = (size.middle(), size.count, size.count.wrapping_mul(2));
-        match self {
-            PairCall::Combine | PairCall::Overlay => (count..twice, 0..twice),
-            PairCall::Restrict => (0..middle, 0..middle),
-            PairCall::Without => (0..middle, middle..count),
-        }
+/// What a range that cuts a stored one is bound to: a new text at a few of them, and else a text
+/// that allocates nothing.
+fn cutting_text(place: u16, size: Size) -> &'static str {
+    if change_places(size, MORE).contains(&place) {
+        NEW
+    } else {
+        ""
     }
 }
 
+fn cutter(alloc: Global, size: Size) -> Result<Map<Vector>, MapError> {
+    let mut other: Map<Vector> = RangeMap::new(alloc);
+    for place in 0..=size.count {
+        let range = part(place, 3, 8);
+        bind(alloc, &mut other, range, cutting_text(place, size))?;
+    }
+    Ok(other)
+}
+
+/// Whether the next stored ranges are what becomes of a range.
+fn are_next_cut<C: Storage<Entry>>(
+    stored: &mut Iter<'_, i32, String, C>,
+    place: u16,
+    size: Size,
+    call: PairCall,
+) -> bool {
+    let (own, other) = (text(place, size), cutting_text(place, size));
+    let end = match call {
+        PairCall::Combine => 5,
+        PairCall::Overlay => 3,
+        PairCall::Restrict => return is_next(stored, part(place, 3, 5), own),
+        PairCall::Without => return is_next(stored, part(place, 0, 3), own),
+    };
+    if own == other {
+        return is_next(stored, part(place, 0, 8), own);
+    }
+    is_next(stored, part(place, 0, end), own) && is_next(stored, part(place, end, 8), other)
+}
+
+/// Whether the map that is made stores just what becomes of each range, and of the one after all.
+fn is_cut<C: Storage<Entry>>(map: &Map<C>, size: Size, call: PairCall) -> bool {
+    let mut stored = map.iter();
+    for place in 0..size.count {
+        if !are_next_cut(&mut stored, place, size, call) {
+            return false;
+        }
+    }
+    let after = match call {
+        PairCall::Combine | PairCall::Overlay => {
+            is_next(&mut stored, part(size.count, 3, 8), "")
+        }
+        PairCall::Restrict | PairCall::Without => true,
+    };
+    after && stored.next().is_none()
+}
+
 /// A map made of both, or `None` where memory was refused.
-fn both<C: Storage<Entry>>(map: &Map<C>, other: &Map<C>, call: PairCall) -> Option<Map<C>> {
+fn both<C: Storage<Entry>>(map: &Map<C>, other: &Map<Vector>, call: PairCall) -> Option<Map<C>> {
     match call {
         PairCall::Combine => map
             .combine(other, |first, second| either(first, second))
@@ -400,14 +441,13 @@ fn both<C: Storage<Entry>>(map: &Map<C>, other: &Map<C>, call: PairCall) -> Opti
 
 /// A refused call has to leave the map as it was.
 fn together<C: Storage<Entry>>(alloc: Global, map: &Map<C>, size: Size, call: PairCall) -> Outcome {
-    let (others, made) = call.places(size);
-    let mut other: Map<C> = RangeMap::new(alloc);
-    let Ok(()) = fill(alloc, &mut other, others, size) else {
+    let Ok(other) = cutter(alloc, size) else {
         return Outcome::Early;
     };
+    let new = both(map, &other, call);
     let kept = is_filled(map, size.count, size);
-    match both(map, &other, call) {
-        Some(new) => done(kept && stores(&new, made, size)),
+    match new {
+        Some(new) => done(kept && is_cut(&new, size, call)),
         None => refused(kept),
     }
 }

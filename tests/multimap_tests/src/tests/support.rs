@@ -280,6 +280,34 @@ pub fn passes<K: Copy + PartialEq + Drop, T: Trial<K>>(
     Ok(())
 }
 
+/// The first step that does not hold over each two containers.
+fn over_each_pair<K: Copy + PartialEq + Drop, S: Numbers, T: Trial<K>>(
+    alloc: Global,
+    trial: &T,
+) -> Result<[Option<usize>; 4], MapError> {
+    let (to_tree, to_vector) = over_both::<K, S, T>(alloc, trial)?;
+    let vectors = trial.first_wrong::<S, Vector<K, S>, Vector<K, S>>(alloc)?;
+    let trees = trial.first_wrong::<S, Tree<K, S>, Tree<K, S>>(alloc)?;
+    Ok([vectors, to_tree, to_vector, trees])
+}
+
+/// Passes where every step holds, over each two containers and with either type of sets.
+pub fn passes_each_pair<K: Copy + PartialEq + Drop, T: Trial<K>>(
+    rt: &impl Abort,
+    alloc: Global,
+    trial: &T,
+) -> Result<(), Fail> {
+    assert_eq!(rt;
+        over_each_pair::<K, BTreeSet<i32>, T>(alloc, trial)?,
+        [None; 4]
+    );
+    assert_eq!(rt;
+        over_each_pair::<K, HashSet<i32>, T>(alloc, trial)?,
+        [None; 4]
+    );
+    Ok(())
+}
+
 /// What `passes` does, of numbers.
 pub fn passes_numbers<T: Trial<i32>>(
     rt: &impl Abort,

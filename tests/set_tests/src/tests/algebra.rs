@@ -19,7 +19,7 @@ pub enum Made {
     SymmetricDifference,
 }
 
-static ALL_MADE: &[Made] = &[
+pub static ALL_MADE: &[Made] = &[
     Made::Union,
     Made::Intersection,
     Made::Difference,
@@ -27,7 +27,7 @@ static ALL_MADE: &[Made] = &[
 ];
 
 impl Made {
-    fn of<C: Storage<Entry<u8>>, D: Storage<Entry<u8>>>(
+    pub fn of<C: Storage<Entry<u8>>, D: Storage<Entry<u8>>>(
         self,
         first: &RangeSet<u8, C>,
         second: &RangeSet<u8, D>,
@@ -41,7 +41,7 @@ impl Made {
     }
 
     /// Whether a key is in it, by whether it is in the two.
-    fn holds(self, in_first: bool, in_second: bool) -> bool {
+    pub fn holds(self, in_first: bool, in_second: bool) -> bool {
         match self {
             Made::Union => in_first | in_second,
             Made::Intersection => in_first & in_second,
@@ -197,7 +197,7 @@ fn trees_are_put_together_with_vectors(rt: HostRuntime) -> Result<(), Fail> {
     Ok(())
 }
 
-fn next_number(number: u32) -> u32 {
+pub fn next_number(number: u32) -> u32 {
     number.wrapping_mul(1664525).wrapping_add(1013904223)
 }
 

@@ -464,6 +464,17 @@ pub fn over_both<T: Copy + PartialEq + Drop, X: Trial<T>>(
     Ok((over_vector, over_tree))
 }
 
+/// The first step that does not hold over each two containers.
+pub fn over_each_pair<T: Copy + PartialEq + Drop, X: Trial<T>>(
+    alloc: Global,
+    trial: &X,
+) -> Result<[Option<usize>; 4], MapError> {
+    let (to_tree, to_vector) = over_both(alloc, trial)?;
+    let vectors = trial.first_wrong::<Vector<T>, Vector<T>>(alloc)?;
+    let trees = trial.first_wrong::<Tree<T>, Tree<T>>(alloc)?;
+    Ok([vectors, to_tree, to_vector, trees])
+}
+
 /// Passes where every step holds, over either container.
 pub fn passes<T: Copy + PartialEq + Drop, X: Trial<T>>(
     rt: &impl Abort,
