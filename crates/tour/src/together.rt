@@ -1,8 +1,11 @@
 //! What the tour shows of maps, sets and multimaps put together.
 
+ghost use Rattle.btree_range_map.specs.Range.{ClonesAreEqual};
+
+use btree_range_map::generic::multimap::SetAlgebra;
 use btree_range_map::storage::{Item, Storage};
 use btree_range_map::{
-    AnyRange, MapError, RangeMap, RangeMultiMap, RangeSet, UpdateError, generic,
+    AnyRange, MapError, Measure, RangeMap, RangeMultiMap, RangeSet, UpdateError, generic,
 };
 use std::alloc::Global;
 use std::collections::BTreeSet;
@@ -14,7 +17,7 @@ type Map<C> = generic::RangeMap<i32, i64, C>;
 
 type Set<C> = generic::RangeSet<u8, C>;
 
-type Classes = RangeMultiMap<char, BTreeSet<u8>>;
+type Classes<S, C> = generic::RangeMultiMap<char, S, C>;
 
 fn maps_laid_together<R: Abort, C: Storage<Item<AnyRange<i32>, i64>>>(
     rt: &R,
@@ -91,11 +94,15 @@ fn sets_changed<R: Abort, C: Storage<Item<AnyRange<u8>, ()>>>(
     Ok(())
 }
 
-fn set_beside_a_map<R: Abort, C: Storage<Item<AnyRange<u8>, ()>>>(
+fn set_beside_a_map<
+    R: Abort,
+    C: Storage<Item<AnyRange<u8>, ()>>,
+    D: Storage<Item<AnyRange<u8>, i64>>,
+>(
     rt: &R,
     alloc: Global,
     set: &Set<C>,
-    map: &RangeMap<u8, i64>,
+    map: &generic::RangeMap<u8, i64, D>,
 ) -> Result<(), MapError> {
     // of a set of 4..9, and a map that binds 0..6 to 1
     let keys: Set<C> = Set::keys_of(alloc, map)?; // 0..6
@@ -105,10 +112,10 @@ fn set_beside_a_map<R: Abort, C: Storage<Item<AnyRange<u8>, ()>>>(
     Ok(())
 }
 
-fn relations_put_together<R: Abort>(
+fn relations_put_together<R: Abort, S: SetAlgebra<u8>, C: Storage<Item<AnyRange<char>, S>>>(
     rt: &R,
-    digits: &Classes,
-    others: &Classes,
+    digits: &Classes<S, C>,
+    others: &Classes<S, C>,
 ) -> Result<(), MapError> {
     // of a multimap that gives '0'..='9' the value 1, and one that gives '5'..='z' the value 2
     let either = digits.union(others)?;
@@ -119,18 +126,41 @@ fn relations_put_together<R: Abort>(
 }
 
 /// A map that binds a range to a value.
-fn map_of(alloc: Global, range: Range<i32>, value: i64) -> Result<RangeMap<i32, i64>, MapError> {
-    RangeMap::from_iter(alloc, [(range, value)])
+fn map_of<K: Measure + Clone, C: Storage<Item<AnyRange<K>, i64>>>(
+    alloc: Global,
+    range: Range<K>,
+    value: i64,
+) -> Result<generic::RangeMap<K, i64, C>, MapError>
+    requires { ClonesAreEqual K.is_clone K.eq }
+{
+    let mut map = generic::RangeMap::new(alloc);
+    map.insert(range, value)?;
+    Ok(map)
 }
 
 /// A set of the keys of a range.
-fn set_of(alloc: Global, range: Range<u8>) -> Result<RangeSet<u8>, MapError> {
-    RangeSet::from_iter(alloc, [range])
+fn set_of<C: Storage<Item<AnyRange<u8>, ()>>>(
+    alloc: Global,
+    range: Range<u8>,
+) -> Result<Set<C>, MapError> {
+    let mut set = generic::RangeSet::new(alloc);
+    set.insert(range)?;
+    Ok(set)
+}
+
+/// Gives the one multimap '0'..='9' with the value 1, and the other '5'..='z' with the value 2.
+fn fill<S: SetAlgebra<u8>, C: Storage<Item<AnyRange<char>, S>>>(
+    digits: &mut Classes<S, C>,
+    others: &mut Classes<S, C>,
+) -> Result<(), MapError> {
+    digits.insert('0'..='9', 1)?;
+    others.insert('5'..='z', 2)?;
+    Ok(())
 }
 
 #[test]
 fn maps(rt: HostRuntime) -> Result<(), Fail> {
-    let mut map = map_of(rt.alloc(), 0..6, 1)?;
+    let mut map: RangeMap<i32, i64> = map_of(rt.alloc(), 0..6, 1)?;
     let other = map_of(rt.alloc(), 4..9, 10)?;
     maps_laid_together(&rt, &map, &other)?;
     maps_changed(&rt, &mut map, &other)?;
@@ -139,7 +169,7 @@ fn maps(rt: HostRuntime) -> Result<(), Fail> {
 
 #[test]
 fn sums(rt: HostRuntime) -> Result<(), Fail> {
-    let map = map_of(rt.alloc(), 0..6, 1)?;
+    let map: RangeMap<i32, i64> = map_of(rt.alloc(), 0..6, 1)?;
     let other = map_of(rt.alloc(), 4..9, 10)?;
     assert!(rt; maps_summed(&rt, &map, &other).is_ok());
     Ok(())
@@ -147,7 +177,7 @@ fn sums(rt: HostRuntime) -> Result<(), Fail> {
 
 #[test]
 fn sets(rt: HostRuntime) -> Result<(), Fail> {
-    let mut set = set_of(rt.alloc(), 0..6)?;
+    let mut set: RangeSet<u8> = set_of(rt.alloc(), 0..6)?;
     let other = set_of(rt.alloc(), 4..9)?;
     sets_laid_together(&rt, &set, &other)?;
     sets_changed(&rt, &mut set, &other)?;
@@ -156,18 +186,17 @@ fn sets(rt: HostRuntime) -> Result<(), Fail> {
 
 #[test]
 fn keys(rt: HostRuntime) -> Result<(), Fail> {
-    let set = set_of(rt.alloc(), 4..9)?;
-    let map: RangeMap<u8, i64> = RangeMap::from_iter(rt.alloc(), [(0..6, 1)])?;
+    let set: RangeSet<u8> = set_of(rt.alloc(), 4..9)?;
+    let map: RangeMap<u8, i64> = map_of(rt.alloc(), 0..6, 1)?;
     set_beside_a_map(&rt, rt.alloc(), &set, &map)?;
     Ok(())
 }
 
 #[test]
 fn relations(rt: HostRuntime) -> Result<(), Fail> {
-    let mut digits: Classes = RangeMultiMap::new(rt.alloc());
-    digits.insert('0'..='9', 1)?;
-    let mut others: Classes = RangeMultiMap::new(rt.alloc());
-    others.insert('5'..='z', 2)?;
+    let mut digits: RangeMultiMap<char, BTreeSet<u8>> = RangeMultiMap::new(rt.alloc());
+    let mut others = RangeMultiMap::new(rt.alloc());
+    fill(&mut digits, &mut others)?;
     relations_put_together(&rt, &digits, &others)?;
     Ok(())
 }
