@@ -1,14 +1,10 @@
-//! What the tour shows of maps, sets and multimaps put together.
+//! What the tour shows of maps and sets put together.
 
 ghost use Rattle.btree_range_map.specs.Range.{ClonesAreEqual};
 
-use btree_range_map::generic::multimap::SetAlgebra;
 use btree_range_map::storage::{Item, Storage};
-use btree_range_map::{
-    AnyRange, MapError, Measure, RangeMap, RangeMultiMap, RangeSet, UpdateError, generic,
-};
+use btree_range_map::{AnyRange, MapError, Measure, RangeMap, RangeSet, UpdateError, generic};
 use std::alloc::Global;
-use std::collections::BTreeSet;
 use std::ops::Range;
 use std::process::Abort;
 use std::test::Fail;
@@ -16,8 +12,6 @@ use std::test::Fail;
 type Map<C> = generic::RangeMap<i32, i64, C>;
 
 type Set<C> = generic::RangeSet<u8, C>;
-
-type Classes<S, C> = generic::RangeMultiMap<char, S, C>;
 
 fn maps_laid_together<R: Abort, C: Storage<Item<AnyRange<i32>, i64>>>(
     rt: &R,
@@ -112,19 +106,6 @@ fn set_beside_a_map<
     Ok(())
 }
 
-fn relations_put_together<R: Abort, S: SetAlgebra<u8>, C: Storage<Item<AnyRange<char>, S>>>(
-    rt: &R,
-    digits: &Classes<S, C>,
-    others: &Classes<S, C>,
-) -> Result<(), MapError> {
-    // of a multimap that gives '0'..='9' the value 1, and one that gives '5'..='z' the value 2
-    let either = digits.union(others)?;
-    assert!(rt; either.contains('7', &1) && either.contains('7', &2));
-    let first = either.difference(digits)?;
-    assert!(rt; !first.contains('7', &1) && first.contains('7', &2));
-    Ok(())
-}
-
 /// A map that binds a range to a value.
 fn map_of<K: Measure + Clone, C: Storage<Item<AnyRange<K>, i64>>>(
     alloc: Global,
@@ -146,16 +127,6 @@ fn set_of<C: Storage<Item<AnyRange<u8>, ()>>>(
     let mut set = generic::RangeSet::new(alloc);
     set.insert(range)?;
     Ok(set)
-}
-
-/// Gives the one multimap '0'..='9' with the value 1, and the other '5'..='z' with the value 2.
-fn fill<S: SetAlgebra<u8>, C: Storage<Item<AnyRange<char>, S>>>(
-    digits: &mut Classes<S, C>,
-    others: &mut Classes<S, C>,
-) -> Result<(), MapError> {
-    digits.insert('0'..='9', 1)?;
-    others.insert('5'..='z', 2)?;
-    Ok(())
 }
 
 #[test]
@@ -189,14 +160,5 @@ fn keys(rt: HostRuntime) -> Result<(), Fail> {
     let set: RangeSet<u8> = set_of(rt.alloc(), 4..9)?;
     let map: RangeMap<u8, i64> = map_of(rt.alloc(), 0..6, 1)?;
     set_beside_a_map(&rt, rt.alloc(), &set, &map)?;
-    Ok(())
-}
-
-#[test]
-fn relations(rt: HostRuntime) -> Result<(), Fail> {
-    let mut digits: RangeMultiMap<char, BTreeSet<u8>> = RangeMultiMap::new(rt.alloc());
-    let mut others = RangeMultiMap::new(rt.alloc());
-    fill(&mut digits, &mut others)?;
-    relations_put_together(&rt, &digits, &others)?;
     Ok(())
 }
