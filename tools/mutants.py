@@ -1,18 +1,11 @@
-#!/usr/bin/env python3
-"""try-mutants: sees each mutant, a wrong body of one function, refused at a goal of its own function.
+"""Mutants: wrong bodies of functions, each seen refused at a goal of its own function.
 
-    ./try-mutants CRATE..        tries the mutants of crates/CRATE/mutants/*.edit, those of an edit
-                                 in one check, and writes where each is refused, with a sum of the
-                                 crate's files, into crates/CRATE/mutants/refused.txt
-    ./try-mutants CRATE/EDIT     tries this edit of mutants/ or must-fail/ alone, and prints the goals
-    ./try-mutants --stale        names the crates that changed since their mutants were tried, which
-                                 the gate refuses, and on standard error those never tried so
-
-It begins with what `rt check` kept of the crate, so that has to have passed. A mutant that is not seen
-refused among the others of its edit is tried again without those that were, and at last alone.
+The mutants of an edit of crates/CRATE/mutants/ are tried in one check, over what `rt check` keeps of
+the crate. One that is not seen refused among the others is tried again without those that were, and at
+last alone. Where each is refused stands in crates/CRATE/mutants/refused.txt, after a sum of the crate's
+files and of the definitions and contracts of all crates below.
 """
 
-import argparse
 import collections
 import dataclasses
 import hashlib
@@ -20,12 +13,11 @@ import os
 import pathlib
 import re
 import shutil
-import subprocess
 import sys
 import tempfile
 
-TOP = pathlib.Path(__file__).resolve().parent
-CRATES = TOP / "crates"
+from tools.repository import CRATES, TOP, Counts, below, crates, run
+
 FUNCTION = re.compile(
     r"( *)(?:pub(?:\([a-z]+\))? )?(?:final |const |unsafe |extern \"C\" )*fn (\w+)"
 )
@@ -34,6 +26,7 @@ GOAL = re.compile(
     r"(?:note: |\./)*(src|proofs)/(\S+?)\.(?:rt|antt):(\d+):\d+: (?:error: `([^`]+)`|.*\(`([^`]+)`\))"
 )
 UNREAD = re.compile(r"\berror\[[\w-]+\]|^(\./)?src/\S+: error: [^`]", re.M)
+HEAD = "# What ./check mutants saw; sum of the files and of the contracts below: "
 
 
 @dataclasses.dataclass(frozen=True)
@@ -127,23 +120,21 @@ def linked(source, target):
     shutil.copytree(source, target, symlinks=True, copy_function=copy)
 
 
-def check(crate, texts):
-    """Returns what a check says of a copy of the crate with these texts, over the crate's kept work."""
+def check(crate, texts, kept=("out/incremental",)):
+    """Returns what a check says of a copy of the crate with these texts, over what is kept of the crate."""
     with tempfile.TemporaryDirectory(dir=TOP.parent) as room:
         room = pathlib.Path(room)
         for name in ("HANDLES", "crates.txt"):
             shutil.copy2(TOP / name, room)
         for other in CRATES.iterdir():
-            kept = [it for it in ("src", "specs", "proofs", "out/rlib") if (other / it).is_dir()]
-            kept += ["out/incremental"] if other == crate else []
-            for name in kept:
-                linked(other / name, room / "crates" / other.name / name)
+            names = ["src", "specs", "proofs", "out/rlib", *(kept if other == crate else ())]
+            for name in names:
+                if (other / name).is_dir():
+                    linked(other / name, room / "crates" / other.name / name)
         folder = room / "crates" / crate.name
         for path, text in texts.items():
             (folder / path).write_text(text)
-        words = ["rt", "check", "--jobs", "1"]
-        how = {"stdout": subprocess.PIPE, "stderr": subprocess.STDOUT, "errors": "replace"}
-        return subprocess.run(words, cwd=folder, **how).stdout
+        return run(["rt", "check", "--jobs", "1"], folder).stdout
 
 
 def refused(said, turned):
@@ -211,10 +202,9 @@ def try_edit(crate, edit):
         if UNREAD.search(said) or "logic=not-proved" not in said:
             print(said[-3000:])
             sys.exit(f"{crate.name}/{edit.stem}: is not refused, or cannot be read")
-        found = refused(said, left)
-        for function, names in found.items():
+        for function, names in refused(said, left).items():
             goals[function] |= names
-        unseen = [it for it in left if len(goals[it]) < 1]
+        unseen = [it for it in left if not goals[it]]
         if unseen == left:
             break
         left = unseen
@@ -227,31 +217,55 @@ def try_edit(crate, edit):
     return goals, {function: len(of) for function, of in turned.items()}
 
 
-def sum_of(crate):
-    """Returns a sum of what is proved of the crate, and of its mutants; comments and layout do not count."""
-    folders = [crate / name for name in ("src", "specs", "proofs", "mutants")]
-    files = sorted(it for folder in folders for it in folder.rglob("*") if it.suffix in (".rt", ".antt", ".edit"))
+def without_bodies(text):
+    """Returns the lines of a file but for those of functions' bodies, as `rt fmt` lays them out."""
+    lines, left = text.split("\n"), []
+    bodies = set()
+    for it in functions("", text):
+        indent = lines[it.last - 1][: len(lines[it.last - 1]) - len(lines[it.last - 1].lstrip())]
+        opens = range(it.first, it.last)
+        start = next((at for at in opens if lines[at - 1] == indent + "{"), None)
+        start = start or next((at for at in opens if lines[at - 1].endswith("{")), it.last)
+        bodies.update(range(start + 1, it.last))
+    for number, line in enumerate(lines, 1):
+        if number not in bodies:
+            left.append(line)
+    return "\n".join(left)
+
+
+def sum_of(crate, every):
+    """Returns a sum of what is proved of the crate and of its mutants, and of the definitions and contracts below.
+
+    Comments and layout do not count."""
+    folders = [(crate, name) for name in ("src", "specs", "proofs", "mutants")]
+    others = sorted(below(every, crate.name) - {crate.name})
+    folders += [(CRATES / name, part) for name in others for part in ("specs", "src")]
     made = hashlib.sha256()
-    for file in files:
-        lines = [line.strip() for line in file.read_text().split("\n")]
-        text = "\n".join(line for line in lines if not line.startswith(("//", "--")))
-        tokens = " ".join(re.findall(r"\w+|[^\w\s]", text))
-        tokens = re.sub(r"[,;] (?=[)}\]])", "", tokens)
-        made.update(f"{file.relative_to(crate)}\n{tokens}\n".encode())
+    for folder, part in folders:
+        files = (it for it in (folder / part).rglob("*") if it.suffix in (".rt", ".antt", ".edit"))
+        for file in sorted(files):
+            text = file.read_text()
+            text = text if folder == crate else without_bodies(text)
+            lines = [line.strip() for line in text.split("\n")]
+            text = "\n".join(line for line in lines if not line.startswith(("//", "--")))
+            tokens = " ".join(re.findall(r"\w+|[^\w\s]", text))
+            tokens = re.sub(r"[,;] (?=[)}\]])", "", tokens)
+            made.update(f"{file.relative_to(CRATES)}\n{tokens}\n".encode())
     return made.hexdigest()
-
-
-def with_mutants():
-    return sorted(it.parent for it in CRATES.glob("*/mutants") if any(it.glob("*.edit")))
 
 
 def record_of(crate):
     return crate / "mutants" / "refused.txt"
 
 
-def is_stale(crate):
-    record = record_of(crate)
-    return record.exists() and sum_of(crate) not in record.read_text().partition("\n")[0]
+def stale():
+    """Returns the crates that changed since their mutants were tried, and those that were never tried."""
+    every = crates()
+    found = sorted(it.parent for it in CRATES.glob("*/mutants") if any(it.glob("*.edit")))
+    never = [it.name for it in found if not record_of(it).exists()]
+    tried = [it for it in found if record_of(it).exists()]
+    heads = {it: record_of(it).read_text().partition("\n")[0] for it in tried}
+    return [it.name for it in tried if heads[it] != HEAD + sum_of(it, every)], never
 
 
 def show(goals, counts):
@@ -267,46 +281,34 @@ def show(goals, counts):
 
 
 def try_crate(crate):
-    lines, missed = [f"# What ./try-mutants saw; sum of the files: {sum_of(crate)}"], 0
+    """Tries all mutants of a crate, writes where each is refused, and returns the counts of functions."""
+    lines, counts = [HEAD + sum_of(crate, crates())], Counts(0)
     for edit in sorted((crate / "mutants").glob("*.edit")):
-        goals, counts = try_edit(crate, edit)
-        lines += [f"\n## {edit.stem}", *show(goals, counts)]
-        missed += sum(not names for names in goals.values())
+        goals, texts = try_edit(crate, edit)
+        lines += [f"\n## {edit.stem}", *show(goals, texts)]
+        missed = sum(not names for names in goals.values())
+        counts = counts.and_more([Counts(len(goals) - missed, missed)])
         print(f"{crate.name}/{edit.stem}: {len(goals)} functions, {missed} not refused", flush=True)
-    if missed:
+    if counts.failed:
         lines[0] = "# Not all were refused"
     record_of(crate).write_text("\n".join(lines) + "\n")
-    return missed
+    return counts
 
 
-def main():
-    words = argparse.ArgumentParser(
-        description=__doc__, formatter_class=argparse.RawDescriptionHelpFormatter
-    )
-    words.add_argument("names", nargs="*", metavar="CRATE or CRATE/EDIT")
-    words.add_argument("--stale", action="store_true", help="names the crates to try again")
-    given = words.parse_args()
-    os.environ["PATH"] += os.pathsep + "/opt/rattle/bin"
-    if given.stale:
-        for crate in with_mutants():
-            if not record_of(crate).exists():
-                print(f"{crate.name}: its mutants were not tried yet", file=sys.stderr)
-        stale = [it.name for it in with_mutants() if is_stale(it)]
-        print("\n".join(stale), end="\n" if stale else "")
-        return 1 if stale else 0
-    missed = 0
-    for name in given.names:
+def try_all(names):
+    """Tries the mutants of crates, or a single edit as CRATE/EDIT of mutants/ or must-fail/, whose goals it prints."""
+    counts = []
+    for name in names:
         crate, _, edit = name.partition("/")
-        folder = CRATES / crate
+        ended = run(["rt", "check", "--jobs", "1"], CRATES / crate)
+        if ended.returncode:
+            sys.exit(f"{ended.stdout[-3000:]}\n{crate}: is not proved as it stands")
         if edit:
-            found = [it for it in folder.glob(f"*/{edit}.edit")]
-            goals, counts = try_edit(folder, found[0])
-            print("\n".join(show(goals, counts)))
-            missed += sum(not names for names in goals.values())
+            (found,) = (CRATES / crate).glob(f"*/{edit}.edit")
+            goals, texts = try_edit(CRATES / crate, found)
+            print("\n".join(show(goals, texts)))
+            missed = sum(not names for names in goals.values())
+            counts.append(Counts(len(goals) - missed, missed))
         else:
-            missed += try_crate(folder)
-    return 1 if missed else 0
-
-
-if __name__ == "__main__":
-    sys.exit(main())
+            counts.append(try_crate(CRATES / crate))
+    return counts
