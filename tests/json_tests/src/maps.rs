@@ -1,7 +1,7 @@
 //! Maps, read in either shape and written.
 
 use crate::support::{
-    Fault, Row, Stored, Told, fault_of, has_ends, holds, is_done_or_refused, is_fault, is_written,
+    Row, Stored, Told, has_ends, holds, is_done_or_refused, is_fault, is_written,
     is_written_or_refused, parsed, play,
 };
 use range_algebra::any::AnyRange;
@@ -68,90 +68,90 @@ const FULL: &str = r#"{"items":[[["Unbounded","Unbounded"],1]],"version":2}"#;
 
 /// The fault of the whole, or else of the first faulty element, and in it the first of the order.
 static FAULTS: &[Row] = &[
-    ("7", Err(Fault::NotArray)),
-    ("null", Err(Fault::NotArray)),
-    (r#""items""#, Err(Fault::NotArray)),
-    ("{}", Err(Fault::Version)),
-    (r#"{"items":[]}"#, Err(Fault::Version)),
-    (r#"{"version":3,"items":[]}"#, Err(Fault::Version)),
-    (r#"{"version":2.0,"items":[]}"#, Err(Fault::Version)),
-    (r#"{"version":"2","items":[]}"#, Err(Fault::Version)),
-    (r#"{"version":2,"items":[],"x":0}"#, Err(Fault::Version)),
-    (r#"{"version":2,"x":0}"#, Err(Fault::Version)),
-    (r#"{"version":2}"#, Err(Fault::NotArray)),
-    (r#"{"version":2,"items":{}}"#, Err(Fault::NotArray)),
-    (r#"{"version":2,"items":[1]}"#, Err(Fault::NotPair(0))),
-    ("[1]", Err(Fault::NotPair(0))),
+    ("7", Err(JsonError::NotArray)),
+    ("null", Err(JsonError::NotArray)),
+    (r#""items""#, Err(JsonError::NotArray)),
+    ("{}", Err(JsonError::Version)),
+    (r#"{"items":[]}"#, Err(JsonError::Version)),
+    (r#"{"version":3,"items":[]}"#, Err(JsonError::Version)),
+    (r#"{"version":2.0,"items":[]}"#, Err(JsonError::Version)),
+    (r#"{"version":"2","items":[]}"#, Err(JsonError::Version)),
+    (r#"{"version":2,"items":[],"x":0}"#, Err(JsonError::Version)),
+    (r#"{"version":2,"x":0}"#, Err(JsonError::Version)),
+    (r#"{"version":2}"#, Err(JsonError::NotArray)),
+    (r#"{"version":2,"items":{}}"#, Err(JsonError::NotArray)),
+    (r#"{"version":2,"items":[1]}"#, Err(JsonError::NotPair(0))),
+    ("[1]", Err(JsonError::NotPair(0))),
     (
         r#"[[["Unbounded","Unbounded"],1,2]]"#,
-        Err(Fault::NotPair(0)),
+        Err(JsonError::NotPair(0)),
     ),
-    (r#"[[["Unbounded","Unbounded"]]]"#, Err(Fault::NotPair(0))),
-    (r#"[[["Unbounded"],1]]"#, Err(Fault::NotRange(0))),
-    (r#"[[["Unbounded"],1],7]"#, Err(Fault::NotRange(0))),
-    (r#"[[["Unbounded"],"x"]]"#, Err(Fault::NotRange(0))),
-    (r#"[[["Open","Unbounded"],1]]"#, Err(Fault::NotBound(0))),
+    (r#"[[["Unbounded","Unbounded"]]]"#, Err(JsonError::NotPair(0))),
+    (r#"[[["Unbounded"],1]]"#, Err(JsonError::NotRange(0))),
+    (r#"[[["Unbounded"],1],7]"#, Err(JsonError::NotRange(0))),
+    (r#"[[["Unbounded"],"x"]]"#, Err(JsonError::NotRange(0))),
+    (r#"[[["Open","Unbounded"],1]]"#, Err(JsonError::NotBound(0))),
     (
         r#"[[[{"Included":0,"Excluded":1},"Unbounded"],1]]"#,
-        Err(Fault::NotBound(0)),
+        Err(JsonError::NotBound(0)),
     ),
-    (r#"[[[{},"Unbounded"],1]]"#, Err(Fault::NotBound(0))),
+    (r#"[[[{},"Unbounded"],1]]"#, Err(JsonError::NotBound(0))),
     (
         r#"[[[{"Included":"x"},"Unbounded"],1]]"#,
-        Err(Fault::Key(0)),
+        Err(JsonError::Key(0)),
     ),
-    (r#"[[[{"Included":"x"},"Open"],1]]"#, Err(Fault::Key(0))),
+    (r#"[[[{"Included":"x"},"Open"],1]]"#, Err(JsonError::Key(0))),
     (
         r#"[[["Open",{"Included":"x"}],1]]"#,
-        Err(Fault::NotBound(0)),
+        Err(JsonError::NotBound(0)),
     ),
     (
         r#"[[["Unbounded",{"Included":"x"}],"x"]]"#,
-        Err(Fault::Key(0)),
+        Err(JsonError::Key(0)),
     ),
     (
         r#"[[["Unbounded",{"Excluded":2147483648}],1]]"#,
-        Err(Fault::Key(0)),
+        Err(JsonError::Key(0)),
     ),
-    (r#"[[["Unbounded","Unbounded"],"x"]]"#, Err(Fault::Value(0))),
+    (r#"[[["Unbounded","Unbounded"],"x"]]"#, Err(JsonError::Value(0))),
     (
         r#"[[["Unbounded","Unbounded"],1],[["Unbounded","Unbounded"],1]]"#,
-        Err(Fault::Meets(1, 0)),
+        Err(JsonError::Meets(1)),
     ),
     (
         r#"[[["Unbounded","Unbounded"],1],[["Unbounded","Unbounded"],"x"]]"#,
-        Err(Fault::Value(1)),
+        Err(JsonError::Value(1)),
     ),
     (
         r#"[[[{"Included":0},{"Excluded":6}],1],[[{"Included":5},{"Excluded":9}],2]]"#,
-        Err(Fault::Meets(1, 0)),
+        Err(JsonError::Meets(1)),
     ),
     (
         r#"[[[{"Included":0},{"Excluded":5}],1],[[{"Included":5},{"Excluded":9}],1],[[{"Included":3},{"Included":3}],1]]"#,
-        Err(Fault::Meets(2, 0)),
+        Err(JsonError::Meets(2)),
     ),
     (
         r#"[[[{"Included":0},{"Excluded":5}],1],[[{"Included":5},{"Excluded":9}],1],[[{"Included":7},{"Included":7}],1]]"#,
-        Err(Fault::Meets(2, 1)),
+        Err(JsonError::Meets(2)),
     ),
     (
         r#"{"version":2,"items":[[[{"Included":0},{"Excluded":6}],1],[[{"Included":5},{"Excluded":9}],2]]}"#,
-        Err(Fault::Meets(1, 0)),
+        Err(JsonError::Meets(1)),
     ),
 ];
 
 /// The fault of a map of bytes.
-fn fault_of_bytes(alloc: Global, text: &str) -> Option<Fault> {
+fn fault_of_bytes(alloc: Global, text: &str) -> Option<JsonError> {
     let value = parsed(alloc, text)?;
     let outcome: Result<RangeMap<u8, i64, VecStorage<Item<AnyRange<u8>, i64>>>, JsonError> =
         map_from_json(alloc, &value);
-    outcome.err().map(fault_of)
+    outcome.err()
 }
 
 #[test]
 fn a_byte_is_at_most_255(rt: HostRuntime) {
     let past = fault_of_bytes(rt.alloc(), r#"[[[{"Included":300},"Unbounded"],1]]"#);
-    assert_eq!(rt; past, Some(Fault::Key(0)));
+    assert_eq!(rt; past, Some(JsonError::Key(0)));
     let last = fault_of_bytes(rt.alloc(), r#"[[[{"Included":255},"Unbounded"],1]]"#);
     assert_eq!(rt; last, None);
 }
@@ -269,10 +269,10 @@ static OVERWRITTEN: &[Row] = &[
         r#"[[["Unbounded","Unbounded"],1],[[{"Included":8},{"Excluded":3}],2],[[{"Included":3},{"Included":4}],1]]"#,
         Ok(FULL),
     ),
-    ("{}", Err(Fault::Version)),
+    ("{}", Err(JsonError::Version)),
     (
         r#"[[["Unbounded","Unbounded"],1],[["Unbounded","Unbounded"],"x"]]"#,
-        Err(Fault::Value(1)),
+        Err(JsonError::Value(1)),
     ),
 ];
 

@@ -1,6 +1,6 @@
 //! Multimaps, read in either shape and written.
 
-use crate::support::{Fault, Row, Stored, Told, has_ends, is_done_or_refused, play};
+use crate::support::{Row, Stored, Told, has_ends, is_done_or_refused, play};
 use range_algebra::any::AnyRange;
 use range_json::json::{JsonError, multimap_from_json, multimap_to_json};
 use range_sets::multimap::RangeMultiMap;
@@ -72,22 +72,22 @@ static ROWS: &[Row] = &[
             r#"{"items":[[[{"Included":0},{"Excluded":5}],[1]],[[{"Included":5},{"Excluded":9}],[1,2]]],"version":2}"#,
         ),
     ),
-    (r#"[[["Unbounded","Unbounded"],[]]]"#, Err(Fault::Value(0))),
-    (r#"[[["Unbounded","Unbounded"],7]]"#, Err(Fault::Value(0))),
+    (r#"[[["Unbounded","Unbounded"],[]]]"#, Err(JsonError::Value(0))),
+    (r#"[[["Unbounded","Unbounded"],7]]"#, Err(JsonError::Value(0))),
     (
         r#"[[["Unbounded","Unbounded"],[7,"x"]]]"#,
-        Err(Fault::Value(0)),
+        Err(JsonError::Value(0)),
     ),
-    (r#"[[["Unbounded"],[]]]"#, Err(Fault::NotRange(0))),
+    (r#"[[["Unbounded"],[]]]"#, Err(JsonError::NotRange(0))),
     (
         r#"[[["Unbounded","Unbounded"],[1]],[["Unbounded","Unbounded"],[]]]"#,
-        Err(Fault::Value(1)),
+        Err(JsonError::Value(1)),
     ),
     (
         r#"[[["Unbounded","Unbounded"],[1]],[["Unbounded","Unbounded"],[1]]]"#,
-        Err(Fault::Meets(1, 0)),
+        Err(JsonError::Meets(1)),
     ),
-    (r#"{"version":3,"items":[]}"#, Err(Fault::Version)),
+    (r#"{"version":3,"items":[]}"#, Err(JsonError::Version)),
 ];
 
 fn play_over<C: Storage<Entry>>(rt: &impl Abort, alloc: Global) -> Result<(), Fail> {

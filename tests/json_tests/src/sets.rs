@@ -1,6 +1,6 @@
 //! Sets and single ranges, read and written.
 
-use crate::support::{Fault, Row, Stored, Told, has_ends, is_done_or_refused, play};
+use crate::support::{Row, Stored, Told, has_ends, is_done_or_refused, play};
 use range_algebra::any::AnyRange;
 use range_json::json::{JsonError, range_from_json, range_to_json, set_from_json, set_to_json};
 use range_sets::set::RangeSet;
@@ -37,18 +37,18 @@ impl<C: Storage<Entry>> Told for RangeSet<i32, C> {
 }
 
 static SETS: &[Row] = &[
-    ("{}", Err(Fault::NotArray)),
+    ("{}", Err(JsonError::NotArray)),
     ("[]", Ok("[]")),
     (
         r#"[[{"Included":0},{"Excluded":6}],[{"Included":5},{"Excluded":9}]]"#,
         Ok(r#"[[{"Included":0},{"Excluded":9}]]"#),
     ),
-    (r#"[["Unbounded","Unbounded"],7]"#, Err(Fault::NotRange(1))),
+    (r#"[["Unbounded","Unbounded"],7]"#, Err(JsonError::NotRange(1))),
     (
         r#"[["Unbounded","Unbounded"],["Unbounded","Open"]]"#,
-        Err(Fault::NotBound(1)),
+        Err(JsonError::NotBound(1)),
     ),
-    (r#"[["Unbounded",{"Excluded":true}]]"#, Err(Fault::Key(0))),
+    (r#"[["Unbounded",{"Excluded":true}]]"#, Err(JsonError::Key(0))),
 ];
 
 fn play_over<C: Storage<Entry>>(rt: &impl Abort, alloc: Global) -> Result<(), Fail> {
@@ -105,13 +105,13 @@ static RANGES: &[Row] = &[
         r#"[{"Excluded":-3},{"Excluded":3}]"#,
         Ok(r#"[{"Excluded":-3},{"Excluded":3}]"#),
     ),
-    (r#"["Unbounded"]"#, Err(Fault::NotRange(0))),
+    (r#"["Unbounded"]"#, Err(JsonError::NotRange(0))),
     (
         r#"["Unbounded","Unbounded","Unbounded"]"#,
-        Err(Fault::NotRange(0)),
+        Err(JsonError::NotRange(0)),
     ),
-    (r#"["Unbounded",7]"#, Err(Fault::NotBound(0))),
-    (r#"["Unbounded",{"Included":0.5}]"#, Err(Fault::Key(0))),
+    (r#"["Unbounded",7]"#, Err(JsonError::NotBound(0))),
+    (r#"["Unbounded",{"Included":0.5}]"#, Err(JsonError::Key(0))),
 ];
 
 #[test]

@@ -14,41 +14,8 @@ pub type Ends = (Bound<i32>, Bound<i32>);
 /// A stored range, and the values that it has.
 pub type Stored = (Ends, &'static [i64]);
 
-/// What an error names: the element at fault, beside the earlier one that it meets.
-#[derive(Clone, Copy, Debug, PartialEq, Eq)]
-pub enum Fault {
-    Memory,
-    NotArray,
-    NotPair(usize),
-    NotRange(usize),
-    NotBound(usize),
-    Key(usize),
-    Value(usize),
-    Meets(usize, usize),
-    Version,
-}
-
-/// The fault of an error, without what was found there.
-pub fn fault_of(error: JsonError) -> Fault {
-    match error {
-        JsonError::Memory => Fault::Memory,
-        JsonError::NotArray { .. } => Fault::NotArray,
-        JsonError::NotPair { element, .. } => Fault::NotPair(element),
-        JsonError::NotRange { element, .. } => Fault::NotRange(element),
-        JsonError::NotBound { element, .. } => Fault::NotBound(element),
-        JsonError::Key { element, .. } => Fault::Key(element),
-        JsonError::Value { element, .. } => Fault::Value(element),
-        JsonError::Meets {
-            element,
-            earlier,
-            ..
-        } => Fault::Meets(element, earlier),
-        JsonError::Version { .. } => Fault::Version,
-    }
-}
-
 /// What has to be read: a fault, or what is written as the text.
-pub type Wanted<'a> = Result<&'a str, Fault>;
+pub type Wanted<'a> = Result<&'a str, JsonError>;
 
 /// A text, and what has to be read of it.
 pub type Row = (&'static str, Wanted<'static>);
@@ -85,7 +52,7 @@ pub fn is_written<T: Told>(alloc: Global, told: &T, text: &str) -> Result<bool, 
 pub fn is_fault(error: JsonError, wanted: Wanted<'_>) -> bool {
     match wanted {
         Ok(_) => false,
-        Err(fault) => fault_of(error) == fault,
+        Err(fault) => error == fault,
     }
 }
 
