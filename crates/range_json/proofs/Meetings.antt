@@ -1,5 +1,6 @@
 -- The first earlier element that is met, as the ranges are read again.
-use Rattle.std.proofs.Common.{◌≡◌, sym, ap, subst, ◌∙◌, ◌↔◌, false}
+use Rattle.std.proofs.Common.{◌≡◌, refl, sym, ap, subst, ◌∙◌, ◌↔◌, false, Option, Some, None}
+use Rattle.std.specs.Prelude.{IfSome}
 use Rattle.std.specs.Ordering.{is_gt, ordering_reverse}
 use Rattle.std.specs.declared.cmp.Ordering.{Ordering}
 use Rattle.std.specs.declared.cmp.Ordering.TheVariants.{Less, Equal, Greater}
@@ -17,6 +18,12 @@ use Rattle.range_json.specs.Faults.{IsRangeRead}
 use Rattle.range_json.specs.MapFaults.{HasOneReading, MeetNonempty}
 use Rattle.range_json.specs.Meetings.{AlwaysMeet, IsRangeOf, NeverMeet}
 use Rattle.range_json.proofs.Exact.{meet_too, range_one}
+
+-- what holds of some result, by what is known of it
+pub some_too : {X : Type 0} (P Q : X → Type 0) (o : Option X) → ((x : X) → P x → Q x) → IfSome o P
+    → IfSome o Q
+some_too P Q None to h = h
+some_too P Q (Some x) to h = to x h
 
 past_or_not : (a b : Ordering) → a ≡ ordering_reverse b → (is_gt a ≡ false) ↔ ¬ (b ≡ Less)
 past_or_not a Less e = (λ h. absurd cc, λ h. absurd (h refl))

@@ -227,7 +227,7 @@ module _ {K V : Type 0} (order : KeyOrder K) (shape : K → Data) (reads : Data 
               none-some f (sym (element_sound (length first.front) cut.x values.1)
               ∙ ap (element_fault reads value_reads (length first.front)) cut.at ∙ own)
           | inr met ↦
-              let y = met.1.1.0 in
+              let y = met.0.1.0 in
               let front =
               elements_back order shape reads is_value is_read back lawful same equal
               value_shape value_is_value value_is_read value_back cut.xs first.earlier
@@ -237,7 +237,7 @@ module _ {K V : Type 0} (order : KeyOrder K) (shape : K → Data) (reads : Data 
               let last =
               element_back order shape reads is_value is_read back lawful same equal
               value_shape value_is_value value_is_read value_back cut.x y values.1
-              (subst (λ d. IsElementRead is_read value_is_read d y) (sym cut.at) met.1.1.1)
+              (subst (λ d. IsElementRead is_read value_is_read d y) (sym cut.at) met.0.1.1)
               in
               let copies =
               zip_last (Copied order shape reads is_value is_read back lawful same equal)
@@ -252,11 +252,11 @@ module _ {K V : Type 0} (order : KeyOrder K) (shape : K → Data) (reads : Data 
               (cut.xs ++ cut.x ∷ []) (first.earlier ++ y ∷ []) copies)
               (All-from_recursion (λ i. IsKnownRange order i.key) (first.earlier ++ y ∷ [])
               (all_more (λ i. IsKnownRange order i.key) first.earlier y first.fine.known
-              met.1.1.2)) whole in
+              met.0.1.2)) whole in
               any_none (λ i. MeetNonempty order i.key y.key)
               (λ i. ¬ JoinsOrMeets order same y.key y.value i) first.earlier
               (apart_from_last order lawful same equal first.earlier y form)
-              (λ i out meets. out (inl meets.2)) met.1.1.3
+              (λ i out meets. out (inl meets.2)) met.0.1.3
         ]
 
 module _ {K : Type 0} (order : KeyOrder K) (shape : K → Data) (reads : Data → Bool)

@@ -1,13 +1,12 @@
 //! The elements of a map.
-ghost use Rattle.std.specs.Prelude.{◌≡◌, ◌⊎◌, ℕ, length, Some, None, IfOk, OnOk, IfErr};
+ghost use Rattle.std.specs.Prelude.{◌≡◌, ◌⊎◌, Some, None, IfOk, OnOk, IfErr};
 ghost use Rattle.serde_json.specs.View.{view};
 ghost use Rattle.range_algebra.specs.Range.{ClonesAreEqual, IsEmptyRange, IsKnownRange};
 ghost use Rattle.range_change.specs.Bindings.{IsBoundAfter};
 ghost use Rattle.range_change.specs.Frames.{IsInsertionFrame};
 ghost use Rattle.range_change.specs.Lookups.{MeetsSome, MeetAlso};
 ghost use Rattle.range_change.specs.Stored.{IsStored};
-ghost use Rattle.range_json.specs.MapFaults.{HasOneReading, IsElementRead, element_fault, value_fault};
-ghost use Rattle.range_json.specs.Meetings.{all_views, IsFirstOrNone};
+ghost use Rattle.range_json.specs.MapFaults.{IsElementRead, element_fault, value_fault};
 ghost use Rattle.range_json.specs.declared.error.JsonError.TheVariants.{Memory, Meets};
 
 use crate::error::{JsonError, ReadError};

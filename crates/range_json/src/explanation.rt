@@ -152,9 +152,12 @@ impl JsonError {
     /// What this error of `map_from_json` or `map_from_json_overwriting` found in the JSON value that
     /// it was given.
     ///
+    /// Allocates nothing, unless keys are read that do.
+    ///
     /// ```
-    /// let error = JsonError::Meets(1);
-    /// let text = format!(in alloc; "{}", error.explained_map::<i32, i64>(&value))?;
+    /// let told = JsonError::Meets(1).explained_map::<i32, i64>(&value); // by `map_from_json`
+    /// let text = r#"element 1: the range [{"Included":5},"Unbounded"] meets that of element 0"#;
+    /// assert!(rt; format!(in rt.alloc(); "{told}")?.as_str() == text);
     /// ```
     pub fn explained_map<K: Json + Measure, V: Json>(&self, value: &Value) -> Explanation
         ensures error { result.error ≡ self.now }

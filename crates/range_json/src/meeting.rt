@@ -54,7 +54,11 @@ pub(crate) fn met_earlier<K: Json + Measure>(whole: &Value, index: usize) -> Opt
         (λ j. HasOneReading K.order K.is_read
         → IsFirstMetBy K.order K.is_read (view whole.now) index j) }
 {
-    let elements = elements_of_map(whole).ok()?;
-    let element = elements.get(index)?;
-    first_met::<K>(&elements[..index], element)
+    let Ok(elements) = elements_of_map(whole) else {
+        return None;
+    };
+    if index >= elements.len() {
+        return None;
+    }
+    first_met::<K>(&elements[..index], &elements[index])
 }

@@ -1,5 +1,5 @@
 //! Multimaps as JSON values.
-ghost use Rattle.std.specs.Prelude.{◌≡◌, ◌⊎◌, ℕ, length, Some, None, IfOk, OnOk, IfErr};
+ghost use Rattle.std.specs.Prelude.{◌≡◌, ◌⊎◌, Some, None, IfOk, OnOk, IfErr};
 ghost use Rattle.std.specs.BTreeSet.{IsEmpty};
 ghost use Rattle.serde_json.specs.View.{view};
 ghost use Rattle.range_algebra.specs.Range.{ClonesAreEqual, IsEmptyRange, IsKnownRange};
@@ -9,8 +9,7 @@ ghost use Rattle.range_change.specs.Lookups.{MeetsSome, MeetAlso};
 ghost use Rattle.range_change.specs.Stored.{IsStored};
 ghost use Rattle.range_sets.specs.Pairs.{HasNoEmptySet};
 ghost use Rattle.range_json.specs.Shapes.{map_shape};
-ghost use Rattle.range_json.specs.MapFaults.{HasOneReading, IsElementRead, element_fault};
-ghost use Rattle.range_json.specs.Meetings.{all_views, IsFirstOrNone};
+ghost use Rattle.range_json.specs.MapFaults.{IsElementRead, element_fault};
 ghost use Rattle.range_json.specs.Values.{AreItemValues};
 ghost use Rattle.range_json.specs.ValueSets.{values_shape, reads_some_values, same_values, IsValueSet, AreValuesRead};
 ghost use Rattle.range_json.specs.MultimapFaults.{IsMultimapRead, IsMultimapFault};

@@ -203,12 +203,25 @@ static MAPS: &[Binding] = &[
         None,
     ),
     (
+        (r#"[[[{"Included":8},{"Excluded":3}],1]]"#, Ok(EMPTY)),
+        5,
+        None,
+    ),
+    (
         (
-            r#"[[[{"Included":8},{"Excluded":3}],1],[["Unbounded","Unbounded"],1]]"#,
+            r#"[[[{"Included":8},{"Excluded":3}],2],[["Unbounded","Unbounded"],1]]"#,
             Ok(FULL),
         ),
         5,
         Some(1),
+    ),
+    (
+        (
+            r#"[[[{"Included":8},{"Excluded":3}],1],[[{"Included":9},{"Excluded":4}],2]]"#,
+            Ok(EMPTY),
+        ),
+        5,
+        None,
     ),
     (
         (

@@ -1,9 +1,11 @@
 //! Sets and single ranges, read and written.
 
-use crate::support::{Row, Stored, Told, has_ends, is_done_or_refused, play};
+use crate::support::{Row, Stored, Told, has_ends, is_done_or_refused, parsed, play};
 use range_algebra::any::AnyRange;
 use range_json::json::{JsonError, range_from_json, range_to_json, set_from_json, set_to_json};
+use range_map::map::MapError;
 use range_sets::set::RangeSet;
+use range_store::btree::BoxStorage;
 use range_store::storage::{Item, Storage};
 use range_store::vec_storage::VecStorage;
 use serde_json::Value;
@@ -43,6 +45,7 @@ static SETS: &[Row] = &[
         r#"[[{"Included":0},{"Excluded":6}],[{"Included":5},{"Excluded":9}]]"#,
         Ok(r#"[[{"Included":0},{"Excluded":9}]]"#),
     ),
+    (r#"[[{"Included":8},{"Excluded":3}]]"#, Ok("[]")),
     (r#"[["Unbounded","Unbounded"],7]"#, Err(JsonError::NotRange(1))),
     (
         r#"[["Unbounded","Unbounded"],["Unbounded","Open"]]"#,
@@ -58,7 +61,27 @@ fn play_over<C: Storage<Entry>>(rt: &impl Abort, alloc: Global) -> Result<(), Fa
 
 #[test]
 fn sets(rt: HostRuntime) -> Result<(), Fail> {
-    play_over::<VecStorage<Entry>>(&rt, rt.alloc())
+    play_over::<VecStorage<Entry>>(&rt, rt.alloc())?;
+    play_over::<BoxStorage<Entry>>(&rt, rt.alloc())
+}
+
+/// Whether 0..6 and 5..9, read as a set, are stored as one range, and the set equals that of 0..9.
+fn is_joined<C: Storage<Entry>>(alloc: Global) -> Result<bool, MapError> {
+    let text = r#"[[{"Included":0},{"Excluded":6}],[{"Included":5},{"Excluded":9}]]"#;
+    let mut set: RangeSet<i32, C> = RangeSet::new(alloc);
+    let Some(value) = parsed(alloc, text) else {
+        return Ok(false);
+    };
+    let is_read = set.read(alloc, &value) == Ok(());
+    let nine: RangeSet<i32, C> = RangeSet::from_iter(alloc, [0..9])?;
+    Ok(is_read && set.range_count() == 1 && set == nine)
+}
+
+#[test]
+fn ranges_that_meet_are_one_of_a_set(rt: HostRuntime) -> Result<(), Fail> {
+    assert!(rt; is_joined::<VecStorage<Entry>>(rt.alloc())?);
+    assert!(rt; is_joined::<BoxStorage<Entry>>(rt.alloc())?);
+    Ok(())
 }
 
 static HELD: &[Stored] = &[
@@ -76,6 +99,7 @@ fn is_read_and_written<C: Storage<Entry>>(alloc: Global) -> bool {
 #[test]
 fn a_set_is_read_and_written_where_memory_is_granted(rt: HostRuntime) {
     assert!(rt; is_read_and_written::<VecStorage<Entry>>(rt.alloc()));
+    assert!(rt; is_read_and_written::<BoxStorage<Entry>>(rt.alloc()));
 }
 
 impl Told for AnyRange<i32> {

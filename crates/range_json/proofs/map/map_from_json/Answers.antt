@@ -116,7 +116,7 @@ returns-in_err-insert_element-clause-fault g c =
           g.V.PartialEq.eq (take n vs) rest v
           (g.C.Storage.items c.loop-index.map) c.in_ok-item.item
           c.loop-index.invariant (rw size c.in_ok-item.ensures.sound)
-          c.in_ok-item.ensures.read c.insert_element.ensures.known at.1))))
+          c.in_ok-item.ensures.read c.insert_element.ensures.known (at.1, at.2)))))
     ] in
     search (rules, told)
 

@@ -137,7 +137,7 @@ returns-in_err-insert_values-clause-fault g c =
           (take n vs) rest v (g.C.Storage.items c.loop-index.multimap)
           c.in_ok-item.item c.loop-index.invariant
           (rw size c.in_ok-item.ensures.sound)
-          c.in_ok-item.ensures.read c.insert_values.ensures.known at.1))))
+          c.in_ok-item.ensures.read c.insert_values.ensures.known (at.1, at.2)))))
     ] in
     let is : c.from_residual-in_err-insert_values.result ≡ Err e = search rules in
     fails_with (λ f.
