@@ -58,6 +58,8 @@ mod lookups;
 #[cfg(test)]
 mod mapping;
 #[cfg(test)]
+mod narrow;
+#[cfg(test)]
 mod overlays;
 #[cfg(test)]
 mod reads;
