@@ -1,4 +1,6 @@
 -- What the contracts of the crates below say.
+pub mod HeldKeys
+pub mod KeyLaws
 pub mod KeyNumbers
 pub mod Names
 pub use Rattle.range_keys.specs.Characters
