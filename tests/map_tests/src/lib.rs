@@ -64,8 +64,6 @@ mod overlays;
 #[cfg(test)]
 mod reads;
 #[cfg(test)]
-mod refused;
-#[cfg(test)]
 mod set_values;
 #[cfg(test)]
 mod sorted;
