@@ -78,6 +78,26 @@ static EMPTY_RANGES_CHANGE_NOTHING: &[Step<'static>] = &[
     Step::Count(1),
 ];
 
+static NOTHING_IS_BOUND_BY_EMPTY_RANGES: &[Step<'static>] = &[
+    Step::Insert(half_open!(8, 3), 1),
+    Step::Count(0),
+    Step::Insert(between!(Excluded(5), Excluded(5)), 1),
+    Step::Count(0),
+    Step::InsertDisconnected(half_open!(8, 3), 1, false),
+    Step::Count(0),
+    Step::Update(half_open!(8, 3), &[(None, Ok(Some(1)))], None, (0, 0)),
+    Step::Count(0),
+    Step::Remove(half_open!(8, 3)),
+    Step::Count(0),
+    Step::Intersects(half_open!(8, 3), false),
+    Step::Get(5, None),
+];
+
+#[test]
+fn nothing_is_bound_by_empty_ranges(rt: HostRuntime) -> Result<(), Fail> {
+    play(&rt, rt.alloc(), NOTHING_IS_BOUND_BY_EMPTY_RANGES)
+}
+
 #[test]
 fn empty_ranges_change_nothing(rt: HostRuntime) -> Result<(), Fail> {
     play(&rt, rt.alloc(), EMPTY_RANGES_CHANGE_NOTHING)

@@ -1,4 +1,4 @@
-use crate::support::{Map, NumberItem, Played, Trial, Tried, check, half_open, wrong_unless};
+use crate::support::{Map, NumberItem, Trial, Tried, check};
 use range_commands::command::{Command, Reply, answer, run};
 use range_map::map::MapError;
 use range_store::storage::Storage;
@@ -182,31 +182,4 @@ static UPDATES_ARE_TOLD_APART_BY_THEIR_TAGS: &[Row] = &[
 #[test]
 fn updates_are_told_apart_by_their_tags(rt: HostRuntime) -> Result<(), Fail> {
     play(&rt, rt.alloc(), UPDATES_ARE_TOLD_APART_BY_THEIR_TAGS)
-}
-
-/// Whether a command is done on a new map, or else an allocation fails and nothing is changed.
-fn is_done_or_refused<M: Played + Commanded>(map: &mut M) -> bool {
-    let given = map.reply(Command::InsertDisconnected(half_open(0, 10), 1));
-    let bound = given == Reply::Done;
-    (bound || given == Reply::Memory)
-        && map.has_count(if bound { 1 } else { 0 })
-        && map.reply(Command::Contains(5)) == Reply::Truth(bound)
-}
-
-/// A command to a new map, where an allocation may fail.
-struct Refusal;
-
-impl Trial for Refusal {
-    fn first_wrong<M: Tried>(
-        &self,
-        map: &mut M,
-        _other: &mut M,
-    ) -> Result<Option<usize>, MapError> {
-        Ok(wrong_unless(is_done_or_refused(map)))
-    }
-}
-
-#[test]
-fn a_refused_command_changes_nothing(rt: HostRuntime) -> Result<(), Fail> {
-    check(&rt, rt.alloc(), &Refusal)
 }

@@ -47,7 +47,7 @@ impl<'a, C: Storage<NumberItem>> Asked for Iter<'a, i32, i64, C> {
     }
 
     fn has_len(&self, len: usize) -> bool {
-        self.len() == len
+        self.len() == len && self.size_hint() == (len, Some(len))
     }
 }
 

@@ -34,6 +34,8 @@ mod bulk;
 #[cfg(test)]
 mod calls;
 #[cfg(test)]
+mod cloning;
+#[cfg(test)]
 mod combining;
 #[cfg(test)]
 mod commands;
@@ -64,8 +66,6 @@ mod overlays;
 #[cfg(test)]
 mod reads;
 #[cfg(test)]
-mod refused;
-#[cfg(test)]
 mod set_values;
 #[cfg(test)]
 mod sorted;
@@ -77,6 +77,8 @@ mod splitting;
 mod support;
 #[cfg(test)]
 mod tallied;
+#[cfg(test)]
+mod tally;
 #[cfg(test)]
 mod text;
 #[cfg(test)]

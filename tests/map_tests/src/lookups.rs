@@ -1,6 +1,5 @@
 use crate::support::{
-    Map, NumberItem, Played, Range, Step, Trial, Tried, check, closed, first_wrong, half_open,
-    play, wrong_unless,
+    Map, NumberItem, Range, Step, Trial, Tried, check, closed, first_wrong, play,
 };
 use range_algebra::any::AnyRange;
 use range_map::map::{MapError, binary_search};
@@ -27,32 +26,6 @@ static A_RANGE_THAT_TOUCHES_IS_REFUSED: &[Step<'static>] = &[
 #[test]
 fn a_range_that_touches_is_refused(rt: HostRuntime) -> Result<(), Fail> {
     play(&rt, rt.alloc(), A_RANGE_THAT_TOUCHES_IS_REFUSED)
-}
-
-/// Whether a range is bound in a new map or, where an allocation fails, handed back.
-fn is_bound_or_handed_back<M: Played>(map: &mut M) -> bool {
-    match map.insert_disconnected(half_open(30, 40), 2) {
-        None => map.has_count(1),
-        given => given == Some((half_open(30, 40), 2)) && map.has_count(0),
-    }
-}
-
-/// An insertion that joins nothing, where an allocation may fail.
-struct Refusal;
-
-impl Trial for Refusal {
-    fn first_wrong<M: Tried>(
-        &self,
-        map: &mut M,
-        _other: &mut M,
-    ) -> Result<Option<usize>, MapError> {
-        Ok(wrong_unless(is_bound_or_handed_back(map)))
-    }
-}
-
-#[test]
-fn a_refusal_for_memory_hands_back(rt: HostRuntime) -> Result<(), Fail> {
-    check(&rt, rt.alloc(), &Refusal)
 }
 
 static A_RANGE_INTERSECTS_WHAT_IT_SHARES_A_KEY_WITH: &[Step<'static>] = &[

@@ -1,5 +1,7 @@
 //! A map whose values are sets, as a lexer keeps its transitions.
 
+use crate::containers::{Table, check};
+use crate::support::wrong_unless;
 use range_algebra::any::AnyRange;
 use range_algebra::range::IntoRange;
 use range_keys::traits::Measure;
@@ -129,13 +131,29 @@ fn adds_zero<K: Measure + Copy + IntoRange<Item = K>, C: Storage<Transition<K>>>
     Ok(([before, map.range_count()], bound))
 }
 
+/// The digits, to each of which zero is added.
+struct Digits;
+
+impl Table<Transition<char>> for Digits {
+    fn first_wrong<C: Storage<Transition<char>>>(
+        &self,
+        alloc: Global,
+    ) -> Result<Option<usize>, MapError> {
+        let mut map: RangeMap<char, Targets, C> = RangeMap::new(alloc);
+        let found = adds_zero(alloc, &mut map, &DIGITS, '0'..='9', '0', &['/', ':'])?;
+        Ok(wrong_unless(found == ([9, 10], [true; 4])))
+    }
+}
+
 #[test]
 fn a_number_is_added_to_each_set_of_a_range(rt: HostRuntime) -> Result<(), Fail> {
+    check(&rt, rt.alloc(), &Digits)
+}
+
+#[test]
+fn ten_sets_stand_on_one_level(rt: HostRuntime) -> Result<(), Fail> {
     let mut map: RangeMap<char, Targets, BoxStorage<Transition<char>>> = RangeMap::new(rt.alloc());
-    let found = adds_zero(rt.alloc(), &mut map, &DIGITS, '0'..='9', '0', &['/', ':'])?;
-    assert!(rt;
-        (found, map.levels()) == (([9, 10], [true; 4]), 1),
-        "{found:?}"
-    );
+    let (counts, _) = adds_zero(rt.alloc(), &mut map, &DIGITS, '0'..='9', '0', &[])?;
+    assert!(rt; counts == [9, 10] && map.levels() == 1);
     Ok(())
 }

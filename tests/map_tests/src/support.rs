@@ -117,8 +117,11 @@ pub trait Played {
     /// Returns `true` once the range is free.
     fn remove(&mut self, range: Range) -> Result<bool, MapError>;
 
-    /// Returns the range and the value where they are handed back.
-    fn insert_disconnected(&mut self, range: Range, value: i64) -> Option<(Range, i64)>;
+    fn insert_disconnected(
+        &mut self,
+        range: Range,
+        value: i64,
+    ) -> Result<(), NotInserted<i32, i64>>;
 
     fn update(
         &mut self,
@@ -153,13 +156,12 @@ impl<C: Storage<NumberItem>> Played for Map<C> {
         Ok(true)
     }
 
-    fn insert_disconnected(&mut self, range: Range, value: i64) -> Option<(Range, i64)> {
-        match RangeMap::insert_disconnected(self, range, value) {
-            Ok(()) => None,
-            Err(NotInserted::Connected(range, value)) | Err(NotInserted::Memory(range, value)) => {
-                Some((range, value))
-            }
-        }
+    fn insert_disconnected(
+        &mut self,
+        range: Range,
+        value: i64,
+    ) -> Result<(), NotInserted<i32, i64>> {
+        RangeMap::insert_disconnected(self, range, value)
     }
 
     fn update(
@@ -220,7 +222,7 @@ pub fn insert_rows<M: Played>(map: &mut M, rows: &[Row]) -> Result<bool, MapErro
 pub enum Step<'a> {
     Insert(Range, i64),
     Remove(Range),
-    /// An insertion that joins nothing, and whether the range and the value are handed back.
+    /// An insertion that joins nothing, and whether it is refused as connected.
     InsertDisconnected(Range, i64, bool),
     /// An update by a closure with its answers, the error that it ends with, and how often the
     /// closure is asked.
@@ -234,10 +236,13 @@ pub enum Step<'a> {
     Stores(&'a [Row]),
 }
 
-/// Whether the range and the value are handed back just where that is told.
+/// Whether the range is inserted or, where that is told, handed back with the value as connected.
 fn inserts_apart<M: Played>(map: &mut M, range: Range, value: i64, refused: bool) -> bool {
-    let given = map.insert_disconnected(range, value);
-    given == if refused { Some((range, value)) } else { None }
+    match map.insert_disconnected(range, value) {
+        Ok(()) => !refused,
+        Err(NotInserted::Connected(given, back)) => refused && given == range && back == value,
+        Err(NotInserted::Memory(_, _)) => false,
+    }
 }
 
 /// Whether an update ends so, and its closure is asked so often.

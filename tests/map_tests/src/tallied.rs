@@ -1,163 +1,16 @@
 //! Counted calls over a key that counts its comparisons.
 
-ghost use Rattle.std.specs.Prelude.{◌≡◌, refl};
-ghost use Rattle.std.specs.Ordering.{int_cmp, on, eq_by_cmp, as_partial_cmp};
-ghost use Rattle.std.specs.Cmp.{int_cmp_total, on_total, eq_by_cmp_equiv, partial_equiv_from_equiv, partial_order_from_total};
-ghost use Rattle.range_keys.specs.Untold.{untold_order, untold_lawful, untold_measured};
-ghost use Rattle.map_tests.specs.declared.tallied.Tallied.{Tallied};
-
 use crate::containers::{Table, check};
+use crate::tally::{Tallied, Tally, new_tally, range};
 use range_algebra::any::AnyRange;
-use range_keys::traits::{MaybeBounded, Measure, PartialEnum};
 use range_map::map::{MapError, RangeMap};
 use range_store::storage::{Item, Steps, Storage};
-use std::alloc::{AllocError, Global};
-use std::cell::Cell;
-use std::cmp::Ordering;
+use std::alloc::Global;
 use std::ops::Bound::{self, Excluded, Included};
-use std::rc::Rc;
 use std::test::Fail;
-
-/// A number whose type tells neither neighbours nor ends. Each comparison is counted in a cell that
-/// such numbers share.
-#[derive(Drop)]
-struct Tallied {
-    number: i32,
-    comparisons: Rc<Cell<u64>>,
-}
-
-impl Clone for Tallied {
-    ghost is_clone = { λ x y. x.number ≡ y.number };
-
-    fn clone(&self) -> Result<Tallied, AllocError> {
-        Ok(Tallied {
-            number: self.number,
-            comparisons: self.comparisons.clone()?,
-        })
-    }
-}
-
-impl PartialEq for Tallied {
-    ghost eq = { eq_by_cmp (on (λ (x : Tallied). x.number) int_cmp) };
-
-    ghost laws = { partial_equiv_from_equiv
-        (eq_by_cmp_equiv (on_total (λ (x : Tallied). x.number) int_cmp_total)) };
-
-    fn eq(&self, other: &Tallied) -> bool {
-        self.cmp(other) == Ordering::Equal
-    }
-}
-
-impl Eq for Tallied {
-    ghost laws = { eq_by_cmp_equiv (on_total (λ (x : Tallied). x.number) int_cmp_total) };
-}
-
-impl PartialOrd for Tallied {
-    ghost partial_cmp = { as_partial_cmp (on (λ (x : Tallied). x.number) int_cmp) };
-
-    ghost laws = { partial_order_from_total (on_total (λ (x : Tallied). x.number) int_cmp_total) };
-
-    fn partial_cmp(&self, other: &Tallied) -> Option<Ordering> {
-        Some(self.cmp(other))
-    }
-}
-
-impl Ord for Tallied {
-    ghost cmp = { on (λ (x : Tallied). x.number) int_cmp };
-
-    ghost total = { on_total (λ (x : Tallied). x.number) int_cmp_total };
-
-    ghost matches_partial_cmp = { λ a b. refl };
-
-    ghost matches_eq = { λ a b. refl };
-
-    fn cmp(&self, other: &Tallied) -> Ordering {
-        self.comparisons
-            .set(self.comparisons.get().saturating_add(1));
-        self.number.cmp(&other.number)
-    }
-}
-
-impl MaybeBounded for Tallied {
-    ghost order = { untold_order (on (λ (x : Tallied). x.number) int_cmp) };
-
-    fn min() -> Option<Tallied> {
-        None
-    }
-
-    fn max() -> Option<Tallied> {
-        None
-    }
-
-    fn known(&self) {}
-
-    ghost order_is_cmp = { λ a b. refl };
-}
-
-impl PartialEnum for Tallied {
-    fn succ(&self) -> Option<Tallied> {
-        None
-    }
-
-    fn pred(&self) -> Option<Tallied> {
-        None
-    }
-
-    ghost lawful = { untold_lawful (on (λ (x : Tallied). x.number) int_cmp)
-        (on_total (λ (x : Tallied). x.number) int_cmp_total) };
-}
-
-impl Measure for Tallied {
-    ghost len = { λ _. 0 };
-
-    ghost distance = { λ _ _. 0 };
-
-    fn len(&self) -> u128 {
-        0
-    }
-
-    fn distance(&self, other: &Tallied) -> u128 {
-        0
-    }
-
-    ghost measured = { untold_measured (on (λ (x : Tallied). x.number) int_cmp)
-        (on_total (λ (x : Tallied). x.number) int_cmp_total) };
-}
 
 /// What a map stores.
 type Entry = Item<AnyRange<Tallied>, i64>;
-
-/// The cell in which keys count their comparisons.
-type Tally = Rc<Cell<u64>>;
-
-fn new_tally(alloc: Global) -> Result<Tally, AllocError> {
-    Ok(Rc::new(alloc, Cell::new(0))?)
-}
-
-fn key(number: i32, tally: &Tally) -> Result<Tallied, AllocError> {
-    Ok(Tallied {
-        number,
-        comparisons: tally.clone()?,
-    })
-}
-
-fn bound(bound: Bound<i32>, tally: &Tally) -> Result<Bound<Tallied>, AllocError> {
-    Ok(match bound {
-        Bound::Included(number) => Bound::Included(key(number, tally)?),
-        Bound::Excluded(number) => Bound::Excluded(key(number, tally)?),
-        Bound::Unbounded => Bound::Unbounded,
-    })
-}
-
-fn range(
-    start: Bound<i32>,
-    end: Bound<i32>,
-    tally: &Tally,
-) -> Result<AnyRange<Tallied>, AllocError> {
-    let start = bound(start, tally)?;
-    let end = bound(end, tally)?;
-    Ok(AnyRange::new(start, end))
-}
 
 /// A map over some container, whose calls count their steps.
 trait Counting {
@@ -234,8 +87,8 @@ fn answers_so<M: Counting>(
     steps: &mut Steps,
 ) -> Result<bool, MapError> {
     match call {
-        Call::Get(number, value) => Ok(map.value_at(key(number, tally)?, steps) == value),
-        Call::Contains(number, bound) => Ok(map.contains_key(key(number, tally)?, steps) == bound),
+        Call::Get(number, value) => Ok(map.value_at(Tallied::new(number, tally)?, steps) == value),
+        Call::Contains(number, bound) => Ok(map.contains_key(Tallied::new(number, tally)?, steps) == bound),
         Call::Intersects(start, end, meets) => {
             Ok(map.intersects(range(start, end, tally)?, steps) == meets)
         }
@@ -258,10 +111,10 @@ fn beside_steps(call: Call) -> u64 {
 /// are few.
 fn agrees<M: Counting>(map: &mut M, call: Call, tally: &Tally) -> Result<bool, MapError> {
     let mut steps = Steps::new();
-    tally.set(0);
+    tally.clear();
     let answered = answers_so(map, call, tally, &mut steps)?;
     let compared = steps.count().saturating_add(beside_steps(call));
-    Ok(answered && tally.get() == compared && compared < 4000)
+    Ok(answered && tally.comparisons() == compared && compared < 4000)
 }
 
 /// Binds so many even numbers, each alone, to 0.

@@ -1,7 +1,7 @@
 //! Which calls clone a value: those that make two ranges of a stored one, and no others.
 
 use crate::containers::{Table, check};
-use crate::support::Range;
+use crate::support::{Range, Row, closed};
 use range_map::map::{MapError, RangeMap, UpdateError};
 use range_store::storage::{Item, Storage};
 use std::alloc::{AllocError, Global};
@@ -30,9 +30,10 @@ trait Uncloned {
     /// An update whose closure answers this for each piece.
     fn update(&mut self, range: Range, value: Option<i64>) -> Result<(), UpdateError<i64>>;
 
-    fn has_count(&self, count: usize) -> bool;
-
     fn number_at(&self, key: i32) -> Option<i64>;
+
+    /// Whether just these rows are stored.
+    fn stores(&self, rows: &[Row]) -> bool;
 }
 
 impl<C: Storage<OnlyItem>> Uncloned for RangeMap<i32, Only, C> {
@@ -48,12 +49,19 @@ impl<C: Storage<OnlyItem>> Uncloned for RangeMap<i32, Only, C> {
         RangeMap::update(self, range, |_| Ok(value.map(Only)))
     }
 
-    fn has_count(&self, count: usize) -> bool {
-        self.range_count() == count
-    }
-
     fn number_at(&self, key: i32) -> Option<i64> {
         self.get(key).map(|only| only.0)
+    }
+
+    fn stores(&self, rows: &[Row]) -> bool {
+        let mut stored = self.iter();
+        for (first, last, value) in rows {
+            match stored.next() {
+                Some((range, only)) if *range == closed(*first, *last) && only.0 == *value => (),
+                _ => return false,
+            }
+        }
+        stored.next().is_none()
     }
 }
 
@@ -64,8 +72,8 @@ enum Step {
     Remove(Range, Result<(), MapError>),
     /// An update whose closure answers this for each piece.
     Update(Range, Option<i64>, Result<(), UpdateError<i64>>),
-    /// How many ranges are stored.
-    Count(usize),
+    /// Each stored range.
+    Stores(&'static [Row]),
     Get(i32, Option<i64>),
 }
 
@@ -74,7 +82,7 @@ fn holds<M: Uncloned>(map: &mut M, step: Step) -> bool {
         Step::Insert(range, value, answer) => map.insert(range, value) == answer,
         Step::Remove(range, answer) => map.remove(range) == answer,
         Step::Update(range, value, answer) => map.update(range, value) == answer,
-        Step::Count(count) => map.has_count(count),
+        Step::Stores(rows) => map.stores(rows),
         Step::Get(key, value) => map.number_at(key) == value,
     }
 }
@@ -102,22 +110,22 @@ impl<'a> Table<OnlyItem> for Steps<'a> {
 
 static VALUES_ARE_CLONED_ONLY_WHERE_A_RANGE_BECOMES_TWO: &[Step] = &[
     Step::Insert(half_open!(0, 20), 1, Ok(())),
-    Step::Count(1),
+    Step::Stores(&[(0, 19, 1)]),
     Step::Get(7, Some(1)),
     Step::Insert(half_open!(5, 15), 0, Err(MapError::Memory)),
-    Step::Count(1),
+    Step::Stores(&[(0, 19, 1)]),
     Step::Get(7, Some(1)),
     Step::Remove(half_open!(5, 15), Err(MapError::Memory)),
-    Step::Count(1),
+    Step::Stores(&[(0, 19, 1)]),
     Step::Get(7, Some(1)),
     Step::Insert(half_open!(15, 25), 0, Ok(())),
-    Step::Count(2),
+    Step::Stores(&[(0, 14, 1), (15, 24, 0)]),
     Step::Get(7, Some(1)),
     Step::Remove(half_open!(0, 3), Ok(())),
-    Step::Count(2),
+    Step::Stores(&[(3, 14, 1), (15, 24, 0)]),
     Step::Get(7, Some(1)),
     Step::Insert(half_open!(5, 15), 1, Ok(())),
-    Step::Count(2),
+    Step::Stores(&[(3, 14, 1), (15, 24, 0)]),
     Step::Get(7, Some(1)),
     Step::Get(2, None),
     Step::Get(15, Some(0)),
@@ -135,13 +143,13 @@ fn values_are_cloned_only_where_a_range_becomes_two(rt: HostRuntime) -> Result<(
 static UPDATES_CLONE_VALUES_ONLY_WITHIN_A_STORED_RANGE: &[Step] = &[
     Step::Insert(half_open!(0, 20), 1, Ok(())),
     Step::Update(half_open!(5, 15), Some(0), Err(UpdateError::Memory)),
-    Step::Count(1),
+    Step::Stores(&[(0, 19, 1)]),
     Step::Get(7, Some(1)),
     Step::Update(half_open!(5, 15), None, Err(UpdateError::Memory)),
-    Step::Count(1),
+    Step::Stores(&[(0, 19, 1)]),
     Step::Get(7, Some(1)),
     Step::Update(half_open!(15, 25), Some(0), Ok(())),
-    Step::Count(2),
+    Step::Stores(&[(0, 14, 1), (15, 24, 0)]),
     Step::Get(7, Some(1)),
     Step::Get(14, Some(1)),
     Step::Get(24, Some(0)),

@@ -12,6 +12,7 @@ mod outcome;
 mod ranges;
 mod rows;
 mod sets;
+mod worked;
 
 use crate::outcome::Outcome;
 use crate::rows::{CALLS, SIZES};

@@ -6,6 +6,7 @@ use crate::multimaps::{self, MultimapCall};
 use crate::outcome::Outcome;
 use crate::ranges::Size;
 use crate::sets::{self, SetCall};
+use crate::worked::{self, WorkedCall};
 use std::alloc::Global;
 use std::collections::{BTreeSet, HashSet};
 
@@ -13,6 +14,7 @@ use std::collections::{BTreeSet, HashSet};
 #[derive(Clone, Copy)]
 pub enum Call {
     Map(MapCall),
+    Worked(WorkedCall),
     Set(SetCall),
     Ordered(MultimapCall),
     Hashed(MultimapCall),
@@ -20,6 +22,11 @@ pub enum Call {
 }
 
 pub static CALLS: &[(&str, Call)] = &[
+    ("map: insert 5..15 into 0..20", Call::Worked(WorkedCall::Insert)),
+    (
+        "map: insert_disconnected 30..40 beside 0..20",
+        Call::Worked(WorkedCall::InsertDisconnected),
+    ),
     ("map: insert between ranges", Call::Map(MapCall::InsertFree)),
     (
         "map: insert inside a range",
@@ -148,6 +155,7 @@ pub const SIZES: [u16; 3] = [4, 16, 144];
 fn over_vector(alloc: Global, call: Call, size: Size) -> Outcome {
     match call {
         Call::Map(call) => maps::outcome::<maps::Vector>(alloc, size, call),
+        Call::Worked(call) => worked::outcome::<worked::Vector>(alloc, call),
         Call::Set(call) => sets::outcome::<sets::Vector>(alloc, size, call),
         Call::Ordered(call) => {
             multimaps::outcome::<BTreeSet<i32>, multimaps::Vector<BTreeSet<i32>>>(alloc, size, call)
@@ -162,6 +170,7 @@ fn over_vector(alloc: Global, call: Call, size: Size) -> Outcome {
 fn over_tree(alloc: Global, call: Call, size: Size) -> Outcome {
     match call {
         Call::Map(call) => maps::outcome::<maps::Tree>(alloc, size, call),
+        Call::Worked(call) => worked::outcome::<worked::Tree>(alloc, call),
         Call::Set(call) => sets::outcome::<sets::Tree>(alloc, size, call),
         Call::Ordered(call) => {
             multimaps::outcome::<BTreeSet<i32>, multimaps::Tree<BTreeSet<i32>>>(alloc, size, call)

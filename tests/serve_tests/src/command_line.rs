@@ -1,0 +1,1 @@
+../../../crates/rangerun/src/command_line.rt

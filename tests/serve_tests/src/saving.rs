@@ -1,0 +1,1 @@
+../../../crates/rangerun/src/saving.rt
