@@ -64,7 +64,7 @@ def unescaped(found):
     letter, code, times, text = found.groups()
     if letter:
         return {b"r": b"\r", b"\\": b"\\", b"\n": b""}[letter]
-    return bytes.fromhex(code.decode()) if code else bytes_of(text) * int(times)
+    return bytes.fromhex(code.decode()) if code else text * int(times)
 
 
 def bytes_of(text):

@@ -144,13 +144,20 @@ def tests(crate, room):
 
 
 def program(crate, room):
-    """Runs a program on its files, and compares what it writes and its status."""
+    """Runs a program on its files, and compares what it writes and its status.
+
+    A program of tests/ with a folder `conversations` is given its files, one after the other."""
+
     def read(name):
         path = room / crate.name / name
         return path.read_bytes() if path.exists() else b""
 
+    given = read("stdin")
+    if not crate.is_proved:
+        files = sorted((room / crate.name).glob("conversations/*.txt"))
+        given += b"\n".join(path.read_bytes() for path in files)
     began, words = time.monotonic(), ["rt", "try", "--", *read("args").decode().splitlines()]
-    ended = subprocess.run(words, cwd=room / crate.name, input=read("stdin"), capture_output=True)
+    ended = subprocess.run(words, cwd=room / crate.name, input=given, capture_output=True)
     is_well = ended.stdout == read("stdout") and ended.returncode == int(read("status") or 0)
     said = (ended.stdout + ended.stderr).decode(errors="replace")
     return told(f"{crate.name}: program", Counts(int(is_well), int(not is_well)), began, said)

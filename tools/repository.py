@@ -54,7 +54,7 @@ class Crate:
         sources = [path for path in self.folder.glob("src/**/*") if path.is_file()]
         self.is_program = any(path.name.startswith("main.rt") for path in sources)
         self.has_tests = any(b"#[test]" in path.read_bytes() for path in sources)
-        self.has_conversations = (self.folder / "conversations").is_dir()
+        self.has_conversations = is_proved and (self.folder / "conversations").is_dir()
 
     def files(self):
         """Returns what its tests and its program are built from and run on."""

@@ -1,5 +1,5 @@
 -- What is asked of the items that a range meets, one after the other, and after all of them.
-use Rattle.std.proofs.Common.{◌≡◌, ℕ, ◌+◌, ◌<◌, ◌≤◌, List, ◌∷◌, ◌++◌, length, take, drop, get_or, arith, Option, Some, None, Bool, Result, Err, ◌⊎◌}
+use Rattle.std.proofs.Common.{◌≡◌, ℕ, ◌+◌, ◌<◌, ◌≤◌, List, ◌∷◌, ◌++◌, length, take, drop, get_or, arith, Option, Some, None, Bool, Result}
 use Rattle.std.specs.Fn.{Shared}
 use Rattle.std.specs.Option.{ForSome}
 use denote.Ref.{Bor}
@@ -13,8 +13,8 @@ use Rattle.range_algebra.specs.Range.{IsEmptyRange}
 use Rattle.range_algebra.specs.declared.any.AnyRange.{AnyRange}
 use Rattle.range_algebra.proofs.Lists.{list_is_take_and_drop}
 use Rattle.range_store.specs.declared.storage.Item.{Item}
-use Rattle.range_change.specs.Answers.{MayAnswer, FailsAt, IsGathered}
-use Rattle.range_change.specs.Questions.{gap_lower, IsGapAsked, IsItemAsked, FailsAtGap, IsKeyAt}
+use Rattle.range_change.specs.Answers.{AnswersPiece, IsGathered}
+use Rattle.range_change.specs.Questions.{gap_lower, IsGapAsked, IsItemAsked, AnswersGap, AnswersItem, IsKeyAt}
 use Rattle.range_change.specs.Lookups.{Overlap}
 use Rattle.range_change.specs.Spelling.{KeepsSpelling}
 use Rattle.range_change.specs.Window.{IsLastOf, IsWindow}
@@ -22,7 +22,7 @@ use Rattle.range_change.specs.declared.window.Window.{Window}
 use Rattle.range_change.proofs.RangePieces.{Hi, IsFull}
 use Rattle.range_change.proofs.Forms.{places, Chained, stored_known, stored_chain, nonempty_good}
 use Rattle.range_change.proofs.InsertionFrames.{all_meet}
-use Rattle.range_change.proofs.PieceAnswers.{IsUnderway, asked_item_is_underway, asked_item_keeps_spelling, last_gap_keeps_spelling, gap_or_item_fails, fails_last, last_gap_asked_is_gathered, all_full, key_full, run_at, item_at, last_good, listed_at, take_one_more}
+use Rattle.range_change.proofs.PieceAnswers.{IsUnderway, asked_item_is_underway, asked_item_keeps_spelling, last_gap_keeps_spelling, gap_or_item_answered, last_gap_answered, last_gap_asked_is_gathered, all_full, key_full, run_at, item_at, last_good, listed_at, take_one_more}
 
 module _ {K : Type 0} {order : KeyOrder K} (lawful : IsLawful order) {V : Type 0}
     {same : V → V → Bool} (equal : IsEquivalence same) {P : Type 0} {is_good : P → Type 0}
@@ -77,13 +77,13 @@ module _ {K : Type 0} {order : KeyOrder K} (lawful : IsLawful order) {V : Type 0
         {f : F} (before : Option (AnyRange K)) {old : List (Item (AnyRange K) V)}
         (was : IsUnderway order lawful same equal calls f items r (take (place + met) items)
         (gap_lower order r before) old) where
-      pub met_fails : (e : E)
-          → FailsAtGap order calls f r before (Some x.key) e ⊎ MayAnswer calls f (Some x.value)
-          (Err e) → FailsAt order same calls f items r e
-      met_fails e failed =
-          gap_or_item_fails order lawful same equal calls f items r window.known full chain some
+      pub met_answered : (answer : Result (Option V) E)
+          → AnswersItem order calls f r before x answer
+          → AnswersPiece order same calls f items r answer
+      met_answered answer said =
+          gap_or_item_answered order lawful same equal calls f items r window.known full chain some
           (take (place + met) items)
-          (drop (place + met + 1) items) x list meets before old was e failed
+          (drop (place + met + 1) items) x list meets before old was answer said
 
       pub met_is_underway : (is_clone : K → K → Type 0)
           (clones : (a b : Bound K) → IsBoundClone is_clone a b → SameBound order a b)
@@ -112,12 +112,13 @@ module _ {K : Type 0} {order : KeyOrder K} (lawful : IsLawful order) {V : Type 0
       {f : F} (before : Option (AnyRange K)) {old : List (Item (AnyRange K) V)}
       (was : IsUnderway order lawful same equal calls f items r (take (place + w.count) items)
       (gap_lower order r before) old) where
-    pub last_fails : (e : E) → FailsAtGap order calls f r before None e
-        → FailsAt order same calls f items r e
-    last_fails e failed =
-        fails_last order lawful same equal calls f items r window.known full chain some
+    pub last_answered : (answer : Result (Option V) E)
+        → AnswersGap order calls f r before None answer
+        → AnswersPiece order same calls f items r answer
+    last_answered answer said =
+        last_gap_answered order lawful same equal calls f items r window.known full chain some
         (take (place + w.count) items) (drop (place + w.count) items)
-        (list_is_take_and_drop items (place + w.count)) window.behind before old was e failed
+        (list_is_take_and_drop items (place + w.count)) window.behind before old was answer said
 
     pub all_gathered : (is_clone : K → K → Type 0)
         (clones : (a b : Bound K) → IsBoundClone is_clone a b → SameBound order a b)

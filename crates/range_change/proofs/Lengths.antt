@@ -1,5 +1,5 @@
 -- How long a list is once it was changed.
-use Rattle.std.proofs.Common.{◌≡◌, ℕ, ◌+◌, ◌≤◌, List, ◌++◌, length, take, drop, ap, arith, length-append, length-drop}
+use Rattle.std.proofs.Common.{◌≡◌, ℕ, ◌+◌, ◌≤◌, List, ◌∷◌, ◌++◌, length, take, drop, ap, arith, length-append, length-drop}
 use Rattle.std.specs.Prelude.{Option, Some, None}
 use Rattle.std.specs.declared.ops.Bound.{Bound}
 use Rattle.std.proofs.lemmas.List.{length-take-le}
@@ -29,6 +29,32 @@ changed_length items new a b d at end within within_end made =
       length-append (take at items) a,
       length-take-le at items within,
       length-drop end items,
+    )
+
+-- where a run was removed, and where one item stands for it
+pub removed_length : {T : Type 0} (items new : List T) (at left : ℕ) → at + left ≤ length items
+    → new ≡ take at items ++ drop (at + left) items → length new + left ≡ length items
+removed_length items new at left within made =
+    omega (
+      arith,
+      ap length made,
+      within,
+      length-append (take at items) (drop (at + left) items),
+      length-take-le at items (omega (arith, within)),
+      length-drop (at + left) items,
+    )
+
+pub replaced_length : {T : Type 0} (items new : List T) (x : T) (at left : ℕ)
+    → at + left ≤ length items → new ≡ take at items ++ x ∷ drop (at + left) items
+    → length new + left ≡ length items + 1
+replaced_length items new x at left within made =
+    omega (
+      arith,
+      ap length made,
+      within,
+      length-append (take at items) (x ∷ drop (at + left) items),
+      length-take-le at items (omega (arith, within)),
+      length-drop (at + left) items,
     )
 
 pub le_sum : (a b : ℕ) → a ≤ a + b

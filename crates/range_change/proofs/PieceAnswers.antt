@@ -1,5 +1,5 @@
 -- The answers to the pieces of a range, one stored range after the other.
-use Rattle.std.proofs.Common.{ℕ, ◌+◌, ◌<◌, ◌≤◌, length, get_or, arith, take, drop, subst, ◌≡◌, refl, sym, ap, ◌∙◌, Option, Some, None, Bool, true, List, [], ◌∷◌, ◌++◌, ◌⊎◌, inl, inr, ◌↔◌, Result, Ok, Err}
+use Rattle.std.proofs.Common.{ℕ, ◌+◌, ◌<◌, ◌≤◌, length, get_or, arith, take, drop, subst, ◌≡◌, refl, sym, ap, ◌∙◌, Option, Some, None, Bool, true, List, [], ◌∷◌, ◌++◌, ◌⊎◌, inl, inr, ◌↔◌, Result, Ok}
 use Rattle.std.proofs.lemmas.List.{get_or-take, get_or-drop, take_more}
 use Rattle.std.specs.Fn.{Shared}
 use Rattle.std.specs.Option.{ForSome}
@@ -27,8 +27,8 @@ use Rattle.range_algebra.proofs.Commons.{later_is, earlier_is}
 use Rattle.range_algebra.proofs.Lists.{every_at, parts_at, any_left, any_right, every_weaker, every_append, every_right}
 use Rattle.range_algebra.proofs.Places.{held_between}
 use Rattle.range_store.specs.declared.storage.Item.{Item}
-use Rattle.range_change.specs.Answers.{MayAnswer, Answered, IsAsAnswered, FailsAt, IsGathered}
-use Rattle.range_change.specs.Questions.{gap_lower, IsPut, IsGapAsked, IsItemAsked, FailsAtGap, IsKeyAt}
+use Rattle.range_change.specs.Answers.{MayAnswer, Answered, IsAsAnswered, AnswersPiece, IsGathered}
+use Rattle.range_change.specs.Questions.{gap_lower, IsPut, IsGapAsked, IsItemAsked, AnswersGap, AnswersItem, IsKeyAt}
 use Rattle.range_change.specs.Bindings.{Binds}
 use Rattle.range_change.specs.Spelling.{KeepsSpelling}
 use Rattle.range_change.specs.Stored.{item_lower}
@@ -632,10 +632,10 @@ module _ {K : Type 0} (order : KeyOrder K) (lawful : IsLawful order) {V : Type 0
           (put_gap_keeps_spelling gap is_gap.0 is_gap.3 clear.free is_clone clones old middle first
           kept placed) put
 
-      pub gap_or_item_fails : (e : E)
-          → FailsAtGap order calls f r before (Some x.key) e ⊎ MayAnswer calls f (Some x.value)
-          (Err e) → FailsAt order same calls f items r e
-      gap_or_item_fails e (inl (gap, is_gap, says)) = record {
+      pub gap_or_item_answered : (answer : Result (Option V) E)
+          → AnswersItem order calls f r before x answer
+          → AnswersPiece order same calls f items r answer
+      gap_or_item_answered answer (inl (gap, is_gap, says)) = record {
         piece = gap;
         value = None;
         is_piece =
@@ -650,7 +650,7 @@ module _ {K : Type 0} (order : KeyOrder K) (lawful : IsLawful order) {V : Type 0
             a_piece order lawful items r known full gap None inside clear;
         says = says;
       }
-      gap_or_item_fails e (inr says) = record {
+      gap_or_item_answered answer (inr says) = record {
         piece = common order x.key r;
         value = Some x.value;
         is_piece =
@@ -720,9 +720,10 @@ module _ {K : Type 0} (order : KeyOrder K) (lawful : IsLawful order) {V : Type 0
           le_refl (position_cmp order.cmp) (position_total order.cmp lawful.total)
           (Hi order lawful r)
 
-      pub fails_last : (e : E) → FailsAtGap order calls f r before None e
-          → FailsAt order same calls f items r e
-      fails_last e (gap, is_gap, says) = record {
+      pub last_gap_answered : (answer : Result (Option V) E)
+          → AnswersGap order calls f r before None answer
+          → AnswersPiece order same calls f items r answer
+      last_gap_answered answer (gap, is_gap, says) = record {
         piece = gap;
         value = None;
         is_piece =

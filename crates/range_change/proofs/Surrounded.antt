@@ -166,9 +166,9 @@ module _ {K : Type 0} {order : KeyOrder K} (lawful : IsLawful order) {V : Type 0
     list_is middle divided = let at_place : at ≡ place =
         same_rank ∙ within.here in rw (same_list, at_place, sym here, sym next) at (divided x)
 
-    size_is : (middle : Option (Item (AnyRange K) V)) → IsDivided others new at parts middle
+    pub divided_size : (middle : Option (Item (AnyRange K) V)) → IsDivided others new at parts middle
         → length new ≡ length items + 1 + length (option_items middle)
-    size_is middle divided =
+    divided_size middle divided =
         let window = within.window in
         omega (
           arith,
@@ -177,10 +177,6 @@ module _ {K : Type 0} {order : KeyOrder K} (lawful : IsLawful order) {V : Type 0
               (option_items (Some behind)) place (place + w.count)
               (omega (arith, window.in_range)) window.in_range (list_is middle divided),
         )
-
-    pub few_added : (middle : Option (Item (AnyRange K) V)) → IsDivided others new at parts middle
-        → length new ≤ length items + 1 + length (option_items middle)
-    few_added middle divided = omega (arith, size_is middle divided)
 
     -- the range is bound to another value
     pub divided_around : (v : V) → same x.value v ≡ false

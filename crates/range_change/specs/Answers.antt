@@ -73,12 +73,17 @@ module _ {K : Type 0} (order : KeyOrder K) {V : Type 0} (same : V → V → Bool
       pub others : (k : K) → order.is_key k → ¬ Holds order r k → (b : Option V)
           → Binds order same new k b ↔ Binds order same items k b
 
-    -- the closure may answer an error to the value of a piece
-    pub record MayFail (items : List (Item (AnyRange K) V)) (r : AnyRange K) (e : E) : Type 0 where
+    -- the closure may answer so to the value of a piece
+    pub record MayAnswerPiece (items : List (Item (AnyRange K) V)) (r : AnyRange K)
+        (answer : Result (Option V) E) : Type 0 where
       pub piece : AnyRange K
       pub value : Option V
       pub is_piece : IsPiece order items r piece value
-      pub says : may value (Err e)
+      pub says : may value answer
+
+    -- the closure may answer an error to the value of a piece
+    abbrev pub MayFail : List (Item (AnyRange K) V) → AnyRange K → E → Type 0
+    MayFail items r e = MayAnswerPiece items r (Err e)
 
   module _ {F E : Type 0} (calls : Shared F (Option (Bor V) × Unit {0}) (Result (Option V) E))
       (f : F) where
@@ -88,9 +93,18 @@ module _ {K : Type 0} (order : KeyOrder K) {V : Type 0} (same : V → V → Bool
       pub answered : IsAnswered (MayAnswer calls f) items new r
       pub frame : IsMergeFrame order same items new r (IsGivenBy same answered.answers)
 
+    -- f may answer so to the value of a piece
+    abbrev pub AnswersPiece : List (Item (AnyRange K) V) → AnyRange K → Result (Option V) E
+        → Type 0
+    AnswersPiece = MayAnswerPiece (MayAnswer calls f)
+
     -- f may answer an error to the value of a piece
     abbrev pub FailsAt : List (Item (AnyRange K) V) → AnyRange K → E → Type 0
-    FailsAt = MayFail (MayAnswer calls f)
+    FailsAt items r e = AnswersPiece items r (Err e)
+
+    -- f may answer to the value of a piece without an error
+    abbrev pub SucceedsAt : List (Item (AnyRange K) V) → AnyRange K → Type 0
+    SucceedsAt items r = (answer : Option V) × AnswersPiece items r (Ok answer)
 
     -- a list in stored form within the range, which binds its keys as the answers to its pieces say
     pub record IsGathered (items : List (Item (AnyRange K) V)) (r : AnyRange K)

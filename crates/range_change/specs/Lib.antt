@@ -4,6 +4,7 @@ pub mod Bindings
 pub mod Borders
 pub mod Chains
 pub mod Changes
+pub mod Clones
 pub mod Costs
 pub mod Edits
 pub mod Frames

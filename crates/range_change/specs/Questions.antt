@@ -1,5 +1,5 @@
 -- What is asked between two stored ranges, and how an answer is added to those before it.
-use Rattle.std.specs.Prelude.{◌≡◌, ◌-◌, ◌<◌, ◌⊎◌, ℕ, Bool, true, List, [], ◌∷◌, ◌++◌, length, slice_index_or, slice_set, Option, Some, None, Result, Err}
+use Rattle.std.specs.Prelude.{◌≡◌, ◌-◌, ◌<◌, ◌⊎◌, ℕ, Bool, true, List, [], ◌∷◌, ◌++◌, length, slice_index_or, slice_set, Option, Some, None, Result}
 use Rattle.std.specs.Fn.{Shared}
 use denote.Ref.{Bor}
 use Rattle.std.specs.declared.ops.Bound.{Bound}
@@ -109,13 +109,20 @@ module _ {K : Type 0} (order : KeyOrder K) where
             (middle : List (Item (AnyRange K) V)) × IsGapAsked r before (Some i.key) old middle
             × IsAnsweredBy calls f (Some i.value) (IsPut middle new (common order i.key r))
 
-  -- the closure may answer an error where it is asked about the gap
-  abbrev pub FailsAtGap : {F V E : Type 0}
+  -- the closure may answer so where it is asked about the gap
+  abbrev pub AnswersGap : {F V E : Type 0}
       → Shared F (Option (Bor V) × Unit {0}) (Result (Option V) E) → F → AnyRange K
-      → Option (AnyRange K) → Option (AnyRange K) → E → Type 0
-  FailsAtGap {F} {V} calls f r before after e =
+      → Option (AnyRange K) → Option (AnyRange K) → Result (Option V) E → Type 0
+  AnswersGap {F} {V} calls f r before after answer =
       (gap : AnyRange K) × IsGapBetween r before after (Some gap)
-      × MayAnswer {V = V} calls f None (Err e)
+      × MayAnswer {V = V} calls f None answer
+
+  -- the closure may answer so where it is asked about the gap before an item, or about the item
+  abbrev pub AnswersItem : {F V E : Type 0}
+      → Shared F (Option (Bor V) × Unit {0}) (Result (Option V) E) → F → AnyRange K
+      → Option (AnyRange K) → Item (AnyRange K) V → Result (Option V) E → Type 0
+  AnswersItem calls f r before i answer =
+      AnswersGap calls f r before (Some i.key) answer ⊎ MayAnswer calls f (Some i.value) answer
 
 -- the range of the item that a position names, if there is one
 abbrev pub IsKeyAt : {K V P : Type 0} → (P → ℕ) → List (Item (AnyRange K) V) → Option P

@@ -1,5 +1,5 @@
 //! Ranges that lie apart from stored ones, and those that come before or after all of them.
-ghost use Rattle.std.specs.Prelude.{◌≡◌, ◌↔◌, ◌+◌, ◌≤◌, length, IsTrue, IfSome, OnOk, OnErr};
+ghost use Rattle.std.specs.Prelude.{◌≡◌, ◌↔◌, ◌+◌, ◌≤◌, length, IsTrue, IfSome, IsOk, OnOk, OnErr};
 ghost use Rattle.std.specs.Option.{ForSome};
 ghost use Rattle.range_algebra.specs.Range.{IsEmptyRange};
 ghost use Rattle.range_change.specs.Stored.{IsStored};
@@ -104,6 +104,7 @@ pub fn bind_last<K: PartialEnum, V: Eq + Drop, C: Storage<Item<AnyRange<K>, V>>>
     ensures few { OnOk result (length (C.items stored.new) ≤ length (C.items stored.old) + 1) }
     ensures apart { ¬ MeetsSome K.order (C.items stored.old) range }
     ensures refused { OnErr result (C.items stored.new ≡ C.items stored.old) }
+    ensures succeeds { 1 ≤ C.room stored.old → IsOk result }
 {
     inner::known(&range);
     stored.reserve(1)?;
@@ -127,6 +128,7 @@ pub fn bind_first<K: PartialEnum, V: Eq + Drop, C: Storage<Item<AnyRange<K>, V>>
         (IsInserted K.order V.eq (C.items stored.old) (C.items stored.new) range value) }
     ensures few { OnOk result (length (C.items stored.new) ≤ length (C.items stored.old) + 1) }
     ensures refused { OnErr result (C.items stored.new ≡ C.items stored.old) }
+    ensures succeeds { 1 ≤ C.room stored.old → IsOk result }
 {
     inner::known(&range);
     stored.reserve(1)?;

@@ -1,7 +1,8 @@
 //! Binding a nonempty range in a container.
-ghost use Rattle.std.specs.Prelude.{◌≡◌, ◌↔◌, ◌+◌, ◌-◌, ◌*◌, ◌≤◌, length, None, OnOk, OnErr, Ok, true, false};
+ghost use Rattle.std.specs.Prelude.{◌≡◌, ◌↔◌, ◌+◌, ◌-◌, ◌*◌, ◌≤◌, length, None, OnOk, OnErr, IsOk, Ok, true, false};
 ghost use Rattle.range_algebra.specs.Range.{ClonesAreEqual, IsEmptyRange};
 ghost use Rattle.range_store.specs.Counting.{AddsSteps};
+ghost use Rattle.range_change.specs.Clones.{ClonesNeverFail};
 ghost use Rattle.range_change.specs.Stored.{IsStored};
 ghost use Rattle.range_change.specs.Window.{IsWindowOf};
 ghost use Rattle.range_change.specs.Reach.{AreApart, IsReachOf, IsSurroundedOf};
@@ -47,6 +48,8 @@ pub fn bind_inside<K: PartialEnum + Clone, V: Eq + Clone, C: Storage<Item<AnyRan
         (IsInserted K.order V.eq (C.items stored.old) (C.items stored.new) range value) }
     ensures few { OnOk result (length (C.items stored.new) ≤ length (C.items stored.old) + 2) }
     ensures refused { OnErr result (C.items stored.new ≡ C.items stored.old) }
+    ensures succeeds { ClonesNeverFail K.is_infallible → ClonesNeverFail V.is_infallible
+        → 2 ≤ C.room stored.old → IsOk result }
 {
     let joins = stored.get(p).value == value;
     if joins {
@@ -76,6 +79,7 @@ fn bind_isolated<K: PartialEnum, V: Eq + Drop, C: Storage<Item<AnyRange<K>, V>>>
         (IsInserted K.order V.eq (C.items stored.old) (C.items stored.new) item.key item.value) }
     ensures few { OnOk result (length (C.items stored.new) ≤ length (C.items stored.old) + 1) }
     ensures refused { OnErr result (C.items stored.new ≡ C.items stored.old) }
+    ensures succeeds { 1 ≤ C.room stored.old → IsOk result }
 {
     stored.reserve(1)?;
     let _position = stored.insert_at(reach.window.from, item);
@@ -103,6 +107,7 @@ fn bind_merging<K: PartialEnum + Clone, V: Eq + Clone, C: Storage<Item<AnyRange<
         (2 * length (C.items stored.new) + reach.now.window.count
         ≤ 2 * length (C.items stored.old) + 4) }
     ensures refused { OnErr result (C.items stored.new ≡ C.items stored.old) }
+    ensures succeeds { ClonesNeverFail K.is_infallible → 1 ≤ C.room stored.old → IsOk result }
 {
     let left = seam_at(joins.before, reach.first, item.key.start_bound())?;
     let right = seam_at(joins.after, reach.last, item.key.end_bound())?;
@@ -132,6 +137,7 @@ fn bind_outside<K: PartialEnum + Clone, V: Eq + Clone, C: Storage<Item<AnyRange<
         ≤ 2 * length (C.items stored.old) + 4) }
     ensures counted { AddsSteps steps.old steps.new 0 2 }
     ensures refused { OnErr result (C.items stored.new ≡ C.items stored.old) }
+    ensures succeeds { ClonesNeverFail K.is_infallible → 1 ≤ C.room stored.old → IsOk result }
 {
     let before = joins_before::<K, V, C>(stored, reach, &item.key, &item.value, steps);
     let after = joins_after::<K, V, C>(stored, reach, &item.key, &item.value, steps);
@@ -159,6 +165,8 @@ pub fn bind<K: Measure + Clone, V: Eq + Clone, C: Storage<Item<AnyRange<K>, V>>>
         (length (C.items stored.new))) }
     ensures least { TakesAtLeast steps.old steps.new (C.least_asks stored.old) }
     ensures refused { OnErr result (C.items stored.new ≡ C.items stored.old) }
+    ensures succeeds { ClonesNeverFail K.is_infallible → ClonesNeverFail V.is_infallible
+        → 2 ≤ C.room stored.old → IsOk result }
 {
     let window = find_window::<K, V, C, AnyRange<K>>(stored, &range, steps);
     let reach = reaching::<K, V, C, AnyRange<K>>(stored, window, &range, steps);
@@ -183,6 +191,8 @@ pub fn bind_in_order<K: Measure + Clone, V: Eq + Clone, C: Storage<Item<AnyRange
         (IsInserted K.order V.eq (C.items stored.old) (C.items stored.new) range value) }
     ensures few { length (C.items stored.new) ≤ length (C.items stored.old) + 2 }
     ensures refused { OnErr result (C.items stored.new ≡ C.items stored.old) }
+    ensures succeeds { ClonesNeverFail K.is_infallible → ClonesNeverFail V.is_infallible
+        → 2 ≤ C.room stored.old → IsOk result }
 {
     if comes_last::<K, V, C>(stored, &range) {
         return bind_last::<K, V, C>(stored, range, value);

@@ -1,9 +1,10 @@
 //! What a range that is bound leaves or joins on each side.
-ghost use Rattle.std.specs.Prelude.{◌≡◌, ◌≤◌, IfOk};
+ghost use Rattle.std.specs.Prelude.{◌≡◌, ◌≤◌, IfOk, IsOk};
 ghost use Rattle.range_keys.specs.Position.{bound_of, start_position};
 ghost use Rattle.range_algebra.specs.Compared.{starts_at_end};
 ghost use Rattle.range_algebra.specs.Range.{ClonesAreEqual};
 ghost use Rattle.range_store.specs.Counting.{AddsSteps};
+ghost use Rattle.range_change.specs.Clones.{ClonesNeverFail};
 ghost use Rattle.range_change.specs.Window.{IsWindowOf};
 ghost use Rattle.range_change.specs.Reach.{AreApart, IsReachOf};
 ghost use Rattle.range_change.specs.Borders.{seam_border, run_length, IsSeamAt, IsJoinedBefore, IsJoinedAfter};
@@ -185,7 +186,8 @@ pub fn seam_at<K: PartialEnum + Clone, P: Copy>(
     bound: Bound<&K>,
 ) -> Result<Border<K, P>, AllocError>
     requires { ClonesAreEqual K.is_clone K.eq }
-    ensures { IfOk result (IsSeamAt K.order joined reaching (bound_of bound.entry)) }
+    ensures seam { IfOk result (IsSeamAt K.order joined reaching (bound_of bound.entry)) }
+    ensures succeeds { ClonesNeverFail K.is_infallible → IsOk result }
 {
     inner::known_bound(bound);
     match (joined, reaching) {

@@ -1,5 +1,5 @@
 //! Where a range cuts a stored item, and the bound that the item then has.
-ghost use Rattle.std.specs.Prelude.{◌≡◌, ◌↔◌, ◌≤◌, IfOk, OnOk, IsTrue, slice_index_or};
+ghost use Rattle.std.specs.Prelude.{◌≡◌, ◌↔◌, ◌≤◌, IfOk, IsOk, OnOk, IsTrue, slice_index_or};
 ghost use Rattle.std.specs.Option.{option_map};
 ghost use Rattle.range_keys.specs.Position.{bound_of, position_cmp};
 ghost use Rattle.range_algebra.specs.Clones.{IsBoundClone, SameBound};
@@ -9,6 +9,7 @@ ghost use Rattle.range_algebra.specs.Intervals.{Lt};
 ghost use Rattle.range_algebra.specs.Range.{ClonesAreEqual, IsKnownBound};
 ghost use Rattle.range_algebra.specs.declared.any.AnyRange.{AnyRange};
 ghost use Rattle.range_store.specs.declared.storage.Item.{Item};
+ghost use Rattle.range_change.specs.Clones.{ClonesNeverFail};
 ghost use Rattle.range_change.specs.Edits.{flipped_bound, KeepsPositions};
 
 use range_algebra::any::AnyRange;
@@ -44,8 +45,9 @@ pub fn flip_bound<K>(bound: Bound<K>) -> Bound<K>
 
 /// A clone of the bound on the other side of the one that is referred to.
 fn flip_clone<K: Clone>(bound: Bound<&K>) -> Result<Bound<K>, AllocError>
-    ensures { IfOk result
+    ensures clone { IfOk result
         (λ copy. IsBoundClone K.is_clone (flipped_bound (bound_of bound.entry)) copy) }
+    ensures succeeds { ClonesNeverFail K.is_infallible → IsOk result }
 {
     Ok(match bound {
         Bound::Included(key) => Bound::Excluded(key.clone()?),
@@ -71,6 +73,7 @@ pub fn cut_bound<K: PartialEnum + Clone>(bound: Bound<&K>) -> Result<Bound<K>, A
     ensures known { IfOk result (λ cut. IsKnownBound K.order cut) }
     ensures flipped { IfOk result
         (λ cut. SameBound K.order (flipped_bound (bound_of bound.entry)) cut) }
+    ensures succeeds { ClonesNeverFail K.is_infallible → IsOk result }
 {
     let cut = flip_clone(bound)?;
     known_bound(&cut);
@@ -112,7 +115,10 @@ pub fn prepare_parts<K: PartialEnum + Clone, V: Eq + Clone, C: Storage<Item<AnyR
         parts.value)) }
     ensures list { C.items stored.new ≡ C.items stored.old }
     ensures space { OnOk result (room ≤ C.room stored.new) }
+    ensures no_less { C.room stored.old ≤ C.room stored.new }
     ensures positions { KeepsPositions C.is_good C.rank stored.old stored.new }
+    ensures succeeds { ClonesNeverFail K.is_infallible → ClonesNeverFail V.is_infallible
+        → room ≤ C.room stored.old → IsOk result }
 {
     stored.reserve(room)?;
     Ok(DividedItem {

@@ -1,6 +1,6 @@
 //! Binding a nonempty range that no stored one meets, with the range handed back where there is no
 //! memory.
-ghost use Rattle.std.specs.Prelude.{◌≡◌, ◌+◌, ◌≤◌, length, None, OnOk, OnErr, IfErr};
+ghost use Rattle.std.specs.Prelude.{◌≡◌, ◌+◌, ◌≤◌, length, None, OnOk, OnErr, IfErr, IsOk};
 ghost use Rattle.range_change.specs.Window.{IsWindowOf, option_items};
 ghost use Rattle.range_change.specs.Reach.{IsReachOf};
 ghost use Rattle.range_change.specs.Plans.{JoinsBefore, JoinsAfter};
@@ -33,6 +33,7 @@ fn put_between<K: PartialEnum, V: Eq + Drop, C: Storage<Item<AnyRange<K>, V>>>(
         (IsInserted K.order V.eq (C.items stored.old) (C.items stored.new) item.key item.value) }
     ensures given { IfErr result (λ i. i ≡ item) }
     ensures refused { OnErr result (C.items stored.new ≡ C.items stored.old) }
+    ensures succeeds { 1 ≤ C.room stored.old → IsOk result }
 {
     match stored.reserve(1) {
         Ok(()) => {
@@ -83,6 +84,7 @@ pub fn bind_free<K: PartialEnum, V: Eq + Drop, C: Storage<Item<AnyRange<K>, V>>>
         (IsInserted K.order V.eq (C.items stored.old) (C.items stored.new) item.key item.value) }
     ensures given { IfErr result (λ i. i ≡ item) }
     ensures refused { OnErr result (C.items stored.new ≡ C.items stored.old) }
+    ensures succeeds { 1 ≤ C.room stored.old → IsOk result }
 {
     let reach = Reach {
         window,

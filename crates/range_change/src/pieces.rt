@@ -1,16 +1,16 @@
 //! What a closure answers for each piece of a range.
-ghost use Rattle.std.specs.Prelude.{◌≡◌, ◌<◌, ◌-◌, ◌⊎◌, IsTrue, IfOk, OnOk, Some, None, Ok, Err, false, length};
+ghost use Rattle.std.specs.Prelude.{◌≡◌, ◌<◌, ◌-◌, ◌⊎◌, IsTrue, IfOk, OnOk, Option, Some, None, Ok, Err, false, length};
 ghost use Rattle.std.specs.Option.{option_copied, option_map, ForSome};
 ghost use Rattle.range_keys.specs.Position.{bound_of};
 ghost use Rattle.range_algebra.specs.Intervals.{Every};
 ghost use Rattle.range_algebra.specs.Range.{ClonesAreEqual, IsEmptyRange};
 ghost use Rattle.range_algebra.specs.References.{range_of};
-ghost use Rattle.range_change.specs.Answers.{MayAnswer, MayBeAsked, IsAnsweredBy, FailsAt, IsGathered};
-ghost use Rattle.range_change.specs.Questions.{IsGapStart, IsGapEnd, IsGapBetween, JoinsLast, JoinsNoLast, IsPut, IsGapAsked, FailsAtGap, IsItemAsked, IsKeyAt};
+ghost use Rattle.range_change.specs.Answers.{MayAnswer, MayBeAsked, IsAnsweredBy, FailsAt, SucceedsAt, IsGathered};
+ghost use Rattle.range_change.specs.Questions.{IsGapStart, IsGapEnd, IsGapBetween, JoinsLast, JoinsNoLast, IsPut, IsGapAsked, AnswersGap, AnswersItem, IsItemAsked, IsKeyAt};
 ghost use Rattle.range_change.specs.Edits.{with_end, IsEditedAt};
 ghost use Rattle.range_change.specs.Spelling.{KeepsSpelling};
 ghost use Rattle.range_change.specs.Window.{IsWindowOf};
-ghost use Rattle.range_change.specs.declared.error.UpdateError.TheVariants.{Closure as ClosureError};
+ghost use Rattle.range_change.specs.declared.error.UpdateError.TheVariants.{Closure as ClosureError, Memory as MemoryError};
 
 use crate::cut::{flip, known_bound};
 use crate::error::UpdateError;
@@ -158,6 +158,8 @@ fn ask<
         (IsPut K.order V.eq K.is_clone items.old.items items.new.items (range_of part.entry))) }
     ensures closure { (e : E) → result ≡ Err (ClosureError e)
         → MayAnswer F.Fn f.now (option_copied shown.entry) (Err e) }
+    ensures memory { result ≡ Err MemoryError
+        → (answer : Option V) × MayAnswer F.Fn f.now (option_copied shown.entry) (Ok answer) }
 {
     match f(shown) {
         Ok(Some(value)) => {
@@ -190,8 +192,11 @@ fn ask_gap<
         (IsGapAsked K.order V.eq K.is_clone F.Fn f.now range.now (option_copied before.entry)
         (option_copied after.entry) items.old.items items.new.items) }
     ensures closure { (e : E) → result ≡ Err (ClosureError e)
-        → FailsAtGap K.order F.Fn f.now range.now (option_copied before.entry)
-        (option_copied after.entry) e }
+        → AnswersGap K.order F.Fn f.now range.now (option_copied before.entry)
+        (option_copied after.entry) (Err e) }
+    ensures memory { result ≡ Err MemoryError
+        → (answer : Option V) × AnswersGap K.order F.Fn f.now range.now
+        (option_copied before.entry) (option_copied after.entry) (Ok answer) }
 {
     match gap_between(range, before, after) {
         Some(gap) => ask(items, gap, None, f),
@@ -222,8 +227,10 @@ fn ask_item<
         (IsItemAsked K.order V.eq K.is_clone F.Fn f.now range.now (option_copied before.entry)
         item.now items.old.items items.new.items) }
     ensures closure { (e : E) → result ≡ Err (ClosureError e)
-        → FailsAtGap K.order F.Fn f.now range.now (option_copied before.entry) (Some item.now.key) e
-        ⊎ MayAnswer F.Fn f.now (Some item.now.value) (Err e) }
+        → AnswersItem K.order F.Fn f.now range.now (option_copied before.entry) item.now (Err e) }
+    ensures memory { result ≡ Err MemoryError
+        → (answer : Option V) × AnswersItem K.order F.Fn f.now range.now
+        (option_copied before.entry) item.now (Ok answer) }
 {
     ask_gap(items, range, before, Some(&item.key), f)?;
     ask(
@@ -274,6 +281,8 @@ pub fn gather<
         (λ middle. KeepsSpelling K.order (C.items stored.now) middle.items) }
     ensures closure { (e : E) → result ≡ Err (ClosureError e)
         → FailsAt K.order V.eq F.Fn f.now (C.items stored.now) range.now e }
+    ensures memory { result ≡ Err MemoryError
+        → SucceedsAt K.order V.eq F.Fn f.now (C.items stored.now) range.now }
 {
     let mut middle = Vec::new(alloc);
     let mut last = None;

@@ -1,5 +1,5 @@
 //! Letting a list of items stand for all that a range held.
-ghost use Rattle.std.specs.Prelude.{◌≡◌, option_copied, IfSome, OnOk, OnErr};
+ghost use Rattle.std.specs.Prelude.{◌≡◌, length, option_copied, IfSome, IsOk, OnOk, OnErr};
 ghost use Rattle.range_change.specs.Pieces.{LiesIn};
 ghost use Rattle.range_change.specs.Reach.{AreApart, IsReachOf};
 ghost use Rattle.range_change.specs.Replaced.{AreWithin, IsReplaced};
@@ -84,6 +84,7 @@ pub fn replace<K: Measure, V: Eq + Drop, C: Storage<Item<AnyRange<K>, V>>>(
     ensures spelled { KeepsSpelling K.order (C.items stored.old) middle.items
         → OnOk result (KeepsSpelling K.order (C.items stored.old) (C.items stored.new)) }
     ensures refused { OnErr result (C.items stored.new ≡ C.items stored.old) }
+    ensures none_put { length middle.items ≡ 0 → IsOk result }
 {
     let before = joined_left::<K, V, C>(stored, reach, &range, middle.first());
     let after = joined_right::<K, V, C>(stored, reach, &range, middle.last());

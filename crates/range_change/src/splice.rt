@@ -140,9 +140,11 @@ pub fn change<K: Drop, V: Drop, C: Storage<Item<AnyRange<K>, V>>>(
     requires in_range { place_before (C.rank stored.old) (length (C.items stored.old)) sides.run.at
         + sides.run.left ≤ length (C.items stored.old) }
     requires space { length (option_items item) ≤ sides.run.left + C.room stored.old }
-    ensures { IsSpliced (C.is_good stored.old) (C.rank stored.old) (C.items stored.old)
+    ensures list { IsSpliced (C.is_good stored.old) (C.rank stored.old) (C.items stored.old)
         (C.items stored.new) sides.left sides.right sides.run
         (λ start finish. option_items (option_map (λ i. joined_item i start finish) item)) }
+    ensures space { C.room stored.old + length (C.items stored.old)
+        ≤ C.room stored.new + length (C.items stored.new) }
 {
     let Sides { left, right, run } = sides;
     let (start, end) = open_sides::<K, V, C>(stored, left, right);
@@ -238,8 +240,9 @@ pub fn divide<K: Drop, V: Drop, C: Storage<Item<AnyRange<K>, V>>>(
     requires after { IsAt (C.is_good stored.old) (C.rank stored.old) (length (C.items stored.old))
         after (C.rank stored.old p + 1) }
     requires space { length (option_items middle) + 1 ≤ C.room stored.old }
-    ensures { IsDivided (C.items stored.old) (C.items stored.new) (C.rank stored.old p) parts
+    ensures list { IsDivided (C.items stored.old) (C.items stored.new) (C.rank stored.old p) parts
         middle }
+    ensures space { C.room stored.new + length (option_items middle) + 1 ≡ C.room stored.old }
 {
     let DividedItem { end, start, value } = parts;
     let old_end = replace_end::<K, V, C>(stored, p, end);

@@ -2,6 +2,7 @@
 ghost use Rattle.std.specs.Prelude.{◌≡◌, ◌+◌, ◌*◌, ◌≤◌, ◌<◌, length, None, OnOk, OnErr, IsOk};
 ghost use Rattle.range_algebra.specs.Range.{ClonesAreEqual, IsEmptyRange};
 ghost use Rattle.range_store.specs.Counting.{AddsSteps};
+ghost use Rattle.range_change.specs.Clones.{ClonesNeverFail};
 ghost use Rattle.range_change.specs.Stored.{IsStored};
 ghost use Rattle.range_change.specs.Window.{IsWindowOf};
 ghost use Rattle.range_change.specs.Reach.{AreApart, IsReachOf, IsSurroundedOf};
@@ -37,6 +38,10 @@ pub fn unbind_inside<
         (IsRemoved K.order V.eq (C.items stored.old) (C.items stored.new) (R.range range.now)) }
     ensures few { OnOk result (length (C.items stored.new) ≤ length (C.items stored.old) + 1) }
     ensures refused { OnErr result (C.items stored.new ≡ C.items stored.old) }
+    ensures space { C.room stored.old + length (C.items stored.old)
+        ≤ C.room stored.new + length (C.items stored.new) }
+    ensures succeeds { ClonesNeverFail K.is_infallible → ClonesNeverFail V.is_infallible
+        → 1 ≤ C.room stored.old → IsOk result }
 {
     let parts = prepare_parts::<K, V, C>(stored, p, range.start(), range.end(), 1)?;
     divide::<K, V, C>(stored, p, parts, None, window.after);
@@ -58,6 +63,8 @@ fn unbind_whole<K: Measure, V: Eq + Drop, C: Storage<Item<AnyRange<K>, V>>, R: A
         (R.range range.now) }
     ensures few { length (C.items stored.new) + reach.now.window.count
         ≡ length (C.items stored.old) }
+    ensures space { C.room stored.old + length (C.items stored.old)
+        ≤ C.room stored.new + length (C.items stored.new) }
 {
     let run = Cursor {
         at: reach.window.from,
@@ -84,6 +91,9 @@ fn unbind_cutting<
         (2 * length (C.items stored.new) + reach.now.window.count
         ≤ 2 * length (C.items stored.old) + 3) }
     ensures refused { OnErr result (C.items stored.new ≡ C.items stored.old) }
+    ensures space { C.room stored.old + length (C.items stored.old)
+        ≤ C.room stored.new + length (C.items stored.new) }
+    ensures succeeds { ClonesNeverFail K.is_infallible → IsOk result }
 {
     let left = seam_at(None, reach.first, range.start())?;
     let right = seam_at(None, reach.last, range.end())?;
@@ -122,6 +132,10 @@ fn unbind_met<
         (2 * length (C.items stored.new) + window.count ≤ 2 * length (C.items stored.old) + 3) }
     ensures counted { AddsSteps steps.old steps.new 0 2 }
     ensures refused { OnErr result (C.items stored.new ≡ C.items stored.old) }
+    ensures space { C.room stored.old + length (C.items stored.old)
+        ≤ C.room stored.new + length (C.items stored.new) }
+    ensures succeeds { ClonesNeverFail K.is_infallible → ClonesNeverFail V.is_infallible
+        → 1 ≤ C.room stored.old → IsOk result }
 {
     let reach = reaching::<K, V, C, R>(stored, window, range, steps);
     if reach.first.is_none() && reach.last.is_none() {
@@ -152,6 +166,10 @@ pub fn unbind<
         (length (C.items stored.new))) }
     ensures least { TakesAtLeast steps.old steps.new (C.least_asks stored.old) }
     ensures refused { OnErr result (C.items stored.new ≡ C.items stored.old) }
+    ensures space { C.room stored.old + length (C.items stored.old)
+        ≤ C.room stored.new + length (C.items stored.new) }
+    ensures succeeds { ClonesNeverFail K.is_infallible → ClonesNeverFail V.is_infallible
+        → 1 ≤ C.room stored.old → IsOk result }
     ensures unmet { Every (λ i. ¬ Overlap K.order i.key (R.range range.now)) (C.items stored.old)
         → IsOk result }
     ensures unmet_unchanged { Every (λ i. ¬ Overlap K.order i.key (R.range range.now))

@@ -1,5 +1,7 @@
 -- A list of clones: equal item by item to its source, and in the same form.
-use Rattle.range_map.proofs.Common.{◌≡◌, sym, ap, ◌∙◌, List, [], ◌∷◌, Bool, true, ◌&&◌, IsTrue, All, AllZip, AllByRecursion, Equal, is_eq, eq_by_cmp, Equal-is, Ordering, IsEquivalence, alike_right, tied_back, and_from, and_parts, KeyOrder, IsLawful, start_position, end_position, position_cmp, position_total, Position, IsBoundClone, range_clone, IsKnownRange, IsEmptyRange, range_cmp, range_total, AnyRange, Item, IsCopyOf, LiesBefore, Touches, IsStored, both_equal, eq_is_equal, before_is, nonempty_good, touches_is, IsListed, stored_list_is_listed, stored_by, eq_le, eq_ge, le_trans, recursion_from_All}
+use Rattle.range_map.proofs.Common.{◌≡◌, sym, ap, ◌∙◌, List, [], ◌∷◌, Bool, true, ◌&&◌, IsTrue, All, AllZip, AllByRecursion, Equal, is_eq, eq_by_cmp, Equal-is, Ordering, IsEquivalence, alike_right, tied_back, and_from, and_parts, KeyOrder, IsLawful, start_position, end_position, position_cmp, position_total, Position, Bound, Included, Excluded, Unbounded, IsBoundClone, range_clone, IsKnownRange, IsEmptyRange, range_cmp, range_total, AnyRange, Item, IsCopyOf, LiesBefore, Touches, IsStored, both_equal, eq_is_equal, before_is, nonempty_good, touches_is, IsListed, stored_list_is_listed, stored_by, eq_le, eq_ge, le_trans, recursion_from_All}
+use Rattle.range_algebra.specs.Clones.{IsBoundInfallible}
+use Rattle.range_change.specs.Clones.{ClonesNeverFail}
 use Rattle.range_change.proofs.Extents.{past_le}
 
 -- clones of keys are tied in their order where clones are equal
@@ -8,6 +10,13 @@ pub clones_tied : {K : Type 0} {tell cmp : K → K → Ordering} {eq : K → K �
     → ((a b : K) → eq a b ≡ eq_by_cmp tell a b) → ((a b : K) → is_clone a b → IsTrue (eq a b))
     → (a b : K) → is_clone a b → cmp a b ≡ Equal
 clones_tied told equal keys a b h = sym (told a b) ∙ (Equal-is _).0 (sym (equal a b) ∙ keys a b h)
+
+-- no clone of a bound fails where none of a key does
+pub bound_never_fails : {K : Type 0} {is_infallible : K → Type 0} → ClonesNeverFail is_infallible
+    → (bound : Bound K) → IsBoundInfallible is_infallible bound
+bound_never_fails never (Included key) = never key
+bound_never_fails never (Excluded key) = never key
+bound_never_fails never Unbounded = tt
 
 module _ {K : Type 0} {order : KeyOrder K} (lawful : IsLawful order) where
   abbrev Same : Position K → Position K → Type 0

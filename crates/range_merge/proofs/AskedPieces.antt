@@ -1,12 +1,12 @@
 -- What two ranges leave after their first piece, and what a closure may be asked of that.
-use Rattle.std.proofs.Common.{◌≡◌, refl, sym, inl, inr, arith, ◌+◌, ◌<◌, ◌⊎◌, length, Bool, List, [], ◌++◌, Result, Option, Some, None}
+use Rattle.std.proofs.Common.{◌≡◌, refl, sym, inl, inr, arith, ◌+◌, ◌<◌, ◌⊎◌, length, Bool, List, [], ◌++◌, Result, Ok, Option, Some, None}
 use Rattle.range_merge.proofs.Common.{IsEquivalence, IsLawful, Position, position_cmp, Equal, Bound, IsBoundClone, SameBound, lower, Every, Shared, Bor, KeyOrder, AnyRange, Item, option_copied, option_map}
-use Rattle.range_merge.specs.Combining.{IsValueOf, MayBeAskedBoth, MayBeAskedOfBoth, MayFailOnBoth}
+use Rattle.range_merge.specs.Combining.{IsValueOf, MayBeAskedBoth, MayBeAskedOfBoth, MayAnswerOnBoth, MaySucceedOnBoth}
 use Rattle.range_change.specs.Window.{option_items}
 use Rattle.range_change.proofs.RangePieces.{any_over, any_use}
-use Rattle.range_merge.proofs.Combination.{IsCombinedUpTo, combined_more, failed_piece}
+use Rattle.range_merge.proofs.Combination.{IsCombinedUpTo, combined_more, answered_piece}
 use Rattle.range_merge.proofs.Combining.{IsSideUpTo, unmapped, fewer_ranges, no_longer}
-use Rattle.range_merge.specs.AskedPieces.{IsFirstAskable, IsNextPiece, AreFirstAsked, MayFailOnFirst}
+use Rattle.range_merge.specs.AskedPieces.{IsFirstAskable, IsNextPiece, AreFirstAsked, MayAnswerOnFirst}
 use Rattle.range_merge.specs.Merged.{IsPlaced, IsPlacedIn, IsCutFrom, StartAlike, IsFirstPieceOf, part_item}
 use Rattle.range_merge.specs.declared.merged.Part.{Part}
 use Rattle.range_merge.specs.declared.merged.Piece.{Piece}
@@ -185,13 +185,25 @@ module _ {K : Type 0} {order : KeyOrder K} {lawful : IsLawful order} {V W X : Ty
           ),
         )
 
-    -- an error is answered to what binds a part that is constant in both lists
-    pub failed_asked : (e : E) → MayFailOnFirst order same is_clone may left right old e
-        → MayFailOnBoth order may items others e
-    failed_asked e (piece, first, (inl says)) =
-        failed_piece lawful equal may items others was none none_other first e says
-    failed_asked e (piece, first, (inr two)) =
+    -- what binds a part that is constant in both lists is answered so
+    pub answered_asked : (answer : Result (Option X) E)
+        → MayAnswerOnFirst order same is_clone may left right old answer
+        → MayAnswerOnBoth order may items others answer
+    answered_asked answer (piece, first, (inl says)) =
+        answered_piece lawful equal may items others was none none_other first answer says
+    answered_asked answer (piece, first, (inr two)) =
         let on = goes_on order two.2.alike in
-        failed_piece lawful equal may items others
+        answered_piece lawful equal may items others
         (combined_more lawful equal may items others was none none_other first two.3.0 _ clones
-        two.3.2 two.3.1) (λ e. absurd (on.0 e)) (λ e. absurd (on.1 e)) two.2.first e two.4
+        two.3.2 two.3.1) (λ e. absurd (on.0 e)) (λ e. absurd (on.1 e)) two.2.first answer two.4
+
+    -- one of the pieces that were asked of was answered without an error
+    pub some_answered : (new : List (Item (AnyRange K) X)) (rests : Rests K V W)
+        → AreFirstAsked order same is_clone may left right old new rests
+        → MaySucceedOnBoth order may items others
+    some_answered new rests (piece, first, (inl one, ends)) =
+        (one.0.0, answered_asked (Ok one.0.0) (piece, first, inl one.0.1))
+    some_answered new rests (piece, first, (inr two, ends)) = (
+      two.4.0.0,
+      answered_asked (Ok two.4.0.0) (piece, first, inr (two.0, two.1, two.2, two.3, two.4.0.1)),
+    )

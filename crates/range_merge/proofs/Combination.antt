@@ -1,7 +1,7 @@
 -- A merged pass over two lists: what the answers so far make of both.
-use Rattle.std.proofs.Common.{◌≡◌, refl, sym, ◌∙◌, ◌↔◌, ◌⊎◌, inl, inr, arith, Bool, true, Option, Some, None, Result, Ok, Err, List, [], ◌∷◌, ◌++◌}
+use Rattle.std.proofs.Common.{◌≡◌, refl, sym, ◌∙◌, ◌↔◌, ◌⊎◌, inl, inr, arith, Bool, true, Option, Some, None, Result, Ok, List, [], ◌∷◌, ◌++◌}
 use Rattle.range_merge.proofs.Common.{IsEquivalence, Bound, KeyOrder, IsLawful, Position, Beside, At, IsBoundClone, SameBound, lower, upper, Any, Every, Holds, LiesBefore, AnyRange, any_left, any_none, any_split, every_append, every_weaker, Item, Answered, IsAsAnswered, IsBound, Binds, BindsTo, LiesIn, IsStored}
-use Rattle.range_merge.specs.Combining.{Combined, IsConstantOn, IsSharedPiece, AreCombined, IsCombination, MayFailOnBoth}
+use Rattle.range_merge.specs.Combining.{Combined, IsConstantOn, IsSharedPiece, AreCombined, IsCombination, MayAnswerOnBoth}
 use Rattle.range_merge.proofs.PlaceOrder.{le_refl, lt_le, le_trans, lt_not_le}
 use Rattle.range_algebra.proofs.Places.{held_between, unbounded_start, unbounded_end}
 use Rattle.range_change.specs.Questions.{IsPut}
@@ -144,9 +144,10 @@ module _ {K : Type 0} {order : KeyOrder K} (lawful : IsLawful order) {V W X : Ty
       widest = widest lawful was.first was.second key piece.placed ends value other;
     }
 
-    -- what an error to it is answered to
-    pub failed_piece : (e : E) → may value other (Err e) → MayFailOnBoth order may items others e
-    failed_piece e says =
+    -- what the closure may answer to it
+    pub answered_piece : (answer : Result (Option X) E) → may value other answer
+        → MayAnswerOnBoth order may items others answer
+    answered_piece answer says =
         record { piece = key; left = value; right = other; is_piece = is_shared; says = says }
 
     abbrev more : Option X → List Answer

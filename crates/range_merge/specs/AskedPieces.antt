@@ -1,5 +1,5 @@
 -- What a merged pass asks at once: a piece, and the next where what is left starts at one place.
-use Rattle.std.specs.Prelude.{◌≡◌, ◌⊎◌, Bool, List, Option, None, Result, Ok, Err}
+use Rattle.std.specs.Prelude.{◌≡◌, ◌⊎◌, Bool, List, Option, None, Result, Ok}
 use Rattle.std.specs.Fn.{Shared}
 use Rattle.std.specs.Option.{option_copied, option_map}
 use denote.Ref.{Bor}
@@ -59,11 +59,12 @@ module _ {K : Type 0} (order : KeyOrder K) {V W : Type 0} where
         × (rests.left ≡ last.left) × (rests.right ≡ last.right))
         × ((rests.left ≡ None) ⊎ (rests.right ≡ None))
 
-    -- the closure may answer the error to what binds one of the pieces
-    abbrev pub MayFailOnOne : Piece K V W → List (Item (AnyRange K) X) → E → Type 0
-    MayFailOnOne piece old e =
-        HoldsOfOne piece old (λ failing before. may (option_copied failing.value)
-        (option_copied failing.other_value) (Err e))
+    -- the closure may answer so to what binds one of the pieces
+    abbrev pub MayAnswerOnOne : Piece K V W → List (Item (AnyRange K) X) → Result (Option X) E
+        → Type 0
+    MayAnswerOnOne piece old answer =
+        HoldsOfOne piece old (λ asked before. may (option_copied asked.value)
+        (option_copied asked.other_value) answer)
 
     -- the first piece of two ranges is asked of, and the next one where that is to be at once
     abbrev pub AreFirstAsked : Option (Item (AnyRange K) V) → Option (Item (AnyRange K) W)
@@ -71,8 +72,9 @@ module _ {K : Type 0} (order : KeyOrder K) {V W : Type 0} where
     AreFirstAsked left right old new rests =
         (piece : Piece K V W) × IsFirstPieceOf order left right piece × AreAsked piece old new rests
 
-    -- the closure may answer the error to one of them
-    abbrev pub MayFailOnFirst : Option (Item (AnyRange K) V) → Option (Item (AnyRange K) W)
-        → List (Item (AnyRange K) X) → E → Type 0
-    MayFailOnFirst left right old e =
-        (piece : Piece K V W) × IsFirstPieceOf order left right piece × MayFailOnOne piece old e
+    -- the closure may answer so to one of them
+    abbrev pub MayAnswerOnFirst : Option (Item (AnyRange K) V) → Option (Item (AnyRange K) W)
+        → List (Item (AnyRange K) X) → Result (Option X) E → Type 0
+    MayAnswerOnFirst left right old answer =
+        (piece : Piece K V W) × IsFirstPieceOf order left right piece
+        × MayAnswerOnOne piece old answer

@@ -137,13 +137,20 @@ module _ {K : Type 0} (order : KeyOrder K) where
         pub free : (k : K) → order.is_key k → ¬ IsBound order items k → ¬ IsBound order others k
             → ¬ IsBound order new k
 
-    -- the closure may answer an error to what a piece is bound to
-    pub record MayFailOnBoth {X E : Type 0}
-        (may : Option V → Option W → Result (Option X) E → Type 0)
-        (items : List (Item (AnyRange K) V)) (others : List (Item (AnyRange K) W))
-        (e : E) : Type 0 where
-      pub piece : AnyRange K
-      pub left : Option V
-      pub right : Option W
-      pub is_piece : IsSharedPiece items others piece left right
-      pub says : may left right (Err e)
+    module _ {X E : Type 0} (may : Option V → Option W → Result (Option X) E → Type 0)
+        (items : List (Item (AnyRange K) V)) (others : List (Item (AnyRange K) W)) where
+      -- the closure may answer so to what a piece is bound to
+      pub record MayAnswerOnBoth (answer : Result (Option X) E) : Type 0 where
+        pub piece : AnyRange K
+        pub left : Option V
+        pub right : Option W
+        pub is_piece : IsSharedPiece items others piece left right
+        pub says : may left right answer
+
+      -- the closure may answer an error to what a piece is bound to
+      abbrev pub MayFailOnBoth : E → Type 0
+      MayFailOnBoth e = MayAnswerOnBoth (Err e)
+
+      -- the closure may answer to what a piece is bound to without an error
+      abbrev pub MaySucceedOnBoth : Type 0
+      MaySucceedOnBoth = (answer : Option X) × MayAnswerOnBoth (Ok answer)

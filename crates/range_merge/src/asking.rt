@@ -1,11 +1,11 @@
 //! What a closure answers to the pieces of two lists, a piece or two at once.
-ghost use Rattle.std.specs.Prelude.{◌≡◌, ◌∷◌, [], IfOk, OnOk, MatchOption, Some, None, Err};
+ghost use Rattle.std.specs.Prelude.{◌≡◌, ◌∷◌, [], IfOk, OnOk, MatchOption, Option, Some, None, Ok, Err};
 ghost use Rattle.std.specs.Option.{option_copied, option_map};
 ghost use Rattle.range_algebra.specs.References.{range_of};
 ghost use Rattle.range_change.specs.Questions.{IsPut};
 ghost use Rattle.range_change.specs.Window.{option_items};
-ghost use Rattle.range_change.specs.declared.error.UpdateError.TheVariants.{Closure as ClosureError};
-ghost use Rattle.range_merge.specs.AskedPieces.{IsFirstAskable, AreAsked, MayFailOnOne, AreFirstAsked, MayFailOnFirst};
+ghost use Rattle.range_change.specs.declared.error.UpdateError.TheVariants.{Closure as ClosureError, Memory as MemoryError};
+ghost use Rattle.range_merge.specs.AskedPieces.{IsFirstAskable, AreAsked, MayAnswerOnOne, AreFirstAsked, MayAnswerOnFirst};
 ghost use Rattle.range_merge.specs.Combining.{MayAnswerBoth, MayBeAskedBoth, MayBeAskedOfBoth, IsAnsweredByBoth};
 ghost use Rattle.range_merge.specs.Merged.{IsPlaced, IsPlacedIn, part_item};
 
@@ -46,6 +46,9 @@ fn ask_both<
     ensures closure { (e : E) → result ≡ Err (ClosureError e)
         → MayAnswerBoth F.Fn f.now (option_copied value.entry) (option_copied other_value.entry)
         (Err e) }
+    ensures memory { result ≡ Err MemoryError
+        → (answer : Option X) × MayAnswerBoth F.Fn f.now (option_copied value.entry)
+        (option_copied other_value.entry) (Ok answer) }
 {
     match f(value, other_value) {
         Ok(Some(answer)) => {
@@ -78,8 +81,11 @@ fn ask_pieces<
         (λ rests. AreAsked K.order X.eq K.is_clone (MayAnswerBoth F.Fn f.now) piece.entry
         answers.old.items answers.new.items rests) }
     ensures closure { (e : E) → result ≡ Err (ClosureError e)
-        → MayFailOnOne K.order X.eq K.is_clone (MayAnswerBoth F.Fn f.now) piece.entry
-        answers.old.items e }
+        → MayAnswerOnOne K.order X.eq K.is_clone (MayAnswerBoth F.Fn f.now) piece.entry
+        answers.old.items (Err e) }
+    ensures memory { result ≡ Err MemoryError
+        → (answer : Option X) × MayAnswerOnOne K.order X.eq K.is_clone (MayAnswerBoth F.Fn f.now)
+        piece.entry answers.old.items (Ok answer) }
 {
     ask_both(answers, piece.range, piece.value, piece.other_value, f)?;
     match (piece.left, piece.right) {
@@ -120,8 +126,12 @@ fn ask_two<
         (Some (part_item part.entry)) (Some (part_item other.entry)) answers.old.items
         answers.new.items rests) }
     ensures closure { (e : E) → result ≡ Err (ClosureError e)
-        → MayFailOnFirst K.order X.eq K.is_clone (MayAnswerBoth F.Fn f.now)
-        (Some (part_item part.entry)) (Some (part_item other.entry)) answers.old.items e }
+        → MayAnswerOnFirst K.order X.eq K.is_clone (MayAnswerBoth F.Fn f.now)
+        (Some (part_item part.entry)) (Some (part_item other.entry)) answers.old.items (Err e) }
+    ensures memory { result ≡ Err MemoryError
+        → (answer : Option X) × MayAnswerOnFirst K.order X.eq K.is_clone
+        (MayAnswerBoth F.Fn f.now) (Some (part_item part.entry)) (Some (part_item other.entry))
+        answers.old.items (Ok answer) }
 {
     match compare_bounds(Directed::Start(part.start), Directed::Start(other.start)) {
         Ordering::Less => ask_pieces(answers, first_alone(part, other), f),
@@ -158,8 +168,13 @@ pub fn ask_first<
         (option_map part_item left.entry) (option_map part_item right.entry) answers.old.items
         answers.new.items)) }
     ensures closure { (e : E) → result ≡ Err (ClosureError e)
-        → MayFailOnFirst K.order X.eq K.is_clone (MayAnswerBoth F.Fn f.now)
-        (option_map part_item left.entry) (option_map part_item right.entry) answers.old.items e }
+        → MayAnswerOnFirst K.order X.eq K.is_clone (MayAnswerBoth F.Fn f.now)
+        (option_map part_item left.entry) (option_map part_item right.entry) answers.old.items
+        (Err e) }
+    ensures memory { result ≡ Err MemoryError
+        → (answer : Option X) × MayAnswerOnFirst K.order X.eq K.is_clone
+        (MayAnswerBoth F.Fn f.now) (option_map part_item left.entry)
+        (option_map part_item right.entry) answers.old.items (Ok answer) }
 {
     match (left, right) {
         (None, None) => Ok(None),

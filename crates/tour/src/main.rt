@@ -2,6 +2,8 @@
 #![tactic(auto)]
 
 #[cfg(test)]
+mod callers;
+#[cfg(test)]
 mod complement;
 #[cfg(test)]
 mod json_values;
@@ -9,6 +11,8 @@ mod json_values;
 mod maps;
 #[cfg(test)]
 mod multimaps;
+#[cfg(test)]
+mod own_values;
 #[cfg(test)]
 mod ranges;
 #[cfg(test)]

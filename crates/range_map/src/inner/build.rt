@@ -1,5 +1,5 @@
 //! A map made of a list in stored form.
-ghost use Rattle.std.specs.Prelude.{◌≡◌, IfOk};
+ghost use Rattle.std.specs.Prelude.{◌≡◌, length, IfOk, IsOk};
 ghost use Rattle.range_change.specs.Stored.{IsStored};
 
 use crate::map::RangeMap;
@@ -15,7 +15,8 @@ pub fn map_of<K: PartialEnum, X: Eq + Drop, C: Storage<Item<AnyRange<K>, X>>>(
     items: Vec<Item<AnyRange<K>, X>>,
 ) -> Result<RangeMap<K, X, C>, AllocError>
     requires { IsStored K.order X.eq items.items }
-    ensures { IfOk result (λ map. C.items map ≡ items.items) }
+    ensures items { IfOk result (λ map. C.items map ≡ items.items) }
+    ensures none_needed { length items.items ≡ 0 → IsOk result }
 {
     let mut stored = C::new(alloc);
     stored.reserve(items.len())?;

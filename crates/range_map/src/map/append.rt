@@ -1,5 +1,5 @@
 //! A map's ranges moved to the end of another.
-ghost use Rattle.std.specs.Prelude.{◌≡◌, ◌↔◌, ◌+◌, ◌≤◌, ◌++◌, ◌∷◌, [], length, false, IsTrue, IsErrAnd, OnOk, OnErr};
+ghost use Rattle.std.specs.Prelude.{◌≡◌, ◌↔◌, ◌+◌, ◌≤◌, ◌++◌, ◌∷◌, [], length, false, IsTrue, IsErrAnd, IsOk, OnOk, OnErr};
 ghost use Rattle.range_algebra.specs.Relations.{LiesBefore};
 ghost use Rattle.range_keys.specs.Order.{IsComplete};
 ghost use Rattle.range_map.specs.Appending.{IsApartFromLast, IsOneWithLast, IsOutOfOrder, LieBefore, appended, are_one, as_one, joined};
@@ -184,6 +184,8 @@ impl<K: PartialEnum, V: Eq + Drop, C: Storage<Item<AnyRange<K>, V>>> RangeMap<K,
         ensures only { IsComplete K.order → IsOnlyCoarse K.order V.eq (C.items self.new) }
         ensures few { length (C.items self.new)
             ≤ length (C.items self.old) + length (D.items other.old) }
+        ensures succeeds { LieBefore K.order (C.items self.old) (D.items other.old)
+            → length (D.items other.old) ≤ C.room self.old → IsOk result }
         ensures refused { OnErr result (C.items self.new ≡ C.items self.old) }
         ensures other_refused { OnErr result (D.items other.new ≡ D.items other.old) }
     {

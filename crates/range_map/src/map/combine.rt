@@ -1,11 +1,11 @@
 //! Two maps put together, key by key, as a closure answers.
-ghost use Rattle.std.specs.Prelude.{◌≡◌, IfOk, Err};
+ghost use Rattle.std.specs.Prelude.{◌≡◌, ◌<◌, length, IfOk, Err};
 ghost use Rattle.range_keys.specs.Order.{IsComplete};
 ghost use Rattle.range_algebra.specs.Range.{ClonesAreEqual};
 ghost use Rattle.range_change.specs.Bindings.{IsCoarse, IsOnlyCoarse};
 ghost use Rattle.range_change.specs.Stored.{IsStored};
-ghost use Rattle.range_change.specs.declared.error.UpdateError.TheVariants.{Closure as ClosureError};
-ghost use Rattle.range_merge.specs.Combining.{MayAnswerBoth, MayBeAskedOfBoth, AreCombined, IsCombination, MayFailOnBoth};
+ghost use Rattle.range_change.specs.declared.error.UpdateError.TheVariants.{Closure as ClosureError, Memory as MemoryError};
+ghost use Rattle.range_merge.specs.Combining.{MayAnswerBoth, MayBeAskedOfBoth, AreCombined, IsCombination, MayFailOnBoth, MaySucceedOnBoth};
 
 use crate::inner::build::map_of;
 use crate::map::RangeMap;
@@ -41,6 +41,12 @@ fn gather_both<
     ensures closure { (e : E) → result ≡ Err (ClosureError e)
         → MayFailOnBoth K.order (MayAnswerBoth F.Fn f.now) (C.items map.now) (D.items other.now)
         e }
+    ensures some { IfOk result (λ answers. 0 < length answers.items
+        → MaySucceedOnBoth K.order (MayAnswerBoth F.Fn f.now) (C.items map.now)
+        (D.items other.now)) }
+    ensures memory { result ≡ Err MemoryError
+        → MaySucceedOnBoth K.order (MayAnswerBoth F.Fn f.now) (C.items map.now)
+        (D.items other.now) }
 {
     map.in_form();
     other.in_form();
@@ -101,6 +107,9 @@ impl<K: PartialEnum + Clone, V: Eq + Drop, C: Storage<Item<AnyRange<K>, V>>> Ran
         ensures closure { (e : E) → result ≡ Err (ClosureError e)
             → MayFailOnBoth K.order (MayAnswerBoth F.Fn f) (C.items self.now) (D.items other.now)
             e }
+        ensures memory { result ≡ Err MemoryError
+            → MaySucceedOnBoth K.order (MayAnswerBoth F.Fn f) (C.items self.now)
+            (D.items other.now) }
     {
         let answers = gather_both(self, other, &f)?;
         Ok(map_of(self.alloc, answers)?)

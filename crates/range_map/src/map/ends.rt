@@ -1,5 +1,5 @@
 //! The first and the last stored range, shown or taken out.
-ghost use Rattle.std.specs.Prelude.{◌≡◌, List, [], ◌∷◌, ◌++◌, MatchOption};
+ghost use Rattle.std.specs.Prelude.{◌≡◌, ◌+◌, ◌≤◌, List, [], ◌∷◌, ◌++◌, MatchOption};
 ghost use Rattle.range_algebra.specs.declared.any.AnyRange.{AnyRange};
 ghost use Rattle.range_store.specs.declared.storage.Item.{Item};
 ghost use Rattle.range_map.specs.Iteration.{pair_item, shown_item};
@@ -45,7 +45,7 @@ impl<K: PartialEnum, V: Eq + Drop, C: Storage<Item<AnyRange<K>, V>>> RangeMap<K,
 
     /// Takes the first stored range out, and returns it with its value. Allocates nothing.
     ///
-    /// Costs a way down the tree, and changes nodes up to its root.
+    /// Leaves room for one range more than there was, where it takes one out. Costs a way down the tree, and changes nodes up to its root.
     ///
     /// ```
     /// // of a map that binds 0..=5 to 1
@@ -55,6 +55,8 @@ impl<K: PartialEnum, V: Eq + Drop, C: Storage<Item<AnyRange<K>, V>>> RangeMap<K,
         ensures first { MatchOption result ((C.items self.old ≡ []) × (C.items self.new ≡ []))
             (λ pair. C.items self.old ≡ pair_item pair ∷ C.items self.new) }
         ensures form { IsStored K.order V.eq (C.items self.new) }
+        ensures space { MatchOption result (C.room self.old ≤ C.room self.new)
+            (λ _. C.room self.old + 1 ≤ C.room self.new) }
     {
         match self.stored.pop_first() {
             Some(item) => Some(item.into_pair()),
@@ -64,7 +66,7 @@ impl<K: PartialEnum, V: Eq + Drop, C: Storage<Item<AnyRange<K>, V>>> RangeMap<K,
 
     /// Takes the last stored range out, and returns it with its value. Allocates nothing.
     ///
-    /// Costs a way down the tree, and changes nodes up to its root.
+    /// Leaves room as `pop_first` does. Costs a way down the tree, and changes nodes up to its root.
     ///
     /// ```
     /// // of a map that binds 0..=5 to 1
@@ -74,6 +76,8 @@ impl<K: PartialEnum, V: Eq + Drop, C: Storage<Item<AnyRange<K>, V>>> RangeMap<K,
         ensures last { MatchOption result ((C.items self.old ≡ []) × (C.items self.new ≡ []))
             (λ pair. C.items self.old ≡ C.items self.new ++ pair_item pair ∷ []) }
         ensures form { IsStored K.order V.eq (C.items self.new) }
+        ensures space { MatchOption result (C.room self.old ≤ C.room self.new)
+            (λ _. C.room self.old + 1 ≤ C.room self.new) }
     {
         match self.stored.pop_last() {
             Some(item) => Some(item.into_pair()),

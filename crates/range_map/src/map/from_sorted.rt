@@ -1,5 +1,5 @@
 //! A map built of ranges that are in order.
-ghost use Rattle.std.specs.Prelude.{◌≡◌, ◌↔◌, ℕ, IfOk, IfSome, IsTrue, Err, None, map};
+ghost use Rattle.std.specs.Prelude.{◌≡◌, ◌↔◌, ℕ, IfOk, IfSome, IsOk, IsTrue, Err, None, length, map};
 ghost use Rattle.std.specs.Option.{option_map};
 ghost use Rattle.range_keys.specs.Order.{IsComplete};
 ghost use Rattle.range_algebra.specs.Intervals.{Every};
@@ -88,6 +88,7 @@ fn build<K: Measure, V: Eq + Drop, C: Storage<Item<AnyRange<K>, V>>, R: IntoRang
     ensures bound { IfOk result
         (λ new. BindAlike K.order V.eq (C.items new) (map (item_of R.range) pairs.items)) }
     ensures form { IfOk result (λ new. IsStored K.order V.eq (C.items new)) }
+    ensures none_needed { length pairs.items ≡ 0 → IsOk result }
 {
     let mut items = Vec::with_capacity(alloc, pairs.len())?;
     for (range, value) in pairs {
@@ -108,7 +109,7 @@ impl<K: Measure, V: Eq + Drop, C: Storage<Item<AnyRange<K>, V>>> RangeMap<K, V, 
     /// ranges that touch with equal values are kept as one. The error names the position of the
     /// first range that does not come so, and then nothing was allocated. Clones nothing;
     /// allocates a list of all ranges and capacity for them, each at once, and fails where that
-    /// does. Costs two steps for each range, and no search.
+    /// does, and never of an empty list. Costs two steps for each range, and no search.
     ///
     /// ```
     /// let pairs = vec![in alloc; (0..4, 1), (4..6, 1), (8..9, 2)]?;
@@ -128,6 +129,7 @@ impl<K: Measure, V: Eq + Drop, C: Storage<Item<AnyRange<K>, V>>> RangeMap<K, V, 
             (λ new. IsCoarse K.order V.eq (C.items new)) }
         ensures only { IsComplete K.order → IfOk result
             (λ new. IsOnlyCoarse K.order V.eq (C.items new)) }
+        ensures empty { length pairs.items ≡ 0 → IsOk result }
     {
         match first_fault::<K, R, V>(pairs.as_slice()) {
             Some(index) => {

@@ -2,6 +2,7 @@
 ghost use Rattle.std.specs.Prelude.{◌≡◌, ◌+◌, ◌≤◌, length, OnOk, OnErr, IsOk};
 ghost use Rattle.range_keys.specs.Order.{IsComplete};
 ghost use Rattle.range_algebra.specs.Range.{ClonesAreEqual, IsEmptyRange};
+ghost use Rattle.range_change.specs.Clones.{ClonesNeverFail};
 ghost use Rattle.range_change.specs.Stored.{IsStored};
 ghost use Rattle.range_change.specs.Costs.{TakesAtLeast, TakesAsChange};
 ghost use Rattle.range_change.specs.Frames.{IsInsertionFrame};
@@ -47,6 +48,8 @@ impl<K: Measure + Clone, V: Eq + Clone, C: Storage<Item<AnyRange<K>, V>>> RangeM
             → MeetAlso K.order (C.items self.old) (C.items self.new) (R.range range)) }
         ensures few { length (C.items self.new) ≤ length (C.items self.old) + 2 }
         ensures refused { OnErr result (C.items self.new ≡ C.items self.old) }
+        ensures succeeds { ClonesNeverFail K.is_infallible → ClonesNeverFail V.is_infallible
+            → 2 ≤ C.room self.old → IsOk result }
         ensures empty { IsEmptyRange K.order (R.range range) → IsOk result }
         ensures empty_unchanged { IsEmptyRange K.order (R.range range)
             → C.items self.new ≡ C.items self.old }
@@ -94,6 +97,8 @@ impl<K: Measure + Clone, V: Eq + Clone, C: Storage<Item<AnyRange<K>, V>>> RangeM
             → MeetAlso K.order (C.items self.old) (C.items self.new) (R.range range)) }
         ensures few { length (C.items self.new) ≤ length (C.items self.old) + 2 }
         ensures refused { OnErr result (C.items self.new ≡ C.items self.old) }
+        ensures succeeds { ClonesNeverFail K.is_infallible → ClonesNeverFail V.is_infallible
+            → 2 ≤ C.room self.old → IsOk result }
         ensures empty { IsEmptyRange K.order (R.range range) → IsOk result }
         ensures empty_unchanged { IsEmptyRange K.order (R.range range)
             → C.items self.new ≡ C.items self.old }

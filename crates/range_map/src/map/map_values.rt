@@ -9,7 +9,7 @@ ghost use Rattle.range_change.specs.Bindings.{IsCoarse, IsOnlyCoarse};
 ghost use Rattle.range_change.specs.Stored.{IsStored};
 ghost use Rattle.range_map.specs.MappedValues.{AreMapped, IsAnsweredEach, MayBeAskedOfValues};
 ghost use Rattle.range_merge.specs.Merged.{part_item};
-ghost use Rattle.range_change.specs.declared.error.UpdateError.TheVariants.{Closure as ClosureError};
+ghost use Rattle.range_change.specs.declared.error.UpdateError.TheVariants.{Closure as ClosureError, Memory as MemoryError};
 
 use crate::inner::build::map_of;
 use crate::map::RangeMap;
@@ -35,6 +35,8 @@ fn answered<'a, K: PartialEnum + Clone, V, W: Drop, E: Drop, F: Fn(&V) -> Result
         (λ item. FnReturnsAt F.Fn f.now (part_item part.entry).value (Ok item.value)) }
     ensures closure { (e : E) → result ≡ Err (ClosureError e)
         → FnReturnsAt F.Fn f.now (part_item part.entry).value (Err e) }
+    ensures memory { result ≡ Err MemoryError
+        → (answer : W) × FnReturnsAt F.Fn f.now (part_item part.entry).value (Ok answer) }
 {
     match f(part.value) {
         Ok(value) => {
@@ -63,12 +65,16 @@ fn answers_to<
     ensures form { IfOk result (λ new. IsStored K.order W.eq (D.items new)) }
     ensures closure { (e : E) → result ≡ Err (ClosureError e)
         → Any (λ i. FnReturnsAt F.Fn f.now i.value (Err e)) (C.items map.now) }
+    ensures memory { result ≡ Err MemoryError
+        → Any (λ i. (answer : W) × FnReturnsAt F.Fn f.now i.value (Ok answer)) (C.items map.now) }
 {
     map.in_form();
-    let mut answers = Vec::with_capacity(map.alloc, map.range_count())?;
+    let mut answers = Vec::new(map.alloc);
     let mut items = map.iter();
     while let Some(part) = next_part(&mut items) {
-        push(&mut answers, answered(part, f)?)?;
+        let item = answered(part, f)?;
+        answers.reserve(items.len().saturating_add(1))?;
+        push(&mut answers, item)?;
     }
     Ok(map_of(map.alloc, answers)?)
 }
@@ -109,6 +115,8 @@ impl<K: PartialEnum + Clone, V: Eq + Drop, C: Storage<Item<AnyRange<K>, V>>> Ran
             (λ new. IsOnlyCoarse K.order W.eq (D.items new)) }
         ensures closure { (e : E) → result ≡ Err (ClosureError e)
             → Any (λ i. FnReturnsAt F.Fn f i.value (Err e)) (C.items self.now) }
+        ensures memory { result ≡ Err MemoryError
+            → Any (λ i. (answer : W) × FnReturnsAt F.Fn f i.value (Ok answer)) (C.items self.now) }
     {
         self.in_form();
         let new = answers_to(self, &f)?;

@@ -2,6 +2,7 @@
 ghost use Rattle.std.specs.Prelude.{◌≡◌, ◌+◌, ◌≤◌, length, OnOk, OnErr, IsOk};
 ghost use Rattle.range_keys.specs.Order.{IsComplete};
 ghost use Rattle.range_algebra.specs.Range.{ClonesAreEqual, IsEmptyRange};
+ghost use Rattle.range_change.specs.Clones.{ClonesNeverFail};
 ghost use Rattle.range_change.specs.Stored.{IsStored};
 ghost use Rattle.range_algebra.specs.Intervals.{Every};
 ghost use Rattle.range_change.specs.Lookups.{Overlap};
@@ -23,8 +24,8 @@ impl<K: Measure + Clone, V: Eq + Clone, C: Storage<Item<AnyRange<K>, V>>> RangeM
     /// nothing.
     ///
     /// Allocates a clone of each bound at which it cuts a stored range; and where one stored
-    /// range becomes two, a clone of its value and what the container needs. After an error the
-    /// map is as it was. Costs one search, and a step for each stored range that the range meets.
+    /// range becomes two, a clone of its value and what the container needs. Gives no capacity
+    /// back. After an error the map is as it was. Costs one search, and a step for each stored range that the range meets.
     ///
     /// ```
     /// map.remove(1..9)?;
@@ -47,6 +48,10 @@ impl<K: Measure + Clone, V: Eq + Clone, C: Storage<Item<AnyRange<K>, V>>> RangeM
         ensures few { length (C.items self.new) ≤ length (C.items self.old) + 1 }
 
         ensures refused { OnErr result (C.items self.new ≡ C.items self.old) }
+        ensures space { C.room self.old + length (C.items self.old)
+            ≤ C.room self.new + length (C.items self.new) }
+        ensures succeeds { ClonesNeverFail K.is_infallible → ClonesNeverFail V.is_infallible
+            → 1 ≤ C.room self.old → IsOk result }
         ensures empty { IsEmptyRange K.order (R.range range) → IsOk result }
         ensures empty_unchanged { IsEmptyRange K.order (R.range range)
             → C.items self.new ≡ C.items self.old }
@@ -90,6 +95,10 @@ impl<K: Measure + Clone, V: Eq + Clone, C: Storage<Item<AnyRange<K>, V>>> RangeM
         ensures few { length (C.items self.new) ≤ length (C.items self.old) + 1 }
 
         ensures refused { OnErr result (C.items self.new ≡ C.items self.old) }
+        ensures space { C.room self.old + length (C.items self.old)
+            ≤ C.room self.new + length (C.items self.new) }
+        ensures succeeds { ClonesNeverFail K.is_infallible → ClonesNeverFail V.is_infallible
+            → 1 ≤ C.room self.old → IsOk result }
         ensures empty { IsEmptyRange K.order (R.range range) → IsOk result }
         ensures empty_unchanged { IsEmptyRange K.order (R.range range)
             → C.items self.new ≡ C.items self.old }

@@ -1,5 +1,5 @@
 //! Keeping only such stored ranges as a closure says.
-ghost use Rattle.std.specs.Prelude.{◌≤◌, length};
+ghost use Rattle.std.specs.Prelude.{◌+◌, ◌≤◌, length};
 ghost use Rattle.std.specs.List.Retain.{IsFiltered};
 ghost use Rattle.range_keys.specs.Order.{IsComplete};
 ghost use Rattle.range_change.specs.Bindings.{IsCoarse, IsOnlyCoarse};
@@ -25,8 +25,9 @@ impl<K: PartialEnum, V: Eq + Drop, C: Storage<Item<AnyRange<K>, V>>> RangeMap<K,
     /// others.
     ///
     /// The closure is asked once of each stored range with its value, in ascending order. Those
-    /// that it keeps stand as they were. Allocates nothing. Costs a step for each stored range, and
-    /// changes nodes up to the tree's root for each that it takes out.
+    /// that it keeps stand as they were. Allocates nothing, and leaves room for as many ranges more as
+    /// it takes out. Costs a step for each stored range, and changes nodes up to the tree's root for
+    /// each that it takes out.
     ///
     /// ```
     /// // of a map that binds 0..=5 to 1
@@ -42,6 +43,8 @@ impl<K: PartialEnum, V: Eq + Drop, C: Storage<Item<AnyRange<K>, V>>> RangeMap<K,
         ensures coarse { IsComplete K.order → IsCoarse K.order V.eq (C.items self.new) }
         ensures only { IsComplete K.order → IsOnlyCoarse K.order V.eq (C.items self.new) }
         ensures few { length (C.items self.new) ≤ length (C.items self.old) }
+        ensures space { C.room self.old + length (C.items self.old)
+            ≤ C.room self.new + length (C.items self.new) }
     {
         self.in_form();
         let mut f = f;

@@ -1,5 +1,5 @@
 //! Binding the keys of a range where it meets no stored one.
-ghost use Rattle.std.specs.Prelude.{◌≡◌, ◌↔◌, IsErrAnd, IfErr, OnOk, OnErr, IsOk};
+ghost use Rattle.std.specs.Prelude.{◌≡◌, ◌↔◌, ◌≤◌, IsErrAnd, IfErr, OnOk, OnErr, IsOk};
 ghost use Rattle.range_keys.specs.Order.{IsComplete};
 ghost use Rattle.range_algebra.specs.Range.{IsEmptyRange};
 ghost use Rattle.range_change.specs.Bindings.{IsBoundAfter, IsCoarse, IsOnlyCoarse};
@@ -40,6 +40,8 @@ fn bind_where_free<K: Measure, V: Eq + Drop, C: Storage<Item<AnyRange<K>, V>>>(
     ensures ok { OnOk result
         (IsInserted K.order V.eq (C.items stored.old) (C.items stored.new) range value) }
     ensures refused { OnErr result (C.items stored.new ≡ C.items stored.old) }
+    ensures succeeds { 1 ≤ C.room stored.old → ¬ MeetsSome K.order (C.items stored.old) range
+        → IsOk result }
 {
     let mut steps = Steps::new();
     let window = find_window::<K, V, C, AnyRange<K>>(stored, &range, &mut steps);
@@ -88,6 +90,8 @@ impl<K: Measure, V: Eq + Drop, C: Storage<Item<AnyRange<K>, V>>> RangeMap<K, V, 
         ensures coarse { IsComplete K.order → IsCoarse K.order V.eq (C.items self.new) }
         ensures only { IsComplete K.order → IsOnlyCoarse K.order V.eq (C.items self.new) }
         ensures refused { OnErr result (C.items self.new ≡ C.items self.old) }
+        ensures succeeds { 1 ≤ C.room self.old
+            → ¬ MeetsSome K.order (C.items self.old) (R.range range) → IsOk result }
         ensures empty { IsEmptyRange K.order (R.range range) → IsOk result }
         ensures empty_unchanged { IsEmptyRange K.order (R.range range)
             → C.items self.new ≡ C.items self.old }

@@ -4,15 +4,16 @@ ghost use Rattle.range_keys.specs.Order.{IsComplete};
 ghost use Rattle.range_algebra.specs.Intervals.{Every};
 ghost use Rattle.range_algebra.specs.Clones.{IsBoundClone};
 ghost use Rattle.range_algebra.specs.Range.{ClonesAreEqual, IsEmptyRange};
-ghost use Rattle.range_change.specs.Answers.{MayAnswer, MayBeAsked, FailsAt, IsUpdated};
+ghost use Rattle.range_change.specs.Answers.{MayAnswer, MayBeAsked, FailsAt, SucceedsAt, IsUpdated};
 ghost use Rattle.range_map.specs.Askable.{MayBeAskedOfEach};
+ghost use Rattle.range_change.specs.Clones.{ClonesNeverFail};
 ghost use Rattle.range_change.specs.Bindings.{IsCoarse, IsOnlyCoarse};
 ghost use Rattle.range_change.specs.Frames.{IsUpdateFrame};
 ghost use Rattle.range_change.specs.Reach.{IsSurroundedOf};
 ghost use Rattle.range_map.specs.Rebinding.{AreRebound};
 ghost use Rattle.range_change.specs.Spelling.{KeepsSpelling};
 ghost use Rattle.range_change.specs.Stored.{IsStored};
-ghost use Rattle.range_change.specs.declared.error.UpdateError.TheVariants.{Closure as ClosureError};
+ghost use Rattle.range_change.specs.declared.error.UpdateError.TheVariants.{Closure as ClosureError, Memory as MemoryError};
 
 use crate::map::RangeMap;
 use range_algebra::any::AnyRange;
@@ -55,6 +56,8 @@ fn update_within<
     ensures form { IsStored K.order V.eq (C.items stored.new) }
     ensures closure { (e : E) → result ≡ Err (ClosureError e)
         → FailsAt K.order V.eq F.Fn f.now (C.items stored.old) range e }
+    ensures memory { result ≡ Err MemoryError
+        → SucceedsAt K.order V.eq F.Fn f.now (C.items stored.old) range }
     ensures refused { OnErr result (C.items stored.new ≡ C.items stored.old) }
 {
     match f(Some(&stored.get(p).value)) {
@@ -95,6 +98,8 @@ fn update_pieces<
     ensures form { IsStored K.order V.eq (C.items stored.new) }
     ensures closure { (e : E) → result ≡ Err (ClosureError e)
         → FailsAt K.order V.eq F.Fn f.now (C.items stored.old) range e }
+    ensures memory { result ≡ Err MemoryError
+        → SucceedsAt K.order V.eq F.Fn f.now (C.items stored.old) range }
     ensures refused { OnErr result (C.items stored.new ≡ C.items stored.old) }
 {
     let mut steps = Steps::new();
@@ -113,6 +118,7 @@ fn clone_range<K: Clone, R: AsRange<Item = K>>(range: &R) -> Result<AnyRange<K>,
     ensures start { IfOk result
         (λ copy. IsBoundClone K.is_clone (R.range range.now).start copy.start) }
     ensures end { IfOk result (λ copy. IsBoundClone K.is_clone (R.range range.now).end copy.end) }
+    ensures succeeds { ClonesNeverFail K.is_infallible → IsOk result }
 {
     let start = clone_of(range.start())?;
     let end = clone_of(range.end())?;
@@ -169,6 +175,8 @@ impl<K: Measure + Clone, V: Eq + Clone, C: Storage<Item<AnyRange<K>, V>>> RangeM
         ensures only { IsComplete K.order → IsOnlyCoarse K.order V.eq (C.items self.new) }
         ensures closure { (e : E) → result ≡ Err (ClosureError e)
             → FailsAt K.order V.eq F.Fn f (C.items self.old) (R.range range) e }
+        ensures memory { ClonesNeverFail K.is_infallible → result ≡ Err MemoryError
+            → SucceedsAt K.order V.eq F.Fn f (C.items self.old) (R.range range) }
         ensures refused { OnErr result (C.items self.new ≡ C.items self.old) }
         ensures empty { IsEmptyRange K.order (R.range range) → IsOk result }
         ensures empty_unchanged { IsEmptyRange K.order (R.range range)

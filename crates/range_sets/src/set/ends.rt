@@ -1,5 +1,5 @@
 //! The first and the last stored range, shown or taken out, and the one that holds a key.
-ghost use Rattle.std.specs.Prelude.{◌≡◌, List, [], ◌∷◌, ◌++◌, MatchOption};
+ghost use Rattle.std.specs.Prelude.{◌≡◌, ◌+◌, ◌≤◌, List, [], ◌∷◌, ◌++◌, MatchOption};
 ghost use Rattle.range_algebra.specs.Intervals.{Any};
 ghost use Rattle.range_algebra.specs.Range.{Holds};
 ghost use Rattle.range_algebra.specs.declared.any.AnyRange.{AnyRange};
@@ -79,6 +79,8 @@ impl<T: PartialEnum, C: Storage<Item<AnyRange<T>, ()>>> RangeSet<T, C> {
         ensures first { MatchOption result ((C.items self.old ≡ []) × (C.items self.new ≡ []))
             (λ r. item_ranges (C.items self.old) ≡ r ∷ item_ranges (C.items self.new)) }
         ensures form { IsStoredSet T.order (C.items self.new) }
+        ensures space { MatchOption result (C.room self.old ≤ C.room self.new)
+            (λ _. C.room self.old + 1 ≤ C.room self.new) }
     {
         match self.map.pop_first() {
             Some((range, _)) => Some(range),
@@ -98,6 +100,8 @@ impl<T: PartialEnum, C: Storage<Item<AnyRange<T>, ()>>> RangeSet<T, C> {
         ensures last { MatchOption result ((C.items self.old ≡ []) × (C.items self.new ≡ []))
             (λ r. item_ranges (C.items self.old) ≡ item_ranges (C.items self.new) ++ r ∷ []) }
         ensures form { IsStoredSet T.order (C.items self.new) }
+        ensures space { MatchOption result (C.room self.old ≤ C.room self.new)
+            (λ _. C.room self.old + 1 ≤ C.room self.new) }
     {
         match self.map.pop_last() {
             Some((range, _)) => Some(range),

@@ -1,6 +1,7 @@
 //! Adding the keys of a range.
 ghost use Rattle.std.specs.Prelude.{◌≡◌, ◌+◌, ◌≤◌, true, length, IsOk, OnOk, OnErr};
 ghost use Rattle.range_algebra.specs.Range.{ClonesAreEqual, IsEmptyRange};
+ghost use Rattle.range_change.specs.Clones.{ClonesNeverFail};
 ghost use Rattle.range_change.specs.Costs.{TakesAtLeast, TakesAsChange};
 ghost use Rattle.range_change.specs.Frames.{IsInsertionFrame};
 ghost use Rattle.range_change.specs.Lookups.{MeetAlso};
@@ -37,6 +38,7 @@ impl<T: Measure + Clone, C: Storage<Item<AnyRange<T>, ()>>> RangeSet<T, C> {
         ensures few { length (C.items self.new) ≤ length (C.items self.old) + 1 }
 
         ensures refused { OnErr result (C.items self.new ≡ C.items self.old) }
+        ensures succeeds { ClonesNeverFail T.is_infallible → 2 ≤ C.room self.old → IsOk result }
         ensures empty { IsEmptyRange T.order (R.range range) → IsOk result }
         ensures empty_unchanged { IsEmptyRange T.order (R.range range)
             → C.items self.new ≡ C.items self.old }
@@ -70,6 +72,7 @@ impl<T: Measure + Clone, C: Storage<Item<AnyRange<T>, ()>>> RangeSet<T, C> {
         ensures few { length (C.items self.new) ≤ length (C.items self.old) + 1 }
 
         ensures refused { OnErr result (C.items self.new ≡ C.items self.old) }
+        ensures succeeds { ClonesNeverFail T.is_infallible → 2 ≤ C.room self.old → IsOk result }
         ensures empty { IsEmptyRange T.order (R.range range) → IsOk result }
         ensures empty_unchanged { IsEmptyRange T.order (R.range range)
             → C.items self.new ≡ C.items self.old }

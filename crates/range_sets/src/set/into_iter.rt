@@ -1,6 +1,7 @@
 //! The stored ranges, moved out of a set.
-ghost use Rattle.std.specs.Prelude.{◌≡◌};
-ghost use Rattle.std.specs.Iterator.{YieldsFirst, item_count};
+ghost use Rattle.std.specs.Prelude.{◌≡◌, length, IfSome, Some};
+ghost use Rattle.std.specs.Iterator.{UpTo, YieldsFirst, at_most, item_count};
+ghost use Rattle.std.specs.Iterator.SizeHint.{IsWithinCount};
 ghost use Rattle.range_map.specs.FreeRanges.{item_ranges};
 ghost use Rattle.range_sets.specs.KeySets.{IsStoredSet};
 
@@ -41,7 +42,11 @@ impl<T: PartialEnum, C: Storage<Item<AnyRange<T>, ()>>> Iterator for IntoIter<T,
         }
     }
 
-    fn size_hint(&self) -> (usize, Option<usize>) {
+    fn size_hint(&self) -> (usize, Option<usize>)
+        ensures lower { IsWithinCount result.0 (at_most (length self.now)) }
+        ensures upper { IfSome result.1 (UpTo (at_most (length self.now))) }
+        ensures exact { result ≡ (length self.now, Some (length self.now)) }
+    {
         let left = self.map.range_count();
         (left, Some(left))
     }

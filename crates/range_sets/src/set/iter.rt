@@ -1,6 +1,7 @@
 //! The stored ranges, in ascending order, from both ends.
-ghost use Rattle.std.specs.Prelude.{◌≡◌, List};
-ghost use Rattle.std.specs.Iterator.{YieldsFirstRef, YieldsLastRef, item_count};
+ghost use Rattle.std.specs.Prelude.{◌≡◌, List, length, IfSome, Some};
+ghost use Rattle.std.specs.Iterator.{UpTo, YieldsFirstRef, YieldsLastRef, at_most, item_count};
+ghost use Rattle.std.specs.Iterator.SizeHint.{IsWithinCount};
 ghost use Rattle.range_map.specs.FreeRanges.{item_ranges};
 ghost use Rattle.range_sets.specs.KeySets.{IsStoredSet};
 
@@ -51,7 +52,11 @@ impl<'a, T: 'a, C: Storage<Item<AnyRange<T>, ()>> + 'a> Iterator for Iter<'a, T,
         }
     }
 
-    fn size_hint(&self) -> (usize, Option<usize>) {
+    fn size_hint(&self) -> (usize, Option<usize>)
+        ensures lower { IsWithinCount result.0 (at_most (length self.now)) }
+        ensures upper { IfSome result.1 (UpTo (at_most (length self.now))) }
+        ensures exact { result ≡ (length self.now, Some (length self.now)) }
+    {
         self.items.size_hint()
     }
 }

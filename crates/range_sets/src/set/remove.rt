@@ -2,6 +2,7 @@
 ghost use Rattle.std.specs.Prelude.{◌≡◌, ◌+◌, ◌≤◌, true, length, IsOk, OnOk, OnErr};
 ghost use Rattle.range_algebra.specs.Range.{ClonesAreEqual, IsEmptyRange};
 ghost use Rattle.range_algebra.specs.Intervals.{Every};
+ghost use Rattle.range_change.specs.Clones.{ClonesNeverFail};
 ghost use Rattle.range_change.specs.Costs.{TakesAtLeast, TakesAsChange};
 ghost use Rattle.range_change.specs.Frames.{IsRemovalFrame};
 ghost use Rattle.range_change.specs.Lookups.{Overlap};
@@ -40,6 +41,9 @@ impl<T: Measure + Clone, C: Storage<Item<AnyRange<T>, ()>>> RangeSet<T, C> {
         ensures few { length (C.items self.new) ≤ length (C.items self.old) + 1 }
 
         ensures refused { OnErr result (C.items self.new ≡ C.items self.old) }
+        ensures space { C.room self.old + length (C.items self.old)
+            ≤ C.room self.new + length (C.items self.new) }
+        ensures succeeds { ClonesNeverFail T.is_infallible → 1 ≤ C.room self.old → IsOk result }
         ensures empty { IsEmptyRange T.order (R.range range) → IsOk result }
         ensures empty_unchanged { IsEmptyRange T.order (R.range range)
             → C.items self.new ≡ C.items self.old }
@@ -79,6 +83,9 @@ impl<T: Measure + Clone, C: Storage<Item<AnyRange<T>, ()>>> RangeSet<T, C> {
         ensures few { length (C.items self.new) ≤ length (C.items self.old) + 1 }
 
         ensures refused { OnErr result (C.items self.new ≡ C.items self.old) }
+        ensures space { C.room self.old + length (C.items self.old)
+            ≤ C.room self.new + length (C.items self.new) }
+        ensures succeeds { ClonesNeverFail T.is_infallible → 1 ≤ C.room self.old → IsOk result }
         ensures empty { IsEmptyRange T.order (R.range range) → IsOk result }
         ensures empty_unchanged { IsEmptyRange T.order (R.range range)
             → C.items self.new ≡ C.items self.old }

@@ -1,5 +1,5 @@
 //! Keeping only such stored ranges as a closure says.
-ghost use Rattle.std.specs.Prelude.{◌≤◌, length};
+ghost use Rattle.std.specs.Prelude.{◌+◌, ◌≤◌, length};
 ghost use Rattle.std.specs.Fn.{CalledAt};
 ghost use Rattle.std.specs.List.Retain.{IsFiltered};
 ghost use Rattle.range_map.specs.FreeRanges.{item_ranges};
@@ -31,6 +31,8 @@ impl<T: PartialEnum, C: Storage<Item<AnyRange<T>, ()>>> RangeSet<T, C> {
         ensures kept { BindKeysOf T.order (C.items self.new) (C.items self.old) }
         ensures form { IsStoredSet T.order (C.items self.new) }
         ensures few { length (C.items self.new) ≤ length (C.items self.old) }
+        ensures space { C.room self.old + length (C.items self.old)
+            ≤ C.room self.new + length (C.items self.new) }
     {
         self.map.retain(move |range, _unit| f(range));
     }

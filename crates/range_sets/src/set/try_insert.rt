@@ -50,6 +50,8 @@ impl<T: Measure, C: Storage<Item<AnyRange<T>, ()>>> RangeSet<T, C> {
         ensures meets { OnOk result (¬ IsEmptyRange T.order (R.range range)
             → MeetAlso T.order (C.items self.old) (C.items self.new) (R.range range)) }
         ensures few { length (C.items self.new) ≤ length (C.items self.old) + 1 }
+        ensures succeeds { 1 ≤ C.room self.old
+            → ¬ MeetsSome T.order (C.items self.old) (R.range range) → IsOk result }
         ensures refused { OnErr result (C.items self.new ≡ C.items self.old) }
         ensures empty { IsEmptyRange T.order (R.range range) → IsOk result }
         ensures empty_unchanged { IsEmptyRange T.order (R.range range)

@@ -66,7 +66,7 @@ pub fn remove_rest<T: Drop, C: Storage<T>>(stored: &mut C, cursor: Cursor<C::Pos
     ensures list { let place = place_before (C.rank stored.old) (length (C.items stored.old))
         cursor.at in C.items stored.new
         ≡ take place (C.items stored.old) ++ drop (place + cursor.left) (C.items stored.old) }
-    ensures space { C.room stored.old ≤ C.room stored.new }
+    ensures space { C.room stored.old + cursor.left ≤ C.room stored.new }
 {
     let mut at = cursor.at;
     for _removed in 0..cursor.left {
@@ -86,10 +86,11 @@ pub fn replace_run<T: Drop, C: Storage<T>>(stored: &mut C, cursor: Cursor<C::Pos
     requires in_range { place_before (C.rank stored.old) (length (C.items stored.old)) cursor.at
         + cursor.left ≤ length (C.items stored.old) }
     requires space { 1 ≤ cursor.left + C.room stored.old }
-    ensures { let place = place_before (C.rank stored.old) (length (C.items stored.old)) cursor.at
-        in C.items stored.new
+    ensures list { let place = place_before (C.rank stored.old) (length (C.items stored.old))
+        cursor.at in C.items stored.new
         ≡ take place (C.items stored.old) ++ item
         ∷ drop (place + cursor.left) (C.items stored.old) }
+    ensures space { C.room stored.old + cursor.left ≤ C.room stored.new + 1 }
 {
     match cursor.left {
         0 => {

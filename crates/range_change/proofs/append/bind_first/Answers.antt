@@ -1,4 +1,4 @@
-use Rattle.std.proofs.Common.{◌≡◌, ◌∙◌, ap, arith}
+use Rattle.std.proofs.Common.{◌≡◌, ◌∙◌, refl, ap, arith}
 use Rattle.std.specs.Prelude.{insert}
 use Rattle.range_algebra.specs.declared.any.AnyRange.{AnyRange}
 use Rattle.range_store.specs.declared.storage.Item.{Item}
@@ -32,4 +32,5 @@ returns g c =
           0 tt c.requires.before _ c.args.value done;
       few = one_longer items _ 0 item (omega arith) done;
       refused = tt;
+      succeeds = λ enough. refl;
     }

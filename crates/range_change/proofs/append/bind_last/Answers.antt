@@ -1,4 +1,4 @@
-use Rattle.std.proofs.Common.{rules, ◌≡◌, ◌∙◌, ap, length, arith}
+use Rattle.std.proofs.Common.{rules, ◌≡◌, ◌∙◌, refl, ap, length, arith}
 use Rattle.std.specs.Prelude.{insert}
 use Rattle.range_algebra.specs.declared.any.AnyRange.{AnyRange}
 use Rattle.range_store.specs.declared.storage.Item.{Item}
@@ -16,6 +16,7 @@ returns g c =
     ∙ ap (λ xs. insert xs (length xs) item) c.reserve.ensures.list in
     record {
       refused = search rules;
+      succeeds = λ enough. refl;
       ok =
           last_inserted g.K.MaybeBounded.order g.met.K.PartialEnum.lawful g.V.PartialEq.eq
           g.met.V.Eq.laws

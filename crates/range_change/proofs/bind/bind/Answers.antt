@@ -14,6 +14,7 @@ bind_inside-requires-clause-within g c =
 pub returns-in-Some : goal.returns-in-Some
 returns-in-Some g c =
     record {
+      succeeds = c.bind_inside.ensures.succeeds;
       ok = search rules;
       refused = search rules;
       most =
@@ -25,6 +26,8 @@ returns-in-Some g c =
 pub returns-in-None : goal.returns-in-None
 returns-in-None g c =
     record {
+      succeeds =
+          λ keys values enough. c.bind_outside.ensures.succeeds keys (omega (arith, enough));
       ok = search rules;
       refused = search rules;
       most =

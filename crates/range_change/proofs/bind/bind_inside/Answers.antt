@@ -1,6 +1,7 @@
-use Rattle.std.proofs.Common.{sym, arith, Some}
+use Rattle.std.proofs.Common.{sym, refl, arith, Some}
+use Rattle.std.proofs.lemmas.Bool.{false≢true}
 use Rattle.range_change.proofs.Results.{error_has_no_value, on_error}
-use Rattle.range_change.proofs.Surrounded.{stands, divided_around, few_added}
+use Rattle.range_change.proofs.Surrounded.{stands, divided_around, divided_size}
 use Rattle.range_change.proofs.bind.bind_inside.Goals as goal
 
 pub returns-then-joins-clause-ok : goal.returns-then-joins-clause-ok
@@ -24,14 +25,15 @@ returns g c =
     record {
       ok =
           divided_around lawful equal within x c.get.ensures parts end start cloned.value _ new _
-          c.prepare_parts.ensures.list rank c.args.value (sym c.if-joins.ensures) c.divide.ensures;
+          c.prepare_parts.ensures.list rank c.args.value (sym c.if-joins.ensures) c.divide.ensures.list;
       few =
           omega (
             arith,
-            few_added lawful equal within x c.get.ensures parts end start cloned.value _ new _
-                c.prepare_parts.ensures.list rank (Some _) c.divide.ensures,
+            divided_size lawful equal within x c.get.ensures parts end start cloned.value _ new _
+                c.prepare_parts.ensures.list rank (Some _) c.divide.ensures.list,
           );
       refused = tt;
+      succeeds = λ keys values enough. refl;
     }
 
 pub prepare_parts-requires-clause-good : goal.prepare_parts-requires-clause-good
@@ -45,4 +47,7 @@ returns-in_err-parts g c =
       few = error_has_no_value _ c.from_residual.result c.from_residual.ensures.0;
       refused =
           on_error _ c.from_residual.result c.prepare_parts.ensures.list;
+      succeeds =
+          λ keys values enough.
+          absurd (false≢true (c.in_err-parts.ensures.succeeds keys values enough));
     }

@@ -1,4 +1,4 @@
-use Rattle.std.proofs.Common.{◌≡◌, ◌+◌, ap, length, arith}
+use Rattle.std.proofs.Common.{◌≡◌, ◌+◌, refl, ap, length, arith}
 use Rattle.std.specs.Prelude.{insert}
 use Rattle.std.proofs.lemmas.List.Edits.{length-insert}
 use Rattle.range_store.specs.ListPlaces.{place_before}
@@ -46,4 +46,5 @@ returns g c =
             length-insert items place c.args.item (omega (arith, window.in_range)),
           );
       refused = tt;
+      succeeds = λ enough. refl;
     }

@@ -1,5 +1,6 @@
 use Rattle.std.proofs.lemmas.Grind.{common_steps}
 use Rattle.std.proofs.Common.{◌≡◌, ◌+◌, ap, ◌∙◌, arith, refl}
+use Rattle.std.proofs.lemmas.Bool.{false≢true}
 use Rattle.range_change.specs.Borders.{joined_count}
 use Rattle.range_change.specs.Reach.{inner_count}
 use Rattle.range_change.proofs.Planned.{plan_fits, planned_count, planned_insert, planned_size, planned_run}
@@ -27,8 +28,8 @@ pub run_length-requires-clause-fits : goal.run_length-requires-clause-fits
 run_length-requires-clause-fits g c =
     let lawful = g.met.K.PartialEnum.lawful in
     let equal = g.met.V.Eq.laws in
-    let before = c.in_ok-left.ensures in
-    let after = c.in_ok-right.ensures in
+    let before = c.in_ok-left.ensures.seam in
+    let after = c.in_ok-right.ensures.seam in
     let joins = c.args.joins.now in
     let left =
     rw (← before.at) at (c.requires.before lawful equal before.cut c.run_start.result
@@ -52,8 +53,8 @@ pub change-requires : goal.change-requires
 change-requires g c =
     let lawful = g.met.K.PartialEnum.lawful in
     let equal = g.met.V.Eq.laws in
-    let before = c.in_ok-left.ensures in
-    let after = c.in_ok-right.ensures in
+    let before = c.in_ok-left.ensures.seam in
+    let after = c.in_ok-right.ensures.seam in
     let joins = c.args.joins.now in
     let left =
     rw (← before.at) at (c.requires.before lawful equal before.cut c.run_start.result
@@ -87,8 +88,8 @@ pub returns : goal.returns
 returns g c =
     let lawful = g.met.K.PartialEnum.lawful in
     let equal = g.met.V.Eq.laws in
-    let before = c.in_ok-left.ensures in
-    let after = c.in_ok-right.ensures in
+    let before = c.in_ok-left.ensures.seam in
+    let after = c.in_ok-right.ensures.seam in
     let joins = c.args.joins.now in
     let left =
     rw (← before.at) at (c.requires.before lawful equal before.cut c.run_start.result
@@ -112,13 +113,14 @@ returns g c =
     sum right.side.in_range in
     let made =
     rw c.reserve.ensures.list at
-    (c.change.ensures left.at right.end left.rest right.rest left.start right.finish
+    (c.change.ensures.list left.at right.end left.rest right.rest left.start right.finish
     fit.on_left fit.on_right (omega (arith, length_is))) in
     let new = g.C.Storage.items c.change.new.stored in
     record {
       ok = planned_insert window left right c.requires.apart new made;
       few = planned_size window left right c.requires.apart new made;
       refused = tt;
+      succeeds = λ keys enough. refl;
     }
 
 pub returns-in_err-left : goal.returns-in_err-left
@@ -128,6 +130,7 @@ returns-in_err-left g c =
       few = error_has_no_value _ c.from_residual.result c.from_residual.ensures.0;
       refused =
           on_error _ c.from_residual.result refl;
+      succeeds = λ keys enough. absurd (false≢true (c.in_err-left.ensures.succeeds keys));
     }
 
 pub returns-in_err-right : goal.returns-in_err-right
@@ -139,6 +142,7 @@ returns-in_err-right g c =
           error_has_no_value _ c.from_residual-in_err-right.result
           c.from_residual-in_err-right.ensures.0;
       refused = on_error _ c.from_residual-in_err-right.result refl;
+      succeeds = λ keys enough. absurd (false≢true (c.in_err-right.ensures.succeeds keys));
     }
 
 pub returns-in_err-reserve : goal.returns-in_err-reserve
@@ -151,4 +155,8 @@ returns-in_err-reserve g c =
           c.from_residual-in_err-reserve.ensures.0;
       refused =
           on_error _ c.from_residual-in_err-reserve.result c.reserve.ensures.list;
+      succeeds =
+          λ keys enough.
+          absurd (false≢true (c.in_err-reserve.ensures.succeeds
+          (omega (arith, enough, c.growth.ensures))));
     }

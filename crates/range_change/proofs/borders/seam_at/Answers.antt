@@ -4,8 +4,8 @@ use Rattle.range_change.specs.Edits.{flipped_bound}
 use Rattle.range_change.proofs.CutParts.{known_turned, same_turned}
 use Rattle.range_change.proofs.borders.seam_at.Goals as goal
 
-pub returns-in-Some-default : goal.returns-in-Some-default
-returns-in-Some-default g c =
+pub returns-in-Some-default-clause-seam : goal.returns-in-Some-default-clause-seam
+returns-in-Some-default-clause-seam g c =
     let order = g.K.MaybeBounded.order in
     let lawful = g.met.K.PartialEnum.lawful in
     let bound = bound_of c.args.bound in
@@ -17,8 +17,8 @@ returns-in-Some-default g c =
           same_turned order lawful bound;
     }
 
-pub returns-in-None-None : goal.returns-in-None-None
-returns-in-None-None g c =
+pub returns-in-None-None-clause-seam : goal.returns-in-None-None-clause-seam
+returns-in-None-None-clause-seam g c =
     let order = g.K.MaybeBounded.order in
     let lawful = g.met.K.PartialEnum.lawful in
     let bound = bound_of c.args.bound in
@@ -30,8 +30,8 @@ returns-in-None-None g c =
           same_turned order lawful bound;
     }
 
-pub returns-in_ok-cut-in-None-Some : goal.returns-in_ok-cut-in-None-Some
-returns-in_ok-cut-in-None-Some g c =
+pub returns-in_ok-cut-in-None-Some-clause-seam : goal.returns-in_ok-cut-in-None-Some-clause-seam
+returns-in_ok-cut-in-None-Some-clause-seam g c =
     record {
       cut = c.in_ok-cut-in-None-Some.cut;
       at = rw (c.in-None-Some.is-0, c.in-None-Some.is-1) refl;

@@ -12,4 +12,4 @@ returns-clause-flipped g c =
     sym (g.met.K.MaybeBounded.order_is_cmp a b)
     ∙ (Equal-is (g.K.Ord.cmp a b)).0 (sym (g.met.K.Ord.matches_eq a b) ∙ c.requires a b h) in
     bound_clone order g.met.K.PartialEnum.lawful g.K.Clone.is_clone equal_keys
-    (flipped_bound (bound_of c.args.bound)) c.in_ok-cut.cut c.in_ok-cut.ensures
+    (flipped_bound (bound_of c.args.bound)) c.in_ok-cut.cut c.in_ok-cut.ensures.clone

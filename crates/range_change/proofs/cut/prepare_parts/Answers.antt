@@ -1,4 +1,5 @@
-use Rattle.std.proofs.Common.{◌≡◌, get_or}
+use Rattle.std.proofs.Common.{◌≡◌, get_or, refl}
+use Rattle.std.proofs.lemmas.Bool.{false≢true}
 use Rattle.std.proofs.lemmas.List.{get_or_read}
 use Rattle.range_change.proofs.Results.{error_has_no_value}
 use Rattle.range_change.proofs.cut.prepare_parts.Goals as goal
@@ -13,7 +14,9 @@ returns-in_err-reserve g c = record {
   value = error_has_no_value _ c.from_residual.result c.from_residual.ensures.0;
   list = c.reserve.ensures.list;
   space = error_has_no_value _ c.from_residual.result c.from_residual.ensures.0;
+  no_less = c.reserve.ensures.space;
   positions = c.reserve.ensures.positions;
+  succeeds = λ keys values enough. absurd (false≢true (c.in_err-reserve.ensures.succeeds enough));
 }
 
 pub returns-in_err-cut_bound : goal.returns-in_err-cut_bound
@@ -31,7 +34,9 @@ returns-in_err-cut_bound g c = record {
   space =
       error_has_no_value _ c.from_residual-in_err-cut_bound.result
       c.from_residual-in_err-cut_bound.ensures.0;
+  no_less = c.reserve.ensures.space;
   positions = c.reserve.ensures.positions;
+  succeeds = λ keys values enough. absurd (false≢true (c.in_err-cut_bound.ensures.succeeds keys));
 }
 
 pub returns-in_err-cut_bound-2 : goal.returns-in_err-cut_bound-2
@@ -49,7 +54,9 @@ returns-in_err-cut_bound-2 g c = record {
   space =
       error_has_no_value _ c.from_residual-in_err-cut_bound-2.result
       c.from_residual-in_err-cut_bound-2.ensures.0;
+  no_less = c.reserve.ensures.space;
   positions = c.reserve.ensures.positions;
+  succeeds = λ keys values enough. absurd (false≢true (c.in_err-cut_bound-2.ensures.succeeds keys));
 }
 
 pub returns-in_err-clone : goal.returns-in_err-clone
@@ -67,7 +74,9 @@ returns-in_err-clone g c = record {
   space =
       error_has_no_value _ c.from_residual-in_err-clone.result
       c.from_residual-in_err-clone.ensures.0;
+  no_less = c.reserve.ensures.space;
   positions = c.reserve.ensures.positions;
+  succeeds = λ keys values enough. absurd (c.in_err-clone.ensures.cases (values _));
 }
 
 pub cut_bound-requires : goal.cut_bound-requires
@@ -100,6 +109,8 @@ returns g c =
           c.reserve.ensures.list;
       space =
           c.in_ok-reserve.ensures.ok;
+      no_less = c.reserve.ensures.space;
       positions =
           c.reserve.ensures.positions;
+      succeeds = λ keys values enough. refl;
     }

@@ -137,6 +137,6 @@ returns g c =
     right.end left.rest right.rest left.start right.finish left.shape right.shape left.run
     sum right.side.in_range in
     let made =
-    c.change.ensures left.at right.end left.rest right.rest left.start right.finish
+    c.change.ensures.list left.at right.end left.rest right.rest left.start right.finish
     fit.on_left fit.on_right (omega (arith, length_is)) in
     planned_insert window left right (omega arith) (g.C.Storage.items c.change.new.stored) made

@@ -1,4 +1,4 @@
-use Rattle.std.proofs.Common.{◌≡◌, ◌+◌, length, arith}
+use Rattle.std.proofs.Common.{◌≡◌, ◌+◌, refl, length, arith}
 use Rattle.std.specs.Prelude.{insert}
 use Rattle.range_store.specs.ListPlaces.{place_before}
 use Rattle.range_change.specs.Edits.{flipped_bound}
@@ -40,4 +40,5 @@ returns-in-Ok g c =
       ok = stands_between lawful equal window c.args.item.value c.requires.none left right new done;
       given = tt;
       refused = tt;
+      succeeds = λ enough. refl;
     }

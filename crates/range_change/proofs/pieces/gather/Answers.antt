@@ -1,5 +1,5 @@
 use Rattle.std.proofs.lemmas.Grind.{common_steps}
-use Rattle.std.proofs.Common.{rules, length, get_or, take, arith, sym, ap, ◌∙◌, refl, Some}
+use Rattle.std.proofs.Common.{rules, length, get_or, take, arith, sym, ap, ◌∙◌, refl, Some, Ok, Err}
 use Rattle.std.specs.Cmp.{Equal-is}
 use Rattle.std.specs.Option.{option_copied}
 use Rattle.range_algebra.specs.Clones.{bound_clone}
@@ -8,7 +8,7 @@ use Rattle.range_store.specs.declared.storage.Item.{Item}
 use Rattle.range_store.specs.ListPlaces.{place_before}
 use Rattle.range_change.specs.Answers.{MayBeAsked}
 use Rattle.range_change.proofs.Counts.{none_added, one_added, is_positive, is_reached, begins_within, end_within, is_not_end}
-use Rattle.range_change.proofs.Asked.{asked_good, asked_key_full, met_holds, met_nonempty, met_fails, met_is_underway, met_keeps_spelling, last_fails, all_gathered, all_keep_spelling}
+use Rattle.range_change.proofs.Asked.{asked_good, asked_key_full, met_holds, met_nonempty, met_answered, met_is_underway, met_keeps_spelling, last_answered, all_gathered, all_keep_spelling}
 use Rattle.range_change.proofs.PieceAnswers.{underway_none}
 use Rattle.range_change.proofs.Results.{error_has_no_value}
 use Rattle.range_change.proofs.Tests.{value_is_no_error}
@@ -97,8 +97,15 @@ returns-in_err-ask_item g c =
       spelled = error_has_no_value _ c.from_residual.result c.from_residual.ensures.0;
       closure =
           λ e failed.
-          met_fails lawful equal c.requires.window c.loop-met._met x more read before was e
+          met_answered lawful equal c.requires.window c.loop-met._met x more read before was (Err e)
           (c.ask_item.ensures.closure e (search rules));
+      memory =
+          λ failed.
+          let said = c.ask_item.ensures.memory (search rules) in (
+            said.0,
+            met_answered lawful equal c.requires.window c.loop-met._met x more read before was
+                (Ok said.0) said.1,
+          );
     }
 
 pub next-at-requires : goal.next-at-requires
@@ -181,8 +188,12 @@ returns-in_err-ask_gap g c =
           error_has_no_value _ c.from_residual-in_err-ask_gap.result
           c.from_residual-in_err-ask_gap.ensures.0;
       closure =
-          λ e failed. last_fails lawful equal c.requires.window before was e
+          λ e failed. last_answered lawful equal c.requires.window before was (Err e)
           (c.ask_gap.ensures.closure e (grind (arith, common_steps)));
+      memory =
+          λ failed.
+          let said = c.ask_gap.ensures.memory (grind (arith, common_steps)) in
+          (said.0, last_answered lawful equal c.requires.window before was (Ok said.0) said.1);
     }
 
 pub returns : goal.returns
@@ -208,4 +219,5 @@ returns g c =
           c.ask_gap.new.items.items c.loop-met.invariant.spelled
           c.in_ok-ask_gap.ensures.ok;
       closure = λ e failed. absurd (value_is_no_error failed);
+      memory = λ failed. absurd (value_is_no_error failed);
     }

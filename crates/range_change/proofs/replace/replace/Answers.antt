@@ -1,5 +1,6 @@
 use Rattle.std.proofs.lemmas.Grind.{common_steps}
-use Rattle.std.proofs.Common.{◌≡◌, ◌+◌, ◌-◌, length, ap, ◌∙◌, arith}
+use Rattle.std.proofs.Common.{◌≡◌, ◌+◌, ◌-◌, length, refl, ap, ◌∙◌, arith}
+use Rattle.std.proofs.lemmas.Bool.{false≢true}
 use Rattle.std.specs.Prelude.{slice_get, option_copied}
 use Rattle.range_store.specs.ListPlaces.{place_before}
 use Rattle.range_change.specs.Borders.{joined_count, seam_border}
@@ -160,6 +161,7 @@ returns g c =
           right.upto right.end left.rest right.rest left.start right.finish left.shape left.begins
           right.shape right.in_range (rw c.reserve.ensures.list at done);
       refused = tt;
+      none_put = λ none. refl;
     }
 
 pub returns-in_err-reserve : goal.returns-in_err-reserve
@@ -168,6 +170,9 @@ returns-in_err-reserve g c =
       ok = error_has_no_value _ c.from_residual.result c.from_residual.ensures.0;
       spelled = λ kept. error_has_no_value _ c.from_residual.result c.from_residual.ensures.0;
       refused = on_error _ c.from_residual.result c.reserve.ensures.list;
+      none_put =
+          λ none.
+          absurd (false≢true (c.in_err-reserve.ensures.succeeds (grind (arith, common_steps))));
     }
 
 pub joined_left-before-requires-clause-within : goal.joined_left-before-requires-clause-within

@@ -1,10 +1,11 @@
-use Rattle.std.proofs.Common.{◌≡◌, ◌+◌, ◌∷◌, ◌++◌, length, take, drop, ap, ◌∙◌, arith}
+use Rattle.std.proofs.Common.{◌≡◌, ◌+◌, ◌≤◌, ◌∷◌, ◌++◌, length, take, drop, ap, ◌∙◌, arith}
 use Rattle.std.specs.Option.{unwrap_or}
 use Rattle.range_algebra.specs.declared.any.AnyRange.{AnyRange}
 use Rattle.range_store.specs.declared.storage.Item.{Item}
 use Rattle.range_store.specs.ListPlaces.{place_before}
 use Rattle.range_change.specs.Window.{option_items}
 use Rattle.range_change.proofs.BoundEdits.{kept_place, opening_regroups, regrouped_out}
+use Rattle.range_change.proofs.Lengths.{removed_length, replaced_length}
 use Rattle.range_change.proofs.splice.change.Goals as goal
 
 pub replace_run-requires-clause-in_range : goal.replace_run-requires-clause-in_range
@@ -33,8 +34,8 @@ remove_rest-requires-clause-in_range g c =
     c.requires.good in
     rw (here, kept.size) c.requires.in_range
 
-pub returns-in-Some : goal.returns-in-Some
-returns-in-Some g c = λ at end before behind start finish left_shape right_shape le.
+pub returns-in-Some-clause-list : goal.returns-in-Some-clause-list
+returns-in-Some-clause-list g c = λ at end before behind start finish left_shape right_shape le.
     let storage = g.C.Storage in
     let stored = c.args.stored.now in
     let items = storage.items stored in
@@ -59,7 +60,7 @@ returns-in-Some g c = λ at end before behind start finish left_shape right_shap
     c.joined-in-Some.ensures
     ∙ (ap (λ o. unwrap_or o own.result.1) opened.end_is
     ∙ ap (unwrap_or finish) own.ensures.end) in
-    let done = rw here at c.replace_run.ensures in
+    let done = rw here at c.replace_run.ensures.list in
     let item : Item (AnyRange g.row.K.Denot) g.row.V.Denot =
     record {
       key = record { start = c.joined.result; end = c.joined-in-Some.result };
@@ -72,8 +73,8 @@ returns-in-Some g c = λ at end before behind start finish left_shape right_shap
     ∙ opening_regroups (take at items) (option_items before) (option_items behind)
     (drop end items) item)))
 
-pub returns-in-None : goal.returns-in-None
-returns-in-None g c = λ at end before behind start finish left_shape right_shape le.
+pub returns-in-None-clause-list : goal.returns-in-None-clause-list
+returns-in-None-clause-list g c = λ at end before behind start finish left_shape right_shape le.
     let storage = g.C.Storage in
     let stored = c.args.stored.now in
     let items = storage.items stored in
@@ -95,3 +96,49 @@ returns-in-None g c = λ at end before behind start finish left_shape right_shap
     ∙ (ap (λ ys. (take at items ++ option_items before) ++ ys) opened.behind
     ∙ regrouped_out (take at items) (option_items before) (option_items behind)
     (drop end items))))
+
+pub returns-in-Some-clause-space : goal.returns-in-Some-clause-space
+returns-in-Some-clause-space g c =
+    let storage = g.C.Storage in
+    let stored = c.args.stored.now in
+    let ready = c.open_sides-start.new.stored in
+    let kept = c.open_sides-start.ensures in
+    let from = place_before (storage.rank ready) (length (storage.items ready)) c.args.sides.run.at in
+    let here =
+    kept_place (storage.is_good stored) (storage.is_good ready) (storage.rank stored)
+    (storage.rank ready) (length (storage.items stored))
+    (length (storage.items ready)) c.args.sides.run.at kept.positions kept.size
+    c.requires.good in
+    let within : from + c.args.sides.run.left ≤ length (storage.items ready) =
+    rw (here, kept.size) c.requires.in_range in
+    omega (
+      arith,
+      kept.size,
+      kept.space,
+      c.replace_run.ensures.space,
+      replaced_length (storage.items ready) (storage.items c.replace_run.new.stored) _ from c.args.sides.run.left
+          within c.replace_run.ensures.list,
+    )
+
+pub returns-in-None-clause-space : goal.returns-in-None-clause-space
+returns-in-None-clause-space g c =
+    let storage = g.C.Storage in
+    let stored = c.args.stored.now in
+    let ready = c.open_sides-start.new.stored in
+    let kept = c.open_sides-start.ensures in
+    let from = place_before (storage.rank ready) (length (storage.items ready)) c.args.sides.run.at in
+    let here =
+    kept_place (storage.is_good stored) (storage.is_good ready) (storage.rank stored)
+    (storage.rank ready) (length (storage.items stored))
+    (length (storage.items ready)) c.args.sides.run.at kept.positions kept.size
+    c.requires.good in
+    let within : from + c.args.sides.run.left ≤ length (storage.items ready) =
+    rw (here, kept.size) c.requires.in_range in
+    omega (
+      arith,
+      kept.size,
+      kept.space,
+      c.remove_rest.ensures.space,
+      removed_length (storage.items ready) (storage.items c.remove_rest.new.stored) from c.args.sides.run.left
+          within c.remove_rest.ensures.list,
+    )

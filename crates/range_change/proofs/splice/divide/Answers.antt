@@ -40,8 +40,8 @@ insert_at-middle-requires g c =
           omega (arith, space, c.replace_end-old_end.ensures.space, c.insert_at-at.ensures.space);
     }
 
-pub returns-in-None : goal.returns-in-None
-returns-in-None g c = λ d.
+pub returns-in-None-clause-list : goal.returns-in-None-clause-list
+returns-in-None-clause-list g c = λ d.
     let storage = g.C.Storage in
     let old = c.args.stored.now in
     let items = storage.items old in
@@ -71,8 +71,8 @@ returns-in-None g c = λ d.
     (with_end (get_or items place d) parts.end) behind within (edit.list d)
     (rw here at c.insert_at-at.ensures.list))
 
-pub returns-in-Some : goal.returns-in-Some
-returns-in-Some g c = λ d.
+pub returns-in-Some-clause-list : goal.returns-in-Some-clause-list
+returns-in-Some-clause-list g c = λ d.
     let storage = g.C.Storage in
     let old = c.args.stored.now in
     let items = storage.items old in
@@ -104,3 +104,20 @@ returns-in-Some g c = λ d.
     (storage.items c.insert_at-middle.new.self) place
     (with_end (get_or items place d) parts.end) behind c.in-Some.item within (edit.list d)
     (rw here at c.insert_at-at.ensures.list) (rw there at c.insert_at-middle.ensures.list))
+
+pub returns-in-None-clause-space : goal.returns-in-None-clause-space
+returns-in-None-clause-space g c =
+    rw c.in-None.is (omega (
+      arith,
+      c.replace_end-old_end.ensures.space,
+      c.insert_at-at.ensures.space,
+    ))
+
+pub returns-in-Some-clause-space : goal.returns-in-Some-clause-space
+returns-in-Some-clause-space g c =
+    rw c.in-Some.is (omega (
+      arith,
+      c.replace_end-old_end.ensures.space,
+      c.insert_at-at.ensures.space,
+      c.insert_at-middle.ensures.space,
+    ))

@@ -1,5 +1,5 @@
 use Rattle.std.proofs.lemmas.Grind.{common_steps}
-use Rattle.std.proofs.Common.{rules, arith}
+use Rattle.std.proofs.Common.{rules, refl, arith}
 use Rattle.range_change.proofs.CutOut.{unmet_is_unbound}
 use Rattle.range_change.proofs.InsertionFrames.{none_meets, some_meets, not_cut}
 use Rattle.range_change.proofs.unbind.unbind.Goals as goal
@@ -10,6 +10,8 @@ returns-then-window-eq0 g c =
       refused = search rules;
       unmet = search rules;
       unmet_unchanged = search rules;
+      space = omega arith;
+      succeeds = λ keys values enough. refl;
       ok =
           let lawful = g.met.K.PartialEnum.lawful in
           let equal = g.met.V.Eq.laws in
@@ -40,6 +42,8 @@ returns g c =
           λ none. absurd (met none);
       unmet_unchanged =
           λ none. absurd (met none);
+      space = c.unbind_met.ensures.space;
+      succeeds = c.unbind_met.ensures.succeeds;
       most =
           grind (arith, common_steps);
       least =

@@ -1,4 +1,5 @@
 use Rattle.std.proofs.Common.{refl, ◌≡◌, [], ◌+◌, length, ap, ◌∙◌, arith, None}
+use Rattle.std.proofs.lemmas.Bool.{false≢true}
 use Rattle.range_store.specs.ListPlaces.{place_before}
 use Rattle.range_change.specs.Borders.{joined_count, seam_border}
 use Rattle.range_change.specs.Window.{option_items}
@@ -46,8 +47,8 @@ change-requires g c =
     let window = c.requires.reach.window in
     let place = place_before (storage.rank stored) (length items) reach.window.from in
     let end = place + reach.window.count in
-    let before = c.in_ok-left.ensures in
-    let behind = c.in_ok-right.ensures in
+    let before = c.in_ok-left.ensures.seam in
+    let behind = c.in_ok-right.ensures.seam in
     let begin = place + length (option_items reach.first) in
     let upto : begin + c.run_length.result + length (option_items reach.last) ≡ end =
     omega (arith, c.requires.apart, c.run_length.ensures) in
@@ -84,8 +85,8 @@ returns g c =
     let window = c.requires.reach.window in
     let place = place_before (storage.rank stored) (length items) reach.window.from in
     let end = place + reach.window.count in
-    let before = c.in_ok-left.ensures in
-    let behind = c.in_ok-right.ensures in
+    let before = c.in_ok-left.ensures.seam in
+    let behind = c.in_ok-right.ensures.seam in
     let begin = place + length (option_items reach.first) in
     let upto : begin + c.run_length.result + length (option_items reach.last) ≡ end =
     omega (arith, c.requires.apart, c.run_length.ensures) in
@@ -106,7 +107,7 @@ returns g c =
     let none = ap joined_count before.at ∙ seam_count None reach.first before.cut in
     let none_behind = ap joined_count behind.at ∙ seam_count None reach.last behind.cut in
     let done =
-    c.change.ensures place end left.rest right.rest None None (rw before.at fit.on_left)
+    c.change.ensures.list place end left.rest right.rest None None (rw before.at fit.on_left)
     (rw behind.at fit.on_right) (omega (arith, none, none_behind)) in
     let new = storage.items c.change.new.stored in
     let frame =
@@ -121,6 +122,8 @@ returns g c =
           frame done;
       few = omega (arith, size, one_item left.rest, one_item right.rest, c.requires.some);
       refused = tt;
+      space = c.change.ensures.space;
+      succeeds = λ keys. refl;
     }
 
 pub returns-in_err-left : goal.returns-in_err-left
@@ -130,6 +133,8 @@ returns-in_err-left g c =
       few = error_has_no_value _ c.from_residual.result c.from_residual.ensures.0;
       refused =
           on_error _ c.from_residual.result refl;
+      space = omega arith;
+      succeeds = λ keys. absurd (false≢true (c.in_err-left.ensures.succeeds keys));
     }
 
 pub returns-in_err-right : goal.returns-in_err-right
@@ -141,4 +146,6 @@ returns-in_err-right g c =
           error_has_no_value _ c.from_residual-in_err-right.result
           c.from_residual-in_err-right.ensures.0;
       refused = on_error _ c.from_residual-in_err-right.result refl;
+      space = omega arith;
+      succeeds = λ keys. absurd (false≢true (c.in_err-right.ensures.succeeds keys));
     }

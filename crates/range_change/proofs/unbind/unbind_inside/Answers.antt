@@ -1,7 +1,8 @@
-use Rattle.std.proofs.Common.{arith, None}
+use Rattle.std.proofs.Common.{arith, refl, ap, length, None}
+use Rattle.std.proofs.lemmas.Bool.{false≢true}
 use Rattle.range_change.proofs.RangeSides.{element_at, element_at_is_read}
 use Rattle.range_change.proofs.Results.{error_has_no_value, on_error}
-use Rattle.range_change.proofs.Surrounded.{divided_alone, few_added}
+use Rattle.range_change.proofs.Surrounded.{divided_alone, divided_size}
 use Rattle.range_change.proofs.unbind.unbind_inside.Goals as goal
 
 pub returns : goal.returns
@@ -22,17 +23,17 @@ returns g c =
     let start = rw c.end.ensures at cloned.start in
     let rank_is = (c.prepare_parts.ensures.positions c.args.p within.good).1 in
     let new = storage.items c.divide.new.stored in
+    let size =
+    divided_size lawful equal within x read parts end start cloned.value _ new _
+    c.prepare_parts.ensures.list rank_is None c.divide.ensures.list in
     record {
       ok =
           divided_alone lawful equal within x read parts end start cloned.value _ new _
-          c.prepare_parts.ensures.list rank_is c.divide.ensures;
-      few =
-          omega (
-            arith,
-            few_added lawful equal within x read parts end start cloned.value _ new _
-                c.prepare_parts.ensures.list rank_is None c.divide.ensures,
-          );
+          c.prepare_parts.ensures.list rank_is c.divide.ensures.list;
+      few = omega (arith, size);
       refused = tt;
+      space = omega (arith, size, c.prepare_parts.ensures.no_less, c.divide.ensures.space);
+      succeeds = λ keys values enough. refl;
     }
 
 pub returns-in_err-parts : goal.returns-in_err-parts
@@ -42,6 +43,11 @@ returns-in_err-parts g c =
       few = error_has_no_value _ c.from_residual.result c.from_residual.ensures.0;
       refused =
           on_error _ c.from_residual.result c.prepare_parts.ensures.list;
+      space =
+          omega (arith, ap length c.prepare_parts.ensures.list, c.prepare_parts.ensures.no_less);
+      succeeds =
+          λ keys values enough.
+          absurd (false≢true (c.in_err-parts.ensures.succeeds keys values enough));
     }
 
 pub prepare_parts-requires-clause-good : goal.prepare_parts-requires-clause-good

@@ -38,4 +38,5 @@ returns g c =
       removed = borders_remove lawful equal window new place end None None left right frame
           done;
       few = omega (arith, size);
+      space = omega (arith, size, c.remove_rest.ensures.space);
     }

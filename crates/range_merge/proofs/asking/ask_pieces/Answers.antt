@@ -44,3 +44,18 @@ returns-in_ok-ask_both-in-Some-Some-clause-ok g c =
       one_ends order c.requires c.in-Some-Some.is-0 c.in-Some-Some.is-1 _
           c.first_of_both-next.ensures,
     )
+
+pub returns-in_err-ask_both-in-Some-Some-clause-memory :
+    goal.returns-in_err-ask_both-in-Some-Some-clause-memory
+returns-in_err-ask_both-in-Some-Some-clause-memory g c failed =
+    let said = c.ask_both-in-Some-Some.ensures.memory (search rules) in (
+      said.0,
+      inr (
+        c.first_of_both-next.result,
+        c.ask_both.new.answers.items,
+        comes_next g.K.MaybeBounded.order c.requires c.in-Some-Some.is-0 c.in-Some-Some.is-1 _
+            c.first_of_both-next.ensures,
+        c.in_ok-ask_both.ensures.ok,
+        said.1,
+      ),
+    )

@@ -1,4 +1,4 @@
-use Rattle.range_map.proofs.Common.{◌≡◌, ◌∙◌, ap, rules, LieBefore, appended}
+use Rattle.range_map.proofs.Common.{◌≡◌, ◌∙◌, ap, refl, false≢true, rules, LieBefore, appended}
 use Rattle.range_map.proofs.AppendedLists.{appended_binds, appended_length, appended_stored}
 use Rattle.range_map.proofs.StoredLists.{stored_coarse, stored_only}
 use Rattle.range_map.proofs.map.RangeMap.append.Goals as goal
@@ -60,6 +60,16 @@ returns g c =
       only = stored_only lawful g.met.V.Eq.laws _ form;
       few =
           rw (← c.self.view_is, ← c.other.view_is, whole) (appended_length order same items others);
+      succeeds = λ before enough. refl;
       refused = search rules;
       other_refused = search rules;
     }
+
+pub returns-then-not-lies_before-clause-succeeds : goal.returns-then-not-lies_before-clause-succeeds
+returns-then-not-lies_before-clause-succeeds g c before enough =
+    let yes = c.lies_before.ensures.1 before in absurd (search (rules, yes))
+
+pub returns-in_err-reserve-clause-succeeds : goal.returns-in_err-reserve-clause-succeeds
+returns-in_err-reserve-clause-succeeds g c before enough =
+    absurd (false≢true (c.in_err-reserve.ensures.succeeds
+    (rw (← c.self.view_is, ← c.other.view_is, ← c.len.ensures) at enough)))

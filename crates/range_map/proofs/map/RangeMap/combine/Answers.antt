@@ -1,4 +1,5 @@
-use Rattle.range_map.proofs.Common.{rules}
+use Rattle.std.proofs.lemmas.Bool.{cases_lt}
+use Rattle.range_map.proofs.Common.{arith, inl, inr, length, false≢true, rules}
 use Rattle.range_map.proofs.Coarse.{coarse_alike}
 use Rattle.range_merge.proofs.Combination.{pieces_combine}
 use Rattle.range_map.proofs.StoredLists.{stored_coarse}
@@ -10,16 +11,24 @@ returns g c =
       pieces = search rules;
       form = search rules;
       closure = search rules;
+      memory = search rules;
       bound =
-          rw c.in_ok-map_of.ensures (pieces_combine g.met.K.PartialEnum.lawful g.met.V.Eq.laws
+          rw c.in_ok-map_of.ensures.items (pieces_combine g.met.K.PartialEnum.lawful g.met.V.Eq.laws
           g.met.W.Eq.laws c.in_ok-answers.ensures.combined);
       coarse =
-          rw c.in_ok-map_of.ensures
+          rw c.in_ok-map_of.ensures.items
           (stored_coarse g.met.K.PartialEnum.lawful _ c.in_ok-answers.ensures.form);
       only =
-          rw c.in_ok-map_of.ensures (λ complete others coarse alike.
+          rw c.in_ok-map_of.ensures.items (λ complete others coarse alike.
           coarse_alike g.met.K.PartialEnum.lawful
           g.met.X.Eq.laws c.in_ok-answers.answers.items others
           (stored_coarse g.met.K.PartialEnum.lawful _ c.in_ok-answers.ensures.form
           complete) coarse alike);
     }
+
+pub returns-in_err-map_of-clause-memory : goal.returns-in_err-map_of-clause-memory
+returns-in_err-map_of-clause-memory g c = λ failed.
+    elim (cases_lt 0 (length c.in_ok-answers.answers.items)) [
+      | inl some ↦ c.in_ok-answers.ensures.some some
+      | inr none ↦ absurd (false≢true (c.in_err-map_of.ensures.none_needed (omega (arith, none))))
+    ]

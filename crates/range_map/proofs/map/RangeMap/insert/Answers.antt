@@ -1,4 +1,4 @@
-use Rattle.range_map.proofs.Common.{refl, arith, common_steps, error_has_no_value, on_error, not_both, le_sum}
+use Rattle.range_map.proofs.Common.{refl, arith, false≢true, common_steps, error_has_no_value, on_error, not_both, le_sum}
 use Rattle.range_map.proofs.StoredLists.{stored_coarse, stored_only}
 use Rattle.range_map.proofs.map.RangeMap.insert.Goals as goal
 
@@ -8,6 +8,7 @@ returns g c =
     let done = c.in_ok-bind_in_order.ensures.ok in
     let empty_is = rw range at c.is_empty.ensures.by_position in
     record {
+      succeeds = λ keys values enough. refl;
       meets = λ full. rw (← c.self.view_is) (rw range at done.meets);
       form = done.stored;
       coarse = stored_coarse g.met.K.PartialEnum.lawful _ done.stored;
@@ -24,6 +25,7 @@ pub returns-then-is_empty : goal.returns-then-is_empty
 returns-then-is_empty g c =
     let empty_is = rw c.into_range-range.ensures at c.is_empty.ensures.by_position in
     record {
+      succeeds = λ keys values enough. refl;
       bound = grind (arith, common_steps);
       form = c.in_form.ensures;
       coarse = stored_coarse g.met.K.PartialEnum.lawful _ c.in_form.ensures;
@@ -42,6 +44,10 @@ returns-in_err-bind_in_order g c =
     let same = c.in_err-bind_in_order.ensures.refused in
     let form = rw (← c.self.view_is, ← same) at c.in_form.ensures in
     record {
+      succeeds =
+          λ keys values enough.
+          absurd (false≢true (c.in_err-bind_in_order.ensures.succeeds keys values
+          (rw (← c.self.view_is) at enough)));
       bound = error_has_no_value _ c.from_residual.result c.from_residual.ensures.0;
       form = form;
       coarse = stored_coarse g.met.K.PartialEnum.lawful _ form;

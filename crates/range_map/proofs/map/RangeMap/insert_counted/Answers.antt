@@ -1,4 +1,4 @@
-use Rattle.range_map.proofs.Common.{refl, rules, arith, common_steps, error_has_no_value, on_error, not_both, le_sum}
+use Rattle.range_map.proofs.Common.{refl, rules, arith, false≢true, common_steps, error_has_no_value, on_error, not_both, le_sum}
 use Rattle.range_map.proofs.StoredLists.{stored_coarse, stored_only}
 use Rattle.range_map.proofs.map.RangeMap.insert_counted.Goals as goal
 
@@ -8,6 +8,7 @@ returns g c =
     let done = c.in_ok-bind.ensures.ok in
     let empty_is = rw range at c.is_empty.ensures.by_position in
     record {
+      succeeds = λ keys values enough. refl;
       bound = rw (← c.self.view_is) (rw range at done.bound);
       form = done.stored;
       coarse = stored_coarse g.met.K.PartialEnum.lawful _ done.stored;
@@ -27,6 +28,7 @@ pub returns-then-is_empty : goal.returns-then-is_empty
 returns-then-is_empty g c =
     let empty_is = rw c.into_range-range.ensures at c.is_empty.ensures.by_position in
     record {
+      succeeds = λ keys values enough. refl;
       bound = grind (arith, common_steps);
       form = c.in_form.ensures;
       coarse = stored_coarse g.met.K.PartialEnum.lawful _ c.in_form.ensures;
@@ -47,6 +49,10 @@ returns-in_err-bind g c =
     let empty_is = rw c.into_range-range.ensures at c.is_empty.ensures.by_position in
     let form = rw (← c.self.view_is, ← c.in_err-bind.ensures.refused) at c.in_form.ensures in
     record {
+      succeeds =
+          λ keys values enough.
+          absurd (false≢true (c.in_err-bind.ensures.succeeds keys values
+          (rw (← c.self.view_is) at enough)));
       bound = error_has_no_value _ c.from_residual.result c.from_residual.ensures.0;
       form = form;
       coarse = stored_coarse g.met.K.PartialEnum.lawful _ form;

@@ -15,6 +15,7 @@ loop-at-init g c =
       position = rw here c.first-at.ensures;
       callable = c.requires;
       told = rw here (retaining_starts (CalledAtItem g.F.FnMut) items c.args.f);
+      space = omega arith;
     }
 
 pub loop-at-preserved-then-keeps : goal.loop-at-preserved-then-keeps
@@ -38,6 +39,7 @@ loop-at-preserved-then-keeps g c =
           rw next (kept_next (CalledAtItem g.F.FnMut) (storage.items c.self.inside.stored) c.args.f
           items c.loop-at.f c.keeps.new.f c.get.result.now _ was within c.get.ensures
           (rw c.if-keeps.true at c.keeps.ensures.called));
+      space = c.loop-at.invariant.space;
     }
 
 pub loop-at-preserved : goal.loop-at-preserved
@@ -63,6 +65,14 @@ loop-at-preserved g c =
           rw next (removed_next (CalledAtItem g.F.FnMut) (storage.items c.self.inside.stored)
           c.args.f items _ c.loop-at.f c.keeps.new.f c.get.result.now _ was within c.get.ensures
           (rw c.if-keeps.false at c.keeps.ensures.called) removed.list);
+      space =
+          omega (
+            arith,
+            c.loop-at.invariant.space,
+            removed.space,
+            ap length removed.list,
+            length-remove items (storage.rank stored p) within,
+          );
     }
 
 pub loop-at-smaller : goal.loop-at-smaller
@@ -116,4 +126,5 @@ returns g c =
       coarse = stored_coarse lawful _ form;
       only = stored_only lawful equal _ form;
       few = rw (← c.self.view_is, done.4) (fewer_kept done.0 _);
+      space = rw (← c.self.view_is) c.loop-at.invariant.space;
     }

@@ -1,4 +1,4 @@
-use Rattle.range_map.proofs.Common.{◌-◌, length, place_before, IsAt, CalledAtItem}
+use Rattle.range_map.proofs.Common.{◌-◌, ◌+◌, ◌≤◌, length, place_before, IsAt, CalledAtItem}
 use Rattle.range_map.proofs.KeptItems.{IsRetaining}
 use Rattle.range_map.proofs.map.RangeMap.retain.Given as goal
 
@@ -13,6 +13,9 @@ invariant-loop-at g l =
       callable : goal.F-IsAlwaysCallable g l.f;
       told : IsRetaining (CalledAtItem g.F.FnMut) (storage.items l.initial.self-inside.stored)
           l.fn.f items place l.f;
+      space : storage.room l.initial.self-inside.stored
+          + length (storage.items l.initial.self-inside.stored)
+          ≤ storage.room stored + length items;
     }
 
 abbrev pub decreases-loop-at : goal.decreases-loop-at

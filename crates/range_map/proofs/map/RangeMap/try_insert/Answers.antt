@@ -34,6 +34,10 @@ returns g c =
     record {
       occupied = grind (arith, common_steps);
       given = grind (arith, common_steps);
+      succeeds =
+          λ enough unmet.
+          c.bind_where_free.ensures.succeeds (rw (← c.self.view_is) at enough)
+          (rw (← c.self.view_is, ← c.into_range-range.ensures) at unmet);
       bound =
           rw (← c.self.view_is) (on_ok (IsInserted order same items new range c.args.value)
           (IsBoundAfter order same items new range c.args.value) c.bind_where_free.result
@@ -61,6 +65,7 @@ returns-then-is_empty g c =
     record {
       occupied = grind (arith, common_steps);
       given = tt;
+      succeeds = λ enough unmet. refl;
       bound = grind (arith, common_steps);
       frame = λ full. absurd (full (empty_is.0 c.if-is_empty.true));
       meets = λ full. absurd (full (empty_is.0 c.if-is_empty.true));

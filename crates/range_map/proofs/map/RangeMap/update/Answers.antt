@@ -1,5 +1,5 @@
-use Rattle.range_map.proofs.Common.{bound_clone, IsUpdated, not_both, on_ok, updated_stands}
-use Rattle.range_map.proofs.Likeness.{clone_empty, updated_too, fails_too}
+use Rattle.range_map.proofs.Common.{Ok, Err, false≢true, bound_clone, IsUpdated, not_both, on_ok, updated_stands}
+use Rattle.range_map.proofs.Likeness.{clone_empty, updated_too, answers_too}
 use Rattle.range_change.proofs.MergedItems.{unchanged_stands}
 use Rattle.range_change.proofs.SpelledChanges.{list_keeps_spelling}
 use Rattle.range_map.proofs.ReboundKeys.{update_rebinds}
@@ -47,8 +47,15 @@ returns g c =
       only = stored_only lawful g.met.V.Eq.laws _ c.update_pieces.ensures.form;
       closure =
           λ e failed. rw (← c.self.view_is)
-          (fails_too lawful r s start end same g.F.Fn c.args.f items e
+          (answers_too lawful r s start end same g.F.Fn c.args.f items (Err e)
           (c.update_pieces.ensures.closure e failed));
+      memory =
+          λ never failed.
+          let said = c.update_pieces.ensures.memory failed in (
+            said.0,
+            rw (← c.self.view_is) (answers_too lawful r s start end same g.F.Fn c.args.f items
+                (Ok said.0) said.1),
+          );
       refused = rw (← c.self.view_is) c.update_pieces.ensures.refused;
       empty = λ e. absurd (not_both c.if-is_empty.false (c.is_empty.ensures.by_position.1 e));
       empty_unchanged =
@@ -78,3 +85,7 @@ returns-in_err-range-clause-coarse g c =
 pub returns-in_err-range-clause-only : goal.returns-in_err-range-clause-only
 returns-in_err-range-clause-only g c =
     stored_only g.met.K.PartialEnum.lawful g.met.V.Eq.laws _ c.in_form.ensures
+
+pub returns-in_err-range-clause-memory : goal.returns-in_err-range-clause-memory
+returns-in_err-range-clause-memory g c never failed =
+    absurd (false≢true (c.in_err-range.ensures.succeeds never))

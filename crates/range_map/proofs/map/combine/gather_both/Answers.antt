@@ -1,8 +1,8 @@
-use Rattle.std.proofs.Common.{◌∙◌, refl, rules}
+use Rattle.std.proofs.Common.{◌∙◌, ap, refl, length, arith, rules, Ok, Err}
 use Rattle.range_map.proofs.Common.{bound_clone, MayAnswerBoth}
 use Rattle.range_merge.specs.Merged.{part_item}
 use Rattle.std.specs.Option.{option_map}
-use Rattle.range_merge.proofs.AskedPieces.{asked_within, combined_asked, failed_asked, first_left}
+use Rattle.range_merge.proofs.AskedPieces.{asked_within, answered_asked, combined_asked, first_left, some_answered}
 use Rattle.range_merge.proofs.Combination.{combined_none, combined_all}
 use Rattle.range_merge.proofs.Combining.{unmapped}
 use Rattle.range_map.proofs.CloneLists.{clones_tied}
@@ -19,6 +19,7 @@ loop-answers-init g c =
           g.met.W.Eq.laws c.in_form.ensures c.in_form-2.ensures);
       first = c.next_part-left.ensures.last;
       second = c.next_part-right.ensures.last;
+      some = λ some. absurd (omega (arith, some, ap length c.new-answers.ensures.items));
     }
 
 pub ask_first-requires : goal.ask_first-requires
@@ -40,10 +41,24 @@ returns-in_err-rests-clause-closure g c e is =
     let inv = c.loop-answers.invariant in
     let equal_keys =
     clones_tied g.met.K.MaybeBounded.order_is_cmp g.met.K.Ord.matches_eq c.requires.keys in
-    failed_asked (bound_clone g.K.MaybeBounded.order lawful g.K.Clone.is_clone equal_keys)
+    answered_asked (bound_clone g.K.MaybeBounded.order lawful g.K.Clone.is_clone equal_keys)
     (inv.up_to lawful g.met.X.Eq.laws) (λ e. inv.first (unmapped part_item c.loop-answers.left e))
-    (λ e. inv.second (unmapped part_item c.loop-answers.right e)) e
+    (λ e. inv.second (unmapped part_item c.loop-answers.right e)) (Err e)
     (c.ask_first.ensures.closure e (search rules))
+
+pub returns-in_err-rests-clause-memory : goal.returns-in_err-rests-clause-memory
+returns-in_err-rests-clause-memory g c is =
+    let lawful = g.met.K.PartialEnum.lawful in
+    let inv = c.loop-answers.invariant in
+    let equal_keys =
+    clones_tied g.met.K.MaybeBounded.order_is_cmp g.met.K.Ord.matches_eq c.requires.keys in
+    let said = c.ask_first.ensures.memory (search rules) in (
+      said.0,
+      answered_asked (bound_clone g.K.MaybeBounded.order lawful g.K.Clone.is_clone equal_keys)
+          (inv.up_to lawful g.met.X.Eq.laws)
+          (λ e. inv.first (unmapped part_item c.loop-answers.left e))
+          (λ e. inv.second (unmapped part_item c.loop-answers.right e)) (Ok said.0) said.1,
+    )
 
 pub loop-answers-smaller : goal.loop-answers-smaller
 loop-answers-smaller g c =
@@ -73,6 +88,13 @@ loop-answers-preserved g c =
           in rw (c.refilled-left.ensures.items, c.refilled-right.ensures.items) more.0;
       first = c.refilled-left.ensures.last;
       second = c.refilled-right.ensures.last;
+      some = λ some.
+          let lawful = g.met.K.PartialEnum.lawful in
+          some_answered (bound_clone g.K.MaybeBounded.order lawful g.K.Clone.is_clone equal_keys)
+          (inv.up_to lawful g.met.X.Eq.laws)
+          (λ e. inv.first (unmapped part_item c.loop-answers.left e))
+          (λ e. inv.second (unmapped part_item c.loop-answers.right e)) _ c.in-Some.rests
+          (rw c.in-Some.is at c.in_ok-rests.ensures.ok);
     }
 
 pub returns : goal.returns
@@ -85,6 +107,8 @@ returns g c =
     (rw (none.0, inv.first none.0) refl) (rw (none.1, inv.second none.1) refl) in
     record {
       closure = search rules;
+      some = rw none.2 inv.some;
+      memory = λ failed. absurd (cc);
       form = rw none.2 all.0;
       combined = rw none.2 all.1;
     }

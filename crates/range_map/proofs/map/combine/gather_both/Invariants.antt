@@ -1,5 +1,6 @@
-use Rattle.std.proofs.Common.{◌≡◌, ◌+◌, ◌++◌, [], None, length}
+use Rattle.std.proofs.Common.{◌≡◌, ◌+◌, ◌<◌, ◌++◌, [], None, length}
 use Rattle.range_map.proofs.Common.{IsEquivalence, option_map, IsLawful, MayAnswerBoth}
+use Rattle.range_merge.specs.Combining.{MaySucceedOnBoth}
 use Rattle.range_merge.specs.Merged.{part_item}
 use Rattle.range_change.specs.Window.{option_items}
 use Rattle.range_merge.proofs.Combination.{IsCombinedUpTo}
@@ -13,6 +14,9 @@ invariant-loop-answers g l = record {
       (option_items (option_map part_item l.right) ++ l.others) l.answers.items;
   first : l.left ≡ None → l.items ≡ [];
   second : l.right ≡ None → l.others ≡ [];
+  some : 0 < length l.answers.items
+      → MaySucceedOnBoth g.K.MaybeBounded.order (MayAnswerBoth g.F.Fn l.f)
+      (g.C.Storage.items l.map) (g.D.Storage.items l.other);
 }
 
 abbrev pub decreases-loop-answers : goal.decreases-loop-answers

@@ -1,5 +1,6 @@
 use Rattle.std.proofs.Common.{◌≡◌, ◌∙◌, sym, ap, ◌∷◌, ◌++◌, [], length, map, subst, arith, append_assoc}
-use Rattle.range_map.proofs.Common.{map-append, lower, BindAlike, item_upper, item_of, full_range, le_refl}
+use Rattle.range_map.proofs.AppendedLists.{appended_length}
+use Rattle.range_map.proofs.Common.{false≢true, length-append, map-append, lower, BindAlike, item_upper, item_of, full_range, le_refl}
 use Rattle.std.proofs.lemmas.Result.{IfOk-weaker}
 use Rattle.range_change.proofs.OuterBounds.{prefix_is_all}
 use Rattle.range_map.proofs.JoinedItems.{built_more, built_none}
@@ -20,6 +21,7 @@ loop-range-init g c =
             (map (item_of g.R.AsRange.range) c.args.pairs.items) c.requires.known
             c.requires.sorted),
       );
+      few = omega (arith, ap length c.in_ok-items.ensures.items);
     }
 
 pub loop-range-preserved : goal.loop-range-preserved
@@ -44,6 +46,15 @@ loop-range-preserved g c =
             was.built.1),
         rises.3,
       );
+      few =
+          omega (
+            arith,
+            was.few,
+            ap length c.in_ok-push.ensures,
+            appended_length g.K.MaybeBounded.order g.V.PartialEq.eq c.loop-range.items.items
+                (record { key = c.into_range.result; value = c.in-Some.value } ∷ []),
+            length-append done (pair ∷ []),
+          );
     }
 
 pub map_of-requires : goal.map_of-requires
@@ -60,4 +71,29 @@ returns-clause-bound g c =
     (map (item_of g.R.AsRange.range) c.args.pairs.items) in
     let bound : alike c.loop-range.items.items = rw all at was.built.1.bound in
     IfOk-weaker c.map_of.result _ (λ new. alike _) (λ new is. subst alike (sym is) bound)
-    c.map_of.ensures
+    c.map_of.ensures.items
+
+pub returns-in_err-items-clause-none_needed : goal.returns-in_err-items-clause-none_needed
+returns-in_err-items-clause-none_needed g c none =
+    absurd (false≢true (c.in_err-items.ensures.succeeds
+    (omega (arith, none, c.len.ensures, c.args.pairs.ok.0))))
+
+pub returns-in_err-push-clause-none_needed : goal.returns-in_err-push-clause-none_needed
+returns-in_err-push-clause-none_needed g c none =
+    absurd (omega (
+      arith,
+      none,
+      ap length c.loop-range.invariant.parted,
+      ap length c.in-Some.ensures.steps.0,
+      length-append c.loop-range.yielded c.loop-range.range-iterator.rest.items,
+    ))
+
+pub returns-clause-none_needed : goal.returns-clause-none_needed
+returns-clause-none_needed g c none =
+    c.map_of.ensures.none_needed (omega (
+      arith,
+      none,
+      c.loop-range.invariant.few,
+      ap length c.loop-range.invariant.parted,
+      length-append c.loop-range.yielded c.loop-range.range-iterator.rest.items,
+    ))

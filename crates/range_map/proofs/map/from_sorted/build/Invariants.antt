@@ -1,4 +1,4 @@
-use Rattle.range_map.proofs.Common.{◌≡◌, ◌++◌, map, Position, item_of}
+use Rattle.range_map.proofs.Common.{◌≡◌, ◌≤◌, ◌++◌, length, map, Position, item_of}
 use Rattle.range_map.proofs.JoinedItems.{IsBuilt, RisesFrom}
 use Rattle.range_map.proofs.map.from_sorted.build.Given as goal
 
@@ -11,4 +11,5 @@ invariant-loop-range g l =
       built : (m : Position g.row.K.Denot)
           × IsBuilt order g.V.PartialEq.eq m (map item l.yielded) l.items.items
           × RisesFrom order m (map item l.range-iterator.rest.items);
+      few : length l.items.items ≤ length l.yielded;
     }

@@ -1,9 +1,16 @@
-use Rattle.range_map.proofs.Common.{◌≡◌, sym, [], rules, Err, FnReturnsAt, lower, full_range}
+use Rattle.std.proofs.lemmas.Bool.{cases_lt}
+use Rattle.range_map.proofs.Common.{◌≡◌, sym, ap, arith, inl, inr, length, [], rules, false≢true, Ok, Err, AnyRange, Item, FnReturnsAt, lower, full_range}
 use Rattle.range_merge.specs.Merged.{part_item}
 use Rattle.range_map.proofs.JoinedItems.{built_none, stored_rises}
 use Rattle.range_map.proofs.MappedValues.{first_left, mapped_more}
 use Rattle.range_map.proofs.CloneLists.{clones_tied}
+use Rattle.range_map.proofs.map.map_values.answers_to.Given.{Over}
 use Rattle.range_map.proofs.map.map_values.answers_to.Goals as goal
+
+-- the closure may answer to the item's value without an error
+abbrev Succeeds : (g : Over) → g.row.F.Denot
+    → Item (AnyRange g.row.K.Denot) g.row.V.Denot → Type 0
+Succeeds g f i = (answer : g.row.W.Denot) × FnReturnsAt g.F.Fn f i.value (Ok answer)
 
 pub loop-part-init : goal.loop-part-init
 loop-part-init g c =
@@ -16,12 +23,13 @@ loop-part-init g c =
         parted = c.iter-items.ensures.items;
         given = tt;
         form =
-            rw c.in_ok-answers.ensures.items
+            rw c.new-answers.ensures.items
             (built_none order g.W.PartialEq.eq (lower order full_range));
         rises =
             rw c.iter-items.ensures.items (stored_rises g.met.K.PartialEnum.lawful g.met.V.Eq.laws _
             c.in_form.ensures);
       };
+      some = λ some. absurd (omega (arith, some, ap length c.new-answers.ensures.items));
     }
 
 pub answered-requires : goal.answered-requires
@@ -30,8 +38,8 @@ answered-requires g c = λ shown is.
     c.requires.asked shown (first_left (λ i. i.value ≡ shown.now) was.done c.next_part.new.items _
     (part_item c.in-Some.part) (rw (← c.in-Some.ensures.items) at was.parted) (sym is))
 
-pub returns-in_err-answered-clause-closure : goal.returns-in_err-answered-clause-closure
-returns-in_err-answered-clause-closure g c = λ e failed.
+pub returns-in_err-item-clause-closure : goal.returns-in_err-item-clause-closure
+returns-in_err-item-clause-closure g c = λ e failed.
     let was = c.loop-part.invariant.mapped in
     first_left (λ i. FnReturnsAt g.F.Fn c.args.f.now i.value (Err e)) was.done c.next_part.new.items
     _ (part_item c.in-Some.part) (rw (← c.in-Some.ensures.items) at was.parted)
@@ -44,13 +52,44 @@ loop-part-preserved g c =
     clones_tied g.met.K.MaybeBounded.order_is_cmp g.met.K.Ord.matches_eq c.requires.keys in
     record {
       mapped =
-          rw c.in_ok-push.ensures (mapped_more order g.F.Fn c.args.f.now g.W.PartialEq.eq _
-          g.met.K.PartialEnum.lawful g.met.W.Eq.laws (part_item c.in-Some.part)
-          c.next_part.new.items c.loop-part.answers.items c.in_ok-answered.field-0
-          g.K.Clone.is_clone equal_keys c.in_ok-answered.ensures.range
-          c.in_ok-answered.ensures.known c.in_ok-answered.ensures.value
+          rw (c.in_ok-push.ensures, c.reserve.ensures.items) (mapped_more order g.F.Fn
+          c.args.f.now g.W.PartialEq.eq _ g.met.K.PartialEnum.lawful g.met.W.Eq.laws (part_item c.in-Some.part)
+          c.next_part.new.items c.loop-part.answers.items c.in_ok-item.item
+          g.K.Clone.is_clone equal_keys c.in_ok-item.ensures.range
+          c.in_ok-item.ensures.known c.in_ok-item.ensures.value
           (rw (← c.in-Some.ensures.items) at c.loop-part.invariant.mapped));
+      some = λ some. let was = c.loop-part.invariant.mapped in
+          first_left (Succeeds g c.args.f.now) was.done c.next_part.new.items _
+          (part_item c.in-Some.part) (rw (← c.in-Some.ensures.items) at was.parted)
+          (c.in_ok-item.item.value, c.in_ok-item.ensures.value);
     }
 
 pub map_of-requires : goal.map_of-requires
 map_of-requires g c = c.loop-part.invariant.mapped.form.stored
+
+pub returns-in_err-item-clause-memory : goal.returns-in_err-item-clause-memory
+returns-in_err-item-clause-memory g c = λ failed.
+    let was = c.loop-part.invariant.mapped in
+    first_left (Succeeds g c.args.f.now) was.done c.next_part.new.items _ (part_item c.in-Some.part)
+    (rw (← c.in-Some.ensures.items) at was.parted) (c.answered.ensures.memory (search rules))
+
+pub returns-in_err-reserve-clause-memory : goal.returns-in_err-reserve-clause-memory
+returns-in_err-reserve-clause-memory g c = λ failed.
+    let was = c.loop-part.invariant.mapped in
+    first_left (Succeeds g c.args.f.now) was.done c.next_part.new.items _ (part_item c.in-Some.part)
+    (rw (← c.in-Some.ensures.items) at was.parted)
+    (c.in_ok-item.item.value, c.in_ok-item.ensures.value)
+
+pub returns-in_err-push-clause-memory : goal.returns-in_err-push-clause-memory
+returns-in_err-push-clause-memory g c = λ failed.
+    let was = c.loop-part.invariant.mapped in
+    first_left (Succeeds g c.args.f.now) was.done c.next_part.new.items _ (part_item c.in-Some.part)
+    (rw (← c.in-Some.ensures.items) at was.parted)
+    (c.in_ok-item.item.value, c.in_ok-item.ensures.value)
+
+pub returns-in_err-map_of-clause-memory : goal.returns-in_err-map_of-clause-memory
+returns-in_err-map_of-clause-memory g c = λ failed.
+    elim (cases_lt 0 (length c.loop-part.answers.items)) [
+      | inl some ↦ c.loop-part.invariant.some some
+      | inr none ↦ absurd (false≢true (c.in_err-map_of.ensures.none_needed (omega (arith, none))))
+    ]

@@ -1,4 +1,4 @@
-use Rattle.range_map.proofs.Common.{◌≡◌, arith, any_none}
+use Rattle.range_map.proofs.Common.{◌≡◌, arith, any_none, false≢true}
 use Rattle.range_change.proofs.InsertionFrames.{meets_some, none_meets}
 use Rattle.range_map.proofs.map.try_insert.bind_where_free.Goals as goal
 
@@ -28,3 +28,12 @@ returns-in-Err-clause-occupied g c =
       λ e. absurd e,
       λ met. absurd (any_none _ _ _ unmet (λ i no at. no at) met),
     )
+
+pub returns-then-window-gt0-clause-succeeds : goal.returns-then-window-gt0-clause-succeeds
+returns-then-window-gt0-clause-succeeds g c enough unmet =
+    absurd (unmet (meets_some g.met.K.PartialEnum.lawful g.met.V.Eq.laws
+    c.find_window-window.ensures.window (omega (arith, c.if-window-gt0.true))))
+
+pub returns-in-Err-clause-succeeds : goal.returns-in-Err-clause-succeeds
+returns-in-Err-clause-succeeds g c enough unmet =
+    let ok = rw c.in-Err.is at (c.bind_free.ensures.succeeds enough) in absurd (false≢true ok)

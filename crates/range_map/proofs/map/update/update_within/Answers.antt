@@ -21,6 +21,7 @@ returns-in_ok-bind_inside-in-Ok-Some g c =
           c.get.ensures done;
       form = done.stored;
       closure = λ e failed. absurd (cc);
+      memory = λ failed. absurd (cc);
       refused = tt;
     }
 
@@ -40,6 +41,7 @@ returns-in_ok-unbind_inside-in-Ok-None g c =
           c.requires.within x c.get.ensures done;
       form = done.stored;
       closure = λ e failed. absurd (cc);
+      memory = λ failed. absurd (cc);
       refused = tt;
     }
 
@@ -54,3 +56,33 @@ returns-in-Err-clause-closure g c = λ e failed.
           piece g.met.K.PartialEnum.lawful g.met.V.Eq.laws c.requires.within x c.get.ensures;
       says = says;
     }
+
+pub returns-in_err-bind_inside-in-Ok-Some-clause-memory :
+    goal.returns-in_err-bind_inside-in-Ok-Some-clause-memory
+returns-in_err-bind_inside-in-Ok-Some-clause-memory g c = λ failed.
+    let x = c.get.result.now in
+    let says : MayAnswer g.F.Fn c.args.f.now (Some x.value) (Ok (Some c.in-Ok-Some.value)) = search rules in (
+      Some c.in-Ok-Some.value,
+      record {
+        piece = c.args.range;
+        value = Some x.value;
+        is_piece =
+            piece g.met.K.PartialEnum.lawful g.met.V.Eq.laws c.requires.within x c.get.ensures;
+        says = says;
+      },
+    )
+
+pub returns-in_err-unbind_inside-in-Ok-None-clause-memory :
+    goal.returns-in_err-unbind_inside-in-Ok-None-clause-memory
+returns-in_err-unbind_inside-in-Ok-None-clause-memory g c = λ failed.
+    let x = c.get.result.now in
+    let says : MayAnswer g.F.Fn c.args.f.now (Some x.value) (Ok None) = search rules in (
+      None,
+      record {
+        piece = c.args.range;
+        value = Some x.value;
+        is_piece =
+            piece g.met.K.PartialEnum.lawful g.met.V.Eq.laws c.requires.within x c.get.ensures;
+        says = says;
+      },
+    )

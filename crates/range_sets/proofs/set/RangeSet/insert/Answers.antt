@@ -19,6 +19,9 @@ returns g c =
           (items c.insert.new.self)
           (g.R.AsRange.range c.args.range) c.insert.ensures.frame c.insert.ensures.refused
           c.insert.ensures.empty_unchanged);
+      succeeds =
+          λ never enough.
+          c.insert.ensures.succeeds never (λ _. tt) (rw (← c.self.view_is) at enough);
       form =
           search rules;
       frame =

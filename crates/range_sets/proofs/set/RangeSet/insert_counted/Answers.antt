@@ -18,6 +18,9 @@ returns g c =
           (items c.self.inside.map) (items c.insert_counted.new.self)
           (g.R.AsRange.range c.args.range) c.insert_counted.ensures.frame
           c.insert_counted.ensures.refused c.insert_counted.ensures.empty_unchanged);
+      succeeds =
+          λ never enough.
+          c.insert_counted.ensures.succeeds never (λ _. tt) (rw (← c.self.view_is) at enough);
       form =
           search rules;
       frame =

@@ -20,6 +20,10 @@ returns g c =
           search rules;
       few =
           search rules;
+      space = rw (← c.self.view_is) c.remove_counted.ensures.space;
+      succeeds =
+          λ never enough.
+          c.remove_counted.ensures.succeeds never (λ _. tt) (rw (← c.self.view_is) at enough);
       refused =
           search rules;
       empty =

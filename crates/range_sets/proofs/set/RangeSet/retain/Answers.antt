@@ -18,6 +18,7 @@ returns g c =
     record {
       form = search rules;
       few = search rules;
+      space = rw (← c.self.view_is) c.retain.ensures.space;
       filtered =
           rw (← c.self.view_is) (ranges_filtered (λ s. s.0) _ (CalledAt g.F.FnMut)
           (λ s i b t h. record {

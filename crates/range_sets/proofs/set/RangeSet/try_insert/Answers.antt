@@ -1,4 +1,5 @@
 use Rattle.std.proofs.Common.{rules, refl, true}
+use Rattle.std.proofs.lemmas.Bool.{false≢true}
 use Rattle.range_sets.proofs.Counting.{one_more}
 use Rattle.range_sets.proofs.Membership.{added}
 use Rattle.range_sets.proofs.set.RangeSet.try_insert.Goals as goal
@@ -13,6 +14,16 @@ returns g c =
       form = search rules;
       frame = search rules;
       refused = search rules;
+      succeeds =
+          λ enough unmet.
+          let ok =
+          c.try_insert.ensures.succeeds (rw (← c.self.view_is) at enough)
+          (rw (← c.self.view_is) at unmet) in
+          elim c.match-try_insert.branch [
+            | in-Ok w ↦ rw w.result-is refl
+            | in-Err-Occupied w ↦ absurd (false≢true (rw w.in-Err-Occupied.is at ok))
+            | in-Err-Memory w ↦ absurd (false≢true (rw w.in-Err-Memory.is at ok))
+          ];
       empty = search rules;
       empty_unchanged = search rules;
       added =

@@ -11,5 +11,5 @@ invariant-loop-removed g l =
       position : IsAt (storage.is_good l.stored) (storage.rank l.stored)
           (length (storage.items l.stored)) l.at place;
       changed : storage.items l.stored ≡ take place before ++ drop (place + l._removed) before;
-      space : storage.room l.fn.stored ≤ storage.room l.stored;
+      space : storage.room l.fn.stored + l._removed ≤ storage.room l.stored;
     }

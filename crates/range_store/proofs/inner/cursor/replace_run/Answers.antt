@@ -16,9 +16,13 @@ returns-in-Some g c =
     ap (place_before (storage.rank stored) (length items)) c.in-Some.is in
     let one = c.in-1.is in
     let within : place + c.args.cursor.left ≤ length items = c.requires.in_range in
-    rw one (c.replace-replaced.ensures.list
-    ∙ ap (λ rank. set items rank c.args.item) (sym here)
-    ∙ set_parts items place c.args.item (omega arith))
+    record {
+      list =
+          rw one (c.replace-replaced.ensures.list
+          ∙ ap (λ rank. set items rank c.args.item) (sym here)
+          ∙ set_parts items place c.args.item (omega arith));
+      space = omega (arith, one, c.replace-replaced.ensures.space);
+    }
 
 pub returns-in_default : goal.returns-in_default
 returns-in_default g c =
@@ -31,7 +35,11 @@ returns-in_default g c =
     let at =
     place_at (storage.is_good now) (storage.rank now) (length (storage.items now)) rest.at
     (place + 1) c.put-rest.ensures.position in
-    replaced_run items (storage.items now)
-    (storage.items c.remove_rest.new.stored) place c.args.cursor.left rest.left c.args.item
-    c.put-rest.ensures.list c.put-rest.ensures.left c.requires.in_range
-    (rw at at c.remove_rest.ensures.list)
+    record {
+      list =
+          replaced_run items (storage.items now)
+          (storage.items c.remove_rest.new.stored) place c.args.cursor.left rest.left c.args.item
+          c.put-rest.ensures.list c.put-rest.ensures.left c.requires.in_range
+          (rw at at c.remove_rest.ensures.list);
+      space = omega (arith, c.put-rest.ensures.space, c.remove_rest.ensures.space);
+    }
