@@ -1,10 +1,9 @@
-"""The examples of the pages and of the doc comments, compared word for word with what is checked or run.
+"""The examples of pages and doc comments.
 
 A block of a page that is marked `rust` or `antt` has to stand whole in a file of the crates that RUN
-names, where it is proved, or of tests/example_tests. An example in a doc comment of the crates that
-SHOWN names has to stand there or in a block of docs/EXAMPLES.md, whose blocks are run as tests; there
-may be further lines that begin with `assert` between those that are shown. A block marked `text` is
-none.
+names, where it is proved, or of tests/example_tests. The examples in doc comments of the crates that
+SHOWN names are made into tests, which are run without a proof: tests/examples.txt has what stands
+around each. A block marked `text` is none.
 """
 
 import re
@@ -14,9 +13,9 @@ from tools.repository import CRATES, TOP, Counts, run, told
 
 RUN = [CRATES / name for name in ("tour", "access", "bookings", "odd_keys")]
 RUN += [TOP / "tests" / "example_tests"]
-PAGES = ("README.md", "docs/TOUR.md", "docs/CALLING.md")
-EXAMPLES = "docs/EXAMPLES.md"
+PAGES = ("README.md", "docs/GUIDE.md")
 KINDS = (".rt", ".rt.txt", ".antt")
+FRAMES = TOP / "tests" / "examples.txt"
 SHOWN = ("range_algebra", "range_map", "range_sets", "range_commands", "range_json")
 # The crate of the examples, and the one whose calls they show.
 CRATE, CRATE_ABOVE = "examples", "btree_range_map"
@@ -34,74 +33,73 @@ def page_blocks(page):
         yield f"{page}:{line}", stripped(found.group(1).split("\n"))
 
 
-def doc_blocks(path):
-    """Gives the examples of a file: the lines between two fences in doc comments."""
-    block, start = None, 0
-    for number, line in enumerate(path.read_text().split("\n"), 1):
-        comment = re.match(r"\s*//[/!] ?(.*)", line)
-        if not comment:
-            continue
-        words = comment.group(1)
-        if words.startswith("```"):
-            if block is None:
-                block, start, is_code = [], number, words == "```"
-            else:
-                if is_code:
-                    yield f"{path.relative_to(TOP)}:{start}", stripped(block)
-                block = None
-        elif block is not None:
-            block.append(words)
-
-
-def stands_at(block, lines, at, skips):
-    for line in block:
-        while skips and at < len(lines) and lines[at] != line and lines[at].startswith("assert"):
-            at += 1
-        if at == len(lines) or lines[at] != line:
-            return False
-        at += 1
-    return True
-
-
-def stands(block, files, skips):
-    return any(
-        stands_at(block, lines, at, skips)
-        for lines in files
-        for at in range(len(lines))
-        if lines[at] == block[0]
-    )
+def stands(block, lines):
+    return any(lines[at : at + len(block)] == block for at in range(len(lines)))
 
 
 def compared():
-    """Returns how many examples stand in what is checked or run."""
+    """Returns how many blocks of pages stand in what is proved or run."""
     began = time.monotonic()
     paths = [path for top in RUN for part in ("src", "specs") for path in (top / part).rglob("*")]
     files = [stripped(path.read_text().split("\n")) for path in paths if path.name.endswith(KINDS)]
-    examples = [block for _place, block in page_blocks(EXAMPLES)]
-    whole = [(place, block, files, False) for page in PAGES for place, block in page_blocks(page)]
-    shown = [
-        (place, block, files + examples, True)
-        for name in SHOWN
-        for path in sorted((CRATES / name / "src").rglob("*.rt"))
-        for place, block in doc_blocks(path)
-    ]
-    strays = [place for place, *example in whole + shown if not stands(*example)]
-    said = "".join(f"{place}: nothing that is checked or run has these lines\n" for place in strays)
-    counts = Counts(int(bool(whole and shown and not strays)), int(not (whole and shown) or bool(strays)))
-    return told(f"{len(whole)} blocks of pages and {len(shown)} examples of doc comments", counts, began, said)
+    blocks = [it for page in PAGES for it in page_blocks(page)]
+    strays = [place for place, block in blocks if not any(stands(block, it) for it in files)]
+    said = "".join(f"{place}: nothing that is proved or run has these lines\n" for place in strays)
+    counts = Counts(len(blocks) - len(strays), len(strays) if blocks else 1)
+    return told("blocks of pages", counts, began, said)
+
+
+def doc_blocks(path):
+    """Gives the examples of a file: the lines between two fences in doc comments, with their place."""
+    block, start = None, 0
+    for number, line in enumerate(path.read_text().split("\n"), 1):
+        comment = re.match(r"\s*//[/!] ?(.*)", line)
+        if comment and comment[1].startswith("```"):
+            if block and start:
+                yield start, block
+            start = number if block is None and comment[1] == "```" else 0
+            block = [] if block is None else None
+        elif comment and block is not None:
+            block.append(comment[1])
+
+
+def frames():
+    """Returns what stands before and after the examples that begin with a line, by that line."""
+    found, lines = {}, []
+    for line in FRAMES.read_text().split("\n"):
+        if line.startswith("    ") or not line:
+            lines.append(line[4:])
+        else:
+            lines = found.setdefault(line, [])
+    return found
+
+
+def tests():
+    """Returns a test for each example, by its name."""
+    around, found = frames(), {}
+    for name in SHOWN:
+        source = CRATES / name / "src"
+        for path in sorted(source.rglob("*.rt")):
+            parts = path.relative_to(source).with_suffix("").parts
+            for number, block in doc_blocks(path):
+                keys = [f"{parts[0]} {block[0]}", f"{name.removeprefix('range_')} {block[0]}", block[0]]
+                frame = next((around[key] for key in keys if key in around), [])
+                at = frame.index("..") if ".." in frame else len(frame)
+                body = [*frame[:at], *block, *frame[at + 1 :], "Ok(())"]
+                text = "".join(f"    {line}\n" for line in body if line)
+                head = "(rt: HostRuntime) -> Result<(), Fail> {\n    let alloc = rt.alloc();\n"
+                test = "_".join([name, *parts, str(number)])
+                found[test] = f"#[test]\nfn {test}{head}{text}}}\n"
+    return found
 
 
 def run_in(room):
-    """Runs the blocks of the page as tests: each is a module, whose lines have their numbers of the page."""
-    page, began = (TOP / EXAMPLES).read_text(), time.monotonic()
-    source, modules = room / CRATE / "src", ""
+    """Runs the examples of the doc comments as tests."""
+    began, found, source = time.monotonic(), tests(), room / CRATE / "src"
     source.mkdir(parents=True)
-    for block in re.finditer(r"^```rust\n(.*?)^```$", page, re.M | re.S):
-        before = page.count("\n", 0, block.start(1))
-        (source / f"line_{before + 1}.rt").write_text("\n" * before + block[1])
-        modules += f"#[cfg(test)]\nmod line_{before + 1};\n"
-    (source / "lib.rt").write_text(modules)
+    (source / "lib.rt").write_text("#[cfg(test)]\nmod tests;\n")
+    (source / "tests.rt").write_text("\n".join([*frames()["before"], *found.values()]))
     ended = run(["rt", "try", "--test"], room / CRATE)
     ran = len(re.findall(r"^test \S+ \.\.\. ok$", ended.stdout, re.M))
-    counts = Counts(ran, max(page.count("#[test]\n") - ran, int(ended.returncode != 0)))
-    return told("examples of the calls", counts, began, ended.stdout)
+    counts = Counts(ran, max(len(found) - ran, int(ended.returncode != 0 or not found)))
+    return told("examples of doc comments", counts, began, ended.stdout)

@@ -119,10 +119,10 @@ def refuse(wanted=()):
     """Refuses each allocation of the calls with one of the words in their names; of all and of the conversations."""
     if not shutil.which("cc"):
         return [told("refused memory", Counts(0, 0, 1), time.monotonic(), "")]
+    names = ["refusals"] if wanted else ["refusals", "rangerun"]
     with workspace() as crates, tempfile.TemporaryDirectory() as room:
-        folder = pathlib.Path(room)
-        counts = [refuse_calls(built(crates / "refusals", folder), wanted)]
-        if not wanted:
-            program = built(crates / "rangerun", folder)
-            counts.append(refuse_conversations(program, CRATES / "rangerun"))
+        with concurrent.futures.ThreadPoolExecutor() as pool:
+            programs = [*pool.map(lambda name: built(crates / name, pathlib.Path(room)), names)]
+        counts = [refuse_calls(programs[0], wanted)]
+        counts += [refuse_conversations(it, CRATES / "rangerun") for it in programs[1:]]
     return counts
