@@ -6,9 +6,11 @@ SHOWN names are made into tests, which are run without a proof: tests/examples.t
 around each. A block marked `text` is none.
 """
 
+import contextlib
 import re
 import time
 
+from tools import repository
 from tools.repository import CRATES, TOP, Counts, run, told
 
 RUN = [CRATES / name for name in ("tour", "access", "bookings", "odd_keys")]
@@ -19,7 +21,6 @@ FRAMES = TOP / "tests" / "examples.txt"
 SHOWN = ("range_algebra", "range_map", "range_sets", "range_commands", "range_json")
 # The crate of the examples, and the one whose calls they show.
 CRATE, CRATE_ABOVE = "examples", "btree_range_map"
-LINE = f"{CRATE}: {CRATE_ABOVE} serde_json\n"
 
 
 def stripped(lines):
@@ -93,13 +94,27 @@ def tests():
     return found
 
 
+def read_by(crate):
+    """Returns what the examples are made of beside the sources, where the crate is the one that has them."""
+    paths = [FRAMES, *(TOP / page for page in PAGES)] if crate.name == CRATE_ABOVE else []
+    return b"".join(path.read_bytes() for path in paths)
+
+
+@contextlib.contextmanager
+def workspace():
+    """Gives the folder of copies of all crates, with one more of the examples."""
+    with repository.workspace(f"{CRATE}: {CRATE_ABOVE} serde_json\n") as room:
+        source = room / CRATE / "src"
+        source.mkdir(parents=True)
+        (source / "lib.rt").write_text("#[cfg(test)]\nmod tests;\n")
+        (source / "tests.rt").write_text("\n".join([*frames()["before"], *tests().values()]))
+        yield room
+
+
 def run_in(room):
     """Runs the examples of the doc comments as tests."""
-    began, found, source = time.monotonic(), tests(), room / CRATE / "src"
-    source.mkdir(parents=True)
-    (source / "lib.rt").write_text("#[cfg(test)]\nmod tests;\n")
-    (source / "tests.rt").write_text("\n".join([*frames()["before"], *found.values()]))
+    began, wanted = time.monotonic(), len(tests())
     ended = run(["rt", "try", "--test"], room / CRATE)
     ran = len(re.findall(r"^test \S+ \.\.\. ok$", ended.stdout, re.M))
-    counts = Counts(ran, max(len(found) - ran, int(ended.returncode != 0 or not found)))
+    counts = Counts(ran, max(wanted - ran, int(ended.returncode != 0 or not wanted)))
     return told("examples of doc comments", counts, began, ended.stdout)

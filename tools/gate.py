@@ -19,7 +19,6 @@ from tools.repository import (
     run,
     tell,
     told,
-    workspace,
 )
 
 # A check takes less than this; what `rt` expects of it, by its lines, is up to three times as much.
@@ -54,7 +53,7 @@ def gate():
         return [*fresh, proved]
     every = crates().values()
     programs = [it.folder for it in every if it.is_proved and it.has_conversations]
-    with workspace(examples.LINE) as room, concurrent.futures.ThreadPoolExecutor(PROCESSORS) as pool:
+    with examples.workspace() as room, concurrent.futures.ThreadPoolExecutor(PROCESSORS) as pool:
         runs = [pool.submit(tests, it, room) for it in every if not it.is_proved]
         runs.append(pool.submit(examples.run_in, room))
         runs += [pool.submit(conversations.count, it, conversations.play_built) for it in programs]
@@ -105,8 +104,9 @@ def quickly(every, chosen):
         for part in sorted(below(every, crate.name)):
             for path in every[part].files():
                 digest.update(f"{path.relative_to(TOP)}\0".encode() + path.read_bytes())
+        digest.update(examples.read_by(crate))
         tasks += [(crate, call, digest.hexdigest()) for call in calls(crate)]
-    with workspace(examples.LINE) as room, concurrent.futures.ThreadPoolExecutor(PROCESSORS) as pool:
+    with examples.workspace() as room, concurrent.futures.ThreadPoolExecutor(PROCESSORS) as pool:
         return [*pool.map(lambda task: unless_passed(*task, room), tasks)]
 
 
