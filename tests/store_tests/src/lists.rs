@@ -72,3 +72,20 @@ fn long_lists(rt: HostRuntime) -> Result<(), AllocError> {
     }
     Ok(())
 }
+
+/// Makes room for so many items in a new tree and in a new vector.
+fn reserve_in_both(alloc: Global, many: usize) -> Result<(), AllocError> {
+    let mut both = new_both(alloc);
+    both.tree.reserve(many)?;
+    both.list.reserve(many)
+}
+
+#[test]
+fn room_is_made_where_there_is_memory(rt: HostRuntime) -> Result<(), AllocError> {
+    for power in 0..20 {
+        for more in [0, 1, 4] {
+            reserve_in_both(rt.alloc(), (1 << power) + more)?;
+        }
+    }
+    Ok(())
+}
