@@ -266,13 +266,21 @@ fn errors_of_sets_are_explained(rt: HostRuntime) {
 
 #[test]
 fn errors_of_ranges_are_explained(rt: HostRuntime) {
-    let wrong = first_wrong(rt.alloc(), RANGES, &|alloc, value| range_refused(alloc, value));
+    let wrong = first_wrong(
+        rt.alloc(),
+        RANGES,
+        &|alloc, value| range_refused(alloc, value),
+    );
     assert!(rt; wrong == Ok(None), "the row {wrong:?}");
 }
 
 #[test]
 fn errors_of_multimaps_are_explained(rt: HostRuntime) {
-    let wrong = first_wrong(rt.alloc(), MULTIMAPS, &|alloc, value| multimap_refused(alloc, value));
+    let wrong = first_wrong(
+        rt.alloc(),
+        MULTIMAPS,
+        &|alloc, value| multimap_refused(alloc, value),
+    );
     assert!(rt; wrong == Ok(None), "the row {wrong:?}");
 }
 
@@ -281,7 +289,9 @@ fn errors_of_multimaps_are_explained(rt: HostRuntime) {
 fn another_value_is_explained(rt: HostRuntime) {
     let other = Value::from(7);
     let text = format!(in rt.alloc(); "{}", JsonError::Meets(3).explained_map::<i32, i64>(&other));
-    assert!(rt; text.ok().as_deref() == Some("element 3: the range 7 meets that of an earlier element"));
+    assert!(rt;
+        text.ok().as_deref() == Some("element 3: the range 7 meets that of an earlier element")
+    );
     let memory = format!(in rt.alloc(); "{}", JsonError::Memory.explained_set::<i32>(&other));
     assert!(rt; memory.ok().as_deref() == Some("out of memory"));
 }

@@ -86,7 +86,10 @@ static FAULTS: &[Row] = &[
         r#"[[["Unbounded","Unbounded"],1,2]]"#,
         Err(JsonError::NotPair(0)),
     ),
-    (r#"[[["Unbounded","Unbounded"]]]"#, Err(JsonError::NotPair(0))),
+    (
+        r#"[[["Unbounded","Unbounded"]]]"#,
+        Err(JsonError::NotPair(0)),
+    ),
     (r#"[[["Unbounded"],1]]"#, Err(JsonError::NotRange(0))),
     (r#"[[["Unbounded"],1],7]"#, Err(JsonError::NotRange(0))),
     (r#"[[["Unbounded"],"x"]]"#, Err(JsonError::NotRange(0))),
@@ -113,7 +116,10 @@ static FAULTS: &[Row] = &[
         r#"[[["Unbounded",{"Excluded":2147483648}],1]]"#,
         Err(JsonError::Key(0)),
     ),
-    (r#"[[["Unbounded","Unbounded"],"x"]]"#, Err(JsonError::Value(0))),
+    (
+        r#"[[["Unbounded","Unbounded"],"x"]]"#,
+        Err(JsonError::Value(0)),
+    ),
     (
         r#"[[["Unbounded","Unbounded"],1],[["Unbounded","Unbounded"],1]]"#,
         Err(JsonError::Meets(1)),

@@ -72,8 +72,14 @@ static ROWS: &[Row] = &[
             r#"{"items":[[[{"Included":0},{"Excluded":5}],[1]],[[{"Included":5},{"Excluded":9}],[1,2]]],"version":2}"#,
         ),
     ),
-    (r#"[[["Unbounded","Unbounded"],[]]]"#, Err(JsonError::Value(0))),
-    (r#"[[["Unbounded","Unbounded"],7]]"#, Err(JsonError::Value(0))),
+    (
+        r#"[[["Unbounded","Unbounded"],[]]]"#,
+        Err(JsonError::Value(0)),
+    ),
+    (
+        r#"[[["Unbounded","Unbounded"],7]]"#,
+        Err(JsonError::Value(0)),
+    ),
     (
         r#"[[["Unbounded","Unbounded"],[7,"x"]]]"#,
         Err(JsonError::Value(0)),

@@ -46,12 +46,18 @@ static SETS: &[Row] = &[
         Ok(r#"[[{"Included":0},{"Excluded":9}]]"#),
     ),
     (r#"[[{"Included":8},{"Excluded":3}]]"#, Ok("[]")),
-    (r#"[["Unbounded","Unbounded"],7]"#, Err(JsonError::NotRange(1))),
+    (
+        r#"[["Unbounded","Unbounded"],7]"#,
+        Err(JsonError::NotRange(1)),
+    ),
     (
         r#"[["Unbounded","Unbounded"],["Unbounded","Open"]]"#,
         Err(JsonError::NotBound(1)),
     ),
-    (r#"[["Unbounded",{"Excluded":true}]]"#, Err(JsonError::Key(0))),
+    (
+        r#"[["Unbounded",{"Excluded":true}]]"#,
+        Err(JsonError::Key(0)),
+    ),
 ];
 
 fn play_over<C: Storage<Entry>>(rt: &impl Abort, alloc: Global) -> Result<(), Fail> {
