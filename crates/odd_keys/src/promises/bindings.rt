@@ -17,8 +17,8 @@ use crate::only::Only;
 use crate::promises::{Commands, NoSum, added};
 use btree_range_map::generic::RangeMap;
 use btree_range_map::generic::map::{Command, Reply, run};
-use btree_range_map::storage::{Item, Storage};
 use btree_range_map::range::traits::MaybeBounded;
+use btree_range_map::storage::{Item, Storage};
 use btree_range_map::{AnyRange, DefaultMapContainer, MapError, Measure};
 use std::alloc::{AllocError, Global};
 use std::marker::PhantomData;
@@ -92,7 +92,11 @@ fn number_by_commands<K: Measure + Clone>(
 }
 
 /// Over keys that tell nothing but their order.
-pub fn over_blind_bytes(alloc: Global, commands: Commands<Blind<u8>>, key: Blind<u8>) -> Numbers<Blind<u8>>
+pub fn over_blind_bytes(
+    alloc: Global,
+    commands: Commands<Blind<u8>>,
+    key: Blind<u8>,
+) -> Numbers<Blind<u8>>
     ensures { IfOk result (λ answered. IsDecided ⟦<Blind<u8> as MaybeBounded>⟧.order int_eq IsAdded key
         commands.items answered.replies.items answered.value) }
 {
@@ -124,7 +128,11 @@ pub fn over_halves(alloc: Global, commands: Commands<Half>, key: Half) -> Number
 }
 
 /// Over fractions, of which several are equal, and which tell no neighbour.
-pub fn over_fractions(alloc: Global, commands: Commands<Fraction>, key: Fraction) -> Numbers<Fraction>
+pub fn over_fractions(
+    alloc: Global,
+    commands: Commands<Fraction>,
+    key: Fraction,
+) -> Numbers<Fraction>
     ensures { IfOk result (λ answered. IsDecided ⟦<Fraction as MaybeBounded>⟧.order int_eq IsAdded key
         commands.items answered.replies.items answered.value) }
 {
