@@ -1,6 +1,6 @@
 //! Automata over characters.
 
+mod changes;
 mod lexer;
-mod refused;
 mod rows;
 mod support;

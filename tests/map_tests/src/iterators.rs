@@ -1,9 +1,10 @@
+use crate::containers::{self, Table};
 use crate::support::{
     Map, NumberItem, Range, Row, Trial, Tried, check, closed, insert_rows, wrong_unless,
 };
-use range_map::map::{Iter, MapError};
+use range_map::map::{Iter, MapError, RangeMap};
 use range_store::storage::Storage;
-use std::alloc::AllocError;
+use std::alloc::{AllocError, Global};
 use std::test::Fail;
 
 /// The map of `0..=5` bound to 1 and then `4` to 0.
@@ -47,7 +48,7 @@ impl<'a, C: Storage<NumberItem>> Asked for Iter<'a, i32, i64, C> {
     }
 
     fn has_len(&self, len: usize) -> bool {
-        self.len() == len && self.size_hint() == (len, Some(len))
+        tells_left(self, len)
     }
 }
 
@@ -161,6 +162,35 @@ impl Trial for BothEnds {
 #[test]
 fn iterators_give_each_range_from_both_ends(rt: HostRuntime) -> Result<(), Fail> {
     check(&rt, rt.alloc(), &BothEnds)
+}
+
+/// Whether an iterator over so many ranges says how many are left.
+fn tells_left<I: ExactSizeIterator>(left: &I, count: usize) -> bool {
+    left.len() == count && left.size_hint() == (count, Some(count))
+}
+
+/// What the nested map gives away, from both ends in turn.
+struct GivenAway;
+
+impl Table<NumberItem> for GivenAway {
+    fn first_wrong<C: Storage<NumberItem>>(
+        &self,
+        alloc: Global,
+    ) -> Result<Option<usize>, MapError> {
+        let mut map: Map<C> = RangeMap::new(alloc);
+        insert_rows(&mut map, NESTED)?;
+        let mut pairs = map.into_iter();
+        let all = tells_left(&pairs, 3);
+        let first = pairs.next() == Some((closed(0, 3), 1)) && tells_left(&pairs, 2);
+        let last = pairs.next_back() == Some((closed(5, 5), 1)) && tells_left(&pairs, 1);
+        let middle = pairs.next() == Some((closed(4, 4), 0)) && tells_left(&pairs, 0);
+        Ok(wrong_unless(all && first && last && middle && pairs.next().is_none()))
+    }
+}
+
+#[test]
+fn ranges_are_given_away_from_both_ends(rt: HostRuntime) -> Result<(), Fail> {
+    containers::check(&rt, rt.alloc(), &GivenAway)
 }
 
 /// The nested map, from its last range on.

@@ -1,4 +1,4 @@
-//! Clones, comparisons, iterators and texts of multimaps, and calls that fail to allocate.
+//! Clones, comparisons, iterators and texts of multimaps, and calls over two ranges.
 
 use crate::tests::support::Keys::{Alone, Closed, HalfOpen};
 use crate::tests::support::Values::{One, Two};
@@ -7,7 +7,7 @@ use range_algebra::any::AnyRange;
 use range_map::map::MapError;
 use range_sets::multimap::{RangeMultiMap, SetMut};
 use range_store::storage::{Item, Storage};
-use std::alloc::{AllocError, Global};
+use std::alloc::Global;
 use std::fmt::Debug;
 use std::test::Fail;
 
@@ -164,42 +164,26 @@ fn a_multimap_is_walked(rt: HostRuntime) -> Result<(), Fail> {
     passes_numbers(&rt, rt.alloc(), &Walked)
 }
 
-/// Whether the call was done, so that these rows are stored, or else nothing was changed.
-fn is_done_or_refused<M: Played<i32>>(
-    alloc: Global,
-    map: &M,
-    changed: Result<(), MapError>,
-    done: &[Row<i32>],
-) -> Result<bool, AllocError> {
-    match changed {
-        Ok(()) => map.stores(alloc, done),
-        Err(MapError::Memory) => map.stores(alloc, TWO_RANGES),
-    }
-}
-
-fn inserts_or_keeps<M: Filled>(alloc: Global, map: &mut M) -> Result<bool, MapError> {
+/// Adds a value to the end of one range and the start of the next.
+fn adds_across<M: Filled>(alloc: Global, map: &mut M) -> Result<bool, MapError> {
     map.fill()?;
-    let changed = map.insert(HalfOpen(3, 8), 2);
-    let done = &[(0, 2, One(1)), (3, 9, Two(1, 2))];
-    Ok(is_done_or_refused(alloc, map, changed, done)?)
+    map.insert(HalfOpen(3, 8), 2)?;
+    Ok(map.stores(alloc, &[(0, 2, One(1)), (3, 9, Two(1, 2))])?)
 }
 
-fn removes_or_keeps<M: Filled>(alloc: Global, map: &mut M) -> Result<bool, MapError> {
+/// Takes a value from the end of one range and the start of the next.
+fn takes_across<M: Filled>(alloc: Global, map: &mut M) -> Result<bool, MapError> {
     map.fill()?;
-    let changed = map.remove(HalfOpen(3, 8), 1);
-    let done = &[(0, 2, One(1)), (5, 7, One(2)), (8, 9, Two(1, 2))];
-    Ok(is_done_or_refused(alloc, map, changed, done)?)
+    map.remove(HalfOpen(3, 8), 1)?;
+    Ok(map.stores(
+        alloc,
+        &[(0, 2, One(1)), (5, 7, One(2)), (8, 9, Two(1, 2))],
+    )?)
 }
 
-/// Whether both calls, each on a multimap of its own, are done or change nothing, as far as there
-/// is memory to see it.
-fn are_done_or_refused<M: Filled>(alloc: Global, map: &mut M, other: &mut M) -> bool {
-    inserts_or_keeps(alloc, map).unwrap_or(true) && removes_or_keeps(alloc, other).unwrap_or(true)
-}
+struct Reached;
 
-struct DoneOrRefused;
-
-impl Trial<i32> for DoneOrRefused {
+impl Trial<i32> for Reached {
     fn first_wrong<
         S: Numbers,
         C: Storage<Item<AnyRange<i32>, S>>,
@@ -207,11 +191,42 @@ impl Trial<i32> for DoneOrRefused {
     >(&self, alloc: Global) -> Result<Option<usize>, MapError> {
         let mut map: RangeMultiMap<i32, S, C> = RangeMultiMap::new(alloc);
         let mut other: RangeMultiMap<i32, S, C> = RangeMultiMap::new(alloc);
-        Ok(wrong_unless(are_done_or_refused(alloc, &mut map, &mut other)))
+        let added = adds_across(alloc, &mut map)?;
+        Ok(wrong_unless(added && takes_across(alloc, &mut other)?))
     }
 }
 
 #[test]
-fn a_refused_call_changes_nothing(rt: HostRuntime) -> Result<(), Fail> {
-    passes_numbers(&rt, rt.alloc(), &DoneOrRefused)
+fn a_call_reaches_into_two_ranges(rt: HostRuntime) -> Result<(), Fail> {
+    passes_numbers(&rt, rt.alloc(), &Reached)
+}
+
+/// Whether an iterator over so many ranges says how many are left.
+fn tells_left<I: ExactSizeIterator>(left: &I, count: usize) -> bool {
+    left.len() == count && left.size_hint() == (count, Some(count))
+}
+
+/// The ranges of a multimap that is taken apart, from both ends.
+struct GivenAway;
+
+impl Trial<i32> for GivenAway {
+    fn first_wrong<
+        S: Numbers,
+        C: Storage<Item<AnyRange<i32>, S>>,
+        D: Storage<Item<AnyRange<i32>, S>>,
+    >(&self, alloc: Global) -> Result<Option<usize>, MapError> {
+        let mut map: RangeMultiMap<i32, S, C> = RangeMultiMap::new(alloc);
+        map.fill()?;
+        let mut pairs = map.into_iter();
+        let all = tells_left(&pairs, 2);
+        let last = pairs.next_back().is_some_and(|(_, set)| set.count() == 2);
+        let first = tells_left(&pairs, 1) && pairs.next().is_some_and(|(_, set)| set.count() == 1);
+        let end = tells_left(&pairs, 0) && pairs.next().is_none();
+        Ok(wrong_unless(all && last && first && end))
+    }
+}
+
+#[test]
+fn ranges_are_given_away_from_both_ends(rt: HostRuntime) -> Result<(), Fail> {
+    passes_numbers(&rt, rt.alloc(), &GivenAway)
 }
