@@ -4,3 +4,4 @@ mod lexer;
 mod refused;
 mod rows;
 mod support;
+mod tokens;
