@@ -1,9 +1,9 @@
 -- The longest match of what has been read, and of a whole text by its bytes.
-use Rattle.std.proofs.Common.{◌≡◌, refl, sym, ap, subst, ◌∙◌, ◌↔◌, inl, inr, ℕ, ◌<◌, ◌≤◌, ◌+◌, IsTrue, List, [], ◌∷◌, ◌++◌, length, take, drop, get_or, Option, Some, None, BTreeSet, arith, length-append}
+use Rattle.std.proofs.Common.{◌≡◌, refl, sym, ap, subst, ◌∙◌, inl, inr, ℕ, ◌<◌, ◌≤◌, IsTrue, List, [], ◌∷◌, ◌++◌, length, take, drop, get_or, Option, Some, None, BTreeSet, arith, length-append}
 use Rattle.std.specs.Option.{MatchOption}
 use Rattle.std.specs.Ordering.{nat_cmp}
 use Rattle.std.specs.BTreeSet.{contains}
-use Rattle.std.specs.Str.{chars, IsUtf8, IsCharBoundary}
+use Rattle.std.specs.Str.{chars, IsUtf8}
 use Rattle.std.proofs.Math.Logic.{∥∥₁_elim}
 use Rattle.std.proofs.Props.{props}
 use Rattle.std.proofs.lemmas.Grind.{not_there}
@@ -47,8 +47,7 @@ module _ (lexer : Lexer) where
       → IsFirstFor rule (cs ++ c ∷ [])
       → IsBest (cs ++ c ∷ []) (Some (record { rule = rule; len = len }))
   best_grows cs c rule len bytes h =
-      subst (λ n. IsBest (cs ++ c ∷ []) (Some (record { rule = rule; len = n }))) (sym bytes)
-      (
+      subst (λ n. IsBest (cs ++ c ∷ []) (Some (record { rule = rule; len = n }))) (sym bytes) (
         longest_grows IsSomeToken cs c None (h.0, (rule, h.1)),
         whole_front (IsFirstFor rule) (cs ++ c ∷ []) h,
       )

@@ -105,11 +105,7 @@ fn next_from<S: Scanner>(scanner: &S, text: &str, start: usize) -> Step
 }
 
 /// The token at the place.
-pub(crate) fn token_at<S: Scanner>(
-    scanner: &S,
-    text: &str,
-    at: usize,
-) -> Result<Token, LexError>
+pub(crate) fn token_at<S: Scanner>(scanner: &S, text: &str, at: usize) -> Result<Token, LexError>
     requires { IsCharBoundary text.now at }
     ensures { MatchResult result (IsTokenAt (S.lexer scanner.now) text.now at)
         (IsReasonAt (S.lexer scanner.now) text.now (S.may_refuse scanner.now) at) }

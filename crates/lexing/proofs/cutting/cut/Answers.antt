@@ -1,4 +1,4 @@
-use Rattle.std.proofs.Common.{◌≡◌, refl, sym, subst, ◌<◌, length, arith}
+use Rattle.std.proofs.Common.{refl, sym, subst, arith}
 use Rattle.std.proofs.lemmas.Str.{IsCharBoundary-start}
 use Rattle.lexing.specs.Runs.{AreTokens}
 use Rattle.lexing.proofs.TokenLists.{tokens_more, token_boundary, reason_of_all}

@@ -1,7 +1,7 @@
-use Rattle.std.proofs.Common.{◌≡◌, refl, sym, subst, ◌<◌, ◌≤◌, length, drop, arith}
+use Rattle.std.proofs.Common.{refl, sym, subst, ◌<◌, length, drop, arith}
 use Rattle.lexing.specs.Tokens.{BeginsWithNone}
 use Rattle.lexing.specs.Runs.{AreSkipped, IsReasonAt, IsBehindOne}
-use Rattle.lexing.proofs.TokenLists.{skipped_none, skipped_more, token_boundary, token_further}
+use Rattle.lexing.proofs.TokenLists.{skipped_more, token_boundary, token_further}
 use Rattle.lexing.proofs.tokens.next_from.Goals as goal
 
 pub loop-at-preserved : goal.loop-at-preserved

@@ -1,4 +1,4 @@
-use Rattle.std.proofs.Common.{◌≡◌, refl, sym, subst, IsTrue, ◌∷◌, [], ◌++◌, length, Some, arith}
+use Rattle.std.proofs.Common.{◌≡◌, refl, sym, subst, IsTrue, length, Some, arith}
 use Rattle.std.specs.List.{slice_get}
 use Rattle.lexing.specs.declared.lexer.Kind.{Kind}
 use Rattle.lexing.proofs.Lists.{one_item, pushed_there, still_at}

@@ -1,9 +1,9 @@
-use Rattle.std.proofs.Common.{◌≡◌, refl, sym, ◌∙◌, ap}
+use Rattle.std.proofs.Common.{sym, ◌∙◌, ap}
 use Rattle.std.specs.Map.Iter.{deref}
 use Rattle.std.specs.Option.{option_copied}
 use Rattle.std.proofs.lemmas.Map.Iter.{rest_more, rest_all}
 use Rattle.charmoves.proofs.Stepping.{none_of}
-use Rattle.lexing.proofs.Firsts.{first_none, first_passes, first_more, first_of_all}
+use Rattle.lexing.proofs.Firsts.{first_passes, first_more, first_of_all}
 use Rattle.lexing.proofs.lexer.Lexer.first_rule.Goals as goal
 
 pub loop-state-preserved-in-Some-get : goal.loop-state-preserved-in-Some-get

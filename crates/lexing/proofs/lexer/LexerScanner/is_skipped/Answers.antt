@@ -1,4 +1,4 @@
-use Rattle.std.proofs.Common.{◌≡◌, refl, sym, subst, IsTrue, length, Some, arith}
+use Rattle.std.proofs.Common.{◌≡◌, refl, subst, IsTrue, length, Some, arith}
 use Rattle.std.specs.List.{slice_get}
 use Rattle.std.proofs.lemmas.Option.{slice_get_read, slice_get_within}
 use Rattle.lexing.proofs.Lists.{one_item}
