@@ -4,3 +4,4 @@ mod changes;
 mod lexer;
 mod rows;
 mod support;
+mod tokens;

@@ -6,6 +6,7 @@
 //! allocations after the trial were not refused, so that a trial that succeeds tells how many there
 //! are in it.
 mod automata;
+mod lexers;
 mod maps;
 mod multimaps;
 mod outcome;

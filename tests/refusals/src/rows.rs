@@ -1,6 +1,7 @@
 //! The calls, each over both containers and over trees of one, two and three levels.
 
 use crate::automata::{self, AutomatonCall};
+use crate::lexers::{self, LexerCall};
 use crate::maps::{self, ChangeCall, MapCall, PairCall};
 use crate::multimaps::{self, MultimapCall};
 use crate::outcome::Outcome;
@@ -19,6 +20,7 @@ pub enum Call {
     Ordered(MultimapCall),
     Hashed(MultimapCall),
     Automaton(AutomatonCall),
+    Lexer(LexerCall),
 }
 
 pub static CALLS: &[(&str, Call)] = &[
@@ -147,6 +149,12 @@ pub static CALLS: &[(&str, Call)] = &[
     ("rules: accept", Call::Automaton(AutomatonCall::Accept)),
     ("moves: step", Call::Automaton(AutomatonCall::Step)),
     ("moves: accepts", Call::Automaton(AutomatonCall::Accepts)),
+    ("moves: longest", Call::Lexer(LexerCall::Longest)),
+    ("lexer: add_rule", Call::Lexer(LexerCall::AddRule)),
+    ("lexer: accept", Call::Lexer(LexerCall::Accept)),
+    ("lexer: longest_match", Call::Lexer(LexerCall::LongestMatch)),
+    ("lexer: tokens", Call::Lexer(LexerCall::NextToken)),
+    ("lexer: cut", Call::Lexer(LexerCall::Cut)),
 ];
 
 /// How many ranges are stored: such trees have one, two and three levels.
@@ -164,6 +172,7 @@ fn over_vector(alloc: Global, call: Call, size: Size) -> Outcome {
             multimaps::outcome::<HashSet<i32>, multimaps::Vector<HashSet<i32>>>(alloc, size, call)
         }
         Call::Automaton(call) => automata::outcome(alloc, size, call),
+        Call::Lexer(call) => lexers::outcome(alloc, size, call),
     }
 }
 
@@ -179,6 +188,7 @@ fn over_tree(alloc: Global, call: Call, size: Size) -> Outcome {
             multimaps::outcome::<HashSet<i32>, multimaps::Tree<HashSet<i32>>>(alloc, size, call)
         }
         Call::Automaton(call) => automata::outcome(alloc, size, call),
+        Call::Lexer(call) => lexers::outcome(alloc, size, call),
     }
 }
 

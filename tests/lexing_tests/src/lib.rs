@@ -1,0 +1,6 @@
+//! Tests of lexers: which tokens texts are cut into.
+
+#[cfg(test)]
+mod rows;
+#[cfg(test)]
+mod support;
