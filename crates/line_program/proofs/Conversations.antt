@@ -1,6 +1,7 @@
 -- A conversation, seen in other states.
-use Rattle.std.proofs.Common.{ℕ, List}
+use Rattle.std.proofs.Common.{◌≡◌, ◌≢◌, ◌⊎◌, ℕ, List, ◌++◌, inl, inr, Option, None, Some, IfSome}
 use Rattle.line_program.specs.Conversation.{Conversation}
+use Rattle.line_program.specs.Listing.{Writes}
 use Rattle.line_program.specs.Conversation.Conversation.{Ended, Answered}
 
 module _ {S T : Type 0} (Answers : S → List ℕ → List ℕ → S → Type 0)
@@ -16,3 +17,17 @@ module _ {S T : Type 0} (Answers : S → List ℕ → List ℕ → S → Type 0)
       (Answered _ next _ _ _ answer more _ some is_text answers held is) =
       Answered (see first) (see next) (see last) input text answer more rest some is_text
       (follows first _ answer next answers) (conversation_seen next _ more rest last held) is
+
+-- what stopped with one kind of answers stopped with another that follows
+pub stopped_as : (Silent : Type 0) (input before after : Option (List ℕ))
+    (Talks Answers : List ℕ → List ℕ → List ℕ → Type 0)
+    → ((bytes text rest : List ℕ) → Talks bytes text rest → Answers bytes text rest)
+    → Silent ⊎ IfSome input (λ bytes. (rest : List ℕ)
+    × Writes before after (λ text. Talks bytes text rest))
+    → Silent ⊎ IfSome input (λ bytes. (rest : List ℕ)
+    × Writes before after (λ text. Answers bytes text rest))
+stopped_as Silent input before after Talks Answers follows (inl silent) = inl silent
+stopped_as Silent None before after Talks Answers follows (inr stopped) = inr tt
+stopped_as Silent (Some bytes) before after Talks Answers follows
+    (inr (rest, (text, talk, appended))) =
+        inr (rest, (text, follows bytes text rest talk, appended))
