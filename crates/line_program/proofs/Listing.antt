@@ -1,16 +1,8 @@
--- How far a loop that writes answers has come.
-use Rattle.std.proofs.Common.{◌≡◌, ◌≢◌, ℕ, length, List, [], ◌∷◌, ◌++◌, ap, refl, sym, subst, ◌∙◌, append_assoc}
-use Rattle.std.specs.Prelude.{Bool, true, false, Option, None, Some, IfSome, Result, Ok, Err, OnOk}
+-- What is written of texts, one after the other.
+use Rattle.std.proofs.Common.{arith, ◌≡◌, ◌≢◌, ℕ, length, List, [], ◌∷◌, ◌++◌, ap, refl, sym, subst, ◌∙◌, append_assoc}
+use Rattle.std.specs.Prelude.{Bool, true, false, Option, None, Some, Result, Ok, Err, OnOk}
 use Rattle.std.specs.Io.KnownBytes.{Appends, Keeps}
-use Rattle.std.specs.Io.BufRead.{first_line, drop_through, take_through}
-use Rattle.std.specs.Str.{IsUtf8}
-use Rattle.btree_range_map.specs.Order.{KeyOrder}
-use Rattle.rangecalc.specs.Conversation.{AnswersLine, Conversation, none_stored}
-use Rattle.rangecalc.specs.Conversation.Conversation.{Ended, Answered}
-use Rattle.rangecalc.specs.Ranges.{Ranges}
-use Rattle.rangecalc.specs.Replies.{SpellsEach, SpellsLines, Writes}
-use Rattle.rangecalc.specs.Text.{line_content}
-use Rattle.rangecalc.specs.declared.named.Named.{Named}
+use Rattle.line_program.specs.Listing.{SpellsEach, SpellsLines, Writes}
 
 pub append_nil : (xs : List ℕ) → xs ++ [] ≡ xs
 append_nil [] = refl
@@ -133,96 +125,12 @@ module _ {X : Type 0} (SpellsOne : X → List ℕ → Type 0) where
         subst (λ known. Appends known next none) same appended,
       )
 
-module _ {K : Type 0} (order : KeyOrder K) where
-  -- the lines of the input before those that are left are answered
-  pub record HasAnswered (input : List ℕ) (left before now : Option (List ℕ))
-      (stored : Named (Ranges K)) : Type 0 where
-    pub remaining : List ℕ
-    pub left_is : left ≡ Some remaining
-    pub written : List ℕ
-    pub appended : Appends before now written
-    pub goes_on : (more rest : List ℕ) → Conversation order stored remaining more rest
-        → Conversation order none_stored input (written ++ more) rest
+  pub each_are_lines : (none : List ℕ) (all : List X) (text : List ℕ) → length all ≢ 0
+      → SpellsEach SpellsOne all text → SpellsLines SpellsOne none all text
+  each_are_lines none [] text some spelled = absurd (some refl)
+  each_are_lines none (x ∷ rest) text some spelled = spelled
 
-  pub answered_none : (input known : Option (List ℕ)) (stored : Named (Ranges K))
-      → stored ≡ none_stored
-      → IfSome input (λ bytes. HasAnswered bytes input known known stored)
-  answered_none None known stored empty = tt
-  answered_none (Some bytes) known stored empty = record {
-    remaining = bytes;
-    left_is = refl;
-    written = [];
-    appended = appends_none known;
-    goes_on =
-        λ more rest held.
-        subst (λ maps. Conversation order maps bytes more rest) empty held;
-  }
-
-  pub answered_more : (input : List ℕ) (left later before now next : Option (List ℕ))
-      (stored changed : Named (Ranges K)) (line : List ℕ)
-      → (answered : HasAnswered input left before now stored) → answered.remaining ≢ []
-      → later ≡ Some (drop_through 10 answered.remaining) → line ≡ first_line answered.remaining
-      → IsUtf8 line → Writes now next (λ text. AnswersLine order line text stored changed)
-      → HasAnswered input later before next changed
-  answered_more input left later before now next stored changed line answered some later_is
-      line_is is_text (text, answer, more) = record {
-        remaining = drop_through 10 answered.remaining;
-        left_is = later_is;
-        written = answered.written ++ text;
-        appended = appends_then before now next answered.written text answered.appended more;
-        goes_on =
-            λ others rest held. subst (λ all. Conversation order none_stored input all rest)
-            (sym (append_assoc answered.written text others))
-            (answered.goes_on (text ++ others) rest
-            (Answered stored changed answered.remaining (text ++ others) text others rest some
-            (subst IsUtf8 line_is is_text)
-            (subst (λ l. AnswersLine order l text stored changed) line_is answer) held refl));
-      }
-
-  -- what is written answers the lines before those that are left
-  pub answered_so_far : (input : List ℕ) (left before now : Option (List ℕ))
-      (stored : Named (Ranges K))
-      → (answered : HasAnswered input left before now stored)
-      → Writes before now (λ text. Conversation order none_stored input text answered.remaining)
-  answered_so_far input left before now stored answered = (
-    answered.written,
-    subst (λ text. Conversation order none_stored input text answered.remaining)
-        (append_nil answered.written)
-        (answered.goes_on [] answered.remaining (Ended stored answered.remaining)),
-    answered.appended,
-  )
-
-  pub answered_all : (input : List ℕ) (left before now : Option (List ℕ))
-      (stored : Named (Ranges K))
-      → (answered : HasAnswered input left before now stored) → answered.remaining ≡ []
-      → Writes before now (λ text. Conversation order none_stored input text [])
-  answered_all input left before now stored answered ended =
-      subst (λ rest. Writes before now (λ text. Conversation order none_stored input text rest))
-      ended (answered_so_far input left before now stored answered)
-
-  pub stopped_at : (input left before now : Option (List ℕ)) (stored : Named (Ranges K))
-      → IfSome input (λ bytes. HasAnswered bytes left before now stored)
-      → IfSome input (λ bytes. (rest : List ℕ)
-      × Writes before now (λ text. Conversation order none_stored bytes text rest))
-  stopped_at None left before now stored answered = tt
-  stopped_at (Some bytes) left before now stored answered = (
-    answered.remaining,
-    answered_so_far bytes left before now stored answered,
-  )
-
-pub if_some_as : {A : Type 0} (o : Option A) (P Q : A → Type 0) → ((x : A) → o ≡ Some x → P x → Q x)
-    → IfSome o P → IfSome o Q
-if_some_as None P Q follows held = tt
-if_some_as (Some x) P Q follows held = follows x refl held
-
--- a line that is read after nothing is the input's first, and is not empty where the input is not
-pub line_of : (old new input : List ℕ) → new ≡ old ++ take_through 10 input → old ≡ []
-    → new ≡ take_through 10 input
-line_of old new input read empty = read ∙ ap (λ xs. xs ++ take_through 10 input) empty
-
-pub none_of_none : (new input : List ℕ) → new ≡ take_through 10 input → input ≡ [] → length new ≡ 0
-none_of_none new input read empty = ap length (read ∙ ap (λ xs. take_through 10 xs) empty)
-
-pub first_line_of : (text line input : List ℕ) → text ≡ line_content line
-    → line ≡ take_through 10 input → text ≡ first_line input
-first_line_of text line input content read = content ∙ ap line_content read
+  pub none_are_lines : (none : List ℕ) (all : List X) (text : List ℕ) → length all ≡ 0 → text ≡ none
+      → SpellsLines SpellsOne none all text
+  none_are_lines none [] text empty e = e
+  none_are_lines none (x ∷ rest) text empty e = absurd (omega (arith, empty))
