@@ -36,6 +36,7 @@ pub use Rattle.range_change.specs.Answers
 pub use Rattle.range_map.specs.Appending
 pub use Rattle.range_map.specs.Askable
 pub use Rattle.range_change.specs.Bindings
+pub use Rattle.range_change.specs.Clones as InfallibleClones
 pub use Rattle.range_merge.specs.Combining
 pub use Rattle.range_change.specs.Costs
 pub use Rattle.range_map.specs.Extending as MapExtending

@@ -9,7 +9,7 @@ ghost use Rattle.btree_range_map.specs.Holding.{box_items};
 ghost use Rattle.btree_range_map.specs.JsonError.TheVariants.{Memory};
 ghost use Rattle.btree_range_map.specs.Keys.{signed_shape};
 ghost use Rattle.btree_range_map.specs.Shapes.{map_shape};
-ghost use Rattle.rangerun.specs.Replies.{Writes};
+ghost use Rattle.line_program.specs.Listing.{Writes};
 ghost use Rattle.rangerun.specs.Saving.{element_fault_text, fault_text, AnswersLoad, IsCause, IsLoaded, SpellsSaved};
 ghost use Rattle.rangerun.specs.declared.saving.LoadError.TheVariants.{NotJson, Faulty};
 

@@ -4,6 +4,7 @@
 ghost use Rattle.std.specs.Prelude.{IfOk};
 ghost use Rattle.std.specs.Option.{option_copied};
 ghost use Rattle.std.specs.Ordering.{int_eq};
+ghost use Rattle.btree_range_map.specs.Bindings.{Binds};
 ghost use Rattle.btree_range_map.specs.Names.{u8_order, u16_order, u32_order, u64_order, usize_order, i8_order, i16_order, i32_order, i64_order, char_order};
 ghost use Rattle.btree_range_map.specs.Range.{ClonesAreEqual};
 ghost use Rattle.btree_range_map.specs.Tagged.{MayAnswerTo, MayBeAskedAll};
@@ -16,10 +17,10 @@ use crate::only::Only;
 use crate::promises::{Commands, NoSum, added};
 use btree_range_map::generic::RangeMap;
 use btree_range_map::generic::map::{Command, Reply, run};
-use btree_range_map::storage::{Item, Storage};
 use btree_range_map::range::traits::MaybeBounded;
+use btree_range_map::storage::{Item, Storage};
 use btree_range_map::{AnyRange, DefaultMapContainer, MapError, Measure};
-use std::alloc::Global;
+use std::alloc::{AllocError, Global};
 use std::marker::PhantomData;
 
 /// The replies to commands, and what a key is bound to after them.
@@ -27,6 +28,20 @@ use std::marker::PhantomData;
 pub struct Answered<K, V, E> {
     pub replies: Vec<Reply<K, V, E>>,
     pub value: Option<V>,
+}
+
+/// A clone of what the map binds the key to.
+fn clone_of_bound<K: Measure, V: Eq + Clone, C: Storage<Item<AnyRange<K>, V>>>(
+    map: &RangeMap<K, V, C>,
+    key: K,
+) -> Result<Option<V>, AllocError>
+    requires { ClonesAreEqual V.is_clone V.eq }
+    ensures { IfOk result (λ value. Binds K.order V.eq (C.items map.now) key value) }
+{
+    match map.get(key) {
+        Some(value) => Ok(Some(value.clone()?)),
+        None => Ok(None),
+    }
 }
 
 /// Gives the commands to a new map, and then asks it for the key.
@@ -53,10 +68,7 @@ where
     key.known();
     let mut map: RangeMap<K, V, C> = RangeMap::new(alloc);
     let replies = run(alloc, &mut map, commands, f)?;
-    let value = match map.get(key) {
-        Some(value) => Some(value.clone()?),
-        None => None,
-    };
+    let value = clone_of_bound(&map, key)?;
     Ok(Answered { replies, value })
 }
 
@@ -80,7 +92,11 @@ fn number_by_commands<K: Measure + Clone>(
 }
 
 /// Over keys that tell nothing but their order.
-pub fn over_blind_bytes(alloc: Global, commands: Commands<Blind<u8>>, key: Blind<u8>) -> Numbers<Blind<u8>>
+pub fn over_blind_bytes(
+    alloc: Global,
+    commands: Commands<Blind<u8>>,
+    key: Blind<u8>,
+) -> Numbers<Blind<u8>>
     ensures { IfOk result (λ answered. IsDecided ⟦<Blind<u8> as MaybeBounded>⟧.order int_eq IsAdded key
         commands.items answered.replies.items answered.value) }
 {
@@ -112,7 +128,11 @@ pub fn over_halves(alloc: Global, commands: Commands<Half>, key: Half) -> Number
 }
 
 /// Over fractions, of which several are equal, and which tell no neighbour.
-pub fn over_fractions(alloc: Global, commands: Commands<Fraction>, key: Fraction) -> Numbers<Fraction>
+pub fn over_fractions(
+    alloc: Global,
+    commands: Commands<Fraction>,
+    key: Fraction,
+) -> Numbers<Fraction>
     ensures { IfOk result (λ answered. IsDecided ⟦<Fraction as MaybeBounded>⟧.order int_eq IsAdded key
         commands.items answered.replies.items answered.value) }
 {

@@ -89,11 +89,7 @@ fn numbers_after_commands<K: Complete + Measure + Clone>(
 }
 
 /// Over a type that has one key.
-pub fn over_only(
-    alloc: Global,
-    commands: Commands<Only>,
-    other: &Map<Only, i64>,
-) -> Numbers<Only>
+pub fn over_only(alloc: Global, commands: Commands<Only>, other: &Map<Only, i64>) -> Numbers<Only>
     ensures canonical { IfOk result
         (λ made. IsCanonical ⟦<Only as MaybeBounded>⟧.order int_eq (box_items made.map) made.range_count) }
     ensures equal { IfOk result (λ made. IsTrue made.is_equal
@@ -103,11 +99,7 @@ pub fn over_only(
 }
 
 /// Over keys of which several are equal, and which tell their neighbours.
-pub fn over_halves(
-    alloc: Global,
-    commands: Commands<Half>,
-    other: &Map<Half, i64>,
-) -> Numbers<Half>
+pub fn over_halves(alloc: Global, commands: Commands<Half>, other: &Map<Half, i64>) -> Numbers<Half>
     ensures canonical { IfOk result
         (λ made. IsCanonical ⟦<Half as MaybeBounded>⟧.order int_eq (box_items made.map) made.range_count) }
     ensures equal { IfOk result (λ made. IsTrue made.is_equal
@@ -116,11 +108,7 @@ pub fn over_halves(
     numbers_after_commands(alloc, commands, other)
 }
 
-pub fn over_u8(
-    alloc: Global,
-    commands: Commands<u8>,
-    other: &Map<u8, i64>,
-) -> Numbers<u8>
+pub fn over_u8(alloc: Global, commands: Commands<u8>, other: &Map<u8, i64>) -> Numbers<u8>
     ensures canonical { IfOk result
         (λ made. IsCanonical u8_order int_eq (box_items made.map) made.range_count) }
     ensures equal { IfOk result (λ made. IsTrue made.is_equal
@@ -129,11 +117,7 @@ pub fn over_u8(
     numbers_after_commands(alloc, commands, other)
 }
 
-pub fn over_u16(
-    alloc: Global,
-    commands: Commands<u16>,
-    other: &Map<u16, i64>,
-) -> Numbers<u16>
+pub fn over_u16(alloc: Global, commands: Commands<u16>, other: &Map<u16, i64>) -> Numbers<u16>
     ensures canonical { IfOk result
         (λ made. IsCanonical u16_order int_eq (box_items made.map) made.range_count) }
     ensures equal { IfOk result (λ made. IsTrue made.is_equal
@@ -142,11 +126,7 @@ pub fn over_u16(
     numbers_after_commands(alloc, commands, other)
 }
 
-pub fn over_u32(
-    alloc: Global,
-    commands: Commands<u32>,
-    other: &Map<u32, i64>,
-) -> Numbers<u32>
+pub fn over_u32(alloc: Global, commands: Commands<u32>, other: &Map<u32, i64>) -> Numbers<u32>
     ensures canonical { IfOk result
         (λ made. IsCanonical u32_order int_eq (box_items made.map) made.range_count) }
     ensures equal { IfOk result (λ made. IsTrue made.is_equal
@@ -155,11 +135,7 @@ pub fn over_u32(
     numbers_after_commands(alloc, commands, other)
 }
 
-pub fn over_u64(
-    alloc: Global,
-    commands: Commands<u64>,
-    other: &Map<u64, i64>,
-) -> Numbers<u64>
+pub fn over_u64(alloc: Global, commands: Commands<u64>, other: &Map<u64, i64>) -> Numbers<u64>
     ensures canonical { IfOk result
         (λ made. IsCanonical u64_order int_eq (box_items made.map) made.range_count) }
     ensures equal { IfOk result (λ made. IsTrue made.is_equal
@@ -181,11 +157,7 @@ pub fn over_usize(
     numbers_after_commands(alloc, commands, other)
 }
 
-pub fn over_i8(
-    alloc: Global,
-    commands: Commands<i8>,
-    other: &Map<i8, i64>,
-) -> Numbers<i8>
+pub fn over_i8(alloc: Global, commands: Commands<i8>, other: &Map<i8, i64>) -> Numbers<i8>
     ensures canonical { IfOk result
         (λ made. IsCanonical i8_order int_eq (box_items made.map) made.range_count) }
     ensures equal { IfOk result (λ made. IsTrue made.is_equal
@@ -194,11 +166,7 @@ pub fn over_i8(
     numbers_after_commands(alloc, commands, other)
 }
 
-pub fn over_i16(
-    alloc: Global,
-    commands: Commands<i16>,
-    other: &Map<i16, i64>,
-) -> Numbers<i16>
+pub fn over_i16(alloc: Global, commands: Commands<i16>, other: &Map<i16, i64>) -> Numbers<i16>
     ensures canonical { IfOk result
         (λ made. IsCanonical i16_order int_eq (box_items made.map) made.range_count) }
     ensures equal { IfOk result (λ made. IsTrue made.is_equal
@@ -207,11 +175,7 @@ pub fn over_i16(
     numbers_after_commands(alloc, commands, other)
 }
 
-pub fn over_i32(
-    alloc: Global,
-    commands: Commands<i32>,
-    other: &Map<i32, i64>,
-) -> Numbers<i32>
+pub fn over_i32(alloc: Global, commands: Commands<i32>, other: &Map<i32, i64>) -> Numbers<i32>
     ensures canonical { IfOk result
         (λ made. IsCanonical i32_order int_eq (box_items made.map) made.range_count) }
     ensures equal { IfOk result (λ made. IsTrue made.is_equal
@@ -220,11 +184,7 @@ pub fn over_i32(
     numbers_after_commands(alloc, commands, other)
 }
 
-pub fn over_i64(
-    alloc: Global,
-    commands: Commands<i64>,
-    other: &Map<i64, i64>,
-) -> Numbers<i64>
+pub fn over_i64(alloc: Global, commands: Commands<i64>, other: &Map<i64, i64>) -> Numbers<i64>
     ensures canonical { IfOk result
         (λ made. IsCanonical i64_order int_eq (box_items made.map) made.range_count) }
     ensures equal { IfOk result (λ made. IsTrue made.is_equal
@@ -233,11 +193,7 @@ pub fn over_i64(
     numbers_after_commands(alloc, commands, other)
 }
 
-pub fn over_char(
-    alloc: Global,
-    commands: Commands<char>,
-    other: &Map<char, i64>,
-) -> Numbers<char>
+pub fn over_char(alloc: Global, commands: Commands<char>, other: &Map<char, i64>) -> Numbers<char>
     ensures canonical { IfOk result
         (λ made. IsCanonical char_order int_eq (box_items made.map) made.range_count) }
     ensures equal { IfOk result (λ made. IsTrue made.is_equal

@@ -72,8 +72,8 @@ impl<K: PartialEnum + Clone, V: Eq + Drop, C: Storage<Item<AnyRange<K>, V>>> Ran
     /// three kinds of containers.
     ///
     /// Allocates a list of what the closure returns, clones of the bounds of its pieces, and the
-    /// new map's ranges, all at once; fails with `Memory` where an allocation does. Goes once over
-    /// both maps, and searches neither.
+    /// new map's ranges, all at once; fails with `Memory` where an allocation does, and only once the
+    /// closure answered without an error. Goes once over both maps, and searches neither.
     ///
     /// ```
     /// // of a map that binds 0..=5 to 1, and one that binds 4..9 to 10

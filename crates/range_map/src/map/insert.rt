@@ -23,8 +23,9 @@ impl<K: Measure + Clone, V: Eq + Clone, C: Storage<Item<AnyRange<K>, V>>> RangeM
     ///
     /// Allocates where more ranges are stored than the container has capacity for, and for a clone
     /// of a bound or a value where a stored range with another value is cut. After an error the map
-    /// is as it was. Costs one search, and a step for each stored range that the range meets or
-    /// touches; no search where the range comes before or after all stored ones and touches none.
+    /// is as it was. With room for two ranges more, and clones that never fail, it succeeds. Costs
+    /// one search, and a step for each stored range that the range meets or touches; no search where
+    /// the range comes before or after all stored ones and touches none.
     ///
     /// ```
     /// map.insert(0..=5, 1)?;

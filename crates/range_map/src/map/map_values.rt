@@ -87,8 +87,8 @@ impl<K: PartialEnum + Clone, V: Eq + Drop, C: Storage<Item<AnyRange<K>, V>>> Ran
     /// may be kept in two kinds of containers.
     ///
     /// Allocates a list of as many ranges as this map has and capacity for those that come of it,
-    /// each at once, and a clone of each bound; fails where an allocation does. Costs a step for
-    /// each stored range, and no search.
+    /// each at once, and a clone of each bound; fails with `Memory` where an allocation does, and only
+    /// once the closure answered without an error. Costs a step for each stored range, and no search.
     ///
     /// ```
     /// // of a map that binds 0..=5 to 1, and 6..=8 to 2

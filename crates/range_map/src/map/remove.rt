@@ -25,7 +25,8 @@ impl<K: Measure + Clone, V: Eq + Clone, C: Storage<Item<AnyRange<K>, V>>> RangeM
     ///
     /// Allocates a clone of each bound at which it cuts a stored range; and where one stored
     /// range becomes two, a clone of its value and what the container needs. Gives no capacity
-    /// back. After an error the map is as it was. Costs one search, and a step for each stored range that the range meets.
+    /// back; with room for one range more, and clones that never fail, it succeeds. After an error
+    /// the map is as it was. Costs one search, and a step for each stored range that the range meets.
     ///
     /// ```
     /// map.remove(1..9)?;

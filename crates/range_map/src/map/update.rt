@@ -140,8 +140,9 @@ impl<K: Measure + Clone, V: Eq + Clone, C: Storage<Item<AnyRange<K>, V>>> RangeM
     ///
     /// Allocates a list of what the closure returns, clones of the bounds of its pieces
     /// and of the stored ranges that are cut, and where more ranges are stored than the container
-    /// has capacity for; fails with `Memory` where an allocation does. Costs one search, and a step
-    /// for each stored range that the range meets or touches.
+    /// has capacity for; fails with `Memory` where an allocation does, over keys whose clones never
+    /// fail only once the closure answered without an error. Costs one search, and a step for each
+    /// stored range that the range meets or touches.
     ///
     /// ```
     /// // of a map that binds 0..=5 to 1

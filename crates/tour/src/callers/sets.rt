@@ -1,8 +1,7 @@
 //! Callers of sets.
 
-use btree_range_map::generic;
 use btree_range_map::storage::{Item, VecStorage};
-use btree_range_map::{AnyRange, MapError, RangeSet};
+use btree_range_map::{AnyRange, MapError, RangeSet, generic};
 use std::alloc::{AllocError, Global};
 use std::cmp::Ordering;
 use std::hash::{DefaultHasher, Hash};

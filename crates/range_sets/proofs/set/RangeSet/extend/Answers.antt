@@ -1,5 +1,6 @@
 use Rattle.std.proofs.Common.{◌∷◌, [], map, rules}
 use Rattle.std.proofs.lemmas.List.{map-append}
+use Rattle.range_change.proofs.Results.{on_error}
 use Rattle.range_sets.proofs.Membership.{none_added, one_more}
 use Rattle.range_sets.proofs.set.RangeSet.extend.Goals as goal
 
@@ -49,7 +50,16 @@ returns-in_err-insert g c =
       added =
           search rules;
       refused =
-          search rules;
+          on_error _ c.from_residual.result (
+            c.into_iter-range-iterator.result,
+            c.loop-range.yielded,
+            c.in-Some.range,
+            c.next.new.self,
+            c.into_iter-range-iterator.ensures.into_iter_gives,
+            (c.loop-range.range-iterator, search rules, search rules),
+            λ empty. absurd (search (rules, c.insert.ensures.empty empty)),
+            rw c.in_err-insert.ensures.refused c.loop-range.invariant.added,
+          );
       form =
           search rules;
     }

@@ -25,7 +25,7 @@ returns g c =
       form =
           search rules;
       frame =
-          search rules;
+          rw (← c.self.view_is) c.insert.ensures.frame;
       refused =
           search rules;
       empty =

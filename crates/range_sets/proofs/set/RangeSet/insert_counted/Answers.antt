@@ -24,7 +24,7 @@ returns g c =
       form =
           search rules;
       frame =
-          search rules;
+          rw (← c.self.view_is) c.insert_counted.ensures.frame;
       refused =
           search rules;
       empty =

@@ -12,6 +12,7 @@ returns g c =
             ranges_length (g.C.Storage.items c.self.inside.map),
             c.range_count-left.ensures,
           ));
+      exact = rw (← c.self.view_is, ranges_length (g.C.Storage.items c.self.inside.map)) cc;
       upper = (
         tt,
         rw (← c.self.view_is) (omega (

@@ -6,6 +6,8 @@ returns g c =
     record {
       lower =
           rw (← c.self.view_is, ranges_length c.self.inside.items) c.size_hint.ensures.lower;
+      exact =
+          rw (← c.self.view_is, ranges_length c.self.inside.items) c.size_hint.ensures.exact;
       upper =
           rw (← c.self.view_is, ranges_length c.self.inside.items) c.size_hint.ensures.upper;
     }
