@@ -38,8 +38,8 @@ class Item:
     def __init__(self, place, owner, kind, name, comment, text, imports):
         self.place, self.owner, self.kind, self.name = place, owner, kind, name
         self.comment, self.text, self.imports = comment, text, imports
-        of_type = re.sub(r"<.*", "", owner.rpartition(" for ")[2].split("::")[-1])
-        self.title = f"{of_type}::{name}" if of_type else name
+        self.of_type = re.match(r"\w*", owner.rpartition(" for ")[2].split("::")[-1])[0]
+        self.title = f"{self.of_type}::{name}" if self.of_type else name
         self.anchor = re.sub(r"\W+", "-", f"{place}-{owner}-{name}").strip("-")
 
 
@@ -76,8 +76,15 @@ def comment_before(lines, at):
     return [re.sub(r"^/// ?", "", line) for line in taken if line.startswith("///")]
 
 
-def items_of(crate):
-    """Returns the public items of a crate, in the order of its files."""
+def exported(every):
+    """Returns the names that the root exports, and those of its module `json`."""
+    paths = [*(every["btree_range_map"].folder / "src").rglob("*.rt"), *every["range_json"].folder.glob("src/*.rt")]
+    uses = (it for path in paths for it in re.findall(r"^ *pub use ([^;]*);", path.read_text(), re.M))
+    return {word for use in uses for word in re.findall(r"\w+", use)} | {"RangeMap", "RangeSet", "RangeMultiMap"}
+
+
+def items_of(crate, names):
+    """Returns the public items of a crate with a doc comment that have such names, or are of such types."""
     found = []
     for path in sorted((crate.folder / "src").rglob("*.rt")):
         text = path.read_text()
@@ -94,7 +101,9 @@ def items_of(crate):
                 continue
             of = owner if head[1] else ""
             comment, shown = comment_before(lines, at), text_from(lines, at, head[1])
-            found.append(Item(place, of, head[3], head[4], comment, shown, imports))
+            item = Item(place, of, head[3], head[4], comment, shown, imports)
+            if comment and (item.of_type or item.name) in names and not place.startswith("inner"):
+                found.append(item)
     return found
 
 
@@ -126,6 +135,11 @@ def linked(text, imports, own, known):
     return re.sub(r"\b[A-Za-z_]\w*", link, html.escape(text, quote=False))
 
 
+def code(text):
+    """Returns a text as HTML, what stands between backticks as code."""
+    return re.sub(r"`([^`]*)`", r"<code>\1</code>", html.escape(text, quote=False))
+
+
 def prose(lines):
     """Returns a doc comment as HTML: paragraphs, and blocks between fences."""
     parts, is_code, out = "\n".join(lines).split("```"), False, []
@@ -134,8 +148,7 @@ def prose(lines):
             out.append(f"<pre>{html.escape(part.partition(chr(10))[2].rstrip())}</pre>")
         else:
             for paragraph in filter(str.strip, part.split("\n\n")):
-                text = re.sub(r"`([^`]*)`", r"<code>\1</code>", html.escape(paragraph, quote=False))
-                out.append(f"<p>{text}</p>")
+                out.append(f"<p>{code(paragraph)}</p>")
         is_code = not is_code
     return "\n".join(out)
 
@@ -148,6 +161,7 @@ def page(title, body):
 def write(folder):
     """Writes the pages of the crates that the root is made of."""
     every, known, rows = crates(), {}, []
+    exports = exported(every)
     names = [name for name in every if name in below(every, "btree_range_map")]
     for name in names:
         for (file, word), definition in definitions_of(every[name]).items():
@@ -155,11 +169,11 @@ def write(folder):
     folder.mkdir(parents=True, exist_ok=True)
     for name in names:
         body = '<p><a href="index.html">all calls</a></p>'
-        for it in items_of(every[name]):
+        for it in items_of(every[name], exports):
             text = linked(it.text, it.imports, ("", ""), known)
             where = f'<small>{html.escape(it.owner)} {name}/src/{it.place}</small>'
             body += f'<h2 id="{it.anchor}">{it.title} {where}</h2>{prose(it.comment)}<pre>{text}</pre>\n'
-            first = html.escape(" ".join(it.comment).split(". ")[0], quote=False)
+            first = code(" ".join(it.comment).split(". ")[0])
             place = f'<span class="place">{name} {it.kind}</span>'
             rows.append(f'<li><a href="{name}.html#{it.anchor}">{it.title}</a> {place} {first}</li>')
         (folder / f"{name}.html").write_text(page(name, body))
