@@ -1,11 +1,7 @@
-pub mod Arena
-pub mod Blocks
 pub mod Building
-pub mod ChildLists
 pub mod Contents
 pub mod Counting
 pub mod Depth
-pub mod Division
 pub mod Edges
 pub mod Falling
 pub mod Frame
@@ -16,5 +12,6 @@ pub mod Marks
 pub mod Nodes
 pub mod Occurrences
 pub mod Rewriting
+pub mod Spares
 pub mod Weave
 pub mod Written

@@ -4,12 +4,10 @@ ghost use Rattle.std.specs.Option.{ForSome};
 ghost use Rattle.range_store.specs.Depth.{HasLevels};
 ghost use Rattle.range_store.specs.Nodes.{items_below, IsRoomy, IsRoomy-prop};
 
-mod blocks;
 mod building;
-mod child_lists;
 pub(crate) mod chunks;
-mod division;
 mod insertion;
+mod node;
 mod nodes;
 mod path;
 mod removal;
@@ -169,7 +167,7 @@ impl<T: Drop> Storage<T> for BoxStorage<T> {
         if wanted <= self.nodes.capacity() {
             return Ok(());
         }
-        self.nodes.reserve(wanted - self.nodes.len())
+        self.nodes.reserve(self.alloc, wanted - self.nodes.len())
     }
 
     fn insert_at(&mut self, before: Option<Edge>, item: T) -> Edge

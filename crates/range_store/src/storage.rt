@@ -87,22 +87,10 @@ impl<K, V> Item<K, V> {
 pub struct Chunk<'a, T> {
     /// The first item.
     pub first: &'a T,
-    /// The cells after it, each with an item.
-    pub rest: &'a [Option<T>],
+    /// The items after it.
+    pub rest: &'a [T],
     /// The mark after these.
     pub after: Mark,
-}
-
-/// The item in a full cell.
-#[inline(always)]
-pub fn item_in<T>(cell: &Option<T>) -> &T
-    requires { IsSome cell.now }
-    ensures { cell.now ≡ Some result.now }
-{
-    match cell {
-        Some(item) => item,
-        None => unreachable!(),
-    }
 }
 
 /// A question to the items of a container, which counts how often it is asked.
@@ -197,9 +185,8 @@ pub trait Storage<T>: Drop {
         requires some { mark_place self.now mark < length (items self.now) }
         ensures first { result.first.now
             ≡ slice_index_or (items self.now) (mark_place self.now mark) result.first.now }
-        ensures rest { result.rest.now ≡ map (λ x. Some x)
-            (take (length result.rest.now)
-            (drop (mark_place self.now mark + 1) (items self.now))) }
+        ensures rest { result.rest.now ≡ take (length result.rest.now)
+            (drop (mark_place self.now mark + 1) (items self.now)) }
         ensures good { is_good_mark self.now result.after }
         ensures place { mark_place self.now result.after
             ≡ mark_place self.now mark + 1 + length result.rest.now };

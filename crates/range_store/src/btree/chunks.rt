@@ -1,6 +1,6 @@
 //! The steps of an iterator over the tree, from leaf to leaf.
 ghost use Rattle.std.specs.Prelude.{◌≡◌, ◌+◌, ◌-◌, ◌^◌, ◌<◌, ◌≤◌, length, take, drop, slice_index_or};
-ghost use Rattle.range_store.specs.Heap.{node_of, items_of, full_cells};
+ghost use Rattle.range_store.specs.Heap.{node_of, items_of};
 ghost use Rattle.range_store.specs.Nodes.{ShapedBut};
 ghost use Rattle.range_store.specs.Edges.{IsEdge};
 ghost use Rattle.range_store.specs.Holding.{box_items, box_place, box_home, IsBoxEdge};
@@ -196,19 +196,18 @@ impl<T: Drop> BoxStorage<T> {
         ensures first { result.first.now
             ≡ slice_index_or (box_items self.now) (box_place self.now mark.edge)
             result.first.now }
-        ensures rest { result.rest.now ≡ full_cells
-            (take (length result.rest.now)
-            (drop (box_place self.now mark.edge + 1) (box_items self.now))) }
+        ensures rest { result.rest.now ≡ take (length result.rest.now)
+            (drop (box_place self.now mark.edge + 1) (box_items self.now)) }
         ensures good { IsGoodMark self.now result.after }
         ensures place { box_place self.now result.after.edge
             ≡ box_place self.now mark.edge + 1 + length result.rest.now }
     {
         let Passed { mark, home } = self.passed(mark);
-        let cells = self.nodes.cells(mark.edge.leaf);
+        let items = self.nodes.items(mark.edge.leaf);
         Chunk {
             first: self.nodes.item_at(home.node, home.index),
-            rest: &cells[mark.edge.index..],
-            after: moved_to(mark, cells.len()),
+            rest: &items[mark.edge.index..],
+            after: moved_to(mark, items.len()),
         }
     }
 }
