@@ -13,11 +13,11 @@ without [] slots = slots
 without (n ∷ ns) slots = slice_set (without ns slots) n None
 
 module _ {T : Type 0} where
-  -- a node has these items and children, and as much room for items as before
+  -- a node has these items and children, and no less room for items than before
   pub record IsRewritten (old new : Node T) (items : List T) (children : List ℕ) : Type 0 where
     pub items_are : new.items.items ≡ items
     pub children_are : new.children.items ≡ children
-    pub room : vec_capacity new.items ≡ vec_capacity old.items
+    pub room : vec_capacity old.items ≤ vec_capacity new.items
 
   -- what a node has
   abbrev pub content_of : Option (Node T) → Option (Content T)

@@ -198,7 +198,7 @@ impl<T: Drop> Nodes<T> {
             (insert (items_of (node_of self.old number)) index item)
             (with_child (children_of (node_of self.old number)) (index + 1) child) }
     {
-        self.slab[number].put(index, item, index + 1, child);
+        self.put_beside(number, index, item, index + 1, child);
     }
 
     /// Puts an item into a full node, and a child with it, as `put` does, and cuts the node in two.
@@ -390,6 +390,7 @@ impl<T: Drop> Nodes<T> {
     {
         let mut upper = self.slab.remove(right);
         self.slab[left].absorb(middle, &mut upper);
-        self.spares.push_reserved(self.slab.insert_reserved(upper));
+        let right = self.slab.insert_reserved(upper);
+        self.spares.push_reserved(right);
     }
 }
