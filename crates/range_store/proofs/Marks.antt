@@ -4,7 +4,7 @@ use Rattle.std.proofs.Math.Nat.{one-le-pow, pow-suc}
 use Rattle.std.proofs.lemmas.Bool.{and_from, and_left, cases_lt, eq-eqb, ne_eqb}
 use Rattle.range_store.specs.Marks.{mark_at, mark_beside, IsAbove, IsGoodMark}
 use Rattle.range_store.specs.Edges.{turn, inside, is_start, IsEdge, place, home_of}
-use Rattle.range_store.specs.Heap.{Heap, node_of, HasNode, items_of, children_of, full_cells}
+use Rattle.range_store.specs.Heap.{Heap, node_of, HasNode, items_of, children_of}
 use Rattle.range_store.specs.Holding.{box_items, box_place, box_home, IsBoxEdge}
 use Rattle.range_store.specs.Written.{root_shaped}
 use Rattle.range_store.specs.declared.btree.BoxStorage.{BoxStorage}
@@ -19,7 +19,6 @@ use Rattle.range_store.specs.declared.btree.path.Edge.{Edge}
 use Rattle.range_store.specs.declared.btree.path.TheConstants.{PATH_BASE}
 use Rattle.range_store.proofs.Below.{children_length, items_below_leaf, shaped_within_wider}
 use Rattle.range_store.proofs.Edges.{leaf_edge, leaf_path, leaf_is, leaf_index, leaf_place, edge_above, place_above, place_inside, path_small, turn_within, edge_inside}
-use Rattle.range_store.proofs.FullCells.{full_drop, length-full}
 use Rattle.range_store.proofs.Paths.{below_turn, before_next, home_above, home_inside}
 
 module _ {T : Type 0} (s : Heap T) where
@@ -289,11 +288,6 @@ module _ {T : Type 0} (s : BoxStorage T) (g : Edge) (is : IsBoxEdge s g) where
       × (box_place s (record g { index = index }) + g.index ≡ box_place s g + index)
   within index low = tree_beside s g is (record g { index = index }) refl refl low
 
-  pub within_cells : (cells : List (Option T)) → cells ≡ full_cells items
-      → g.index ≤ length cells
-  within_cells cells full =
-      omega (arith, ap length full, length-full items, (tree_leaf s g is).within)
-
   pub leaf_rest : drop g.index items
       ≡ take (length items - g.index) (drop (box_place s g) (box_items s))
   leaf_rest =
@@ -323,16 +317,11 @@ module _ {T : Type 0} (s : BoxStorage T) (g : Edge) (is : IsBoxEdge s g) where
       ∙ sym (get_or-drop (box_place s g) (box_items s) k d)
       ∙ sym (get_or-take (length items - g.index) _ k d (omega (arith, here))))
 
--- cells with the items from an index on are those with so many items of another list
-pub cells_from : {T : Type 0} (cells : List (Option T)) (xs ys : List T) (i : ℕ)
-    → cells ≡ full_cells xs → i ≤ length xs → drop i xs ≡ take (length xs - i) ys
-    → take (length cells - i) (drop i cells)
-    ≡ full_cells (take (length (take (length cells - i) (drop i cells))) ys)
-cells_from cells xs ys i full low rest =
-    let long : length cells ≡ length xs = ap length full ∙ length-full xs in
-    let all : take (length cells - i) (drop i cells) ≡ full_cells (drop i xs) =
-    take_all (length cells - i) (drop i cells) (omega (arith, length-drop i cells))
-    ∙ ap (drop i) full ∙ full_drop i xs in
-    let many : length (take (length cells - i) (drop i cells)) ≡ length xs - i =
-    ap length all ∙ length-full (drop i xs) ∙ length-drop i xs in
-    all ∙ ap full_cells (rest ∙ ap (λ k. take k ys) (sym many))
+-- the items from an index on are so many items of another list
+pub rest_from : {T : Type 0} (xs ys : List T) (i : ℕ) → i ≤ length xs
+    → drop i xs ≡ take (length xs - i) ys
+    → take (length xs - i) (drop i xs) ≡ take (length (take (length xs - i) (drop i xs))) ys
+rest_from xs ys i low rest =
+    let all : take (length xs - i) (drop i xs) ≡ drop i xs =
+    take_all (length xs - i) (drop i xs) (omega (arith, length-drop i xs)) in
+    all ∙ rest ∙ ap (λ k. take k ys) (sym (ap length all ∙ length-drop i xs))
