@@ -7,21 +7,21 @@ use Rattle.range_map.proofs.Common.{drop-drop, drop_more, false≢true}
 use Rattle.range_map.specs.Iteration.{place_behind, IsIterator}
 
 module _ {T P F : Type 0} {items : List T} {is_good : P → Type 0} {rank : P → ℕ}
-    {is_good_mark : F → Type 0} {mark_place : F → ℕ} {cells : List (Option T)}
+    {is_good_mark : F → Type 0} {mark_place : F → ℕ} {run : List T}
     {front : F} {back : Option P} {left : ℕ}
-    (before : IsIterator items is_good rank is_good_mark mark_place cells front back left)
+    (before : IsIterator items is_good rank is_good_mark mark_place run front back left)
     (some : 0 < left) where
   abbrev place : ℕ
   place = place_behind rank back - left
 
-  -- the next item, with the cells and the mark that are left
-  pub record IsNext (item : T) (rest : List (Option T)) (after : F) : Type 0 where
+  -- the next item, with the run and the mark that are left
+  pub record IsNext (item : T) (rest : List T) (after : F) : Type 0 where
     pub next : drop place items ≡ item ∷ drop (place + 1) items
-    pub rest_are : rest ≡ map (λ x. Some x) (take (length rest) (drop (place + 1) items))
+    pub rest_is : rest ≡ take (length rest) (drop (place + 1) items)
     pub after_is_good : is_good_mark after
     pub after_is : mark_place after ≡ place + 1 + length rest
 
-  pub next_steps : (item : T) (rest : List (Option T)) (after : F) → IsNext item rest after
+  pub next_steps : (item : T) (rest : List T) (after : F) → IsNext item rest after
       → take left (drop place items)
       ≡ item ∷ take (left - 1) (drop (place_behind rank back - (left - 1)) items)
   next_steps item rest after is =
@@ -31,7 +31,7 @@ module _ {T P F : Type 0} {items : List T} {is_good : P → Type 0} {rank : P �
       ap (λ n. take n (drop place items)) many ∙ ap (take (suc (left - 1))) is.next
       ∙ ap (λ at. item ∷ take (left - 1) (drop at items)) moved
 
-  pub next_iterator : (item : T) (rest : List (Option T)) (after : F) → IsNext item rest after
+  pub next_iterator : (item : T) (rest : List T) (after : F) → IsNext item rest after
       → IsIterator items is_good rank is_good_mark mark_place rest after back (left - 1)
   next_iterator item rest after is =
       let moved : place + 1 ≡ place_behind rank back - (left - 1) =
@@ -40,46 +40,41 @@ module _ {T P F : Type 0} {items : List T} {is_good : P → Type 0} {rank : P �
         last = before.last;
         in_range = before.in_range;
         enough = omega (arith, before.enough);
-        cells_are = rw (← moved) is.rest_are;
+        run_is = rw (← moved) is.rest_is;
         front_is_good = is.after_is_good;
         front_is = omega (arith, moved, is.after_is);
       }
 
-  pub from_cell : (cell : Option T) (rest : List (Option T)) (item : T) → cells ≡ cell ∷ rest
-      → cell ≡ Some item → IsNext item rest front
-  from_cell cell rest item at full =
-      from (drop place items) refl (rw at at before.cells_are)
+  pub from_run : (rest : List T) (item : T) → run ≡ item ∷ rest → IsNext item rest front
+  from_run rest item at = from (drop place items) refl (rw at at before.run_is)
     where
       from : (ys : List T) → drop place items ≡ ys
-          → cell ∷ rest ≡ map (λ x. Some x) (take (suc (length rest)) ys)
-          → IsNext item rest front
+          → item ∷ rest ≡ take (suc (length rest)) ys → IsNext item rest front
       from [] none same = absurd (omega (arith, ap length same))
       from (y ∷ ys) here same =
           let later : ys ≡ drop (place + 1) items =
           ap (drop 1) (sym here) ∙ drop-drop 1 place items in
-          let first : y ≡ item =
-          ap (λ o. unwrap_or o y) (sym (ap (λ zs. get_or zs 0 cell) same) ∙ full) in
+          let first : y ≡ item = ap (λ zs. get_or zs 0 y) (sym same) in
           record {
             next = here ∙ ap (λ z. z ∷ ys) first ∙ ap (λ zs. item ∷ zs) later;
-            rest_are =
-                ap (drop 1) same ∙ ap (λ zs. map (λ x. Some x) (take (length rest) zs)) later;
+            rest_is = ap (drop 1) same ∙ ap (take (length rest)) later;
             after_is_good = before.front_is_good;
             after_is = omega (arith, before.front_is, ap length at);
           }
 
-  pub from_chunk : (item : T) (rest : List (Option T)) (after : F) → length cells ≡ 0
+  pub from_chunk : (item : T) (rest : List T) (after : F) → length run ≡ 0
       → item ≡ get_or items (mark_place front) item
-      → rest ≡ map (λ x. Some x) (take (length rest) (drop (mark_place front + 1) items))
+      → rest ≡ take (length rest) (drop (mark_place front + 1) items)
       → is_good_mark after → mark_place after ≡ mark_place front + 1 + length rest
       → IsNext item rest after
-  from_chunk item rest after none first rest_are good after_is =
+  from_chunk item rest after none first rest_is good after_is =
       let here : mark_place front ≡ place = omega (arith, before.front_is, none) in
       record {
         next =
             drop_more items place item (omega (arith, some, before.in_range, before.enough))
             ∙ ap (λ z. z ∷ drop (place + 1) items)
             (ap (λ i. get_or items i item) (sym here) ∙ sym first);
-        rest_are = rw (← here) rest_are;
+        rest_is = rw (← here) rest_is;
         after_is_good = good;
         after_is = omega (arith, here, after_is);
       }
@@ -100,11 +95,11 @@ module _ {T P : Type 0} (items : List T) (is_good : P → Type 0) (rank : P → 
 
   -- what is left before the last item
   pub prev_iterator : {F : Type 0} (is_good_mark : F → Type 0) (mark_place : F → ℕ)
-      (cells : List (Option T)) (front : F) (back prev : Option P) (p : P) (left : ℕ)
-      → IsIterator items is_good rank is_good_mark mark_place cells front back left → 0 < left
+      (run : List T) (front : F) (back prev : Option P) (p : P) (left : ℕ)
+      → IsIterator items is_good rank is_good_mark mark_place run front back left → 0 < left
       → back ≡ Some p → MatchOption prev (rank p ≡ 0) (λ q. is_good q × (rank q + 1 ≡ rank p))
-      → IsIterator items is_good rank is_good_mark mark_place cells front prev (left - 1)
-  prev_iterator is_good_mark mark_place cells front back prev p left now some is before =
+      → IsIterator items is_good rank is_good_mark mark_place run front prev (left - 1)
+  prev_iterator is_good_mark mark_place run front back prev p left now some is before =
       let end : place_behind rank back ≡ rank p + 1 = ap (place_behind rank) is in
       let start : place_behind rank back - left ≡ place_behind rank prev - (left - 1) =
       omega (arith, end, some, now.enough, place_of_prev p prev before) in
@@ -112,7 +107,7 @@ module _ {T P : Type 0} (items : List T) (is_good : P → Type 0) (rank : P → 
         last = good_prev p prev before;
         in_range = omega (arith, end, now.in_range, place_of_prev p prev before);
         enough = omega (arith, end, now.enough, place_of_prev p prev before);
-        cells_are = rw (← start) now.cells_are;
+        run_is = rw (← start) now.run_is;
         front_is_good = now.front_is_good;
         front_is = rw (← start) now.front_is;
       }

@@ -7,7 +7,7 @@ ghost use Rattle.range_map.specs.Iteration.{shown_item};
 
 use range_algebra::any::AnyRange;
 use range_store::btree::Mark;
-use range_store::storage::{Item, Storage, item_in};
+use range_store::storage::{Item, Storage};
 use std::alloc::AllocError;
 use std::marker::{Model, PhantomData};
 
@@ -16,7 +16,7 @@ use std::marker::{Model, PhantomData};
 pub struct Iter<'a, K: 'a, V: 'a, C: Storage<Item<AnyRange<K>, V>> + 'a> {
     stored: &'a C,
     // The next items, and the mark after them.
-    cells: &'a [Option<Item<AnyRange<K>, V>>],
+    run: &'a [Item<AnyRange<K>, V>],
     front: Mark,
     back: Option<C::Position>,
     left: usize,
@@ -36,7 +36,7 @@ impl<'a, K: 'a, V: 'a, C: Storage<Item<AnyRange<K>, V>> + 'a> Model for Iter<'a,
 
     ghost invariant = { λ i. IsIterator (C.items i.stored.now) (C.is_good i.stored.now)
         (C.rank i.stored.now) (C.is_good_mark i.stored.now) (C.mark_place i.stored.now)
-        i.cells.now i.front i.back i.left };
+        i.run.now i.front i.back i.left };
 }
 
 impl<'a, K: 'a, V: 'a, C: Storage<Item<AnyRange<K>, V>> + 'a> Iter<'a, K, V, C> {
@@ -46,7 +46,7 @@ impl<'a, K: 'a, V: 'a, C: Storage<Item<AnyRange<K>, V>> + 'a> Iter<'a, K, V, C> 
     {
         Iter {
             stored,
-            cells: &[],
+            run: &[],
             front: stored.start(),
             back: stored.last(),
             left: stored.len(),
@@ -64,7 +64,7 @@ impl<'a, K: 'a, V: 'a, C: Storage<Item<AnyRange<K>, V>> + 'a> Clone for Iter<'a,
     fn clone(&self) -> Result<Self, AllocError> {
         Ok(Iter {
             stored: self.stored,
-            cells: self.cells,
+            run: self.run,
             front: self.front,
             back: self.back,
             left: self.left,
@@ -85,14 +85,14 @@ impl<'a, K: 'a, V: 'a, C: Storage<Item<AnyRange<K>, V>> + 'a> Iterator for Iter<
         if self.left == 0 {
             return None;
         }
-        let item = match self.cells.split_first() {
-            Some((cell, rest)) => {
-                self.cells = rest;
-                item_in(cell)
+        let item = match self.run.split_first() {
+            Some((first, rest)) => {
+                self.run = rest;
+                first
             }
             None => {
                 let chunk = self.stored.chunk_from(self.front);
-                self.cells = chunk.rest;
+                self.run = chunk.rest;
                 self.front = chunk.after;
                 chunk.first
             }

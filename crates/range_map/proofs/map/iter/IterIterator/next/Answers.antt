@@ -1,5 +1,5 @@
 use Rattle.std.proofs.Common.{◌<◌, length, ap, sym, ◌∙◌, arith}
-use Rattle.range_map.proofs.Chunks.{from_cell, from_chunk, next_iterator, next_steps}
+use Rattle.range_map.proofs.Chunks.{from_run, from_chunk, next_iterator, next_steps}
 use Rattle.range_map.proofs.map.iter.IterIterator.next.Goals as goal
 use Rattle.range_map.proofs.map.iter.IterIterator.next.Goals.{in-Some, in-None}
 
@@ -10,7 +10,7 @@ invariant_of-self g c =
       | in-Some w ↦
           rw w.self-inside-is
           (next_iterator c.self.invariant some _ _ _
-          (from_cell c.self.invariant some _ _ _ w.in-Some.ensures.cases.0 w.item_in-item.ensures))
+          (from_run c.self.invariant some _ _ w.in-Some.ensures.cases.0))
       | in-None w ↦
           rw w.self-inside-is
           (next_iterator c.self.invariant some _ _ _
@@ -26,7 +26,7 @@ returns-clause-steps g c =
       | in-Some w ↦
           rw (w.self-inside-is, w.item-is)
           (sym c.self.view_is ∙ next_steps c.self.invariant some _ _ _
-          (from_cell c.self.invariant some _ _ _ w.in-Some.ensures.cases.0 w.item_in-item.ensures))
+          (from_run c.self.invariant some _ _ w.in-Some.ensures.cases.0))
       | in-None w ↦
           rw (w.self-inside-is, w.item-is)
           (sym c.self.view_is ∙ next_steps c.self.invariant some _ _ _
@@ -42,7 +42,7 @@ returns-clause-goes g c =
       | in-Some w ↦
           let steps =
           next_steps c.self.invariant some _ _ _
-          (from_cell c.self.invariant some _ _ _ w.in-Some.ensures.cases.0 w.item_in-item.ensures)
+          (from_run c.self.invariant some _ _ w.in-Some.ensures.cases.0)
           in
           rw (w.self-inside-is, ← c.self.view_is) (record {
             on = λ _. (tt, tt, omega (arith, ap length steps));
