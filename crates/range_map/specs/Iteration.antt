@@ -3,6 +3,7 @@ use Rattle.std.specs.Prelude.{◌≡◌, ℕ, ◌+◌, ◌-◌, ◌≤◌, List,
 use Rattle.std.specs.Option.{ForSome}
 use denote.Ref.{Bor}
 use Rattle.range_algebra.specs.declared.any.AnyRange.{AnyRange}
+use Rattle.range_store.specs.ListPlaces.{IsAt}
 use Rattle.range_store.specs.declared.storage.Item.{Item}
 
 -- the item that a pair of references shows
@@ -19,13 +20,12 @@ place_behind rank None = 0
 place_behind rank (Some p) = rank p + 1
 
 -- the last items up to `back` are left, of which those of the run come first, and then those
--- behind `front`
-pub record IsIterator {T P F : Type 0} (items : List T) (is_good : P → Type 0) (rank : P → ℕ)
-    (is_good_mark : F → Type 0) (mark_place : F → ℕ) (run : List T) (front : F)
-    (back : Option P) (left : ℕ) : Type 0 where
+-- from `front` on
+pub record IsIterator {T P : Type 0} (items : List T) (is_good : P → Type 0) (rank : P → ℕ)
+    (run : List T) (front back : Option P) (left : ℕ) : Type 0 where
   pub last : ForSome back is_good
   pub in_range : place_behind rank back ≤ length items
   pub enough : left ≤ place_behind rank back
   pub run_is : run ≡ take (length run) (drop (place_behind rank back - left) items)
-  pub front_is_good : is_good_mark front
-  pub front_is : mark_place front ≡ place_behind rank back - left + length run
+  pub front_at : IsAt is_good rank (length items) front
+      (place_behind rank back - left + length run)

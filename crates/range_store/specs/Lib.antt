@@ -8,7 +8,6 @@ pub mod Frame
 pub mod Heap
 pub mod Holding
 pub mod ListPlaces
-pub mod Marks
 pub mod Nodes
 pub mod Occurrences
 pub mod Rewriting

@@ -259,9 +259,9 @@ fn passed<C: Storage<u64>>(
 /// Whether a container's chunks show the items that its positions name.
 pub fn chunks_agree<C: Storage<u64>>(storage: &C) -> bool {
     let mut at = storage.first();
-    let mut mark = storage.start();
-    while let Some(p) = at {
-        let chunk = storage.chunk_from(mark);
+    let mut from = storage.first();
+    while let (Some(p), Some(first)) = (at, from) {
+        let chunk = storage.chunk_from(first);
         if storage.get(p) != chunk.first {
             return false;
         }
@@ -269,7 +269,7 @@ pub fn chunks_agree<C: Storage<u64>>(storage: &C) -> bool {
             Some(next) => at = next,
             None => return false,
         }
-        mark = chunk.after;
+        from = chunk.after;
     }
-    true
+    at.is_none() && from.is_none()
 }

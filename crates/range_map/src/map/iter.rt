@@ -6,7 +6,6 @@ ghost use Rattle.range_store.specs.declared.storage.Item.{Item};
 ghost use Rattle.range_map.specs.Iteration.{shown_item};
 
 use range_algebra::any::AnyRange;
-use range_store::btree::Mark;
 use range_store::storage::{Item, Storage};
 use std::alloc::AllocError;
 use std::marker::{Model, PhantomData};
@@ -15,9 +14,9 @@ use std::marker::{Model, PhantomData};
 #[derive(Drop)]
 pub struct Iter<'a, K: 'a, V: 'a, C: Storage<Item<AnyRange<K>, V>> + 'a> {
     stored: &'a C,
-    // The next items, and the mark after them.
+    // The next items, and the position after them.
     run: &'a [Item<AnyRange<K>, V>],
-    front: Mark,
+    front: Option<C::Position>,
     back: Option<C::Position>,
     left: usize,
     item: PhantomData<(K, V)>,
@@ -35,8 +34,7 @@ impl<'a, K: 'a, V: 'a, C: Storage<Item<AnyRange<K>, V>> + 'a> Model for Iter<'a,
         (drop (place_behind (C.rank i.stored.now) i.back - i.left) (C.items i.stored.now)) };
 
     ghost invariant = { λ i. IsIterator (C.items i.stored.now) (C.is_good i.stored.now)
-        (C.rank i.stored.now) (C.is_good_mark i.stored.now) (C.mark_place i.stored.now)
-        i.run.now i.front i.back i.left };
+        (C.rank i.stored.now) i.run.now i.front i.back i.left };
 }
 
 impl<'a, K: 'a, V: 'a, C: Storage<Item<AnyRange<K>, V>> + 'a> Iter<'a, K, V, C> {
@@ -47,7 +45,7 @@ impl<'a, K: 'a, V: 'a, C: Storage<Item<AnyRange<K>, V>> + 'a> Iter<'a, K, V, C> 
         Iter {
             stored,
             run: &[],
-            front: stored.start(),
+            front: stored.first(),
             back: stored.last(),
             left: stored.len(),
             item: PhantomData,
@@ -91,7 +89,8 @@ impl<'a, K: 'a, V: 'a, C: Storage<Item<AnyRange<K>, V>> + 'a> Iterator for Iter<
                 first
             }
             None => {
-                let chunk = self.stored.chunk_from(self.front);
+                let Some(p) = self.front else { unreachable!() };
+                let chunk = self.stored.chunk_from(p);
                 self.run = chunk.rest;
                 self.front = chunk.after;
                 chunk.first

@@ -14,9 +14,9 @@ invariant_of-self g c =
       | in-None w ↦
           rw w.self-inside-is
           (next_iterator c.self.invariant some _ _ _
-          (from_chunk c.self.invariant some _ _ _ w.in-None.ensures.cases
-          w.chunk_from-chunk.ensures.first w.chunk_from-chunk.ensures.rest
-          w.chunk_from-chunk.ensures.good w.chunk_from-chunk.ensures.place))
+          (from_chunk c.self.invariant some w.in-Some-p.p _ _ _ w.in-None.ensures.cases
+          w.in-Some-p.is w.chunk_from-chunk.ensures.first w.chunk_from-chunk.ensures.rest
+          w.chunk_from-chunk.ensures.after))
     ]
 
 pub returns-clause-steps : goal.returns-clause-steps
@@ -30,9 +30,9 @@ returns-clause-steps g c =
       | in-None w ↦
           rw (w.self-inside-is, w.item-is)
           (sym c.self.view_is ∙ next_steps c.self.invariant some _ _ _
-          (from_chunk c.self.invariant some _ _ _ w.in-None.ensures.cases
-          w.chunk_from-chunk.ensures.first w.chunk_from-chunk.ensures.rest
-          w.chunk_from-chunk.ensures.good w.chunk_from-chunk.ensures.place))
+          (from_chunk c.self.invariant some w.in-Some-p.p _ _ _ w.in-None.ensures.cases
+          w.in-Some-p.is w.chunk_from-chunk.ensures.first w.chunk_from-chunk.ensures.rest
+          w.chunk_from-chunk.ensures.after))
     ]
 
 pub returns-clause-goes : goal.returns-clause-goes
@@ -52,9 +52,9 @@ returns-clause-goes g c =
       | in-None w ↦
           let steps =
           next_steps c.self.invariant some _ _ _
-          (from_chunk c.self.invariant some _ _ _ w.in-None.ensures.cases
-          w.chunk_from-chunk.ensures.first w.chunk_from-chunk.ensures.rest
-          w.chunk_from-chunk.ensures.good w.chunk_from-chunk.ensures.place) in
+          (from_chunk c.self.invariant some w.in-Some-p.p _ _ _ w.in-None.ensures.cases
+          w.in-Some-p.is w.chunk_from-chunk.ensures.first w.chunk_from-chunk.ensures.rest
+          w.chunk_from-chunk.ensures.after) in
           rw (w.self-inside-is, ← c.self.view_is) (record {
             on = λ _. (tt, tt, omega (arith, ap length steps));
             keeps = tt;
