@@ -1,6 +1,6 @@
 //! Calls on a container, which name their items by rank.
 
-use range_store::storage::{Storage, item_in};
+use range_store::storage::Storage;
 use std::alloc::AllocError;
 
 /// A call at a rank.
@@ -239,16 +239,16 @@ pub fn first_difference<C: Storage<u64>, D: Storage<u64>>(left: &C, right: &D) -
     difference_ahead(left, right).or(difference_back(left, right))
 }
 
-// Passes the items of full cells where the positions from one on name the same ones.
+// Passes the items where the positions from one on name the same ones.
 fn passed<C: Storage<u64>>(
     storage: &C,
-    cells: &[Option<u64>],
+    items: &[u64],
     from: Option<C::Position>,
 ) -> Option<Option<C::Position>> {
     let mut at = from;
-    for cell in cells {
+    for item in items {
         let p = at?;
-        if storage.get(p) != item_in(cell) {
+        if storage.get(p) != item {
             return None;
         }
         at = storage.next(p);
@@ -259,9 +259,9 @@ fn passed<C: Storage<u64>>(
 /// Whether a container's chunks show the items that its positions name.
 pub fn chunks_agree<C: Storage<u64>>(storage: &C) -> bool {
     let mut at = storage.first();
-    let mut mark = storage.start();
-    while let Some(p) = at {
-        let chunk = storage.chunk_from(mark);
+    let mut from = storage.first();
+    while let (Some(p), Some(first)) = (at, from) {
+        let chunk = storage.chunk_from(first);
         if storage.get(p) != chunk.first {
             return false;
         }
@@ -269,7 +269,7 @@ pub fn chunks_agree<C: Storage<u64>>(storage: &C) -> bool {
             Some(next) => at = next,
             None => return false,
         }
-        mark = chunk.after;
+        from = chunk.after;
     }
-    true
+    at.is_none() && from.is_none()
 }

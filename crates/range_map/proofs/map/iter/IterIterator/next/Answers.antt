@@ -1,5 +1,5 @@
 use Rattle.std.proofs.Common.{◌<◌, length, ap, sym, ◌∙◌, arith}
-use Rattle.range_map.proofs.Chunks.{from_cell, from_chunk, next_iterator, next_steps}
+use Rattle.range_map.proofs.Chunks.{from_run, from_chunk, next_iterator, next_steps}
 use Rattle.range_map.proofs.map.iter.IterIterator.next.Goals as goal
 use Rattle.range_map.proofs.map.iter.IterIterator.next.Goals.{in-Some, in-None}
 
@@ -10,13 +10,13 @@ invariant_of-self g c =
       | in-Some w ↦
           rw w.self-inside-is
           (next_iterator c.self.invariant some _ _ _
-          (from_cell c.self.invariant some _ _ _ w.in-Some.ensures.cases.0 w.item_in-item.ensures))
+          (from_run c.self.invariant some _ _ w.in-Some.ensures.cases.0))
       | in-None w ↦
           rw w.self-inside-is
           (next_iterator c.self.invariant some _ _ _
-          (from_chunk c.self.invariant some _ _ _ w.in-None.ensures.cases
-          w.chunk_from-chunk.ensures.first w.chunk_from-chunk.ensures.rest
-          w.chunk_from-chunk.ensures.good w.chunk_from-chunk.ensures.place))
+          (from_chunk c.self.invariant some w.in-Some-p.p _ _ _ w.in-None.ensures.cases
+          w.in-Some-p.is w.chunk_from-chunk.ensures.first w.chunk_from-chunk.ensures.rest
+          w.chunk_from-chunk.ensures.after))
     ]
 
 pub returns-clause-steps : goal.returns-clause-steps
@@ -26,13 +26,13 @@ returns-clause-steps g c =
       | in-Some w ↦
           rw (w.self-inside-is, w.item-is)
           (sym c.self.view_is ∙ next_steps c.self.invariant some _ _ _
-          (from_cell c.self.invariant some _ _ _ w.in-Some.ensures.cases.0 w.item_in-item.ensures))
+          (from_run c.self.invariant some _ _ w.in-Some.ensures.cases.0))
       | in-None w ↦
           rw (w.self-inside-is, w.item-is)
           (sym c.self.view_is ∙ next_steps c.self.invariant some _ _ _
-          (from_chunk c.self.invariant some _ _ _ w.in-None.ensures.cases
-          w.chunk_from-chunk.ensures.first w.chunk_from-chunk.ensures.rest
-          w.chunk_from-chunk.ensures.good w.chunk_from-chunk.ensures.place))
+          (from_chunk c.self.invariant some w.in-Some-p.p _ _ _ w.in-None.ensures.cases
+          w.in-Some-p.is w.chunk_from-chunk.ensures.first w.chunk_from-chunk.ensures.rest
+          w.chunk_from-chunk.ensures.after))
     ]
 
 pub returns-clause-goes : goal.returns-clause-goes
@@ -42,7 +42,7 @@ returns-clause-goes g c =
       | in-Some w ↦
           let steps =
           next_steps c.self.invariant some _ _ _
-          (from_cell c.self.invariant some _ _ _ w.in-Some.ensures.cases.0 w.item_in-item.ensures)
+          (from_run c.self.invariant some _ _ w.in-Some.ensures.cases.0)
           in
           rw (w.self-inside-is, ← c.self.view_is) (record {
             on = λ _. (tt, tt, omega (arith, ap length steps));
@@ -52,9 +52,9 @@ returns-clause-goes g c =
       | in-None w ↦
           let steps =
           next_steps c.self.invariant some _ _ _
-          (from_chunk c.self.invariant some _ _ _ w.in-None.ensures.cases
-          w.chunk_from-chunk.ensures.first w.chunk_from-chunk.ensures.rest
-          w.chunk_from-chunk.ensures.good w.chunk_from-chunk.ensures.place) in
+          (from_chunk c.self.invariant some w.in-Some-p.p _ _ _ w.in-None.ensures.cases
+          w.in-Some-p.is w.chunk_from-chunk.ensures.first w.chunk_from-chunk.ensures.rest
+          w.chunk_from-chunk.ensures.after) in
           rw (w.self-inside-is, ← c.self.view_is) (record {
             on = λ _. (tt, tt, omega (arith, ap length steps));
             keeps = tt;
