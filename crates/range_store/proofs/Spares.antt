@@ -83,10 +83,6 @@ module _ {X Y : Type 0} (f : Option X → Option Y) (absent : f None ≡ None) w
   map_read (x ∷ xs) (suc k) = map_read xs k
 
 module _ {X : Type 0} where
-  pub some_value : (slot : Option X) → IsSome slot → (value : X) × (slot ≡ Some value)
-  some_value None present = absurd (cc)
-  some_value (Some value) present = (value, refl)
-
   module _ (s : Slab X) (n : ℕ) (present : IsSome (get s n)) (new : X) where
     pub value_updates : Updates s (with_value s n new) n (Some new)
     value_updates = record {

@@ -7,7 +7,6 @@ use Rattle.slab.specs.Slab.{Slab, get, slab_len, with_value, Updates}
 use Rattle.range_store.specs.declared.btree.node.Node.{Node}
 use Rattle.range_store.specs.declared.btree.nodes.TheConstants.{CAPACITY}
 use Rattle.range_store.specs.Heap.{Heap, HasNode, node_of, items_of, children_of, Absorbs, Divides}
-
 use Rattle.range_store.specs.Spares.{heap_of, IsRewritten, IsWhole}
 use Rattle.range_store.proofs.Spares.{children_seen, edited, edited_len, edited_whole, emptied, emptied_whole, in_use, items_seen, stored, stored_whole, value_len, value_updates, written, written_whole}
 

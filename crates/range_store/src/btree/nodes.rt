@@ -113,7 +113,8 @@ impl<T: Drop> Nodes<T> {
         let node = Node::new(alloc)?;
         // For the proof: the number of nodes is a `usize`.
         let _places = self.slab.capacity();
-        self.spares.reserve(self.slab.len() - self.spares.len() + 1)?;
+        self.spares
+            .reserve(self.slab.len() - self.spares.len() + 1)?;
         match self.slab.insert(node) {
             Ok(number) => self.spares.push_reserved(number),
             Err(_) => return Err(AllocError),

@@ -29,8 +29,7 @@ returns g c =
     let s = c.self.inside in
     let present = rw (← c.self.view_is) at c.requires.present in
     let items = items_seen s.slab s.spares.items c.args.number c.index_mut.result.now present
-    c.index_mut.ensures.value in
-    (
+    c.index_mut.ensures.value in (
       (
         refl,
         λ w. rw (← c.self.view_is) (item_written s.slab s.spares.items c.args.number c.args.index w

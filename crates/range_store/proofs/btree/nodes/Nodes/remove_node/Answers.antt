@@ -21,8 +21,7 @@ push_reserved-requires g c =
 pub invariant_of-self : goal.invariant_of-self
 invariant_of-self g c =
     let s = c.self.inside in
-    let present = rw (← c.self.view_is) at c.requires in
-    (
+    let present = rw (← c.self.view_is) at c.requires in (
       rw c.push_reserved.ensures.items (emptied_whole s.slab s.spares.items c.self.invariant.0
           c.args.number c.index_mut.result.now c.clear.new.self c.index_mut.ensures.value
           c.clear.ensures present),

@@ -38,13 +38,18 @@ blank_children g c =
 
 pub push-requires : goal.push-requires
 push-requires g c =
-    let s = c.self.inside in
-    (omega arith, omega (arith, ap length (bare_children s.slab s.spares.items c.take_last-number.new.self.items c.self.invariant.0
-          c.take_last-number.result c.take_last-number.ensures.items c.index_mut.result.now
-          c.index_mut.ensures.value)))
+    let s = c.self.inside in (
+      omega arith,
+      omega (
+        arith,
+        ap length (bare_children s.slab s.spares.items c.take_last-number.new.self.items c.self.invariant.0
+            c.take_last-number.result c.take_last-number.ensures.items c.index_mut.result.now
+            c.index_mut.ensures.value),
+      ),
+    )
 
 rewritten : (g : Over) (c : After-push g) → IsRewritten c.index_mut.result.now (record c.index_mut.result.now { children = c.push.new.self }) ([]) (c.args.child ∷ [])
-rewritten g c = 
+rewritten g c =
     record {
       items_are = blank_items g c;
       children_are = c.push.ensures.items ∙ ap (λ ks. ks ++ c.args.child ∷ [])

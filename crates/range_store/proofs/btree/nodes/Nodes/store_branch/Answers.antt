@@ -51,18 +51,22 @@ push_reserved-requires g c =
 
 pub push-requires : goal.push-requires
 push-requires g c =
-    let s = c.self.inside in
-    (omega arith, omega (arith, ap length (bare_children s.slab s.spares.items c.take_last-number.new.self.items c.self.invariant.0
-          c.take_last-number.result c.take_last-number.ensures.items c.index_mut-node.result.now
-          c.index_mut-node.ensures.value)))
+    let s = c.self.inside in (
+      omega arith,
+      omega (
+        arith,
+        ap length (bare_children s.slab s.spares.items c.take_last-number.new.self.items c.self.invariant.0
+            c.take_last-number.result c.take_last-number.ensures.items c.index_mut-node.result.now
+            c.index_mut-node.ensures.value),
+      ),
+    )
 
 pub push-requires-2 : goal.push-requires-2
 push-requires-2 g c =
     let s = c.self.inside in
     let none = ap length (bare_children s.slab s.spares.items c.take_last-number.new.self.items c.self.invariant.0
-          c.take_last-number.result c.take_last-number.ensures.items c.index_mut-node.result.now
-          c.index_mut-node.ensures.value) in
-    (
+    c.take_last-number.result c.take_last-number.ensures.items c.index_mut-node.result.now
+    c.index_mut-node.ensures.value) in (
       omega arith,
       omega (
         arith,
@@ -73,7 +77,7 @@ push-requires-2 g c =
     )
 
 rewritten : (g : Over) (c : After-push-2 g) → IsRewritten c.index_mut-node.result.now (record c.index_mut-node.result.now { items = c.push_reserved.new.self; children = c.push-2.new.self }) (c.args.middle ∷ []) (c.args.left ∷ c.args.right ∷ [])
-rewritten g c = 
+rewritten g c =
     record {
       items_are = c.push_reserved.ensures.items ∙ ap (λ xs. xs ++ c.args.middle ∷ [])
           (blank_items g c);

@@ -51,7 +51,7 @@ fill-requires-clause-room g c =
     )
 
 rewritten : (g : Over) (c : After-fill g) → IsRewritten c.index_mut.result.now c.fill.new.self (take c.args.count (into_iter_items c.args.items.now)) ([])
-rewritten g c = 
+rewritten g c =
     record {
       items_are = c.fill.ensures.filled.items_are
           ∙ ap (λ xs. xs ++ take c.args.count (into_iter_items c.args.items.now))

@@ -50,7 +50,7 @@ push_reserved-requires g c =
     )
 
 rewritten : (g : Over) (c : After-push_reserved g) → IsRewritten c.index_mut.result.now (record c.index_mut.result.now { items = c.push_reserved.new.self }) (c.args.item ∷ []) ([])
-rewritten g c = 
+rewritten g c =
     record {
       items_are = c.push_reserved.ensures.items ∙ ap (λ xs. xs ++ c.args.item ∷ [])
           (blank_items g c);

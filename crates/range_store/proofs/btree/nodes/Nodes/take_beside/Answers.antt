@@ -19,8 +19,7 @@ take-requires g c =
 pub invariant_of-self : goal.invariant_of-self
 invariant_of-self g c =
     let s = c.self.inside in
-    let present = rw (← c.self.view_is) at c.requires.present in
-    (
+    let present = rw (← c.self.view_is) at c.requires.present in (
       edited_whole s.slab s.spares.items c.self.invariant.0 c.args.number c.index_mut.result.now
           c.take.new.self c.index_mut.ensures.value _ _ c.take.ensures.rest present,
       omega (
