@@ -45,7 +45,8 @@ impl<K: PartialEnum, V: Eq + Drop, C: Storage<Item<AnyRange<K>, V>>> RangeMap<K,
 
     /// Takes the first stored range out, and returns it with its value. Allocates nothing.
     ///
-    /// Leaves room for one range more than there was, where it takes one out. Costs a way down the tree, and changes nodes up to its root.
+    /// Leaves room for one range more than there was, where it takes one out. Costs a way down the
+    /// tree, and changes nodes up to its root.
     ///
     /// ```
     /// // of a map that binds 0..=5 to 1
@@ -66,7 +67,8 @@ impl<K: PartialEnum, V: Eq + Drop, C: Storage<Item<AnyRange<K>, V>>> RangeMap<K,
 
     /// Takes the last stored range out, and returns it with its value. Allocates nothing.
     ///
-    /// Leaves room as `pop_first` does. Costs a way down the tree, and changes nodes up to its root.
+    /// Leaves room as `pop_first` does. Costs a way down the tree, and changes nodes up to its
+    /// root.
     ///
     /// ```
     /// // of a map that binds 0..=5 to 1
