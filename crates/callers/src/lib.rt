@@ -1,5 +1,6 @@
 //! A caller at one type of each public call that no example shows. Their proofs show that what the
 //! calls require can be met.
+#![tactic(auto)]
 
 mod bounds;
 mod commands;

@@ -1,6 +1,6 @@
 //! Callers of the containers.
 
-ghost use Rattle.std.specs.Prelude.{nat_lt};
+ghost use Rattle.std.specs.Prelude.{true};
 
 use btree_range_map::btree::BoxStorage;
 use btree_range_map::storage::{Item, Probe, Steps, Storage, VecStorage};
@@ -10,21 +10,20 @@ type Tree = BoxStorage<u64>;
 
 type List = VecStorage<u64>;
 
-/// Gives `true` to the items below a bound.
+/// Gives `true` to each item.
 #[derive(Drop)]
-struct Below {
-    bound: u64,
+struct Every {
     steps: Steps,
 }
 
-impl Probe<u64> for Below {
-    ghost test = { λ p x. nat_lt x p.bound };
+impl Probe<u64> for Every {
+    ghost test = { λ p x. true };
 
     ghost steps_taken = { λ p. p.steps };
 
-    fn ask(&mut self, item: &u64) -> bool {
+    fn ask(&mut self, _item: &u64) -> bool {
         self.steps.tick();
-        *item < self.bound
+        true
     }
 
     fn steps(&self) -> &Steps {
@@ -32,8 +31,12 @@ impl Probe<u64> for Below {
     }
 }
 
-fn asked(probe: &Below) -> u64 {
-    probe.steps().count()
+fn found(list: &List) -> (Option<u64>, u64) {
+    let mut probe = Every {
+        steps: Steps::new(),
+    };
+    let item = list.search(&mut probe).map(|p| *list.get(p));
+    (item, probe.steps().count())
 }
 
 fn new_list(alloc: Global) -> List {
