@@ -1,5 +1,5 @@
 -- A conversation, seen in other states.
-use Rattle.std.proofs.Common.{◌≡◌, ◌≢◌, ◌⊎◌, ℕ, List, ◌++◌, inl, inr, Option, None, Some, IfSome}
+use Rattle.std.proofs.Common.{◌⊎◌, ℕ, List, inl, inr, Option, None, Some, IfSome}
 use Rattle.line_program.specs.Conversation.{Conversation}
 use Rattle.line_program.specs.Listing.{Writes}
 use Rattle.line_program.specs.Conversation.Conversation.{Ended, Answered}
@@ -30,4 +30,4 @@ stopped_as Silent input before after Talks Answers follows (inl silent) = inl si
 stopped_as Silent None before after Talks Answers follows (inr stopped) = inr tt
 stopped_as Silent (Some bytes) before after Talks Answers follows
     (inr (rest, (text, talk, appended))) =
-        inr (rest, (text, follows bytes text rest talk, appended))
+    inr (rest, (text, follows bytes text rest talk, appended))

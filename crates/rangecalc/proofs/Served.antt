@@ -23,13 +23,13 @@ module _ {K P : Type 0} (order : KeyOrder K) (stored : P → Named (Ranges K)) w
   conversation_served first last (Some bytes) before after rest empty (text, talk, appended) = (
     text,
     record {
-        last = stored last;
-        talk =
-            subst (λ maps. Conversation (λ old line text new. AnswersLine order line text old new)
-            maps bytes text rest (stored last)) empty
-            (conversation_seen AnswersProgram
-            (λ old line text new. AnswersLine order line text old new) stored
-            (λ state line text next answers. answers) first bytes text rest last talk);
+      last = stored last;
+      talk =
+          subst (λ maps. Conversation (λ old line text new. AnswersLine order line text old new)
+          maps bytes text rest (stored last)) empty
+          (conversation_seen AnswersProgram
+          (λ old line text new. AnswersLine order line text old new) stored
+          (λ state line text next answers. answers) first bytes text rest last talk);
     },
     appended,
   )

@@ -1,5 +1,5 @@
 -- What four maps answer to lines of text, from the first to the last.
-use Rattle.std.specs.Prelude.{◌≡◌, ◌≢◌, ◌⊎◌, ◌↔◌, ℕ, ℤ, Bool, IsTrue, List, [], ◌++◌, codes}
+use Rattle.std.specs.Prelude.{◌≡◌, ◌⊎◌, ◌↔◌, ℕ, ℤ, Bool, IsTrue, List, [], codes}
 use Rattle.btree_range_map.specs.AnyRange.{AnyRange}
 use Rattle.btree_range_map.specs.BoxStorage.{BoxStorage}
 use Rattle.btree_range_map.specs.Holding.{box_items}

@@ -1,5 +1,5 @@
 -- A line that loads no text is answered as its command is.
-use Rattle.std.proofs.Common.{◌≡◌, ◌≢◌, ℕ, ℤ, List, inr}
+use Rattle.std.proofs.Common.{◌≢◌, ℕ, ℤ, List, inr}
 use Rattle.std.specs.Prelude.{Bool, Option, None, Some, IfSome, IfNone}
 use Rattle.serde_json.specs.Data.{Data}
 use Rattle.btree_range_map.specs.AnyRange.{AnyRange}

@@ -110,7 +110,10 @@ module _ {K : Type 0} (order : KeyOrder K) (as_number : K → ℤ) (shape : K �
     answers_runs None before after rest answered = tt
     answers_runs (Some bytes) before after rest (text, said, appended) = (
       text,
-      (said.last, said.talk,
-          conversation_is_runs (no_commands []) [] bytes text rest said.last refl said.talk),
+      (
+        said.last,
+        said.talk,
+        conversation_is_runs (no_commands []) [] bytes text rest said.last refl said.talk,
+      ),
       appended,
     )
