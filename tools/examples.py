@@ -96,8 +96,7 @@ def tests():
 
 def read_by(crate):
     """Returns what the examples are made of beside the sources, where the crate is the one that has them."""
-    paths = [FRAMES, *(TOP / page for page in PAGES)] if crate.name == CRATE_ABOVE else []
-    return b"".join(path.read_bytes() for path in paths)
+    return FRAMES.read_bytes() if crate.name == CRATE_ABOVE else b""
 
 
 @contextlib.contextmanager

@@ -9,7 +9,6 @@ that was refused, with `memory` in the place of that line's, or those of the lin
 
 import collections
 import concurrent.futures
-import os
 import pathlib
 import shutil
 import subprocess

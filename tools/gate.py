@@ -3,7 +3,7 @@
 import concurrent.futures
 import hashlib
 import os
-import shutil
+import re
 import subprocess
 import time
 
@@ -21,6 +21,7 @@ from tools.repository import (
     told,
 )
 
+RESULT = re.compile(r"^test result: .*?(\d+) passed; (\d+) failed", re.M)
 # A check takes less than this; what `rt` expects of it, by its lines, is up to three times as much.
 MEMORY_OF_A_CHECK = 5 * 1024**3
 
@@ -87,7 +88,9 @@ def several(names):
     results = [proofs(proved)] if proved else []
     stale, _ = mutants.stale()
     results += mutants.try_all(name for name in proved if name in stale)
-    return [*results, *quickly(every, [it for it in chosen if not it.is_proved or it.has_conversations])]
+    unproved = [it for it in chosen if not it.is_proved or it.has_conversations]
+    unproved += [it for it in chosen if it.name == examples.CRATE_ABOVE]
+    return [*results, *quickly(every, unproved)]
 
 
 def quick(names=()):
@@ -107,7 +110,8 @@ def quickly(every, chosen):
         digest.update(examples.read_by(crate))
         tasks += [(crate, call, digest.hexdigest()) for call in calls(crate)]
     with examples.workspace() as room, concurrent.futures.ThreadPoolExecutor(PROCESSORS) as pool:
-        return [*pool.map(lambda task: unless_passed(*task, room), tasks)]
+        ended = [*pool.map(lambda task: unless_passed(*task, room), tasks)]
+    return [*ended, examples.compared()]
 
 
 def calls(crate):
@@ -135,11 +139,9 @@ def tests(crate, room):
     if crate.is_program and not crate.has_tests:
         return program(crate, room)
     began, ended = time.monotonic(), run(["rt", "try", "--test"], room / crate.name)
-    last = [line for line in ended.stdout.splitlines() if line.startswith("test result: ")]
-    numbers = last[-1].replace(";", " ").split() if last else []
-    found = int(numbers[numbers.index("passed") - 1]) if numbers else 0
-    lost = int(numbers[numbers.index("failed") - 1]) if numbers else 1
-    counts = Counts(found, max(lost, int(ended.returncode != 0)))
+    found = RESULT.search(ended.stdout)
+    counts = Counts(int(found[1]), int(found[2])) if found else Counts(0, 1)
+    counts = counts._replace(failed=max(counts.failed, int(ended.returncode != 0)))
     return told(f"{crate.name}: tests", counts, began, ended.stdout)
 
 
@@ -168,4 +170,4 @@ def talks(crate, room):
 
 
 def doc_examples(_crate, room):
-    return examples.compared().and_more([examples.run_in(room)])
+    return examples.run_in(room)

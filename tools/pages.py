@@ -8,7 +8,7 @@ import html
 import re
 
 from tools.mutants import IMPL, heading
-from tools.repository import CRATES, below, crates
+from tools.repository import below, crates
 
 HEAD = re.compile(r"( *)(pub )?(?:const |unsafe )?(fn|struct|enum|trait|type) (\w+)")
 IMPORT = re.compile(r"^(?:ghost )?use Rattle\.(\w+)\.specs\.([\w.]+)\.\{([^}]*)\}", re.M)
@@ -124,7 +124,7 @@ def definitions_of(crate):
 
 
 def linked(text, imports, own, known):
-    """Returns a text as HTML, in which each name of a known definition leads to it."""
+    """Returns a text as HTML, in which each name of a known definition leads to it, but for comments."""
 
     def link(found):
         crate, file = imports.get(found[0], own)
@@ -132,7 +132,9 @@ def linked(text, imports, own, known):
             return found[0]
         return f'<a href="{crate}.specs.html#{file.replace("/", "-")}-{found[0]}">{found[0]}</a>'
 
-    return re.sub(r"\b[A-Za-z_]\w*", link, html.escape(text, quote=False))
+    lines = html.escape(text, quote=False).split("\n")
+    is_comment = re.compile(r"\s*(//|--)")
+    return "\n".join(it if is_comment.match(it) else re.sub(r"\b[A-Za-z_]\w*", link, it) for it in lines)
 
 
 def code(text):
