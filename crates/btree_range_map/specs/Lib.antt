@@ -1,4 +1,6 @@
 -- What the contracts of the crates below say.
+pub mod HeldKeys
+pub mod KeyLaws
 pub mod KeyNumbers
 pub mod Names
 pub use Rattle.range_keys.specs.Characters
@@ -86,6 +88,7 @@ pub use Rattle.range_json.specs.Faults
 pub use Rattle.range_json.specs.Keys
 pub use Rattle.range_json.specs.Laws
 pub use Rattle.range_json.specs.MapFaults
+pub use Rattle.range_json.specs.Meetings
 pub use Rattle.range_json.specs.Overwriting
 pub use Rattle.range_json.specs.MultimapFaults
 pub use Rattle.range_json.specs.Shapes

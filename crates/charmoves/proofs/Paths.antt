@@ -6,7 +6,7 @@ use Rattle.std.specs.List.{list_any}
 use Rattle.std.specs.BTreeSet.{contains, IsDisjoint}
 use Rattle.std.proofs.Math.ListN.{get_or}
 use Rattle.charmoves.specs.declared.rules.Rules.{Rules}
-use Rattle.charmoves.specs.Automata.{IsAccepting, AreReached, LeadsTo}
+use Rattle.charmoves.specs.Automata.{IsAccepting, AreReached, AcceptsAmong, LeadsTo}
 use Rattle.charmoves.proofs.Stepping.{is_member, or_true}
 
 -- rules lead along the text from one of the states to an accepting one
@@ -86,6 +86,17 @@ at_end rules states false told = (
       ],
   λ _. refl,
 )
+
+-- a text may end in one of the states where they and the accepting ones share one
+pub accepting_shared : (rules : Rules) (states : BTreeSet ℕ) (disjoint : Bool) → IsTrue disjoint
+    ↔ IsDisjoint nat_cmp states rules.accepting → IsTrue (not disjoint)
+    ↔ AcceptsAmong rules states
+accepting_shared rules states disjoint told =
+    let end = at_end rules states disjoint told in (
+      λ h. let (p, q, has, same, accepts) = end.0 h in
+          (p, has, subst (IsAccepting rules) (sym same) accepts),
+      λ h. end.1 (h.0, h.0, h.1, refl, h.2),
+    )
 
 module _ (rules : Rules) (text : List ℕ) (Whole : Type 0) where
   -- a step further along the text

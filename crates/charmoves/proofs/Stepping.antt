@@ -77,7 +77,7 @@ pub is_member : (p q : ℕ) → IsTrue (eq_by_cmp nat_cmp p q) ↔ (p ≡ q)
 is_member p q = (λ e. grind (arith, nat_tests), λ e. grind (arith, nat_tests))
 
 module _ (rules : Rules) (c q : ℕ) where
-  from_list : (states : List ℕ) → ReachedFrom rules c q states
+  pub from_list : (states : List ℕ) → ReachedFrom rules c q states
       ↔ (p : ℕ) × IsTrue (list_any (eq_by_cmp nat_cmp p) states) × HasRule rules p c q
   from_list [] = (λ h. absurd h, λ h. let none = h.1 in absurd cc)
   from_list (s ∷ states) = (

@@ -79,6 +79,21 @@ module _ (rules : Rules) where
   abbrev pub Accepts : List ℕ → Type 0
   Accepts text = (p : ℕ) × (q : ℕ) × IsStart rules p × LeadsTo p text q × IsAccepting rules q
 
+module _ (rules : Rules) where
+  -- the states are those in which a text may start
+  abbrev pub AreStarts : BTreeSet ℕ → Type 0
+  AreStarts states = (p : ℕ) → IsTrue (contains nat_cmp states p) ↔ IsStart rules p
+
+  -- a text may end in one of the states
+  abbrev pub AcceptsAmong : BTreeSet ℕ → Type 0
+  AcceptsAmong states = (p : ℕ) × IsTrue (contains nat_cmp states p) × IsAccepting rules p
+
+  -- the characters by which rules lead on from one of the states, and where they lead
+  abbrev pub LeadsAmong : BTreeSet ℕ → Transitions → Type 0
+  LeadsAmong states leads = (c q : ℕ) → IsCharacter c
+      → IsPairOf character_order (contains nat_cmp) leads c q
+      ↔ ((p : ℕ) × IsTrue (contains nat_cmp states p) × HasRule rules p c q)
+
 -- what an automaton was built from
 abbrev pub rules_of : Moves → Rules
 rules_of moves = moves.rules

@@ -1,1 +1,2 @@
 pub mod Automata
+pub mod Beginnings

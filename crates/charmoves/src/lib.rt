@@ -1,8 +1,8 @@
 //! Automata over characters, whose rules have ranges of characters, as those of a lexer.
 //!
 //! [`Rules`] gathers rules, start states and accepting states; [`Moves`] follows them, from a set
-//! of states by one character or along a whole text. A state may have several rules for a
-//! character: all of them are followed.
+//! of states by one character, along a whole text, or along the longest beginning of one that is
+//! accepted. A state may have several rules for a character: all of them are followed.
 //!
 //! ```
 //! let mut rules = Rules::new(alloc);
@@ -18,6 +18,7 @@
 //! ```
 #![tactic(auto)]
 
+mod longest;
 mod moves;
 mod rules;
 

@@ -1,9 +1,10 @@
 //! Following the rules.
 ghost use Rattle.std.specs.Prelude.{◌≡◌, ◌↔◌, IsTrue, IfOk};
 ghost use Rattle.std.specs.Str.{chars};
-ghost use Rattle.charmoves.specs.Automata.{rules_of, Accepts, AreReached};
+ghost use Rattle.charmoves.specs.Automata.{rules_of, Accepts, AreReached, AreStarts, AcceptsAmong, LeadsAmong};
 
 use crate::rules::Rules;
+use btree_range_map::RangeMultiMap;
 use btree_range_map::generic::map::MapError;
 use std::alloc::Global;
 use std::collections::BTreeSet;
@@ -35,6 +36,37 @@ impl Moves {
             }
         }
         Ok(reached)
+    }
+
+    /// The states in which a text starts. Allocates.
+    pub fn starts(&self) -> Result<BTreeSet<u32>, MapError>
+        ensures starts { IfOk result (AreStarts (rules_of self.now)) }
+    {
+        Ok(self.rules.starts.clone()?)
+    }
+
+    /// Whether a text may end in one of the states. Allocates nothing.
+    pub fn is_accepting(&self, states: &BTreeSet<u32>) -> bool
+        ensures accepting { IsTrue result ↔ AcceptsAmong (rules_of self.now) states.now }
+    {
+        !states.is_disjoint(&self.rules.accepting)
+    }
+
+    /// The characters by which some rule leads on from one of the states, with the states that it
+    /// leads to. Allocates.
+    pub fn leads(
+        &self,
+        states: &BTreeSet<u32>,
+    ) -> Result<RangeMultiMap<char, BTreeSet<u32>>, MapError>
+        ensures leads { IfOk result (LeadsAmong (rules_of self.now) states.now) }
+    {
+        let mut leads = RangeMultiMap::new(self.rules.alloc);
+        for state in states {
+            if let Some(more) = self.rules.transitions.get(state) {
+                leads = leads.union::<u32, _>(more)?;
+            }
+        }
+        Ok(leads)
     }
 
     /// Whether the text can be read from a start state on, one rule a character, so that it ends

@@ -12,7 +12,7 @@ use std::collections::{BTreeMap, BTreeSet};
 ///
 /// A rule leads from a state to a state by each character of a range.
 pub struct Rules {
-    transitions: BTreeMap<u32, RangeMultiMap<char, BTreeSet<u32>>>,
+    pub(crate) transitions: BTreeMap<u32, RangeMultiMap<char, BTreeSet<u32>>>,
     pub(crate) starts: BTreeSet<u32>,
     pub(crate) accepting: BTreeSet<u32>,
     pub(crate) alloc: Global,

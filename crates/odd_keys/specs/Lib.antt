@@ -3,5 +3,6 @@ pub mod Classes
 pub mod Fractions
 pub mod Halves
 pub mod Onlys
+pub mod Promises
 pub mod RightSets
 pub mod Singles

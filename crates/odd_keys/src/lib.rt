@@ -6,5 +6,6 @@ pub mod fraction;
 pub mod half;
 pub mod loose;
 pub mod only;
+pub mod promises;
 pub mod rights;
 pub mod single;

@@ -3,7 +3,7 @@ use Rattle.std.specs.Prelude.{◌≡◌, ℕ, ℤ, List, nat_eq, Bool, is_some, 
 use Rattle.serde_json.specs.Data.{Data}
 use Rattle.serde_json.specs.Read.{read}
 use Rattle.serde_json.specs.Written.{compact_text}
-use Rattle.btree_range_map.specs.Faults.{IsSetRead, fault_of, set_fault}
+use Rattle.btree_range_map.specs.Faults.{IsSetRead, set_fault}
 use Rattle.btree_range_map.specs.JsonError.{JsonError}
 use Rattle.btree_range_map.specs.Keys.{unsigned_of, signed_of, unsigned_shape, signed_shape}
 use Rattle.btree_range_map.specs.MapFaults.{IsMapRead, IsMapFault}
@@ -62,7 +62,7 @@ abbrev pub IsUnsignedSetRead : Data → KeyRanges → Type 0
 IsUnsignedSetRead d items = IsSetRead IsUnsignedRead unsigned_keys d items
 
 abbrev pub IsSetFault : Data → JsonError → Type 0
-IsSetFault d e = set_fault reads_unsigned d ≡ Some (fault_of e)
+IsSetFault d e = set_fault reads_unsigned d ≡ Some e
 
 abbrev pub IsDataRead : Data → Collection → Type 0
 IsDataRead d (Unsigned items) = IsUnsignedMapRead d items

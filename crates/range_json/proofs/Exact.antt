@@ -19,7 +19,7 @@ use Rattle.range_algebra.specs.RangeOrder.{range_cmp}
 use Rattle.range_store.specs.declared.storage.Item.{Item}
 use Rattle.range_json.specs.declared.error.JsonError.{JsonError}
 use Rattle.range_json.specs.Shapes.{bound_of}
-use Rattle.range_json.specs.Faults.{Fault, fault_of, first_fault, ArePartsRead, IsRangeRead}
+use Rattle.range_json.specs.Faults.{first_fault, ArePartsRead, IsRangeRead}
 use Rattle.range_json.specs.MapFaults.{element_fault, HasOneReading, IsElementRead, MeetNonempty, MeetsOne, AreApart, AreRead, IsFirstFault, IsFaultOf, IsMapRead, IsMapFault}
 use Rattle.range_json.proofs.Reading.{fault_first}
 
@@ -162,7 +162,7 @@ module _ {K : Type 0} (order : KeyOrder K) (lawful : IsLawful order) where
 
       module _ (key_reads value_reads : Data → Bool) where
         -- elements that are read have no first fault
-        no_first : (ds : List Data) (elements : List (Item (AnyRange K) V)) (f : Fault)
+        no_first : (ds : List Data) (elements : List (Item (AnyRange K) V)) (f : JsonError)
             → AreRead order key_reads value_reads is_read value_is_read ds elements
             → IsFirstFault order key_reads value_reads is_read value_is_read ds f → ⊥
         no_first ds elements f read first =
@@ -178,10 +178,10 @@ module _ {K : Type 0} (order : KeyOrder K) (lawful : IsLawful order) where
                   none-some f (sym sound
                   ∙ fault_first fault first.front first.d first.rest f first.fine.sound own)
               | inr met ↦
-                  let x = met.1.1.0 in
+                  let x = met.0.1.0 in
                   apart_at place.xs place.ys place.x (subst (AreApart order) place.split read.apart)
                   (one_too first.front first.earlier place.xs x.key place.x.key first.fine.read
-                  place.before (element_one first.d x place.x met.1.1.1 place.at) met.1.1.3)
+                  place.before (element_one first.d x place.x met.0.1.1 place.at) met.0.1.3)
             ]
 
         pub no_fault : (same : V → V → Bool) (d : Data) (items : List (Item (AnyRange K) V))
@@ -189,7 +189,7 @@ module _ {K : Type 0} (order : KeyOrder K) (lawful : IsLawful order) where
             → IsMapRead order key_reads value_reads is_read value_is_read same d items
             → IsMapFault order key_reads value_reads is_read value_is_read d f → ⊥
         no_fault same d items f read fault =
-            no_first read.ds read.elements (fault_of f) read.read
+            no_first read.ds read.elements f read.read
             (subst (λ w.
-            IsFaultOf order key_reads value_reads is_read value_is_read w (fault_of f))
+            IsFaultOf order key_reads value_reads is_read value_is_read w f)
             read.whole fault)

@@ -1,6 +1,6 @@
 -- What is read of a map's elements while a loop goes over them.
 use Rattle.std.specs.Cmp.{IsEquivalence}
-use Rattle.std.proofs.Common.{◌≡◌, refl, sym, ap, subst, ◌⊎◌, ◌↔◌, inl, inr, ℕ, List, [], ◌∷◌, ◌++◌, map, length, Bool, IsTrue, Option, Some, None}
+use Rattle.std.proofs.Common.{◌≡◌, refl, sym, ap, subst, ◌⊎◌, ◌↔◌, inl, inr, List, [], ◌∷◌, ◌++◌, map, length, Bool, IsTrue, Option, Some, None}
 use Rattle.std.proofs.lemmas.List.{map-append}
 use Rattle.serde_json.specs.Data.{Data}
 use Rattle.serde_json.specs.View.{view}
@@ -17,12 +17,11 @@ use Rattle.range_change.specs.Frames.{IsInsertionFrame}
 use Rattle.range_change.specs.Lookups.{MeetsSome, MeetAlso}
 use Rattle.range_change.specs.Stored.{IsStored}
 use Rattle.range_change.proofs.Overlaps.{binding_meets, binds_bound}
-use Rattle.range_json.specs.Faults.{Fault, meets_earlier}
-use Rattle.range_json.specs.MapFaults.{element_fault, HasOneReading, IsElementRead, MeetNonempty, MeetsOne, AreApart, AreRead, IsFirstFault}
-use Rattle.range_json.specs.Meetings.{IsFirstOrNone}
-use Rattle.range_json.proofs.Meetings.{first_is_met}
+use Rattle.range_json.specs.declared.error.JsonError.{JsonError}
+use Rattle.range_json.specs.MapFaults.{element_fault, IsElementRead, MeetNonempty, MeetsOne, AreApart, AreRead, IsFirstFault}
 use Rattle.range_json.proofs.Keeping.{of_last, stored_before, stands_last}
 use Rattle.range_json.proofs.Reading.{no_fault_more, read_more, same_length}
+use Rattle.range_json.specs.declared.error.JsonError.TheVariants.{Meets}
 
 module _ {K : Type 0} (order : KeyOrder K) where
   meeting_turned : (r s : AnyRange K) → MeetNonempty order r s → MeetNonempty order s r
@@ -267,11 +266,11 @@ module _ {K V : Type 0} (order : KeyOrder K) where
               (subst (λ is. IsInsertionFrame order same is new x.key x.value) was (put.frame full));
         }
 
-    abbrev FirstFault : List Data → Fault → Type 0
+    abbrev FirstFault : List Data → JsonError → Type 0
     FirstFault = IsFirstFault order key_reads value_reads key_is_read value_is_read
 
     -- an element with a fault of its own
-    pub map_fails : (vs more : List Value) (v : Value) (e : Fault)
+    pub map_fails : (vs more : List Value) (v : Value) (e : JsonError)
         (items : List (Item (AnyRange K) V)) → IsMapSoFar vs items
         → element_fault key_reads value_reads (length vs) (view v) ≡ Some e
         → FirstFault (map view (vs ++ v ∷ more)) e
@@ -290,34 +289,22 @@ module _ {K V : Type 0} (order : KeyOrder K) where
         (x : Item (AnyRange K) V) → IsMapSoFar vs items
         → element_fault key_reads value_reads (length vs) (view v) ≡ None
         → IsElementRead key_is_read value_is_read (view v) x → IsKnownRange order x.key
-        → (¬ IsEmptyRange order x.key) × MeetsSome order items x.key → (j : ℕ)
-        → (HasOneReading order key_is_read
-        → IsFirstOrNone order key_is_read (map view vs) (view v) j)
-        → FirstFault (map view (vs ++ v ∷ more)) (meets_earlier (length vs) j)
-    map_meets vs more v items x so_far fine is_read known met j first = record {
+        → (¬ IsEmptyRange order x.key) × MeetsSome order items x.key
+        → FirstFault (map view (vs ++ v ∷ more)) (Meets (length vs))
+    map_meets vs more v items x so_far fine is_read known met = record {
       front = map view vs;
       d = view v;
       rest = map view more;
       earlier = so_far.earlier;
       split = map-append view vs (v ∷ more);
       fine = so_far.read;
-      fault =
-          let one = (so_far.meets x.key known met.0).0 met.1 in
-          inr (
-            j,
-            (
-              rw (same_length vs) fine,
-              (
-                x,
-                is_read,
-                known,
-                one,
-                λ alike. first_is_met order key_is_read value_is_read (map view vs) (view v)
-                    so_far.earlier x j so_far.read.read is_read one (first alike),
-              ),
-            ),
-            ap (λ n. meets_earlier n j) (sym (same_length vs)),
-          );
+      fault = inr (
+        (
+          rw (same_length vs) fine,
+          (x, is_read, known, (so_far.meets x.key known met.0).0 met.1),
+        ),
+        ap (λ n. Meets n) (sym (same_length vs)),
+      );
     }
 
 module _ {K V : Type 0} (order : KeyOrder K) (same : V → V → Bool) where

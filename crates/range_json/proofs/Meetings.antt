@@ -1,6 +1,6 @@
 -- The first earlier element that is met, as the ranges are read again.
-use Rattle.std.proofs.Common.{◌≡◌, refl, sym, ap, subst, ◌∙◌, ◌↔◌, inl, inr, false, ℕ, suc, List, [], ◌∷◌, ◌++◌, length}
-use Rattle.std.specs.List.{AllByRecursion, AllZip}
+use Rattle.std.proofs.Common.{◌≡◌, refl, sym, ap, subst, ◌∙◌, ◌↔◌, false, Option, Some, None}
+use Rattle.std.specs.Prelude.{IfSome}
 use Rattle.std.specs.Ordering.{is_gt, ordering_reverse}
 use Rattle.std.specs.declared.cmp.Ordering.{Ordering}
 use Rattle.std.specs.declared.cmp.Ordering.TheVariants.{Less, Equal, Greater}
@@ -13,19 +13,17 @@ use Rattle.range_keys.specs.declared.inner.position.Position.{Position}
 use Rattle.range_algebra.specs.Compared.{starts_past_end}
 use Rattle.range_algebra.specs.declared.any.AnyRange.{AnyRange}
 use Rattle.range_algebra.specs.RangeOrder.{range_cmp}
-use Rattle.range_store.specs.declared.storage.Item.{Item}
 use Rattle.range_change.specs.Lookups.{Overlap}
 use Rattle.range_json.specs.Faults.{IsRangeRead}
-use Rattle.range_json.specs.MapFaults.{HasOneReading, IsElementRead, IsFirstMet, MeetNonempty, MeetsOne}
-use Rattle.range_json.specs.Meetings.{AlwaysMeet, IsFirstOrNone, IsRangeOf, NeverMeet}
-use Rattle.range_json.proofs.Exact.{meet_too, range_one, read_at}
+use Rattle.range_json.specs.MapFaults.{HasOneReading, MeetNonempty}
+use Rattle.range_json.specs.Meetings.{AlwaysMeet, IsRangeOf, NeverMeet}
+use Rattle.range_json.proofs.Exact.{meet_too, range_one}
 
-zip_length : {X : Type 0} (R : Data → X → Type 0) (ds : List Data) (xs : List X) → AllZip R ds xs
-    → length ds ≡ length xs
-zip_length R [] [] h = refl
-zip_length R [] (x ∷ xs) h = absurd h
-zip_length R (d ∷ ds) [] h = absurd h
-zip_length R (d ∷ ds) (x ∷ xs) h = ap suc (zip_length R ds xs h.1)
+-- what holds of some result, by what is known of it
+pub some_too : {X : Type 0} (P Q : X → Type 0) (o : Option X) → ((x : X) → P x → Q x) → IfSome o P
+    → IfSome o Q
+some_too P Q None to h = h
+some_too P Q (Some x) to h = to x h
 
 past_or_not : (a b : Ordering) → a ≡ ordering_reverse b → (is_gt a ≡ false) ↔ ¬ (b ≡ Less)
 past_or_not a Less e = (λ h. absurd cc, λ h. absurd (h refl))
@@ -68,47 +66,3 @@ module _ {K : Type 0} (order : KeyOrder K) (is_read : Data → K → Type 0) whe
     always_meet c d r s read other meet q t again other_again =
         meet_too order lawful r s q t (same_range c r q read again)
         (same_range d s t other other_again) meet
-
-  module _ {V : Type 0} (value_is_read : Data → V → Type 0) where
-    range_of : (d : Data) (x : Item (AnyRange K) V) → IsElementRead is_read value_is_read d x
-        → IsRangeOf is_read d x.key
-    range_of d x (ds, e, range, value) = (ds, e, range)
-
-    none_met : (ds : List Data) (d : Data) (items : List (Item (AnyRange K) V))
-        (x : Item (AnyRange K) V) → AllZip (IsElementRead is_read value_is_read) ds items
-        → IsElementRead is_read value_is_read d x
-        → AllByRecursion (λ c. NeverMeet order is_read c d) ds → MeetsOne order x.key items → ⊥
-    none_met [] d [] x h read none met = absurd met
-    none_met [] d (i ∷ items) x h read none met = absurd h
-    none_met (c ∷ ds) d [] x h read none met = absurd h
-    none_met (c ∷ ds) d (i ∷ items) x h read none met = elim met [
-      | inl here ↦ none.0 i.key x.key (range_of c i h.0) (range_of d x read) here
-      | inr later ↦ none_met ds d items x h.1 read none.1 later
-    ]
-
-    -- the first of the elements that is met is the first of the items that were read of them
-    pub first_is_met : (ds : List Data) (d : Data) (items : List (Item (AnyRange K) V))
-        (x : Item (AnyRange K) V) (j : ℕ)
-        → AllZip (IsElementRead is_read value_is_read) ds items
-        → IsElementRead is_read value_is_read d x → MeetsOne order x.key items
-        → IsFirstOrNone order is_read ds d j → IsFirstMet order x.key items j
-    first_is_met ds d items x j h read one found = elim found [
-      | inl first ↦
-          let all : AllZip (IsElementRead is_read value_is_read)
-          (first.front ++ first.e ∷ first.rest)
-          items = subst (λ es. AllZip (IsElementRead is_read value_is_read) es items) first.split
-          h in
-          let place =
-          read_at (IsElementRead is_read value_is_read) first.front first.e first.rest items all
-          in (
-            place.xs,
-            place.x,
-            place.ys,
-            place.split,
-            sym (zip_length (IsElementRead is_read value_is_read) first.front place.xs place.before)
-                ∙ first.place,
-            none_met first.front d place.xs x place.before read first.none,
-            first.met place.x.key x.key (range_of first.e place.x place.at) (range_of d x read),
-          )
-      | inr none ↦ absurd (none_met ds d items x h read none one)
-    ]

@@ -16,13 +16,14 @@ use Rattle.range_change.specs.Stored.{IsStored}
 use Rattle.range_sets.specs.ListedMembers.{tree_void}
 use Rattle.range_sets.specs.Pairs.{HasNoEmptySet}
 use Rattle.range_json.specs.declared.error.JsonError.{JsonError}
-use Rattle.range_json.specs.Faults.{Fault, no_value, before, range_fault}
+use Rattle.range_json.specs.Faults.{before, range_fault}
 use Rattle.range_json.specs.MapFaults.{pair_fault, element_fault, value_fault, IsElementRead, IsFirstFault}
 use Rattle.range_json.specs.SetReadBack.{set_back, full_set_written}
 use Rattle.range_json.specs.Shapes.{elements_of, pair_of, pair_shape, range_shape}
 use Rattle.range_json.specs.ValueSets.{reads_all, reads_some, reads_values, reads_some_values, same_values, values_shape, IsValueSet, AreValuesRead}
 use Rattle.range_json.specs.Values.{AreItemValues}
 use Rattle.range_json.proofs.ReadingBack.{map_sound}
+use Rattle.range_json.specs.declared.error.JsonError.TheVariants.{Value}
 
 pub fails_with : {A : Type 0} (P : JsonError → Type 0) (r : Result A JsonError) (e : JsonError)
     → r ≡ Err e → P e → IfErr r P
@@ -35,34 +36,34 @@ module _ (reads : Data → Bool) where
   some_are_values (Some []) h = refl
   some_are_values (Some (d ∷ ds)) h = h
 
-either_fault : (a b : Bool) (x e : Fault) → (IsTrue b → IsTrue a)
+either_fault : (a b : Bool) (x e : JsonError) → (IsTrue b → IsTrue a)
     → (if a then None else Some x) ≡ Some e → (if b then None else Some x) ≡ Some e
 either_fault true b x e h k = absurd cc
 either_fault false true x e h k = absurd (let no = h refl in cc)
 either_fault false false x e h k = k
 
-second_fault : (f g h : Option Fault) (e : Fault) → (g ≡ Some e → h ≡ Some e)
+second_fault : (f g h : Option JsonError) (e : JsonError) → (g ≡ Some e → h ≡ Some e)
     → before f g ≡ Some e → before f h ≡ Some e
 second_fault None g h e to k = to k
 second_fault (Some x) g h e to k = k
 
-first_none : (f g : Option Fault) → before f g ≡ None → f ≡ None
+first_none : (f g : Option JsonError) → before f g ≡ None → f ≡ None
 first_none None g h = refl
 first_none (Some x) g h = h
 
 module _ (key_reads reads : Data → Bool) (i : ℕ) where
-  pair_too : (p : Option (Data × Data)) (e : Fault)
+  pair_too : (p : Option (Data × Data)) (e : JsonError)
       → pair_fault key_reads (reads_values reads) i p ≡ Some e
       → pair_fault key_reads (reads_some_values reads) i p ≡ Some e
   pair_too None e h = h
   pair_too (Some p) e h =
       second_fault (range_fault key_reads i p.0) (value_fault (reads_values reads) i p.1)
       (value_fault (reads_some_values reads) i p.1) e
-      (either_fault (reads_values reads p.1) (reads_some_values reads p.1) (no_value i) e
+      (either_fault (reads_values reads p.1) (reads_some_values reads p.1) (Value i) e
       (some_are_values reads (elements_of p.1))) h
 
   -- a fault of an element of a map to sets is one of a multimap's
-  pub fault_too : (d : Data) (e : Fault)
+  pub fault_too : (d : Data) (e : JsonError)
       → element_fault key_reads (reads_values reads) i d ≡ Some e
       → element_fault key_reads (reads_some_values reads) i d ≡ Some e
   fault_too d e h = pair_too (pair_of d) e h
@@ -91,7 +92,7 @@ module _ (key_reads reads : Data → Bool) (i : ℕ) where
     pub empty_fault : (d : Data) (x : Item (AnyRange K) (BTreeSet V))
         → element_fault key_reads (reads_values reads) i d ≡ None
         → IsElementRead key_is_read (AreValuesRead cmp is_read) d x → IsEmpty x.value
-        → element_fault key_reads (reads_some_values reads) i d ≡ Some (no_value i)
+        → element_fault key_reads (reads_some_values reads) i d ≡ Some (Value i)
     empty_fault d x fine (ds, e, range, value) empty =
         let whole : before (range_fault key_reads i ds.0) (value_fault (reads_values reads) i ds.1)
         ≡ None = ap (pair_fault key_reads (reads_values reads) i) (sym e) ∙ fine in
@@ -103,7 +104,7 @@ module _ (key_reads reads : Data → Bool) (i : ℕ) where
         ∙ none_read value.ds value.values x.value value.read value.set.0 empty in
         ap (pair_fault key_reads (reads_some_values reads) i) e
         ∙ ap (λ f. before f (value_fault (reads_some_values reads) i ds.1)) first
-        ∙ ap (λ b. if b then None else Some (no_value i)) none
+        ∙ ap (λ b. if b then None else Some (Value i)) none
 
     -- an element without fault whose set is not empty
     pub full_sound : (d : Data) (x : Item (AnyRange K) (BTreeSet V))
@@ -124,10 +125,10 @@ module _ (key_reads reads : Data → Bool) (i : ℕ) where
         (sym (ap (reads_all reads) value.whole) ∙ values) in
         ap (pair_fault key_reads (reads_some_values reads) i) e
         ∙ ap (λ f. before f (value_fault (reads_some_values reads) i ds.1)) first
-        ∙ ap (λ b. if b then None else Some (no_value i)) some
+        ∙ ap (λ b. if b then None else Some (Value i)) some
       where
-        second_none : (f : Option Fault) (b : Bool)
-            → before f (if b then None else Some (no_value i)) ≡ None → IsTrue b
+        second_none : (f : Option JsonError) (b : Bool)
+            → before f (if b then None else Some (Value i)) ≡ None → IsTrue b
         second_none None true h = refl
         second_none None false h = absurd cc
         second_none (Some y) b h = absurd cc
@@ -155,7 +156,7 @@ module _ {K V : Type 0} (order : KeyOrder K) (shape : K → Data) (key_reads : D
     -- a written multimap has no fault
     pub multimap_sound : (items : List (Item (AnyRange K) (BTreeSet V)))
         → AreItemValues is_value (IsValueSet cmp value_is_value) items → HasNoEmptySet IsEmpty items
-        → IsStored order (same_values eq) items → (f : Fault)
+        → IsStored order (same_values eq) items → (f : JsonError)
         → IsFirstFault order key_reads (reads_some_values value_reads) key_is_read
         (AreValuesRead cmp value_is_read)
         (map (λ i. pair_shape (range_shape shape i.key) (values_shape value_shape i.value)) items) f

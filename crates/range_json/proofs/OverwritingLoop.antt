@@ -16,7 +16,8 @@ use Rattle.range_change.specs.Frames.{IsInsertionFrame}
 use Rattle.range_change.specs.Stored.{IsStored}
 use Rattle.range_map.specs.Extending.{AreBoundAfter}
 use Rattle.range_map.proofs.ExtendedLists.{none_bound_after, one_bound_after}
-use Rattle.range_json.specs.Faults.{Fault, first_fault}
+use Rattle.range_json.specs.Faults.{first_fault}
+use Rattle.range_json.specs.declared.error.JsonError.{JsonError}
 use Rattle.range_json.specs.MapFaults.{element_fault, IsElementRead}
 use Rattle.range_json.proofs.Keeping.{of_last, stored_before, stands_last}
 use Rattle.range_json.proofs.Reading.{fault_first, no_fault_more, read_more, same_length}
@@ -79,7 +80,7 @@ module _ {K V : Type 0} (order : KeyOrder K) (key_reads value_reads : Data → B
       }
 
   -- an element with a fault
-  pub overwriting_fails : (vs more : List Value) (v : Value) (f : Fault)
+  pub overwriting_fails : (vs more : List Value) (v : Value) (f : JsonError)
       (items : List (Item (AnyRange K) V)) → IsOverwrittenSoFar vs items
       → element_fault key_reads value_reads (length vs) (view v) ≡ Some f
       → first_fault (element_fault key_reads value_reads) 0 (map view (vs ++ v ∷ more)) ≡ Some f

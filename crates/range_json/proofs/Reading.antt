@@ -18,11 +18,12 @@ use Rattle.range_sets.specs.KeySets.{HoldsAllAlso, HoldsAlso, IsStoredSet}
 use Rattle.range_sets.proofs.Membership.{one_more, none_added}
 use Rattle.range_sets.proofs.Filling.{all_equal}
 use Rattle.range_json.specs.Shapes.{list_of, elements_of}
-use Rattle.range_json.specs.Faults.{Fault, before, first_fault, range_fault, range_items, IsRangeRead}
+use Rattle.range_json.specs.Faults.{before, first_fault, range_fault, range_items, IsRangeRead}
+use Rattle.range_json.specs.declared.error.JsonError.{JsonError}
 use Rattle.range_json.specs.SetReadBack.{list_back}
 
 abbrev MaybeFault : Type 0
-MaybeFault = Option Fault
+MaybeFault = Option JsonError
 
 module _ (fault : ℕ → Data → MaybeFault) where
   behind_at : (f rest tail : MaybeFault) → before f rest ≡ None → (rest ≡ None → tail ≡ tail)
@@ -51,7 +52,7 @@ module _ (fault : ℕ → Data → MaybeFault) where
   from_start ds more h = fault_behind 0 ds more h ∙ ap (λ n. first_fault fault n more) (omega arith)
 
   -- a fault of an element after elements without one is the first
-  pub fault_first : (ds : List Data) (d : Data) (more : List Data) (e : Fault)
+  pub fault_first : (ds : List Data) (d : Data) (more : List Data) (e : JsonError)
       → first_fault fault 0 ds ≡ None → fault (length ds) d ≡ Some e
       → first_fault fault 0 (ds ++ d ∷ more) ≡ Some e
   fault_first ds d more e h at =
@@ -126,7 +127,7 @@ module _ {K : Type 0} (key_reads : Data → Bool) (key_is_read : Data → K → 
             (frame full)) ∙ sym more;
       }
 
-  pub set_fails : (vs more : List Value) (v : Value) (e : Fault)
+  pub set_fails : (vs more : List Value) (v : Value) (e : JsonError)
       (items : List (Item (AnyRange K) (Unit {0}))) → IsSetSoFar vs items
       → range_fault key_reads (length vs) (view v) ≡ Some e
       → first_fault (range_fault key_reads) 0 (map view (vs ++ v ∷ more)) ≡ Some e

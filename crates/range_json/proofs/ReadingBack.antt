@@ -23,7 +23,8 @@ use Rattle.range_sets.proofs.Likeness.{same_sets}
 use Rattle.range_sets.specs.KeySets.{IsStoredSet}
 use Rattle.range_sets.specs.SetOrder.{same_ranges}
 use Rattle.range_json.specs.Shapes.{bound_shape, range_shape, pair_shape, set_shape, map_shape}
-use Rattle.range_json.specs.Faults.{Fault, key_fault, bound_fault, range_fault, first_fault, set_fault, range_items, IsBoundRead, IsRangeRead, IsSetRead}
+use Rattle.range_json.specs.Faults.{key_fault, bound_fault, range_fault, first_fault, set_fault, range_items, IsBoundRead, IsRangeRead, IsSetRead}
+use Rattle.range_json.specs.declared.error.JsonError.{JsonError}
 use Rattle.range_json.specs.MapFaults.{element_fault, IsElementRead, IsMapRead, IsFirstFault, MeetNonempty}
 use Rattle.range_json.specs.Values.{IsBoundValue, IsRangeValue, AreRangeValues, AreItemValues}
 use Rattle.range_json.proofs.Keeping.{apart_from_last, stored_front, one_between}
@@ -39,7 +40,7 @@ zip_last R [] (z ∷ ys) x y h r = absurd h
 zip_last R (z ∷ xs) [] x y h r = absurd h
 zip_last R (z ∷ xs) (w ∷ ys) x y h r = (h.0, zip_last R xs ys x y h.1 r)
 
-ok_is : (x y : List Data) → ◌≡◌ {A = Result (List Data) Fault} (Ok x) (Ok y) → x ≡ y
+ok_is : (x y : List Data) → ◌≡◌ {A = Result (List Data) JsonError} (Ok x) (Ok y) → x ≡ y
 ok_is x y e = cc
 
 module _ {K : Type 0} (order : KeyOrder K) (shape : K → Data) (reads : Data → Bool)
@@ -214,7 +215,7 @@ module _ {K V : Type 0} (order : KeyOrder K) (shape : K → Data) (reads : Data 
 
     -- a written map has no fault
     pub map_sound : (items : List (Item (AnyRange K) V))
-        → AreItemValues is_value value_is_value items → IsStored order same items → (f : Fault)
+        → AreItemValues is_value value_is_value items → IsStored order same items → (f : JsonError)
         → IsFirstFault order reads value_reads is_read value_is_read (map shown items) f → ⊥
     map_sound items v stored f first =
         let cut = cut_at shown items first.front first.d first.rest first.split in
@@ -226,7 +227,7 @@ module _ {K V : Type 0} (order : KeyOrder K) (shape : K → Data) (reads : Data 
               none-some f (sym (element_sound (length first.front) cut.x values.1)
               ∙ ap (element_fault reads value_reads (length first.front)) cut.at ∙ own)
           | inr met ↦
-              let y = met.1.1.0 in
+              let y = met.0.1.0 in
               let front =
               elements_back order shape reads is_value is_read back lawful same equal
               value_shape value_is_value value_is_read value_back cut.xs first.earlier
@@ -236,7 +237,7 @@ module _ {K V : Type 0} (order : KeyOrder K) (shape : K → Data) (reads : Data 
               let last =
               element_back order shape reads is_value is_read back lawful same equal
               value_shape value_is_value value_is_read value_back cut.x y values.1
-              (subst (λ d. IsElementRead is_read value_is_read d y) (sym cut.at) met.1.1.1)
+              (subst (λ d. IsElementRead is_read value_is_read d y) (sym cut.at) met.0.1.1)
               in
               let copies =
               zip_last (Copied order shape reads is_value is_read back lawful same equal)
@@ -251,11 +252,11 @@ module _ {K V : Type 0} (order : KeyOrder K) (shape : K → Data) (reads : Data 
               (cut.xs ++ cut.x ∷ []) (first.earlier ++ y ∷ []) copies)
               (All-from_recursion (λ i. IsKnownRange order i.key) (first.earlier ++ y ∷ [])
               (all_more (λ i. IsKnownRange order i.key) first.earlier y first.fine.known
-              met.1.1.2)) whole in
+              met.0.1.2)) whole in
               any_none (λ i. MeetNonempty order i.key y.key)
               (λ i. ¬ JoinsOrMeets order same y.key y.value i) first.earlier
               (apart_from_last order lawful same equal first.earlier y form)
-              (λ i out meets. out (inl meets.2)) met.1.1.3
+              (λ i out meets. out (inl meets.2)) met.0.1.3
         ]
 
 module _ {K : Type 0} (order : KeyOrder K) (shape : K → Data) (reads : Data → Bool)

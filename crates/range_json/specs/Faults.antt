@@ -10,71 +10,46 @@ use Rattle.range_algebra.specs.Range.{IsKnownRange}
 use Rattle.range_sets.specs.KeySets.{HoldsAllOf, IsStoredSet}
 use Rattle.range_store.specs.declared.storage.Item.{Item}
 use Rattle.range_json.specs.declared.error.JsonError.{JsonError}
-use Rattle.range_json.specs.declared.error.JsonError.TheVariants.{Memory, NotArray, NotPair, NotRange, NotBound, Key, Value, Meets, Version}
+use Rattle.range_json.specs.declared.error.JsonError.TheVariants.{NotArray, NotRange, NotBound, Key}
 use Rattle.range_json.specs.Shapes.{pair_of, bound_of, elements_of}
 
--- what is at fault: the whole, or the element at an index, for `meets_earlier` beside the earlier
--- element that it meets
-pub data Fault : Type 0 where
-  no_memory : Fault
-  no_array : Fault
-  no_pair : ℕ → Fault
-  no_range : ℕ → Fault
-  no_bound : ℕ → Fault
-  no_key : ℕ → Fault
-  no_value : ℕ → Fault
-  meets_earlier : ℕ → ℕ → Fault
-  no_version : Fault
-
--- the fault that an error names, whatever was found there
-abbrev pub fault_of : JsonError → Fault
-fault_of Memory = no_memory
-fault_of (NotArray found) = no_array
-fault_of (NotPair i found) = no_pair i
-fault_of (NotRange i found) = no_range i
-fault_of (NotBound i found) = no_bound i
-fault_of (Key i expected found) = no_key i
-fault_of (Value i expected found) = no_value i
-fault_of (Meets i j found) = meets_earlier i j
-fault_of (Version found) = no_version
-
 -- the first of two faults
-abbrev pub before : Option Fault → Option Fault → Option Fault
+abbrev pub before : Option JsonError → Option JsonError → Option JsonError
 before None f = f
 before (Some e) f = Some e
 
 module _ (key_reads : Data → Bool) where
-  abbrev pub key_fault : ℕ → Data → Option Fault
-  key_fault i d = if key_reads d then None else Some (no_key i)
+  abbrev pub key_fault : ℕ → Data → Option JsonError
+  key_fault i d = if key_reads d then None else Some (Key i)
 
-  abbrev pub parts_fault : ℕ → Option (Bound Data) → Option Fault
-  parts_fault i None = Some (no_bound i)
+  abbrev pub parts_fault : ℕ → Option (Bound Data) → Option JsonError
+  parts_fault i None = Some (NotBound i)
   parts_fault i (Some (Included d)) = key_fault i d
   parts_fault i (Some (Excluded d)) = key_fault i d
   parts_fault i (Some Unbounded) = None
 
-  abbrev pub bound_fault : ℕ → Data → Option Fault
+  abbrev pub bound_fault : ℕ → Data → Option JsonError
   bound_fault i d = parts_fault i (bound_of d)
 
-  abbrev pub bounds_fault : ℕ → Option (Data × Data) → Option Fault
-  bounds_fault i None = Some (no_range i)
+  abbrev pub bounds_fault : ℕ → Option (Data × Data) → Option JsonError
+  bounds_fault i None = Some (NotRange i)
   bounds_fault i (Some p) = before (bound_fault i p.0) (bound_fault i p.1)
 
   -- the first fault of the range of the element at i
-  abbrev pub range_fault : ℕ → Data → Option Fault
+  abbrev pub range_fault : ℕ → Data → Option JsonError
   range_fault i d = bounds_fault i (pair_of d)
 
 -- the first fault of the elements, the first of which is at i
-abbrev pub first_fault : (ℕ → Data → Option Fault) → ℕ → List Data → Option Fault
+abbrev pub first_fault : (ℕ → Data → Option JsonError) → ℕ → List Data → Option JsonError
 first_fault fault i [] = None
 first_fault fault i (d ∷ ds) = before (fault i d) (first_fault fault (suc i) ds)
 
-abbrev pub array_fault : (ℕ → Data → Option Fault) → Option (List Data) → Option Fault
-array_fault fault None = Some no_array
+abbrev pub array_fault : (ℕ → Data → Option JsonError) → Option (List Data) → Option JsonError
+array_fault fault None = Some NotArray
 array_fault fault (Some ds) = first_fault fault 0 ds
 
 -- the first fault of a set
-abbrev pub set_fault : (Data → Bool) → Data → Option Fault
+abbrev pub set_fault : (Data → Bool) → Data → Option JsonError
 set_fault key_reads d = array_fault (range_fault key_reads) (elements_of d)
 
 -- the items of a set of these ranges

@@ -14,8 +14,9 @@ use Rattle.range_change.specs.Bindings.{BindAlike}
 use Rattle.range_change.specs.Lookups.{Overlap}
 use Rattle.range_change.specs.Stored.{IsStored}
 use Rattle.range_json.specs.declared.error.JsonError.{JsonError}
-use Rattle.range_json.specs.Faults.{Fault, no_array, no_pair, no_value, meets_earlier, no_version, before, fault_of, range_fault, first_fault, IsRangeRead}
+use Rattle.range_json.specs.Faults.{before, range_fault, first_fault, IsRangeRead}
 use Rattle.range_json.specs.Shapes.{pair_of, elements_of, list_of}
+use Rattle.range_json.specs.declared.error.JsonError.TheVariants.{Meets, NotArray, NotPair, Value, Version}
 
 -- each member is named `version` or `items`
 abbrev pub are_known : Members → Bool
@@ -33,31 +34,31 @@ is_version_2 ms =
     is_two (option_and_then as_u64 (option_and_then as_number (get_member (codes "version") ms)))
     && are_known ms
 
-abbrev pub or_no_array : Option (List Data) → Result (List Data) Fault
-or_no_array None = Err no_array
+abbrev pub or_no_array : Option (List Data) → Result (List Data) JsonError
+or_no_array None = Err NotArray
 or_no_array (Some ds) = Ok ds
 
 -- the elements of a map, or the fault of the whole
-abbrev pub map_elements : Data → Result (List Data) Fault
-map_elements null = Err no_array
-map_elements (boolean b) = Err no_array
-map_elements (number n) = Err no_array
-map_elements (string s) = Err no_array
+abbrev pub map_elements : Data → Result (List Data) JsonError
+map_elements null = Err NotArray
+map_elements (boolean b) = Err NotArray
+map_elements (number n) = Err NotArray
+map_elements (string s) = Err NotArray
 map_elements (array ds) = Ok (list_of ds)
 map_elements (object ms) =
     if is_version_2 ms then or_no_array
-    (option_and_then elements_of (get_member (codes "items") ms)) else Err no_version
+    (option_and_then elements_of (get_member (codes "items") ms)) else Err Version
 
-abbrev pub value_fault : (Data → Bool) → ℕ → Data → Option Fault
-value_fault value_reads i d = if value_reads d then None else Some (no_value i)
+abbrev pub value_fault : (Data → Bool) → ℕ → Data → Option JsonError
+value_fault value_reads i d = if value_reads d then None else Some (Value i)
 
 module _ (key_reads value_reads : Data → Bool) where
-  abbrev pub pair_fault : ℕ → Option (Data × Data) → Option Fault
-  pair_fault i None = Some (no_pair i)
+  abbrev pub pair_fault : ℕ → Option (Data × Data) → Option JsonError
+  pair_fault i None = Some (NotPair i)
   pair_fault i (Some p) = before (range_fault key_reads i p.0) (value_fault value_reads i p.1)
 
   -- the first fault of the element at i that is seen without the earlier elements
-  abbrev pub element_fault : ℕ → Data → Option Fault
+  abbrev pub element_fault : ℕ → Data → Option JsonError
   element_fault i d = pair_fault i (pair_of d)
 
 -- no JSON value is read as two unequal keys
@@ -81,13 +82,6 @@ module _ {K V : Type 0} where
   abbrev pub MeetsOne : KeyOrder K → AnyRange K → List (Item (AnyRange K) V) → Type 0
   MeetsOne order r items = Any (λ i. MeetNonempty order i.key r) items
 
-  -- the item at j is the first whose range meets the range
-  abbrev pub IsFirstMet : KeyOrder K → AnyRange K → List (Item (AnyRange K) V) → ℕ → Type 0
-  IsFirstMet order r items j =
-      (front : List (Item (AnyRange K) V)) × (x : Item (AnyRange K) V)
-      × (rest : List (Item (AnyRange K) V)) × (items ≡ front ++ x ∷ rest) × (length front ≡ j)
-      × (¬ MeetsOne order r front) × MeetNonempty order x.key r
-
   -- no two ranges meet
   abbrev pub AreApart : KeyOrder K → List (Item (AnyRange K) V) → Type 0
   AreApart order [] = ⊤
@@ -102,17 +96,15 @@ module _ {K V : Type 0} where
       pub known : AllByRecursion (λ i. IsKnownRange order i.key) items
       pub apart : AreApart order items
 
-    -- it has no fault of its own, and its range meets that of an earlier item; the first such is
-    -- at j, where no JSON value is read as two unequal keys
-    abbrev pub MeetsEarlier : ℕ → Data → List (Item (AnyRange K) V) → ℕ → Type 0
-    MeetsEarlier i d earlier j =
+    -- it has no fault of its own, and its range meets that of an earlier item
+    abbrev pub MeetsEarlier : ℕ → Data → List (Item (AnyRange K) V) → Type 0
+    MeetsEarlier i d earlier =
         (element_fault key_reads value_reads i d ≡ None)
         × ((x : Item (AnyRange K) V) × IsElementRead key_is_read value_is_read d x
-        × IsKnownRange order x.key × MeetsOne order x.key earlier
-        × (HasOneReading order key_is_read → IsFirstMet order x.key earlier j))
+        × IsKnownRange order x.key × MeetsOne order x.key earlier)
 
     -- the fault of the first element that has one
-    pub record IsFirstFault (ds : List Data) (f : Fault) : Type 0 where
+    pub record IsFirstFault (ds : List Data) (f : JsonError) : Type 0 where
       pub front : List Data
       pub d : Data
       pub rest : List Data
@@ -120,15 +112,15 @@ module _ {K V : Type 0} where
       pub split : ds ≡ front ++ d ∷ rest
       pub fine : AreRead front earlier
       pub fault : (element_fault key_reads value_reads (length front) d ≡ Some f) ⊎
-          ((j : ℕ) × MeetsEarlier (length front) d earlier j × (f ≡ meets_earlier (length front) j))
+          (MeetsEarlier (length front) d earlier × (f ≡ Meets (length front)))
 
-    abbrev pub IsFaultOf : Result (List Data) Fault → Fault → Type 0
+    abbrev pub IsFaultOf : Result (List Data) JsonError → JsonError → Type 0
     IsFaultOf (Err e) f = f ≡ e
     IsFaultOf (Ok ds) f = IsFirstFault ds f
 
     -- the first fault of a map
     abbrev pub IsMapFault : Data → JsonError → Type 0
-    IsMapFault d e = IsFaultOf (map_elements d) (fault_of e)
+    IsMapFault d e = IsFaultOf (map_elements d) e
 
     -- the value has no fault; the list binds each key as the element does whose range holds it, and
     -- no other key; elements in the form of a map are kept one by one

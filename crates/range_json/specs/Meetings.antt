@@ -1,5 +1,5 @@
 -- Which of the earlier elements of a map is met, as their ranges are read again.
-use Rattle.std.specs.Prelude.{◌≡◌, ◌⊎◌, ℕ, List, ◌∷◌, ◌++◌, length, map, Some}
+use Rattle.std.specs.Prelude.{◌≡◌, ℕ, List, ◌∷◌, ◌++◌, length, map, Some, Ok}
 use Rattle.std.specs.List.{AllByRecursion}
 use Rattle.serde_json.specs.Data.{Data}
 use Rattle.serde_json.specs.View.{view}
@@ -7,7 +7,7 @@ use Rattle.serde_json.specs.declared.value.Value.{Value}
 use Rattle.range_keys.specs.Order.{KeyOrder}
 use Rattle.range_algebra.specs.declared.any.AnyRange.{AnyRange}
 use Rattle.range_json.specs.Faults.{IsRangeRead}
-use Rattle.range_json.specs.MapFaults.{MeetNonempty}
+use Rattle.range_json.specs.MapFaults.{MeetNonempty, map_elements}
 use Rattle.range_json.specs.Shapes.{pair_of}
 
 -- what the values stand for, one by one
@@ -39,6 +39,11 @@ module _ {K : Type 0} (order : KeyOrder K) (key_is_read : Data → K → Type 0)
     pub none : AllByRecursion (λ c. NeverMeet c d) front
     pub met : AlwaysMeet e d
 
-  -- the element at j is the first that meets d, or none does
-  abbrev pub IsFirstOrNone : List Data → Data → ℕ → Type 0
-  IsFirstOrNone ds d j = IsFirstMeeting ds d j ⊎ AllByRecursion (λ c. NeverMeet c d) ds
+  -- of the elements of a map before that at i, that at j is the first that meets it
+  pub record IsFirstMetBy (whole : Data) (i j : ℕ) : Type 0 where
+    pub front : List Data
+    pub d : Data
+    pub rest : List Data
+    pub elements : map_elements whole ≡ Ok (front ++ d ∷ rest)
+    pub place : length front ≡ i
+    pub first : IsFirstMeeting front d j

@@ -8,16 +8,17 @@ use Rattle.range_algebra.specs.Range.{IsKnownRange}
 use Rattle.range_store.specs.declared.storage.Item.{Item}
 use Rattle.range_change.specs.Stored.{IsStored}
 use Rattle.range_map.specs.Extending.{AreBoundAfter}
-use Rattle.range_json.specs.Faults.{Fault, first_fault}
+use Rattle.range_json.specs.Faults.{first_fault}
+use Rattle.range_json.specs.declared.error.JsonError.{JsonError}
 use Rattle.range_json.specs.MapFaults.{element_fault, map_elements, IsElementRead}
 
 module _ (key_reads value_reads : Data → Bool) where
-  abbrev pub fault_of_elements : Result (List Data) Fault → Option Fault
+  abbrev pub fault_of_elements : Result (List Data) JsonError → Option JsonError
   fault_of_elements (Err fault) = Some fault
   fault_of_elements (Ok ds) = first_fault (element_fault key_reads value_reads) 0 ds
 
   -- the first fault of a map whose elements may meet
-  abbrev pub overwriting_fault : Data → Option Fault
+  abbrev pub overwriting_fault : Data → Option JsonError
   overwriting_fault d = fault_of_elements (map_elements d)
 
 module _ {K V : Type 0} (order : KeyOrder K) (key_is_read : Data → K → Type 0)

@@ -2,13 +2,12 @@
 ghost use Rattle.std.specs.Prelude.{◌≡◌, ◌⊎◌, Some, None, option_map, IfOk, OnOk, IfErr};
 ghost use Rattle.serde_json.specs.Data.{object, member, no_members};
 ghost use Rattle.serde_json.specs.View.{view};
-ghost use Rattle.range_json.specs.Faults.{IsBoundRead, bound_fault, fault_of, key_fault, no_bound};
+ghost use Rattle.range_json.specs.Faults.{IsBoundRead, bound_fault, key_fault};
 ghost use Rattle.range_json.specs.Shapes.{bound_shape, only_member_of};
 ghost use Rattle.range_json.specs.Values.{IsBoundValue};
 ghost use Rattle.range_json.specs.declared.error.JsonError.TheVariants.{Memory};
 
 use crate::error::{JsonError, ReadError};
-use crate::found::{Expected, Found};
 use crate::json::Json;
 use serde_json::{Map, Value};
 use std::alloc::{AllocError, Global};
@@ -40,21 +39,17 @@ fn key_from_json<K: Json>(alloc: Global, value: &Value, index: usize) -> Result<
     ensures read { IfOk result (K.is_read (view value.now)) }
     ensures sound { OnOk result (key_fault K.reads index (view value.now) ≡ None) }
     ensures fault { IfErr result
-        (λ e. (e ≡ Memory) ⊎ (key_fault K.reads index (view value.now) ≡ Some (fault_of e))) }
+        (λ e. (e ≡ Memory) ⊎ (key_fault K.reads index (view value.now) ≡ Some e)) }
 {
     match K::from_json(alloc, value) {
         Ok(key) => Ok(key),
         Err(ReadError::Memory) => Err(JsonError::Memory),
-        Err(ReadError::Refused) => Err(JsonError::Key {
-            element: index,
-            expected: Expected::of(K::name()),
-            found: Found::of(value),
-        }),
+        Err(ReadError::Refused) => Err(JsonError::Key(index)),
     }
 }
 
 /// The one member of an object that has no other.
-fn only_member(value: &Value) -> Option<(&str, &Value)>
+pub(crate) fn only_member(value: &Value) -> Option<(&str, &Value)>
     ensures { option_map (λ m. (m.0.now, view m.1.now)) result ≡ only_member_of (view value.now) }
 {
     let members = value.as_object()?;
@@ -62,16 +57,6 @@ fn only_member(value: &Value) -> Option<(&str, &Value)>
     match (entries.next(), entries.next()) {
         (Some((name, member)), None) => Some((name.as_str(), member)),
         _ => None,
-    }
-}
-
-/// The fault of a bound of the element at `index`.
-fn not_bound(value: &Value, index: usize) -> JsonError
-    ensures { fault_of result ≡ no_bound index }
-{
-    JsonError::NotBound {
-        element: index,
-        found: Found::of(value),
     }
 }
 
@@ -84,18 +69,18 @@ pub(crate) fn bound_from_json<K: Json>(
     ensures read { IfOk result (IsBoundRead K.is_read (view value.now)) }
     ensures sound { OnOk result (bound_fault K.reads index (view value.now) ≡ None) }
     ensures fault { IfErr result
-        (λ e. (e ≡ Memory) ⊎ (bound_fault K.reads index (view value.now) ≡ Some (fault_of e))) }
+        (λ e. (e ≡ Memory) ⊎ (bound_fault K.reads index (view value.now) ≡ Some e)) }
 {
     if let Some(text) = value.as_str() {
         return if text == "Unbounded" {
             Ok(Bound::Unbounded)
         } else {
-            Err(not_bound(value, index))
+            Err(JsonError::NotBound(index))
         };
     }
     match only_member(value) {
         Some(("Included", key)) => Ok(Bound::Included(key_from_json(alloc, key, index)?)),
         Some(("Excluded", key)) => Ok(Bound::Excluded(key_from_json(alloc, key, index)?)),
-        _ => Err(not_bound(value, index)),
+        _ => Err(JsonError::NotBound(index)),
     }
 }

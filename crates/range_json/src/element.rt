@@ -1,20 +1,16 @@
 //! The elements of a map.
-ghost use Rattle.std.specs.Prelude.{◌≡◌, ◌⊎◌, ℕ, length, Some, None, IfOk, OnOk, IfErr};
+ghost use Rattle.std.specs.Prelude.{◌≡◌, ◌⊎◌, Some, None, IfOk, OnOk, IfErr};
 ghost use Rattle.serde_json.specs.View.{view};
 ghost use Rattle.range_algebra.specs.Range.{ClonesAreEqual, IsEmptyRange, IsKnownRange};
 ghost use Rattle.range_change.specs.Bindings.{IsBoundAfter};
 ghost use Rattle.range_change.specs.Frames.{IsInsertionFrame};
 ghost use Rattle.range_change.specs.Lookups.{MeetsSome, MeetAlso};
 ghost use Rattle.range_change.specs.Stored.{IsStored};
-ghost use Rattle.range_json.specs.Faults.{fault_of, meets_earlier};
-ghost use Rattle.range_json.specs.MapFaults.{HasOneReading, IsElementRead, element_fault, value_fault};
-ghost use Rattle.range_json.specs.Meetings.{all_views, IsFirstOrNone};
-ghost use Rattle.range_json.specs.declared.error.JsonError.TheVariants.{Memory};
+ghost use Rattle.range_json.specs.MapFaults.{IsElementRead, element_fault, value_fault};
+ghost use Rattle.range_json.specs.declared.error.JsonError.TheVariants.{Memory, Meets};
 
 use crate::error::{JsonError, ReadError};
-use crate::found::{Expected, Found};
 use crate::json::Json;
-use crate::meeting::meeting;
 use crate::range::{element_range, pair};
 use range_algebra::any::AnyRange;
 use range_algebra::inner;
@@ -30,16 +26,12 @@ fn value_from_json<V: Json>(alloc: Global, value: &Value, index: usize) -> Resul
     ensures read { IfOk result (V.is_read (view value.now)) }
     ensures sound { OnOk result (value_fault V.reads index (view value.now) ≡ None) }
     ensures fault { IfErr result
-        (λ e. (e ≡ Memory) ⊎ (value_fault V.reads index (view value.now) ≡ Some (fault_of e))) }
+        (λ e. (e ≡ Memory) ⊎ (value_fault V.reads index (view value.now) ≡ Some e)) }
 {
     match V::from_json(alloc, value) {
         Ok(value) => Ok(value),
         Err(ReadError::Memory) => Err(JsonError::Memory),
-        Err(ReadError::Refused) => Err(JsonError::Value {
-            element: index,
-            expected: Expected::of(V::name()),
-            found: Found::of(value),
-        }),
+        Err(ReadError::Refused) => Err(JsonError::Value(index)),
     }
 }
 
@@ -53,33 +45,23 @@ pub(crate) fn element_from_json<K: Json, V: Json>(
     ensures sound { OnOk result (element_fault K.reads V.reads index (view value.now) ≡ None) }
     ensures fault { IfErr result
         (λ e. (e ≡ Memory)
-        ⊎ (element_fault K.reads V.reads index (view value.now) ≡ Some (fault_of e))) }
+        ⊎ (element_fault K.reads V.reads index (view value.now) ≡ Some e)) }
 {
     match pair(value) {
         Some((range, value)) => Ok(Item {
             key: element_range(alloc, range, index)?,
             value: value_from_json(alloc, value, index)?,
         }),
-        None => Err(JsonError::NotPair {
-            element: index,
-            found: Found::of(value),
-        }),
+        None => Err(JsonError::NotPair(index)),
     }
 }
 
-/// Binds the keys of an element, where its range meets no stored one. It was read of the JSON value
-/// after the earlier ones.
+/// Binds the keys of the element at `index`, where its range meets no stored one.
 pub(crate) fn insert_element<
     K: Json + Measure + Clone,
     V: Eq + Clone,
     C: Storage<Item<AnyRange<K>, V>>,
->(
-    alloc: Global,
-    map: &mut RangeMap<K, V, C>,
-    item: Item<AnyRange<K>, V>,
-    earlier: &[Value],
-    element: &Value,
-) -> Result<(), JsonError>
+>(map: &mut RangeMap<K, V, C>, item: Item<AnyRange<K>, V>, index: usize) -> Result<(), JsonError>
     requires { ClonesAreEqual K.is_clone K.eq }
     ensures known { IsKnownRange K.order item.key }
     ensures apart { OnOk result
@@ -98,9 +80,7 @@ pub(crate) fn insert_element<
     ensures empty_unchanged { IsEmptyRange K.order item.key → C.items map.new ≡ C.items map.old }
     ensures met { IfErr result
         (λ e. (e ≡ Memory)
-        ⊎ (((j : ℕ) × (fault_of e ≡ meets_earlier (length earlier.now) j)
-        × (HasOneReading K.order K.is_read
-        → IsFirstOrNone K.order K.is_read (all_views earlier.now) (view element.now) j))
+        ⊎ ((e ≡ Meets index)
         × (¬ IsEmptyRange K.order item.key) × MeetsSome K.order (C.items map.old) item.key)) }
 {
     let Item { key, value } = item;
@@ -108,6 +88,6 @@ pub(crate) fn insert_element<
     if insert_disjoint(map, key, value)? {
         Ok(())
     } else {
-        Err(meeting::<K>(alloc, earlier, element)?)
+        Err(JsonError::Meets(index))
     }
 }

@@ -1,4 +1,4 @@
-//! What was expected of a JSON value, and what stood there.
+//! What stood where a JSON value was not read.
 
 use arrayvec::ArrayString;
 use serde_json::Value;
@@ -7,9 +7,6 @@ use std::fmt::InlineText;
 
 /// How many characters of a JSON value are shown.
 const LENGTH: usize = 40;
-
-/// How many bytes the words have that say what was expected.
-const WORDS: usize = 64;
 
 /// The bytes of one character more than is shown, so that a text that is cut to fit has it.
 const ROOM: usize = 164;
@@ -43,33 +40,6 @@ impl Found {
 }
 
 impl fmt::Display for Found {
-    fn fmt<W: fmt::Write>(&self, f: &mut fmt::Formatter<W>) -> fmt::Result {
-        f.write_str(self.as_str())
-    }
-}
-
-/// What a JSON value had to be, in the words of the type that was to be read: the first 64 bytes.
-#[derive(Clone, Copy, Debug, Drop, PartialEq, Eq)]
-pub struct Expected {
-    text: ArrayString<{ WORDS }>,
-}
-
-impl Expected {
-    pub(crate) fn of(name: &str) -> Expected {
-        let mut text = ArrayString::new();
-        for letter in name.chars() {
-            let _fits = text.try_push(letter);
-        }
-        Expected { text }
-    }
-
-    /// The text.
-    pub fn as_str(&self) -> &str {
-        self.text.as_str()
-    }
-}
-
-impl fmt::Display for Expected {
     fn fmt<W: fmt::Write>(&self, f: &mut fmt::Formatter<W>) -> fmt::Result {
         f.write_str(self.as_str())
     }

@@ -5,7 +5,7 @@ ghost use Rattle.serde_json.specs.View.{view};
 ghost use Rattle.range_json.specs.declared.error.ReadError.TheVariants.{Refused};
 
 pub use crate::error::{JsonError, ReadError};
-pub use crate::found::{Expected, Found};
+pub use crate::explanation::Explanation;
 pub use crate::laws::{
     maps_are_read_back, multimaps_are_read_back, ranges_are_read_back, read_maps_have_no_fault,
     read_multimaps_have_no_fault, sets_are_read_back,
@@ -44,9 +44,11 @@ pub trait Json: Sized + Drop {
         ensures readable { OnOk result (IsTrue (reads (view value.now))) }
         ensures refused { IsErrOf result Refused → reads (view value.now) ≡ false };
 
-    /// What a JSON value has to be to be read as such a value, as errors say it: `a u32`,
-    /// `a string`.
-    fn name() -> &'static str;
+    /// What a JSON value has to be to be read as such a value, as an explained error says it:
+    /// `a u32`, `a string`.
+    fn name() -> &'static str {
+        "a value of the type"
+    }
 }
 
 /// A type that reads what it has written as an equal value, and one JSON value never as two unequal

@@ -6,6 +6,7 @@ mod bound;
 mod characters;
 mod element;
 mod error;
+mod explanation;
 mod found;
 pub mod json;
 mod laws;

@@ -68,7 +68,7 @@ pub fn map_to_json<K: Json + PartialEnum, V: Json + Eq, C: Storage<Item<AnyRange
 ///
 /// The fault of the first faulty element, with its index, from 0: an element that is no pair, a
 /// range that is none, a bound or a key that is none, a value that is none, or a nonempty range
-/// that meets that of an earlier element, with the index of the first such. `NotArray` and
+/// that meets that of an earlier element. `NotArray` and
 /// `Version` where the whole has neither shape. `Memory` where an allocation fails.
 pub fn map_from_json<
     K: Json + Measure + Clone,
@@ -88,7 +88,7 @@ pub fn map_from_json<
     let mut map = RangeMap::new(alloc);
     for (index, element) in elements.iter().enumerate() {
         let item = element_from_json(alloc, element, index)?;
-        insert_element(alloc, &mut map, item, &elements[..index], element)?;
+        insert_element(&mut map, item, index)?;
     }
     Ok(map)
 }

@@ -1,5 +1,5 @@
 //! Multimaps as JSON values.
-ghost use Rattle.std.specs.Prelude.{◌≡◌, ◌⊎◌, ℕ, length, Some, None, IfOk, OnOk, IfErr};
+ghost use Rattle.std.specs.Prelude.{◌≡◌, ◌⊎◌, Some, None, IfOk, OnOk, IfErr};
 ghost use Rattle.std.specs.BTreeSet.{IsEmpty};
 ghost use Rattle.serde_json.specs.View.{view};
 ghost use Rattle.range_algebra.specs.Range.{ClonesAreEqual, IsEmptyRange, IsKnownRange};
@@ -9,20 +9,16 @@ ghost use Rattle.range_change.specs.Lookups.{MeetsSome, MeetAlso};
 ghost use Rattle.range_change.specs.Stored.{IsStored};
 ghost use Rattle.range_sets.specs.Pairs.{HasNoEmptySet};
 ghost use Rattle.range_json.specs.Shapes.{map_shape};
-ghost use Rattle.range_json.specs.Faults.{fault_of, meets_earlier};
-ghost use Rattle.range_json.specs.MapFaults.{HasOneReading, IsElementRead, element_fault};
-ghost use Rattle.range_json.specs.Meetings.{all_views, IsFirstOrNone};
+ghost use Rattle.range_json.specs.MapFaults.{IsElementRead, element_fault};
 ghost use Rattle.range_json.specs.Values.{AreItemValues};
 ghost use Rattle.range_json.specs.ValueSets.{values_shape, reads_some_values, same_values, IsValueSet, AreValuesRead};
 ghost use Rattle.range_json.specs.MultimapFaults.{IsMultimapRead, IsMultimapFault};
-ghost use Rattle.range_json.specs.declared.error.JsonError.TheVariants.{Memory};
+ghost use Rattle.range_json.specs.declared.error.JsonError.TheVariants.{Memory, Meets};
 
 use crate::element::element_from_json;
 use crate::error::JsonError;
-use crate::found::Expected;
 use crate::json::Json;
 use crate::map::pair_to_json;
-use crate::meeting::{found_value, meeting};
 use crate::version::{elements_of_map, versioned};
 use range_algebra::any::AnyRange;
 use range_algebra::inner;
@@ -71,27 +67,20 @@ fn element_with_values<K: Json, V: Json + Ord + Clone>(
     ensures fault { IfErr result
         (λ e. (e ≡ Memory)
         ⊎ (element_fault K.reads (reads_some_values V.reads) index (view value.now)
-        ≡ Some (fault_of e))) }
+        ≡ Some e)) }
 {
     let element = element_from_json::<K, BTreeSet<V>>(alloc, value, index)?;
     if element.value.is_empty() {
-        return Err(JsonError::Value {
-            element: index,
-            expected: Expected::of("an array of values that is not empty"),
-            found: found_value(value),
-        });
+        return Err(JsonError::Value(index));
     }
     Ok(element)
 }
 
-/// Gives the keys of an element its values, where its range meets no stored one. It was read of the
-/// JSON value after the earlier ones.
+/// Gives the keys of the element at `index` its values, where its range meets no stored one.
 fn insert_values<K: Json + Measure + Clone, S: MaybeEmpty, C: Storage<Item<AnyRange<K>, S>>>(
-    alloc: Global,
     multimap: &mut RangeMultiMap<K, S, C>,
     item: Item<AnyRange<K>, S>,
-    earlier: &[Value],
-    element: &Value,
+    index: usize,
 ) -> Result<(), JsonError>
     requires keys { ClonesAreEqual K.is_clone K.eq }
     requires nonempty { ¬ S.is_void item.value }
@@ -114,10 +103,7 @@ fn insert_values<K: Json + Measure + Clone, S: MaybeEmpty, C: Storage<Item<AnyRa
         → C.items multimap.new ≡ C.items multimap.old }
     ensures met { IfErr result
         (λ e. (e ≡ Memory)
-        ⊎ (((j : ℕ) × (fault_of e ≡ meets_earlier (length earlier.now) j)
-        × (HasOneReading K.order K.is_read
-        → IsFirstOrNone K.order K.is_read (all_views earlier.now) (view element.now) j))
-        × (¬ IsEmptyRange K.order item.key)
+        ⊎ ((e ≡ Meets index) × (¬ IsEmptyRange K.order item.key)
         × MeetsSome K.order (C.items multimap.old) item.key)) }
 {
     let Item { key, value } = item;
@@ -125,7 +111,7 @@ fn insert_values<K: Json + Measure + Clone, S: MaybeEmpty, C: Storage<Item<AnyRa
     if insert_set(multimap, key, value)? {
         Ok(())
     } else {
-        Err(meeting::<K>(alloc, earlier, element)?)
+        Err(JsonError::Meets(index))
     }
 }
 
@@ -158,7 +144,7 @@ pub fn multimap_from_json<
     let mut multimap = RangeMultiMap::new(alloc);
     for (index, element) in elements.iter().enumerate() {
         let item = element_with_values(alloc, element, index)?;
-        insert_values(alloc, &mut multimap, item, &elements[..index], element)?;
+        insert_values(&mut multimap, item, index)?;
     }
     // For the proof: `iter` promises the form of the list.
     drop(multimap.iter());

@@ -5,7 +5,6 @@ ghost use Rattle.range_algebra.specs.Range.{ClonesAreEqual, IsEmptyRange, IsKnow
 ghost use Rattle.range_change.specs.Bindings.{IsBoundAfter};
 ghost use Rattle.range_change.specs.Frames.{IsInsertionFrame};
 ghost use Rattle.range_change.specs.Stored.{IsStored};
-ghost use Rattle.range_json.specs.Faults.{fault_of};
 ghost use Rattle.range_json.specs.Overwriting.{overwriting_fault, IsMapOverwritten};
 ghost use Rattle.range_json.specs.declared.error.JsonError.TheVariants.{Memory};
 
@@ -70,7 +69,7 @@ pub fn map_from_json_overwriting<
     ensures sound { OnOk result (overwriting_fault K.reads V.reads (view value.now) ≡ None) }
     ensures fault { IfErr result
         (λ e. (e ≡ Memory)
-        ⊎ (overwriting_fault K.reads V.reads (view value.now) ≡ Some (fault_of e))) }
+        ⊎ (overwriting_fault K.reads V.reads (view value.now) ≡ Some e)) }
 {
     let elements = elements_of_map(value)?;
     let mut map = RangeMap::new(alloc);

@@ -2,13 +2,12 @@
 ghost use Rattle.std.specs.Prelude.{◌≡◌, ◌⊎◌, Some, None, option_map, IfOk, OnOk, IfErr};
 ghost use Rattle.serde_json.specs.View.{view};
 ghost use Rattle.range_json.specs.Shapes.{range_shape, pair_of};
-ghost use Rattle.range_json.specs.Faults.{IsRangeRead, fault_of, range_fault};
+ghost use Rattle.range_json.specs.Faults.{IsRangeRead, range_fault};
 ghost use Rattle.range_json.specs.Values.{IsRangeValue};
 ghost use Rattle.range_json.specs.declared.error.JsonError.TheVariants.{Memory};
 
 use crate::bound::{bound_from_json, bound_to_json};
 use crate::error::JsonError;
-use crate::found::Found;
 use crate::json::Json;
 use range_algebra::any::AnyRange;
 use serde_json::Value;
@@ -46,17 +45,14 @@ pub(crate) fn element_range<K: Json>(
     ensures read { IfOk result (IsRangeRead K.is_read (view value.now)) }
     ensures sound { OnOk result (range_fault K.reads index (view value.now) ≡ None) }
     ensures fault { IfErr result
-        (λ e. (e ≡ Memory) ⊎ (range_fault K.reads index (view value.now) ≡ Some (fault_of e))) }
+        (λ e. (e ≡ Memory) ⊎ (range_fault K.reads index (view value.now) ≡ Some e)) }
 {
     match pair(value) {
         Some((start, end)) => Ok(AnyRange {
             start: bound_from_json(alloc, start, index)?,
             end: bound_from_json(alloc, end, index)?,
         }),
-        None => Err(JsonError::NotRange {
-            element: index,
-            found: Found::of(value),
-        }),
+        None => Err(JsonError::NotRange(index)),
     }
 }
 
@@ -70,7 +66,7 @@ pub fn range_from_json<K: Json>(alloc: Global, value: &Value) -> Result<AnyRange
     ensures read { IfOk result (IsRangeRead K.is_read (view value.now)) }
     ensures sound { OnOk result (range_fault K.reads 0 (view value.now) ≡ None) }
     ensures fault { IfErr result
-        (λ e. (e ≡ Memory) ⊎ (range_fault K.reads 0 (view value.now) ≡ Some (fault_of e))) }
+        (λ e. (e ≡ Memory) ⊎ (range_fault K.reads 0 (view value.now) ≡ Some e)) }
 {
     element_range(alloc, value, 0)
 }

@@ -4,7 +4,7 @@ ghost use Rattle.serde_json.specs.View.{view};
 ghost use Rattle.range_algebra.specs.Range.{ClonesAreEqual};
 ghost use Rattle.range_sets.specs.KeySets.{IsStoredSet};
 ghost use Rattle.range_json.specs.Shapes.{set_shape};
-ghost use Rattle.range_json.specs.Faults.{IsSetRead, fault_of, set_fault};
+ghost use Rattle.range_json.specs.Faults.{IsSetRead, set_fault};
 ghost use Rattle.range_json.specs.Values.{AreRangeValues};
 ghost use Rattle.range_json.specs.declared.error.JsonError.TheVariants.{Memory};
 
@@ -54,7 +54,7 @@ pub fn set_from_json<T: Json + Measure + Clone, C: Storage<Item<AnyRange<T>, ()>
     ensures form { IfOk result (λ set. IsStoredSet T.order (C.items set)) }
     ensures sound { OnOk result (set_fault T.reads (view value.now) ≡ None) }
     ensures fault { IfErr result
-        (λ e. (e ≡ Memory) ⊎ (set_fault T.reads (view value.now) ≡ Some (fault_of e))) }
+        (λ e. (e ≡ Memory) ⊎ (set_fault T.reads (view value.now) ≡ Some e)) }
 {
     let elements = elements_of_array(value)?;
     let mut set = RangeSet::new(alloc);

@@ -1,13 +1,11 @@
 //! The two shapes of a map: an array, or an object with the number of its version.
 ghost use Rattle.std.specs.Prelude.{◌≡◌, Ok, Err, IfOk, IfErr, map};
 ghost use Rattle.serde_json.specs.View.{view, members_view};
-ghost use Rattle.range_json.specs.Faults.{fault_of};
 ghost use Rattle.range_json.specs.MapFaults.{are_known, map_elements};
 ghost use Rattle.range_json.specs.Shapes.{versioned_shape};
 
 use crate::array::elements_of_array;
 use crate::error::JsonError;
-use crate::found::Found;
 use serde_json::{Map, Value};
 use std::alloc::{AllocError, Global};
 
@@ -37,7 +35,7 @@ fn has_known_members(members: &Map<String, Value>) -> bool
 /// The elements of a map in either shape.
 pub(crate) fn elements_of_map(value: &Value) -> Result<&[Value], JsonError>
     ensures found { IfOk result (λ vs. map_elements (view value.now) ≡ Ok (map view vs.now)) }
-    ensures fault { IfErr result (λ e. map_elements (view value.now) ≡ Err (fault_of e)) }
+    ensures fault { IfErr result (λ e. map_elements (view value.now) ≡ Err e) }
 {
     let members = match value.as_object() {
         Some(members) => members,
@@ -45,14 +43,10 @@ pub(crate) fn elements_of_map(value: &Value) -> Result<&[Value], JsonError>
     };
     let version = value.get("version").and_then(Value::as_u64);
     if version != Some(2) || !has_known_members(members) {
-        return Err(JsonError::Version {
-            found: Found::of(value),
-        });
+        return Err(JsonError::Version);
     }
     match value.get("items") {
         Some(items) => elements_of_array(items),
-        None => Err(JsonError::NotArray {
-            found: Found::of(value),
-        }),
+        None => Err(JsonError::NotArray),
     }
 }

@@ -4,24 +4,22 @@ use Rattle.std.specs.Prelude.{MatchOption}
 use Rattle.std.specs.Option.{ForSome, is_some, unwrap_or}
 use Rattle.range_change.proofs.Windows.{last_of_run}
 use Rattle.range_map.proofs.Common.{drop-drop, drop_more, false≢true}
+use Rattle.range_store.specs.ListPlaces.{IsAt}
 use Rattle.range_map.specs.Iteration.{place_behind, IsIterator}
 
-module _ {T P F : Type 0} {items : List T} {is_good : P → Type 0} {rank : P → ℕ}
-    {is_good_mark : F → Type 0} {mark_place : F → ℕ} {cells : List (Option T)}
-    {front : F} {back : Option P} {left : ℕ}
-    (before : IsIterator items is_good rank is_good_mark mark_place cells front back left)
+module _ {T P : Type 0} {items : List T} {is_good : P → Type 0} {rank : P → ℕ} {run : List T}
+    {front back : Option P} {left : ℕ} (before : IsIterator items is_good rank run front back left)
     (some : 0 < left) where
   abbrev place : ℕ
   place = place_behind rank back - left
 
-  -- the next item, with the cells and the mark that are left
-  pub record IsNext (item : T) (rest : List (Option T)) (after : F) : Type 0 where
+  -- the next item, with the run and the position that are left
+  pub record IsNext (item : T) (rest : List T) (after : Option P) : Type 0 where
     pub next : drop place items ≡ item ∷ drop (place + 1) items
-    pub rest_are : rest ≡ map (λ x. Some x) (take (length rest) (drop (place + 1) items))
-    pub after_is_good : is_good_mark after
-    pub after_is : mark_place after ≡ place + 1 + length rest
+    pub rest_is : rest ≡ take (length rest) (drop (place + 1) items)
+    pub after_at : IsAt is_good rank (length items) after (place + 1 + length rest)
 
-  pub next_steps : (item : T) (rest : List (Option T)) (after : F) → IsNext item rest after
+  pub next_steps : (item : T) (rest : List T) (after : Option P) → IsNext item rest after
       → take left (drop place items)
       ≡ item ∷ take (left - 1) (drop (place_behind rank back - (left - 1)) items)
   next_steps item rest after is =
@@ -31,8 +29,8 @@ module _ {T P F : Type 0} {items : List T} {is_good : P → Type 0} {rank : P �
       ap (λ n. take n (drop place items)) many ∙ ap (take (suc (left - 1))) is.next
       ∙ ap (λ at. item ∷ take (left - 1) (drop at items)) moved
 
-  pub next_iterator : (item : T) (rest : List (Option T)) (after : F) → IsNext item rest after
-      → IsIterator items is_good rank is_good_mark mark_place rest after back (left - 1)
+  pub next_iterator : (item : T) (rest : List T) (after : Option P) → IsNext item rest after
+      → IsIterator items is_good rank rest after back (left - 1)
   next_iterator item rest after is =
       let moved : place + 1 ≡ place_behind rank back - (left - 1) =
       omega (arith, some, before.enough) in
@@ -40,48 +38,52 @@ module _ {T P F : Type 0} {items : List T} {is_good : P → Type 0} {rank : P �
         last = before.last;
         in_range = before.in_range;
         enough = omega (arith, before.enough);
-        cells_are = rw (← moved) is.rest_are;
-        front_is_good = is.after_is_good;
-        front_is = omega (arith, moved, is.after_is);
+        run_is = rw (← moved) is.rest_is;
+        front_at = rw (← moved) is.after_at;
       }
 
-  pub from_cell : (cell : Option T) (rest : List (Option T)) (item : T) → cells ≡ cell ∷ rest
-      → cell ≡ Some item → IsNext item rest front
-  from_cell cell rest item at full =
-      from (drop place items) refl (rw at at before.cells_are)
+  pub from_run : (rest : List T) (item : T) → run ≡ item ∷ rest → IsNext item rest front
+  from_run rest item at = from (drop place items) refl (rw at at before.run_is)
     where
       from : (ys : List T) → drop place items ≡ ys
-          → cell ∷ rest ≡ map (λ x. Some x) (take (suc (length rest)) ys)
-          → IsNext item rest front
+          → item ∷ rest ≡ take (suc (length rest)) ys → IsNext item rest front
       from [] none same = absurd (omega (arith, ap length same))
       from (y ∷ ys) here same =
           let later : ys ≡ drop (place + 1) items =
           ap (drop 1) (sym here) ∙ drop-drop 1 place items in
-          let first : y ≡ item =
-          ap (λ o. unwrap_or o y) (sym (ap (λ zs. get_or zs 0 cell) same) ∙ full) in
+          let first : y ≡ item = ap (λ zs. get_or zs 0 y) (sym same) in
+          let far : place + length run ≡ place + 1 + length rest = omega (arith, ap length at) in
           record {
             next = here ∙ ap (λ z. z ∷ ys) first ∙ ap (λ zs. item ∷ zs) later;
-            rest_are =
-                ap (drop 1) same ∙ ap (λ zs. map (λ x. Some x) (take (length rest) zs)) later;
-            after_is_good = before.front_is_good;
-            after_is = omega (arith, before.front_is, ap length at);
+            rest_is = ap (drop 1) same ∙ ap (take (length rest)) later;
+            after_at =
+                subst (IsAt is_good rank (length items) front) far before.front_at;
           }
 
-  pub from_chunk : (item : T) (rest : List (Option T)) (after : F) → length cells ≡ 0
-      → item ≡ get_or items (mark_place front) item
-      → rest ≡ map (λ x. Some x) (take (length rest) (drop (mark_place front + 1) items))
-      → is_good_mark after → mark_place after ≡ mark_place front + 1 + length rest
+  -- an empty run ends at a position
+  pub front_good : (p : P) → length run ≡ 0 → front ≡ Some p → is_good p × (rank p ≡ place)
+  front_good p none is =
+      let at = rw is at before.front_at in (at.0, omega (arith, at.1, none))
+
+  pub front_stands : length run ≡ 0 → front ≡ None → ⊥
+  front_stands none is =
+      let end : place + length run ≡ length items = rw is at before.front_at in
+      omega (arith, end, none, some, before.in_range, before.enough)
+
+  pub from_chunk : (p : P) (item : T) (rest : List T) (after : Option P) → length run ≡ 0
+      → front ≡ Some p → item ≡ get_or items (rank p) item
+      → rest ≡ take (length rest) (drop (rank p + 1) items)
+      → IsAt is_good rank (length items) after (rank p + 1 + length rest)
       → IsNext item rest after
-  from_chunk item rest after none first rest_are good after_is =
-      let here : mark_place front ≡ place = omega (arith, before.front_is, none) in
+  from_chunk p item rest after none is first rest_is after_at =
+      let here : rank p ≡ place = (front_good p none is).1 in
       record {
         next =
             drop_more items place item (omega (arith, some, before.in_range, before.enough))
             ∙ ap (λ z. z ∷ drop (place + 1) items)
             (ap (λ i. get_or items i item) (sym here) ∙ sym first);
-        rest_are = rw (← here) rest_are;
-        after_is_good = good;
-        after_is = omega (arith, here, after_is);
+        rest_is = rw (← here) rest_is;
+        after_at = rw (← here) after_at;
       }
 
 module _ {T P : Type 0} (items : List T) (is_good : P → Type 0) (rank : P → ℕ) where
@@ -99,12 +101,11 @@ module _ {T P : Type 0} (items : List T) (is_good : P → Type 0) (rank : P → 
   good_prev p (Some q) before = λ r is. subst is_good (ap (λ o. unwrap_or o q) is) before.0
 
   -- what is left before the last item
-  pub prev_iterator : {F : Type 0} (is_good_mark : F → Type 0) (mark_place : F → ℕ)
-      (cells : List (Option T)) (front : F) (back prev : Option P) (p : P) (left : ℕ)
-      → IsIterator items is_good rank is_good_mark mark_place cells front back left → 0 < left
-      → back ≡ Some p → MatchOption prev (rank p ≡ 0) (λ q. is_good q × (rank q + 1 ≡ rank p))
-      → IsIterator items is_good rank is_good_mark mark_place cells front prev (left - 1)
-  prev_iterator is_good_mark mark_place cells front back prev p left now some is before =
+  pub prev_iterator : (run : List T) (front back prev : Option P) (p : P) (left : ℕ)
+      → IsIterator items is_good rank run front back left → 0 < left → back ≡ Some p
+      → MatchOption prev (rank p ≡ 0) (λ q. is_good q × (rank q + 1 ≡ rank p))
+      → IsIterator items is_good rank run front prev (left - 1)
+  prev_iterator run front back prev p left now some is before =
       let end : place_behind rank back ≡ rank p + 1 = ap (place_behind rank) is in
       let start : place_behind rank back - left ≡ place_behind rank prev - (left - 1) =
       omega (arith, end, some, now.enough, place_of_prev p prev before) in
@@ -112,9 +113,8 @@ module _ {T P : Type 0} (items : List T) (is_good : P → Type 0) (rank : P → 
         last = good_prev p prev before;
         in_range = omega (arith, end, now.in_range, place_of_prev p prev before);
         enough = omega (arith, end, now.enough, place_of_prev p prev before);
-        cells_are = rw (← start) now.cells_are;
-        front_is_good = now.front_is_good;
-        front_is = rw (← start) now.front_is;
+        run_is = rw (← start) now.run_is;
+        front_at = rw (← start) now.front_at;
       }
 
   -- the last of the items that are left

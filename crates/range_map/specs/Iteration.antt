@@ -1,8 +1,9 @@
 -- What is left of an iterator over stored items, which takes from both ends.
-use Rattle.std.specs.Prelude.{◌≡◌, ℕ, ◌+◌, ◌-◌, ◌≤◌, List, length, map, take, drop, Option, Some, None}
+use Rattle.std.specs.Prelude.{◌≡◌, ℕ, ◌+◌, ◌-◌, ◌≤◌, List, length, take, drop, Option, Some, None}
 use Rattle.std.specs.Option.{ForSome}
 use denote.Ref.{Bor}
 use Rattle.range_algebra.specs.declared.any.AnyRange.{AnyRange}
+use Rattle.range_store.specs.ListPlaces.{IsAt}
 use Rattle.range_store.specs.declared.storage.Item.{Item}
 
 -- the item that a pair of references shows
@@ -18,15 +19,13 @@ abbrev pub place_behind : {P : Type 0} → (P → ℕ) → Option P → ℕ
 place_behind rank None = 0
 place_behind rank (Some p) = rank p + 1
 
--- the last items up to `back` are left, of which those in the cells come first, and then those
--- behind `front`
-pub record IsIterator {T P F : Type 0} (items : List T) (is_good : P → Type 0) (rank : P → ℕ)
-    (is_good_mark : F → Type 0) (mark_place : F → ℕ) (cells : List (Option T)) (front : F)
-    (back : Option P) (left : ℕ) : Type 0 where
+-- the last items up to `back` are left, of which those of the run come first, and then those
+-- from `front` on
+pub record IsIterator {T P : Type 0} (items : List T) (is_good : P → Type 0) (rank : P → ℕ)
+    (run : List T) (front back : Option P) (left : ℕ) : Type 0 where
   pub last : ForSome back is_good
   pub in_range : place_behind rank back ≤ length items
   pub enough : left ≤ place_behind rank back
-  pub cells_are : cells ≡ map (λ x. Some x)
-      (take (length cells) (drop (place_behind rank back - left) items))
-  pub front_is_good : is_good_mark front
-  pub front_is : mark_place front ≡ place_behind rank back - left + length cells
+  pub run_is : run ≡ take (length run) (drop (place_behind rank back - left) items)
+  pub front_at : IsAt is_good rank (length items) front
+      (place_behind rank back - left + length run)

@@ -1,5 +1,5 @@
 -- Which pairs a list with sets has, read off what it binds, and what an update makes of them.
-use Rattle.std.proofs.Common.{◌≡◌, refl, sym, ◌∙◌, ◌↔◌, ◌⊎◌, inl, inr, Bool, true, false, not, ◌&&◌, ◌||◌, IsTrue, List, [], ◌∷◌, ◌++◌, Option, Some, None, Result, Ok, Err, OnOk}
+use Rattle.std.proofs.Common.{◌≡◌, refl, sym, subst, ◌∙◌, ◌↔◌, ◌⊎◌, inl, inr, Bool, true, false, not, ◌&&◌, ◌||◌, IsTrue, List, [], ◌∷◌, ◌++◌, Option, Some, None, Result, Ok, Err, OnOk}
 use Rattle.std.specs.Prelude.{IfSome, IsNone}
 use denote.Ref.{Bor}
 use Rattle.std.specs.Option.{option_copied}
@@ -13,7 +13,7 @@ use Rattle.range_algebra.specs.Range.{Holds, IsEmptyRange}
 use Rattle.range_algebra.specs.declared.any.AnyRange.{AnyRange}
 use Rattle.range_store.specs.declared.storage.Item.{Item}
 use Rattle.range_change.specs.Answers.{IsAsAnswered, MayAnswer, IsUpdated}
-use Rattle.range_change.specs.Bindings.{IsBound, BindsTo, Binds}
+use Rattle.range_change.specs.Bindings.{IsBound, IsItemFor, BindsTo, Binds}
 use Rattle.range_map.specs.ListOrder.{IsCopyOf}
 use Rattle.range_change.specs.Frames.{IsMergeFrame, HasValue}
 use Rattle.range_map.specs.Rebinding.{AreRebound}
@@ -67,6 +67,21 @@ module _ {K : Type 0} (order : KeyOrder K) {S V : Type 0} (same : S → S → Bo
     values_at items None once bound = λ w. (λ h. absurd (bound (pair_bound items w h)), λ e. cc)
     values_at items (Some s) once bound =
         λ w. (λ h. in_bound items s w once bound h, λ h. bound_set_gives_pair items s w bound h)
+
+    -- a stored range that holds the key binds it to its set
+    item_binds : (items : Items) (i : Item (AnyRange K) S) → IsItemFor order items k i
+        → BindsTo order same items k i.value
+    item_binds [] i at = absurd at.1
+    item_binds (j ∷ rest) i (holds, inl here) =
+        inl (
+          subst (λ x. Holds order x.key k) (sym here) holds,
+          subst (λ x. IsTrue (same x.value i.value)) (sym here) (equal.refl i.value),
+        )
+    item_binds (j ∷ rest) i (holds, inr later) = inr (item_binds rest i (holds, later))
+
+    pub values_of_item : (items : Items) (i : Item (AnyRange K) S) → IsOnce items k
+        → IsItemFor order items k i → AreValuesAt order has items k (Some i.value)
+    values_of_item items i once at = values_at items (Some i.value) once (item_binds items i at)
 
     -- what binds alike pairs alike
     pairs_as : (items others : Items) (w : V)

@@ -16,7 +16,7 @@ mod laws;
 mod text;
 
 pub use self::iter::IntoIter;
-pub use self::laws::last_call_decides_pairs;
+pub use self::laws::{last_call_decides_pairs, stored_sets_have_all_values};
 pub use crate::members::{MaybeEmpty, SetAlgebra, SetMut};
 use range_algebra::any::AnyRange;
 use range_keys::traits::PartialEnum;

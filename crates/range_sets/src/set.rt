@@ -1,9 +1,10 @@
 //! A set of keys, kept as disjoint ranges.
-ghost use Rattle.std.specs.Prelude.{◌≡◌, ◌↔◌, ◌+◌, ◌≤◌, ◌++◌, [], length, IsTrue};
+ghost use Rattle.std.specs.Prelude.{◌≡◌, ◌↔◌, ◌+◌, ◌≤◌, ◌++◌, [], length, true, IsTrue};
 ghost use Rattle.range_keys.specs.Order.{IsComplete};
 ghost use Rattle.range_algebra.specs.Range.{IsEmptyRange};
 ghost use Rattle.range_map.specs.FreeRanges.{AreGaps, IsHeldOnce, item_ranges};
 ghost use Rattle.range_store.specs.Counting.{AddsSteps};
+ghost use Rattle.range_change.specs.Bindings.{IsCoarse, IsOnlyCoarse};
 ghost use Rattle.range_change.specs.Lookups.{MeetsSome, BindsKeyOf};
 ghost use Rattle.range_sets.specs.KeySets.{HoldsKey, IsLeastCount, IsStoredSet};
 
@@ -176,6 +177,8 @@ impl<T: PartialEnum, C: Storage<Item<AnyRange<T>, ()>>> RangeSet<T, C> {
     pub fn iter(&self) -> Iter<'_, T, C>
         ensures ranges { result ≡ item_ranges (C.items self.now) }
         ensures form { IsStoredSet T.order (C.items self.now) }
+        ensures coarse { IsComplete T.order → IsCoarse T.order (λ _ _. true) (C.items self.now) }
+        ensures only { IsComplete T.order → IsOnlyCoarse T.order (λ _ _. true) (C.items self.now) }
     {
         self.in_form();
         Iter::new(self.map.iter())

@@ -47,10 +47,6 @@ pub leaf_is : {T : Type 0} (s : Heap T) (n : ℕ) (g : Edge) → IsEdge s zero n
 unfolding IsEdge
 leaf_is s n g is = is.0
 
-pub leaf_path : {T : Type 0} (s : Heap T) (n : ℕ) (g : Edge) → IsEdge s zero n g → g.path ≡ 0
-unfolding IsEdge
-leaf_path s n g is = is.1
-
 pub leaf_index : {T : Type 0} (s : Heap T) (n : ℕ) (g : Edge) → IsEdge s zero n g
     → g.index ≤ length (items_of (node_of s n))
 unfolding IsEdge

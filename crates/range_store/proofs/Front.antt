@@ -3,14 +3,11 @@ use Rattle.std.proofs.Common.{◌≡◌, ◌⊎◌, ℕ, zero, suc, ◌+◌, ◌
 use Rattle.std.proofs.Math.Nat.{pow-suc}
 use Rattle.std.specs.List.{All}
 use Rattle.std.specs.List.Sorted.{IsPartitionedBy}
-use Rattle.std.proofs.lemmas.Bool.{false_from_ne_true, false≢true, both_ways}
+use Rattle.std.proofs.lemmas.Bool.{cases_lt, false_from_ne_true, false≢true, both_ways}
 use Rattle.std.proofs.lemmas.List.Sums.{sum_by-cons, sum_by-append, count_by-le-length}
-use Rattle.range_store.specs.declared.btree.nodes.TheConstants.{CAPACITY}
-use Rattle.range_store.specs.declared.btree.searching.TheConstants.{MAX_ASKS}
 use Rattle.range_store.specs.Counting.{one_step_after, greatest_count}
-use Rattle.range_store.specs.Heap.{full_cells}
 use Rattle.range_store.specs.ListPlaces.{IsFrontOf}
-use Rattle.range_store.specs.Falling.{Falls, at_item}
+use Rattle.range_store.specs.Falling.{Falls}
 
 module _ {X : Type 0} (p : X → Bool) where
   pub count-cons : (x : X) (xs : List X) → count_by p (x ∷ xs) ≡ cond (p x) 1 0 + count_by p xs
@@ -121,98 +118,67 @@ module _ {X : Type 0} (p : X → Bool) where
     ),
   )
 
-module _ {X : Type 0} (p : X → Bool) where
-  -- the same of full cells
-  pub count_cells : (xs : List X) → count_by (at_item p) (full_cells xs) ≡ count_by p xs
-  count_cells [] = refl
-  count_cells (x ∷ xs) =
-      omega (
-        arith,
-        count-cons (at_item p) (Some x) (full_cells xs),
-        count-cons p x xs,
-        count_cells xs,
-      )
+-- where a search stands that knows that `low` items pass, and `left` more may, with the steps that
+-- were counted
+pub record Narrowed {X : Type 0} (p : X → Bool) (xs : List X) (low left first now : ℕ) : Type 0 where
+  pub within : low + left ≤ length xs
+  pub at_least : low ≤ count_by p xs
+  pub at_most : count_by p xs ≤ low + left
+  pub few : now + left ≤ first + length xs
+  pub later : min first greatest_count ≤ now
+  pub begun : (min (first + 1) greatest_count ≤ now) ⊎ (left ≡ length xs)
 
-  pub falls_cells : (xs : List X) → Falls p xs → Falls (at_item p) (full_cells xs)
-  unfolding Falls
-  falls_cells [] falls = tt
-  falls_cells (x ∷ xs) falls = ((λ fails. count_cells xs ∙ falls.0 fails), falls_cells xs falls.1)
+module _ {X : Type 0} (p : X → Bool) (xs : List X) where
+  -- what the answer to one item tells
+  pub told : (i : ℕ) (d : X) → Falls p xs → i < length xs → (answer : Bool)
+      → answer ≡ p (get_or xs i d)
+      → (i + 1 ≤ count_by p xs → answer ≡ true) × (count_by p xs ≤ i → answer ≡ false)
+  told i d falls within true is = (
+    λ low. refl,
+    λ high. absurd (omega (arith, high, falls_true p xs i d falls within (sym is))),
+  )
+  told i d falls within false is = (
+    λ low. absurd (omega (arith, low, falls_false p xs i d falls within (sym is))),
+    λ high. refl,
+  )
 
-pub cells_full : {X : Type 0} (xs : List X) → All IsSome (full_cells xs)
-cells_full [] k d within = absurd (omega arith)
-cells_full (x ∷ xs) zero d within = refl
-cells_full (x ∷ xs) (suc k) d within = cells_full xs k d (omega arith)
+  pub narrowing : (first : ℕ) → Narrowed p xs 0 (length xs) first first
+  narrowing first = record {
+    within = omega arith;
+    at_least = omega arith;
+    at_most = omega (arith, count_by-le-length p xs);
+    few = omega arith;
+    later = omega arith;
+    begun = inr refl;
+  }
 
--- a list that is halved this many times at most
-pub half_is_below_power : (r x : ℕ) → 0 < x → x < 2 ^ r
-    → (s : ℕ) × (r ≡ s + 1) × ((y : ℕ) → y ≤ x / 2 → y < 2 ^ s)
-half_is_below_power zero x some less = absurd (omega arith)
-half_is_below_power (suc s) x some less = (s, omega arith, λ y small. omega (arith, pow-suc 2 s))
-
-module _ {X : Type 0} where
-  -- how far the halving of xs has come, with the steps that were counted
-  pub record Halving (p : X → Bool) (xs : List X) (low high first now : ℕ) : Type 0 where
-    pub ordered : low ≤ high
-    pub within : high ≤ length xs
-    pub at_least : low ≤ count_by p xs
-    pub at_most : count_by p xs ≤ high
-    pub left : (r : ℕ) × (high - low < 2 ^ r) × (now + r ≤ first + MAX_ASKS)
-    pub later : min first greatest_count ≤ now
-    pub begun : (min (first + 1) greatest_count ≤ now) ⊎ (high - low ≡ length xs)
-
-pub halving_starts : {X : Type 0} (p : X → Bool) (xs : List X) (first : ℕ) → length xs ≤ CAPACITY
-    → count_by p xs ≤ length xs → Halving p xs 0 (length xs) first first
-halving_starts p xs first small count = record {
-  ordered = omega arith;
-  within = omega arith;
-  at_least = omega arith;
-  at_most = count;
-  left = (MAX_ASKS, omega arith, omega arith);
-  later = omega arith;
-  begun = inr (omega arith);
-}
-
-pub halving_holds : {X : Type 0} (p : X → Bool) (xs : List X) (low high first now : ℕ) (d : X)
-    → Falls p xs → low < high → p (get_or xs (low + (high - low) / 2) d) ≡ true
-    → Halving p xs low high first now
-    → Halving p xs (low + (high - low) / 2 + 1) high first (one_step_after now)
-halving_holds p xs low high first now d falls less holds h =
-    let next = half_is_below_power h.left.0 (high - low) (omega arith) h.left.1 in
-    let half : (high - low) / 2 < high - low = omega arith in
-    record {
-      ordered = omega arith;
-      within = h.within;
-      at_least = falls_true p xs (low + (high - low) / 2) d falls (omega (arith, h.within)) holds;
-      at_most = h.at_most;
-      left = (
-        next.0,
-        next.2 (high - (low + (high - low) / 2 + 1)) (omega arith),
-        omega (arith, next.1, h.left.2),
-      );
-      later = omega (arith, h.later);
-      begun = inl (omega (arith, h.later));
-    }
-
-pub halving_fails : {X : Type 0} (p : X → Bool) (xs : List X) (low high first now : ℕ) (d : X)
-    → Falls p xs → low < high → p (get_or xs (low + (high - low) / 2) d) ≡ false
-    → Halving p xs low high first now
-    → Halving p xs low (low + (high - low) / 2) first (one_step_after now)
-halving_fails p xs low high first now d falls less fails h =
-    let next = half_is_below_power h.left.0 (high - low) (omega arith) h.left.1 in
-    let half : (high - low) / 2 < high - low = omega arith in
-    record {
-      ordered = omega arith;
-      within = omega (arith, h.within);
-      at_least = h.at_least;
-      at_most = falls_false p xs (low + (high - low) / 2) d falls (omega (arith, h.within)) fails;
-      left = (
-        next.0,
-        next.2 (low + (high - low) / 2 - low) (omega arith),
-        omega (arith, next.1, h.left.2),
-      );
-      later = omega (arith, h.later);
-      begun = inl (omega (arith, h.later));
-    }
+  pub narrowed : (low left step new first now : ℕ) → 0 < step → step + step ≤ left + 1
+      → (low + step ≤ count_by p xs → new ≡ low + step) → (count_by p xs < low + step → new ≡ low)
+      → Narrowed p xs low left first now
+      → Narrowed p xs new (left - step) first (one_step_after now)
+  narrowed low left step new first now some half passes fails before =
+      elim (cases_lt (count_by p xs) (low + step)) [
+        | inl less ↦
+            let is = fails less in
+            record {
+              within = omega (arith, is, before.within);
+              at_least = omega (arith, is, before.at_least);
+              at_most = omega (arith, is, less, half);
+              few = omega (arith, before.few, some, half);
+              later = omega (arith, before.later);
+              begun = inl (omega (arith, before.later));
+            }
+        | inr more ↦
+            let is = passes more in
+            record {
+              within = omega (arith, is, before.within, half, some);
+              at_least = omega (arith, is, more);
+              at_most = omega (arith, is, before.at_most, half);
+              few = omega (arith, before.few, some, half);
+              later = omega (arith, before.later);
+              begun = inl (omega (arith, before.later));
+            }
+      ]
 
 -- a test that all items pass, and one that none does
 pub count_all : {X : Type 0} (xs : List X) → count_by (λ _. true) xs ≡ length xs

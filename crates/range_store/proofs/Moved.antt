@@ -1,6 +1,6 @@
 -- A list that is moved, item by item, to the end of another.
-use Rattle.std.proofs.Common.{◌≡◌, List, [], ◌∷◌, ◌++◌, length, sym, ap, ◌∙◌, arith, append_assoc}
-use Rattle.std.proofs.lemmas.List.{append-nil}
+use Rattle.std.proofs.Common.{◌≡◌, ℕ, ◌+◌, List, [], ◌∷◌, ◌++◌, length, take, take-add, drop, sym, ap, ◌∙◌, arith, append_assoc}
+use Rattle.std.proofs.lemmas.List.{append-nil, drop-drop}
 
 -- one item more was moved
 pub moved_more : {X : Type 0} (done rest later all : List X) (x : X) → done ++ rest ≡ all
@@ -19,3 +19,11 @@ pub moved_after : {X : Type 0} (front now new done : List X) (x : X) → now ≡
     → new ≡ now ++ x ∷ [] → new ≡ front ++ (done ++ x ∷ [])
 moved_after front now new done x listed longer =
     longer ∙ ap (λ zs. zs ++ x ∷ []) listed ∙ append_assoc front done (x ∷ [])
+
+-- one item more was taken from the front of all
+pub taken_more : {X : Type 0} (all later : List X) (i : ℕ) (x : X) → drop i all ≡ x ∷ later
+    → (take (i + 1) all ≡ take i all ++ x ∷ []) × (later ≡ drop (i + 1) all)
+taken_more all later i x next = (
+  take-add i 1 all ∙ ap (λ ys. take i all ++ take 1 ys) next,
+  sym (ap (drop 1) next) ∙ drop-drop 1 i all,
+)

@@ -23,10 +23,6 @@ module _ {X : Type 0} where
   without_last xs n few = ap (λ zs. take n xs ++ zs) (drop_all (suc n) xs (omega (arith, few)))
       ∙ append-nil (take n xs)
 
-  without_end : (xs : List X) (n : ℕ) → length xs ≡ n + 1
-      → remove xs (length xs - 1) ≡ take (length xs - 1) xs
-  without_end xs n many = without_last xs (length xs - 1) (omega (arith, many))
-
 -- a child that comes from a node of as many levels
 pub fits_first : {X : Type 0} (below : ℕ) (xs : List X) (ks : List ℕ) (zs : List X) (ls : List ℕ)
     → length ks ≡ child_count below (length xs) → length ls ≡ child_count below (length zs)
@@ -103,10 +99,6 @@ module _ {T : Type 0} (s t u v : Heap T) (n i : ℕ) (pair : HasPair s n i) (dow
 
   abbrev r : ℕ
   r = right_child s n i
-
-  left_after : (w : Heap T) (xs : List T) (ks : List ℕ) → Writes s w r xs ks
-      → node_of w l ≡ node_of s l
-  left_after w xs ks writes = writes.others l pair.apart
 
   pub rotated_left : up ≡ get_or (right_items s n i) 0 up → 0 < length (right_items s n i)
       → down ≡ get_or (items_of (node_of t n)) i down

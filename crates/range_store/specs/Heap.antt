@@ -43,10 +43,6 @@ with_child ks i None = ks
 with_child ks i (Some k) = insert ks i k
 
 module _ {T : Type 0} where
-  -- cells with these items
-  abbrev pub full_cells : List T → List (Option T)
-  full_cells xs = map (λ x. Some x) xs
-
   -- the node under a number
   abbrev pub node_of : Heap T → ℕ → Option (Content T)
   node_of s n = slice_index_or s.slots n None
@@ -69,6 +65,11 @@ module _ {T : Type 0} where
   -- so many more nodes fit with no allocation
   abbrev pub HasRoomFor : Heap T → ℕ → Type 0
   HasRoomFor s more = node_count s + more ≤ s.capacity
+
+  -- each number has what it had
+  pub record SameNodes (old new : Heap T) : Type 0 where
+    pub nodes : (k : ℕ) → node_of new k ≡ node_of old k
+    pub len : node_count new ≡ node_count old
 
   -- the nodes with another item at an index of one
   abbrev pub with_item : Heap T → ℕ → ℕ → T → Heap T

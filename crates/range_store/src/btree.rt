@@ -4,19 +4,15 @@ ghost use Rattle.std.specs.Option.{ForSome};
 ghost use Rattle.range_store.specs.Depth.{HasLevels};
 ghost use Rattle.range_store.specs.Nodes.{items_below, IsRoomy, IsRoomy-prop};
 
-mod blocks;
 mod building;
-mod child_lists;
-pub(crate) mod chunks;
-mod division;
 mod insertion;
+mod node;
 mod nodes;
 mod path;
 mod removal;
 mod searching;
 mod tree;
 
-pub use crate::btree::chunks::Mark;
 use crate::btree::nodes::Nodes;
 pub use crate::btree::nodes::{CAPACITY, MAX_LEN, MIN_LEN};
 pub use crate::btree::path::Edge;
@@ -74,14 +70,9 @@ impl<T: Drop> BoxStorage<T> {
 
 impl<T: Drop> Storage<T> for BoxStorage<T> {
     ghost use Rattle.range_store.specs.declared.btree.searching.TheConstants.{MAX_ASKS};
-    ghost use Rattle.range_store.specs.Marks.{IsGoodMark};
     ghost use Rattle.range_store.specs.Holding.{box_items, box_place, box_rank, box_room, box_place_before, IsGood, with_box_item, items_with_box_item, room_with_box_item, good_with_box_item, rank_with_box_item, good_in_range, items_fit, none_asked_of_empty};
 
     type Position = Edge;
-
-    ghost is_good_mark = { λ s c. IsGoodMark s c };
-
-    ghost mark_place = { λ s c. box_place s c.edge };
 
     ghost items = { λ s. box_items s };
 
@@ -131,18 +122,25 @@ impl<T: Drop> Storage<T> for BoxStorage<T> {
         Some(edge)
     }
 
-    fn start(&self) -> Mark {
-        self.start_mark()
-    }
-
-    #[inline(never)]
-    fn chunk_from(&self, mark: Mark) -> Chunk<'_, T> {
-        self.chunk_after(mark)
-    }
-
     fn get(&self, p: Edge) -> &T {
         let home = self.home(p);
         self.nodes.item_at(home.node, home.index)
+    }
+
+    #[inline(never)]
+    fn chunk_from(&self, p: Edge) -> Chunk<'_, T, Edge> {
+        let home = self.home(p);
+        let items = self.nodes.items(p.leaf);
+        let end = Edge {
+            leaf: p.leaf,
+            path: p.path,
+            index: items.len(),
+        };
+        Chunk {
+            first: self.nodes.item_at(home.node, home.index),
+            rest: &items[p.index..],
+            after: self.following(end),
+        }
     }
 
     fn get_mut(&mut self, p: Edge) -> &mut T {
@@ -169,7 +167,7 @@ impl<T: Drop> Storage<T> for BoxStorage<T> {
         if wanted <= self.nodes.capacity() {
             return Ok(());
         }
-        self.nodes.reserve(wanted - self.nodes.len())
+        self.nodes.reserve(self.alloc, wanted - self.nodes.len())
     }
 
     fn insert_at(&mut self, before: Option<Edge>, item: T) -> Edge

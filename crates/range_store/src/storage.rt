@@ -7,9 +7,7 @@ ghost use Rattle.std.specs.Option.{ForSome};
 ghost use Rattle.std.specs.Borrow.{Lends, sem};
 ghost use Rattle.range_store.specs.Counting.{one_step_after, AddsSteps, greatest_count};
 ghost use Rattle.range_store.specs.ListPlaces.{place_before, IsAt, IsFrontOf};
-ghost use Rattle.range_store.specs.declared.btree.chunks.Mark.{Mark};
 
-use crate::btree::Mark;
 use std::alloc::{AllocError, Global};
 use std::marker::Model;
 
@@ -82,27 +80,15 @@ impl<K, V> Item<K, V> {
     }
 }
 
-/// An item of a container, those after it that lie together, and the mark after these.
+/// An item of a container, those after it that lie together, and the position after these.
 #[derive(Drop)]
-pub struct Chunk<'a, T> {
+pub struct Chunk<'a, T, P: Copy> {
     /// The first item.
     pub first: &'a T,
-    /// The cells after it, each with an item.
-    pub rest: &'a [Option<T>],
-    /// The mark after these.
-    pub after: Mark,
-}
-
-/// The item in a full cell.
-#[inline(always)]
-pub fn item_in<T>(cell: &Option<T>) -> &T
-    requires { IsSome cell.now }
-    ensures { cell.now ≡ Some result.now }
-{
-    match cell {
-        Some(item) => item,
-        None => unreachable!(),
-    }
+    /// The items after it, perhaps none.
+    pub rest: &'a [T],
+    /// The position after these, or none after the last item.
+    pub after: Option<P>,
 }
 
 /// A question to the items of a container, which counts how often it is asked.
@@ -128,11 +114,6 @@ pub trait Probe<T> {
 pub trait Storage<T>: Drop {
     /// Where an item stands. A change of the container may make it useless.
     type Position: Copy;
-
-    /// Whether a mark may be used, and how many items come before it.
-    ghost is_good_mark: { Self → Mark → Type 0 };
-
-    ghost mark_place: { Self → Mark → ℕ };
 
     /// The items in order.
     ghost items: { Self → List T };
@@ -183,31 +164,30 @@ pub trait Storage<T>: Drop {
         ensures { MatchOption result (rank self.now p ≡ 0)
             (λ q. is_good self.now q × (rank self.now q + 1 ≡ rank self.now p)) };
 
-    /// The mark before all items.
-    fn start(&self) -> Mark
-        ensures good { is_good_mark self.now result }
-        ensures place { mark_place self.now result ≡ 0 };
-
-    /// The item after a mark, the items after it that lie together, perhaps none, and the mark
-    /// after these. Allocates nothing.
-    ///
-    /// A B-tree gives those that are left in a leaf, a vector the one item.
-    fn chunk_from(&self, mark: Mark) -> Chunk<'_, T>
-        requires good { is_good_mark self.now mark }
-        requires some { mark_place self.now mark < length (items self.now) }
-        ensures first { result.first.now
-            ≡ slice_index_or (items self.now) (mark_place self.now mark) result.first.now }
-        ensures rest { result.rest.now ≡ map (λ x. Some x)
-            (take (length result.rest.now)
-            (drop (mark_place self.now mark + 1) (items self.now))) }
-        ensures good { is_good_mark self.now result.after }
-        ensures place { mark_place self.now result.after
-            ≡ mark_place self.now mark + 1 + length result.rest.now };
-
     /// The item at a position.
     fn get(&self, p: Self::Position) -> &T
         requires { is_good self.now p }
         ensures { result.now ≡ slice_index_or (items self.now) (rank self.now p) result.now };
+
+    /// The item at a position, the items after it that lie together, and the position after these.
+    /// Allocates nothing.
+    ///
+    /// A B-tree gives those that are left in a leaf. The default gives one item.
+    fn chunk_from(&self, p: Self::Position) -> Chunk<'_, T, Self::Position>
+        requires { is_good self.now p }
+        ensures first { result.first.now
+            ≡ slice_index_or (items self.now) (rank self.now p) result.first.now }
+        ensures rest { result.rest.now ≡ take (length result.rest.now)
+            (drop (rank self.now p + 1) (items self.now)) }
+        ensures after { IsAt (is_good self.now) (rank self.now) (length (items self.now))
+            result.after (rank self.now p + 1 + length result.rest.now) }
+    {
+        Chunk {
+            first: self.get(p),
+            rest: &[],
+            after: self.next(p),
+        }
+    }
 
     /// The item at a position, to be changed where it stands. Allocates nothing.
     fn get_mut(&mut self, p: Self::Position) -> &mut T
@@ -269,10 +249,18 @@ pub trait Storage<T>: Drop {
     ///
     /// Takes from the capacity, and never fails. Searches nothing: a vector moves none of its
     /// items, an empty B-tree is built from its leaves up, and another changes nodes at its end.
+    /// The default inserts one item after the other.
     fn append(&mut self, added: Vec<T>)
         requires has_room { length added.items ≤ room self.old }
         ensures list { items self.new ≡ items self.old ++ added.items }
-        ensures space { room self.old ≡ room self.new + length added.items };
+        ensures space { room self.old ≡ room self.new + length added.items }
+    {
+        let mut left = added.into_iter();
+        while let Some(item) = left.next() {
+            let _inserted = self.insert_at(None, item);
+        }
+        left.destroy_empty();
+    }
 
     /// Takes the item at the position out, and returns it with the position of the one after it.
     ///

@@ -1,13 +1,11 @@
 //! A container kept as a sorted vector.
-ghost use Rattle.std.specs.Prelude.{◌≡◌, ⊤, ℕ, ◌+◌, ◌-◌, ◌<◌, ◌≤◌, ◌++◌, List, length, insert, vec_len, vec_capacity};
+ghost use Rattle.std.specs.Prelude.{◌≡◌, ℕ, ◌+◌, ◌-◌, ◌<◌, ◌≤◌, ◌++◌, List, length, insert, vec_len, vec_capacity};
 ghost use Rattle.std.specs.Option.{ForSome};
 ghost use Rattle.std.proofs.Common.{arith, refl};
 ghost use Rattle.range_store.specs.Rewriting.{with_vec_item, good_with};
 ghost use Rattle.range_store.specs.ListPlaces.{place_before};
 
-use crate::btree::Mark;
-use crate::btree::chunks::{first_mark, moved_to};
-use crate::storage::{Chunk, Probe, Storage};
+use crate::storage::{Probe, Storage};
 use std::alloc::{AllocError, Global};
 use std::mem;
 
@@ -23,10 +21,6 @@ pub struct VecStorage<T> {
 
 impl<T: Drop> Storage<T> for VecStorage<T> {
     type Position = VecPosition;
-
-    ghost is_good_mark = { λ _ _. ⊤ };
-
-    ghost mark_place = { λ _ m. m.edge.index };
 
     ghost items = { λ s. s.stored.items };
 
@@ -83,19 +77,6 @@ impl<T: Drop> Storage<T> for VecStorage<T> {
             None
         } else {
             Some(VecPosition(p.0 - 1))
-        }
-    }
-
-    fn start(&self) -> Mark {
-        first_mark()
-    }
-
-    #[inline(always)]
-    fn chunk_from(&self, mark: Mark) -> Chunk<'_, T> {
-        Chunk {
-            first: &self.stored[mark.edge.index],
-            rest: &[],
-            after: moved_to(mark, mark.edge.index + 1),
         }
     }
 

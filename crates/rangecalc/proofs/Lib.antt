@@ -2,5 +2,5 @@
 pub mod Itself
 pub mod Letters
 pub mod Made
-pub mod Progress
+pub mod Served
 pub mod SoFar

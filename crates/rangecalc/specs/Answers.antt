@@ -16,7 +16,8 @@ use Rattle.btree_range_map.specs.PieceLists.{AreGapsWithin}
 use Rattle.btree_range_map.specs.Pieces.{ArePieces, IsFreePart}
 use Rattle.btree_range_map.specs.Range.{IsEmptyRange}
 use Rattle.rangecalc.specs.Ranges.{Ranges}
-use Rattle.rangecalc.specs.Replies.{SpellsGap, SpellsItem, SpellsLines, SpellsPiece}
+use Rattle.line_program.specs.Listing.{SpellsLines}
+use Rattle.rangecalc.specs.Replies.{SpellsGap, SpellsItem, SpellsPiece}
 use Rattle.rangecalc.specs.declared.answer.Reply.{Reply}
 use Rattle.rangecalc.specs.declared.answer.Reply.TheVariants.{Done, Memory, Nothing, Value, Stored, Taken, Truth, Number}
 use Rattle.rangecalc.specs.declared.line.Change.{Change}

@@ -1,12 +1,11 @@
 -- What four maps answer to lines of text, from the first to the last.
-use Rattle.std.specs.Prelude.{◌≡◌, ◌≢◌, ◌⊎◌, ◌↔◌, ℕ, ℤ, Bool, IsTrue, List, [], ◌++◌, codes}
-use Rattle.std.specs.Io.BufRead.{first_line, drop_through}
-use Rattle.std.specs.Str.{IsUtf8}
+use Rattle.std.specs.Prelude.{◌≡◌, ◌⊎◌, ◌↔◌, ℕ, ℤ, Bool, IsTrue, List, [], codes}
 use Rattle.btree_range_map.specs.AnyRange.{AnyRange}
 use Rattle.btree_range_map.specs.BoxStorage.{BoxStorage}
 use Rattle.btree_range_map.specs.Holding.{box_items}
 use Rattle.btree_range_map.specs.Item.{Item}
 use Rattle.btree_range_map.specs.Order.{KeyOrder}
+use Rattle.line_program.specs.Conversation.{Conversation}
 use Rattle.rangecalc.specs.Answers.{IsAnswer, IsChanged, IsListed}
 use Rattle.rangecalc.specs.Lines.{BeginsWith, Says}
 use Rattle.rangecalc.specs.Named.{at, each, put}
@@ -62,11 +61,9 @@ module _ {K : Type 0} (order : KeyOrder K) where
       ⊎ ((name : Name) × (command : Command K) × Says line name command
       × IsDone name command text old new)
 
-  -- the text answers the lines of the input before the rest of it, one answer for each, in order
-  pub data Conversation : Named (Ranges K) → List ℕ → List ℕ → List ℕ → Type 0 where
-    Ended : (stored : Named (Ranges K)) (input : List ℕ) → Conversation stored input [] input
-    Answered : (stored next : Named (Ranges K)) (input text answer more rest : List ℕ)
-        → input ≢ [] → IsUtf8 (first_line input)
-        → AnswersLine (first_line input) answer stored next
-        → Conversation next (drop_through 10 input) more rest → text ≡ answer ++ more
-        → Conversation stored input text rest
+  -- the text may answer the lines of the input before the rest of it, over empty maps: one answer
+  -- for each line, in order
+  pub record IsConversation (input text rest : List ℕ) : Type 0 where
+    pub last : Named (Ranges K)
+    pub talk : Conversation (λ old line text new. AnswersLine line text old new) none_stored input
+        text rest last

@@ -6,5 +6,4 @@ pub mod Named
 pub mod Ranges
 pub mod Replies
 pub mod Serving
-pub mod Text
 pub mod Two

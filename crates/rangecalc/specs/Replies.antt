@@ -1,7 +1,6 @@
 -- The lines of replies, as their bytes.
 use Rattle.std.specs.Prelude.{◌≡◌, ℕ, ℤ, Bool, true, false, Option, Some, None, List, [], ◌∷◌, ◌++◌, codes, decimal}
 use Rattle.std.specs.Fmt.{signed_decimal}
-use Rattle.std.specs.Io.KnownBytes.{Appends}
 use Rattle.btree_range_map.specs.AnyRange.{AnyRange}
 use Rattle.btree_range_map.specs.Item.{Item}
 use Rattle.btree_range_map.specs.Iteration.{pair_item}
@@ -33,18 +32,6 @@ SpellsPiece piece text =
     (first : ℤ) × (last : ℤ)
     × (text ≡ span_text first last ++ codes " " ++ binding_text piece.value ++ 10 ∷ [])
 
--- a line for each, in order
-abbrev pub SpellsEach : {X : Type 0} → (X → List ℕ → Type 0) → List X → List ℕ → Type 0
-SpellsEach SpellsOne [] text = text ≡ []
-SpellsEach SpellsOne (x ∷ rest) text =
-    (line : List ℕ) × (lines : List ℕ) × SpellsOne x line × SpellsEach SpellsOne rest lines
-    × (text ≡ line ++ lines)
-
--- a line for each, or another one where there is none
-abbrev pub SpellsLines : {X : Type 0} → (X → List ℕ → Type 0) → List ℕ → List X → List ℕ → Type 0
-SpellsLines SpellsOne none [] text = text ≡ none
-SpellsLines SpellsOne none (x ∷ rest) text = SpellsEach SpellsOne (x ∷ rest) text
-
 abbrev pub truth_text : Bool → List ℕ
 truth_text true = codes "true\n"
 truth_text false = codes "false\n"
@@ -61,7 +48,3 @@ SpellsReply (Taken range) text =
 SpellsReply Fault text = text ≡ codes "fault\n"
 SpellsReply (Truth answer) text = text ≡ truth_text answer
 SpellsReply (Number number) text = text ≡ decimal number ++ 10 ∷ []
-
--- known bytes grow by a text that fits
-abbrev pub Writes : Option (List ℕ) → Option (List ℕ) → (List ℕ → Type 0) → Type 0
-Writes before after Fits = (text : List ℕ) × Fits text × Appends before after text

@@ -2,8 +2,8 @@
 use Rattle.std.specs.Prelude.{◌≡◌, ℕ, List, [], ◌∷◌, ◌⊎◌, codes, Option, IfSome}
 use Rattle.btree_range_map.specs.Signed.{signed_order}
 use Rattle.btree_range_map.specs.Unsigned.{unsigned_order}
-use Rattle.rangecalc.specs.Conversation.{Conversation, none_stored}
-use Rattle.rangecalc.specs.Replies.{Writes}
+use Rattle.rangecalc.specs.Conversation.{IsConversation}
+use Rattle.line_program.specs.Listing.{Writes}
 
 -- the arguments are the one word `u8` or the one word `i32`
 abbrev pub NamesKeys : List (List ℕ) → Type 0
@@ -14,9 +14,9 @@ NamesKeys words = (words ≡ codes "u8" ∷ []) ⊎ (words ≡ codes "i32" ∷ [
 abbrev pub IsAnswered : List (List ℕ) → List ℕ → List ℕ → List ℕ → Type 0
 IsAnswered words input text rest =
     ((words ≡ codes "u8" ∷ [])
-    × Conversation (unsigned_order 255) none_stored input text rest)
+    × IsConversation (unsigned_order 255) input text rest)
     ⊎ ((words ≡ codes "i32" ∷ [])
-    × Conversation (signed_order 2147483647) none_stored input text rest)
+    × IsConversation (signed_order 2147483647) input text rest)
 
 -- known input was answered to its end
 abbrev pub IsServed : List (List ℕ) → Option (List ℕ) → Option (List ℕ) → Option (List ℕ) → Type 0

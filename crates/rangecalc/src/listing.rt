@@ -6,7 +6,8 @@ ghost use Rattle.btree_range_map.specs.PieceLists.{shown_piece};
 ghost use Rattle.btree_range_map.specs.References.{range_of};
 ghost use Rattle.rangecalc.specs.Answers.{IsListed};
 ghost use Rattle.rangecalc.specs.Ranges.{item_of};
-ghost use Rattle.rangecalc.specs.Replies.{SpellsGap, SpellsItem, SpellsLines, SpellsPiece, Writes};
+ghost use Rattle.line_program.specs.Listing.{SpellsLines, Writes};
+ghost use Rattle.rangecalc.specs.Replies.{SpellsGap, SpellsItem, SpellsPiece};
 
 use crate::line::Listing;
 use crate::number::{NumberKey, span_between};

@@ -4,7 +4,7 @@ ghost use Rattle.std.specs.Prelude.{◌≡◌, ◌↔◌, IsTrue, OnOk};
 ghost use Rattle.btree_range_map.specs.Holding.{box_items};
 ghost use Rattle.rangecalc.specs.Conversation.{AnswersLine, IsDone, none_stored, stored_in};
 ghost use Rattle.rangecalc.specs.Named.{at};
-ghost use Rattle.rangecalc.specs.Replies.{Writes};
+ghost use Rattle.line_program.specs.Listing.{Writes};
 ghost use Rattle.rangecalc.specs.Two.{AreRelated, IsAmending, IsCombination, IsKeeping, IsSplit};
 
 use crate::answer::{Reply, ask, change};

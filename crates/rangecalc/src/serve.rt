@@ -1,91 +1,30 @@
 //! The whole program, over any reader and writers.
 
 ghost use Rattle.std.specs.Prelude.{◌≡◌, ◌≤◌, ◌↔◌, ◌⊎◌, ℕ, List, Err, OnOk, OnSome, IfSome, Some, [], map, string_bytes};
-ghost use Rattle.rangecalc.specs.Conversation.{Conversation, none_stored, stored_in};
-ghost use Rattle.rangecalc.specs.Replies.{Writes};
+ghost use Rattle.rangecalc.specs.Conversation.{AnswersLine, IsConversation, stored_in};
+ghost use Rattle.line_program.specs.Listing.{Writes};
 ghost use Rattle.rangecalc.specs.Serving.{IsServed, IsStopped, NamesKeys};
-ghost use Rattle.rangecalc.specs.Text.{line_content};
-ghost use Rattle.rangecalc.specs.declared.serve.Stop.TheVariants.{Unreadable};
 
 use crate::maps::{Maps, answer_line, no_maps};
 use crate::number::NumberKey;
+use line_program::program::LineProgram;
 use std::alloc::Global;
-use std::io::{BufRead, Write};
+use std::io::{self, BufRead, Write};
 
-/// Why serving stopped before the end of the input.
+/// Four maps, which the lines name.
 #[derive(Drop)]
-enum Stop {
-    Unreadable,
-    Unwritable,
-}
-
-/// The bytes of a line without the `\n` or `\r\n` at its end.
-fn without_line_end(line: &[u8]) -> &[u8]
-    ensures { result.now ≡ line_content line.now }
-{
-    match line.strip_suffix(b"\n") {
-        Some(line) => line.strip_suffix(b"\r").unwrap_or(line),
-        None => line,
-    }
-}
-
-// Answers each line that is left, over maps that store nothing yet; `line` is the buffer of one.
-fn answer_lines<K: NumberKey, R: BufRead, W: Write>(
+struct MapsProgram<K: NumberKey> {
     alloc: Global,
-    maps: &mut Maps<K>,
-    line: &mut Vec<u8>,
-    input: &mut R,
-    out: &mut W,
-) -> Result<(), Stop>
-    requires { stored_in maps.old ≡ none_stored }
-    ensures ended { OnOk result (OnSome (R.remaining input.old) (R.remaining input.new ≡ Some [])) }
-    ensures answered { OnOk result
-        (IfSome (R.remaining input.old)
-        (λ bytes. Writes (W.contents out.old) (W.contents out.new)
-        (λ text. Conversation K.order none_stored bytes text []))) }
-    ensures unread { result ≡ Err Unreadable
-        → IfSome (R.remaining input.old)
-        (λ bytes. (rest : List ℕ)
-        × Writes (W.contents out.old) (W.contents out.new)
-        (λ text. Conversation K.order none_stored bytes text rest)) }
-{
-    for _ in 0..u64::MAX {
-        line.clear();
-        let Ok(count) = input.read_until(b'\n', line) else {
-            return Err(Stop::Unreadable);
-        };
-        if count == 0 {
-            return Ok(());
-        }
-        let Ok(text) = str::from_utf8(without_line_end(line.as_slice())) else {
-            return Err(Stop::Unreadable);
-        };
-        let Ok(()) = answer_line::<K, W>(alloc, maps, text, out) else {
-            return Err(Stop::Unwritable);
-        };
-    }
-    Err(Stop::Unreadable)
+    maps: Maps<K>,
 }
 
-fn serve_lines<K: NumberKey, R: BufRead, W: Write>(
-    alloc: Global,
-    input: &mut R,
-    out: &mut W,
-) -> Result<(), Stop>
-    ensures ended { OnOk result (OnSome (R.remaining input.old) (R.remaining input.new ≡ Some [])) }
-    ensures answered { OnOk result
-        (IfSome (R.remaining input.old)
-        (λ bytes. Writes (W.contents out.old) (W.contents out.new)
-        (λ text. Conversation K.order none_stored bytes text []))) }
-    ensures unread { result ≡ Err Unreadable
-        → IfSome (R.remaining input.old)
-        (λ bytes. (rest : List ℕ)
-        × Writes (W.contents out.old) (W.contents out.new)
-        (λ text. Conversation K.order none_stored bytes text rest)) }
-{
-    let mut maps = no_maps::<K>(alloc);
-    let mut line = Vec::new(alloc);
-    answer_lines::<K, R, W>(alloc, &mut maps, &mut line, input, out)
+impl<K: NumberKey, W: Write> LineProgram<W> for MapsProgram<K> {
+    ghost answers = { λ old line text new.
+        AnswersLine K.order line text (stored_in old.maps) (stored_in new.maps) };
+
+    fn answer(&mut self, line: &str, out: &mut W) -> io::Result<()> {
+        answer_line::<K, W>(self.alloc, &mut self.maps, line, out)
+    }
 }
 
 fn serve_keys<K: NumberKey, R: BufRead + Drop, W: Write, E: Write>(
@@ -99,24 +38,19 @@ fn serve_keys<K: NumberKey, R: BufRead + Drop, W: Write, E: Write>(
     ensures answered { result ≡ 0
         → IfSome (R.remaining input)
         (λ bytes. Writes (W.contents out.old) (W.contents out.new)
-        (λ text. Conversation K.order none_stored bytes text [])) }
+        (λ text. IsConversation K.order bytes text [])) }
     ensures unread { result ≡ 1
         → (err.new ≡ err.old)
         ⊎ IfSome (R.remaining input)
         (λ bytes. (rest : List ℕ)
         × Writes (W.contents out.old) (W.contents out.new)
-        (λ text. Conversation K.order none_stored bytes text rest)) }
+        (λ text. IsConversation K.order bytes text rest)) }
 {
-    let served = serve_lines::<K, R, W>(alloc, &mut input, out);
-    let flushed = out.flush();
-    match served {
-        Ok(()) if flushed.is_ok() => 0,
-        Err(Stop::Unreadable) => {
-            let _ = err.write_all(b"read error\n");
-            1
-        }
-        _ => 1,
-    }
+    let mut program = MapsProgram::<K> {
+        alloc,
+        maps: no_maps::<K>(alloc),
+    };
+    line_program::program::serve(alloc, &mut program, &mut input, out, err)
 }
 
 /// Serves lines over the keys that the words name, and answers the exit status.

@@ -4,12 +4,14 @@ ghost use Rattle.std.specs.Prelude.{◌≡◌, ◌++◌, ◌∷◌, [], OnOk, co
 ghost use Rattle.std.specs.Fmt.{signed_decimal};
 ghost use Rattle.std.specs.Io.KnownBytes.{Appends};
 ghost use Rattle.rangecalc.specs.Ranges.{item_of};
-ghost use Rattle.rangecalc.specs.Replies.{SpellsItem, SpellsReply, Writes, span_text, truth_text};
+ghost use Rattle.line_program.specs.Listing.{Writes};
+ghost use Rattle.rangecalc.specs.Replies.{SpellsItem, SpellsReply, span_text, truth_text};
 ghost use Rattle.rangecalc.specs.declared.answer.Reply.TheVariants.{Taken};
 
 use crate::answer::Reply;
 use crate::number::{NumberKey, Span, span_of};
 use btree_range_map::AnyRange;
+use line_program::line::write_number_line;
 use std::io::{self, Write};
 
 /// Writes a line of a range, by its first and its last key.
@@ -95,11 +97,11 @@ pub fn write_reply<K: NumberKey, W: Write>(reply: Reply<K>, out: &mut W) -> io::
         Reply::Done => out.write_all(b"ok\n"),
         Reply::Memory => out.write_all(b"memory\n"),
         Reply::Nothing => out.write_all(b"none\n"),
-        Reply::Value(value) => writeln!(out, "{value}"),
+        Reply::Value(value) => write_number_line(value, out),
         Reply::Stored(stored) => write_item(&stored.0, &stored.1, out),
         Reply::Taken(range) => write_taken(&range, out),
         Reply::Fault => out.write_all(b"fault\n"),
         Reply::Truth(answer) => write_truth(answer, out),
-        Reply::Number(number) => writeln!(out, "{number}"),
+        Reply::Number(number) => write_number_line(number, out),
     }
 }

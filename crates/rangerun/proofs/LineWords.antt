@@ -7,7 +7,7 @@ use Rattle.rangerun.specs.declared.tag.Tag.{Tag}
 use Rattle.rangerun.specs.declared.command_line.CommandLine.{CommandLine}
 use Rattle.rangerun.specs.declared.command_line.CommandLine.TheVariants.{Run, Show, Gaps, Len, Levels, Save}
 use Rattle.rangerun.specs.Grammar.{SpellsKey, SpellsRange, SpellsBinding, SpellsUpdate, SpellsFields, SpellsLine, StandsAlone, word_text}
-use Rattle.rangerun.specs.Text.{Lacks, IsSplitAt}
+use Rattle.line_program.specs.Lines.{Lacks, IsSplitAt}
 use Rattle.rangerun.proofs.Spelled.{lacks_nil, lacks_more, has_byte, split_unique}
 
 abbrev pub has_no_space : List ℕ → Bool

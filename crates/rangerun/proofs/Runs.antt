@@ -14,9 +14,10 @@ use Rattle.btree_range_map.specs.Reply.{Reply}
 use Rattle.btree_range_map.specs.Runs.{IsStep, IsRun}
 use Rattle.rangerun.specs.declared.command_line.CommandLine.TheVariants.{Run, Show, Gaps, Len, Levels, Save}
 use Rattle.rangerun.specs.declared.tag.Tag.{Tag}
-use Rattle.rangerun.specs.Conversation.{Conversation, AnswersLine}
-use Rattle.rangerun.specs.Conversation.Conversation.{Ended, Answered}
-use Rattle.rangerun.specs.Replies.{Writes}
+use Rattle.line_program.specs.Conversation.{Conversation}
+use Rattle.line_program.specs.Conversation.Conversation.{Ended, Answered}
+use Rattle.rangerun.specs.Conversation.{AnswersLine, AnswersStored, IsConversation}
+use Rattle.line_program.specs.Listing.{Writes}
 use Rattle.rangerun.specs.Runs.{Commands, no_commands, with_line, AreOneRun, AreRuns, AnswersRuns}
 use Rattle.rangerun.specs.Tags.{IsAnswerOf}
 
@@ -85,15 +86,16 @@ module _ {K : Type 0} (order : KeyOrder K) (as_number : K → ℤ) (shape : K �
     }
 
     conversation_is_runs : (done : Commands K) (items : List (Item (AnyRange K) ℤ))
-        (input text rest : List ℕ) → IsChain done items
-        → (talk : Conversation order as_number shape reads is_read items input text rest)
-        → AreRuns order as_number shape reads is_read done items input text rest talk
-    conversation_is_runs done items input text rest chain (Ended _ _) = one_run done items chain
-    conversation_is_runs done items input text rest chain
-        (Answered _ next levels _ _ answer more _ some is_text may_have said talk is) = (
+        (input text rest : List ℕ) (last : List (Item (AnyRange K) ℤ)) → IsChain done items
+        → (talk : Conversation (AnswersStored order as_number shape reads is_read) items input text
+        rest last) → AreRuns order as_number shape reads is_read done items input text rest last talk
+    conversation_is_runs done items input text rest last chain (Ended _ _) =
+        one_run done items chain
+    conversation_is_runs done items input text rest last chain
+        (Answered _ next _ _ _ answer more _ some is_text (levels, may_have, said) talk is) = (
           one_run done items chain,
           conversation_is_runs (with_line order as_number shape reads is_read done items levels
-              (first_line input) answer next said) next (drop_through 10 input) more rest
+              (first_line input) answer next said) next (drop_through 10 input) more rest last
               (chain_after done items levels (first_line input) answer next said chain) talk,
         )
 
@@ -101,10 +103,17 @@ module _ {K : Type 0} (order : KeyOrder K) (as_number : K → ℤ) (shape : K �
     pub answers_runs : (input before after : Option (List ℕ)) (rest : List ℕ)
         → IfSome input (λ bytes.
         Writes before after (λ text.
-        Conversation order as_number shape reads is_read [] bytes text rest))
+        IsConversation order as_number shape reads is_read bytes text rest))
         → IfSome input (λ bytes.
         Writes before after (λ text.
         AnswersRuns order as_number shape reads is_read bytes text rest))
     answers_runs None before after rest answered = tt
-    answers_runs (Some bytes) before after rest (text, talk, appended) =
-        (text, (talk, conversation_is_runs (no_commands []) [] bytes text rest refl talk), appended)
+    answers_runs (Some bytes) before after rest (text, said, appended) = (
+      text,
+      (
+        said.last,
+        said.talk,
+        conversation_is_runs (no_commands []) [] bytes text rest said.last refl said.talk,
+      ),
+      appended,
+    )

@@ -1,16 +1,9 @@
 -- Gaps, and ranges of cloned keys.
-use Rattle.std.proofs.Common.{◌≡◌, List, [], ◌∷◌, ap}
-use Rattle.std.specs.Prelude.{None}
+use Rattle.std.proofs.Common.{◌≡◌, ap}
 use Rattle.std.specs.declared.ops.Bound.{Bound}
 use Rattle.std.specs.declared.ops.Bound.TheVariants.{Included, Excluded, Unbounded}
 use Rattle.btree_range_map.specs.AnyRange.{AnyRange}
-use Rattle.btree_range_map.specs.Item.{Item}
 use Rattle.btree_range_map.specs.Clones.{IsBoundClone, IsRangeClone}
-use Rattle.btree_range_map.specs.FreeRanges.{full_range}
-use Rattle.btree_range_map.specs.Intervals.{Every}
-use Rattle.btree_range_map.specs.Order.{KeyOrder}
-use Rattle.btree_range_map.specs.Pieces.{IsPiece}
-use Rattle.btree_range_map.specs.Range.{IsEmptyRange}
 
 module _ {K : Type 0} (is_clone : K → K → Type 0) (same : (x y : K) → is_clone x y → x ≡ y) where
   bound_same : (b c : Bound K) → IsBoundClone is_clone b c → b ≡ c

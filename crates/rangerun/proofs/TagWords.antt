@@ -5,7 +5,7 @@ use lib.ListN.{get_or}
 use Rattle.rangerun.specs.declared.tag.Tag.{Tag}
 use Rattle.rangerun.specs.declared.tag.Tag.TheVariants.{Set, Fill, Clear, Fail}
 use Rattle.rangerun.specs.Grammar.{SpellsNumber, SpellsPair, SpellsTag}
-use Rattle.rangerun.specs.Text.{Lacks, IsSplitAt}
+use Rattle.line_program.specs.Lines.{Lacks, IsSplitAt}
 use Rattle.rangerun.proofs.LineWords.{lacks_space}
 use Rattle.rangerun.proofs.Spelled.{has_byte, split_unique}
 

@@ -1,9 +1,8 @@
 -- What a map answers to lines of text, from the first to the last.
-use Rattle.std.specs.Prelude.{◌≡◌, ◌≢◌, ◌⊎◌, ℕ, ℤ, Bool, Option, None, Some, List, [], ◌++◌, length, codes}
-use Rattle.std.specs.Io.BufRead.{first_line, drop_through}
-use Rattle.std.specs.Str.{IsUtf8}
+use Rattle.std.specs.Prelude.{◌≡◌, ◌≢◌, ◌⊎◌, ℕ, ℤ, Bool, Option, None, Some, List, [], length, codes}
 use Rattle.std.specs.Ordering.{int_eq}
 use Rattle.serde_json.specs.Data.{Data}
+use Rattle.line_program.specs.Conversation.{Conversation}
 use Rattle.btree_range_map.specs.AnyRange.{AnyRange}
 use Rattle.btree_range_map.specs.Depth.{HasLevels}
 use Rattle.btree_range_map.specs.Item.{Item}
@@ -51,14 +50,13 @@ module _ {K : Type 0} (order : KeyOrder K) (as_number : K → ℤ) (shape : K �
       × (command : Option (CommandLine K)) × IsRead line command
       × Answers items levels command text next)
 
-  -- the text that may answer the lines of the input before the rest of it, over the stored list:
-  -- one answer for each line, in order; each line is text, and the tree may have so many levels
-  pub data Conversation : List (Item (AnyRange K) ℤ) → List ℕ → List ℕ → List ℕ → Type 0 where
-    Ended : (items : List (Item (AnyRange K) ℤ)) (input : List ℕ)
-        → Conversation items input [] input
-    Answered : (items next : List (Item (AnyRange K) ℤ)) (levels : ℕ)
-        (input text answer more rest : List ℕ)
-        → input ≢ [] → IsUtf8 (first_line input) → HasLevels (length items) levels
-        → AnswersLine items levels (first_line input) answer next
-        → Conversation next (drop_through 10 input) more rest → text ≡ answer ++ more
-        → Conversation items input text rest
+  -- the same over a stored list, which is kept in a tree of as many levels as it may have
+  abbrev pub AnswersStored : List (Item (AnyRange K) ℤ) → List ℕ → List ℕ
+      → List (Item (AnyRange K) ℤ) → Type 0
+  AnswersStored items line text next =
+      (levels : ℕ) × HasLevels (length items) levels × AnswersLine items levels line text next
+
+  -- the text may answer the lines of the input before the rest of it, over an empty map
+  pub record IsConversation (input text rest : List ℕ) : Type 0 where
+    pub last : List (Item (AnyRange K) ℤ)
+    pub talk : Conversation AnswersStored [] input text rest last

@@ -14,8 +14,9 @@ use Rattle.btree_range_map.specs.Reply.{Reply}
 use Rattle.btree_range_map.specs.Runs.{IsRun}
 use Rattle.rangerun.specs.declared.command_line.CommandLine.TheVariants.{Run}
 use Rattle.rangerun.specs.declared.tag.Tag.{Tag}
-use Rattle.rangerun.specs.Conversation.{Conversation, AnswersLine}
-use Rattle.rangerun.specs.Conversation.Conversation.{Ended, Answered}
+use Rattle.line_program.specs.Conversation.{Conversation}
+use Rattle.line_program.specs.Conversation.Conversation.{Ended, Answered}
+use Rattle.rangerun.specs.Conversation.{AnswersLine, AnswersStored}
 use Rattle.rangerun.specs.Tags.{IsAnswerOf}
 
 -- the commands that some lines write, with the replies to them, and the list that was stored first
@@ -57,17 +58,20 @@ module _ {K : Type 0} (order : KeyOrder K) (as_number : K → ℤ) (shape : K �
 
   -- before each line and at the end the commands so far, since a list was loaded, are one run
   abbrev pub AreRuns : Commands K → (items : List (Item (AnyRange K) ℤ)) (input text rest : List ℕ)
-      → Conversation order as_number shape reads is_read items input text rest → Type 0
-  AreRuns done items input text rest (Ended _ _) = AreOneRun order done items
-  AreRuns done items input text rest
-      (Answered _ next levels _ _ answer more _ some is_text may_have said talk is) =
+      (last : List (Item (AnyRange K) ℤ))
+      → Conversation (AnswersStored order as_number shape reads is_read) items input text rest last
+      → Type 0
+  AreRuns done items input text rest last (Ended _ _) = AreOneRun order done items
+  AreRuns done items input text rest last
+      (Answered _ next _ _ _ answer more _ some is_text (levels, may_have, said) talk is) =
       AreOneRun order done items
       × AreRuns (with_line done items levels (first_line input) answer next said) next
-      (drop_through 10 input) more rest talk
+      (drop_through 10 input) more rest last talk
 
   -- the text may answer the lines of the input before the rest of it, over an empty map, and the
   -- commands among them are runs
   abbrev pub AnswersRuns : List ℕ → List ℕ → List ℕ → Type 0
   AnswersRuns input text rest =
-      (talk : Conversation order as_number shape reads is_read [] input text rest)
-      × AreRuns (no_commands []) [] input text rest talk
+      (last : List (Item (AnyRange K) ℤ))
+      × (talk : Conversation (AnswersStored order as_number shape reads is_read) [] input text rest
+      last) × AreRuns (no_commands []) [] input text rest last talk

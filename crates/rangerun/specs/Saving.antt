@@ -28,14 +28,14 @@ element_fault_text number i =
 -- the line of a fault: its number, and the place of its element
 abbrev pub fault_text : JsonError → List ℕ
 fault_text Memory = codes "memory\n"
-fault_text (NotArray found) = codes "json 5\n"
-fault_text (NotPair i found) = element_fault_text 6 i
-fault_text (NotRange i found) = element_fault_text 7 i
-fault_text (NotBound i found) = element_fault_text 8 i
-fault_text (Key i expected found) = element_fault_text 9 i
-fault_text (Value i expected found) = element_fault_text 10 i
-fault_text (Meets i j found) = element_fault_text 11 i
-fault_text (Version found) = codes "json 12\n"
+fault_text NotArray = codes "json 5\n"
+fault_text (NotPair i) = element_fault_text 6 i
+fault_text (NotRange i) = element_fault_text 7 i
+fault_text (NotBound i) = element_fault_text 8 i
+fault_text (Key i) = element_fault_text 9 i
+fault_text (Value i) = element_fault_text 10 i
+fault_text (Meets i) = element_fault_text 11 i
+fault_text Version = codes "json 12\n"
 
 -- the line of a text that is not loaded
 abbrev pub cause_text : LoadError → List ℕ

@@ -9,7 +9,7 @@ ghost use Rattle.btree_range_map.specs.Holding.{box_items};
 ghost use Rattle.btree_range_map.specs.JsonError.TheVariants.{Memory};
 ghost use Rattle.btree_range_map.specs.Keys.{signed_shape};
 ghost use Rattle.btree_range_map.specs.Shapes.{map_shape};
-ghost use Rattle.rangerun.specs.Replies.{Writes};
+ghost use Rattle.line_program.specs.Listing.{Writes};
 ghost use Rattle.rangerun.specs.Saving.{element_fault_text, fault_text, AnswersLoad, IsCause, IsLoaded, SpellsSaved};
 ghost use Rattle.rangerun.specs.declared.saving.LoadError.TheVariants.{NotJson, Faulty};
 
@@ -68,14 +68,14 @@ fn write_fault<W: Write>(fault: &JsonError, out: &mut W) -> io::Result<()>
 {
     match fault {
         JsonError::Memory => out.write_all(b"memory\n"),
-        JsonError::NotArray { .. } => out.write_all(b"json 5\n"),
-        JsonError::NotPair { element, .. } => write_element_fault(6, element, out),
-        JsonError::NotRange { element, .. } => write_element_fault(7, element, out),
-        JsonError::NotBound { element, .. } => write_element_fault(8, element, out),
-        JsonError::Key { element, .. } => write_element_fault(9, element, out),
-        JsonError::Value { element, .. } => write_element_fault(10, element, out),
-        JsonError::Meets { element, .. } => write_element_fault(11, element, out),
-        JsonError::Version { .. } => out.write_all(b"json 12\n"),
+        JsonError::NotArray => out.write_all(b"json 5\n"),
+        JsonError::NotPair(element) => write_element_fault(6, element, out),
+        JsonError::NotRange(element) => write_element_fault(7, element, out),
+        JsonError::NotBound(element) => write_element_fault(8, element, out),
+        JsonError::Key(element) => write_element_fault(9, element, out),
+        JsonError::Value(element) => write_element_fault(10, element, out),
+        JsonError::Meets(element) => write_element_fault(11, element, out),
+        JsonError::Version => out.write_all(b"json 12\n"),
     }
 }
 

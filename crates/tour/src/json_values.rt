@@ -31,6 +31,10 @@ fn written_and_read(rt: HostRuntime) -> Result<(), Fail> {
 fn refused(rt: HostRuntime) -> Result<(), Fail> {
     let bad = Value::from_str(rt.alloc(), r#"[[["Unbounded"],1]]"#)?;
     let read: Result<RangeMap<i32, i64>, JsonError> = map_from_json(rt.alloc(), &bad);
-    assert!(rt; matches!(read, Err(JsonError::NotRange { element: 0, .. }))); // the first fault
+    assert!(rt; matches!(read, Err(JsonError::NotRange(0)))); // the first fault
+    // given the value again, the error says what it found there
+    let told = JsonError::NotRange(0).explained_map::<i32, i64>(&bad);
+    let text = r#"element 0: expected a range, an array of two bounds, found ["Unbounded"]"#;
+    assert!(rt; format!(in rt.alloc(); "{told}")?.as_str() == text);
     Ok(())
 }

@@ -10,6 +10,8 @@ mod maps;
 #[cfg(test)]
 mod multimaps;
 #[cfg(test)]
+mod own_values;
+#[cfg(test)]
 mod ranges;
 #[cfg(test)]
 mod round_trip;

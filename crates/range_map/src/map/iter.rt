@@ -7,8 +7,7 @@ ghost use Rattle.range_store.specs.declared.storage.Item.{Item};
 ghost use Rattle.range_map.specs.Iteration.{shown_item};
 
 use range_algebra::any::AnyRange;
-use range_store::btree::Mark;
-use range_store::storage::{Item, Storage, item_in};
+use range_store::storage::{Item, Storage};
 use std::alloc::AllocError;
 use std::marker::{Model, PhantomData};
 
@@ -16,9 +15,9 @@ use std::marker::{Model, PhantomData};
 #[derive(Drop)]
 pub struct Iter<'a, K: 'a, V: 'a, C: Storage<Item<AnyRange<K>, V>> + 'a> {
     stored: &'a C,
-    // The next items, and the mark after them.
-    cells: &'a [Option<Item<AnyRange<K>, V>>],
-    front: Mark,
+    // The next items, and the position after them.
+    run: &'a [Item<AnyRange<K>, V>],
+    front: Option<C::Position>,
     back: Option<C::Position>,
     left: usize,
     item: PhantomData<(K, V)>,
@@ -36,8 +35,7 @@ impl<'a, K: 'a, V: 'a, C: Storage<Item<AnyRange<K>, V>> + 'a> Model for Iter<'a,
         (drop (place_behind (C.rank i.stored.now) i.back - i.left) (C.items i.stored.now)) };
 
     ghost invariant = { λ i. IsIterator (C.items i.stored.now) (C.is_good i.stored.now)
-        (C.rank i.stored.now) (C.is_good_mark i.stored.now) (C.mark_place i.stored.now)
-        i.cells.now i.front i.back i.left };
+        (C.rank i.stored.now) i.run.now i.front i.back i.left };
 }
 
 impl<'a, K: 'a, V: 'a, C: Storage<Item<AnyRange<K>, V>> + 'a> Iter<'a, K, V, C> {
@@ -47,8 +45,8 @@ impl<'a, K: 'a, V: 'a, C: Storage<Item<AnyRange<K>, V>> + 'a> Iter<'a, K, V, C> 
     {
         Iter {
             stored,
-            cells: &[],
-            front: stored.start(),
+            run: &[],
+            front: stored.first(),
             back: stored.last(),
             left: stored.len(),
             item: PhantomData,
@@ -65,7 +63,7 @@ impl<'a, K: 'a, V: 'a, C: Storage<Item<AnyRange<K>, V>> + 'a> Clone for Iter<'a,
     fn clone(&self) -> Result<Self, AllocError> {
         Ok(Iter {
             stored: self.stored,
-            cells: self.cells,
+            run: self.run,
             front: self.front,
             back: self.back,
             left: self.left,
@@ -86,14 +84,15 @@ impl<'a, K: 'a, V: 'a, C: Storage<Item<AnyRange<K>, V>> + 'a> Iterator for Iter<
         if self.left == 0 {
             return None;
         }
-        let item = match self.cells.split_first() {
-            Some((cell, rest)) => {
-                self.cells = rest;
-                item_in(cell)
+        let item = match self.run.split_first() {
+            Some((first, rest)) => {
+                self.run = rest;
+                first
             }
             None => {
-                let chunk = self.stored.chunk_from(self.front);
-                self.cells = chunk.rest;
+                let Some(p) = self.front else { unreachable!() };
+                let chunk = self.stored.chunk_from(p);
+                self.run = chunk.rest;
                 self.front = chunk.after;
                 chunk.first
             }

@@ -14,7 +14,8 @@ use range_store::storage::{Item, Storage};
 
 impl<T: Measure + Bounded, C: Storage<Item<AnyRange<T>, ()>>> RangeSet<T, C> {
     /// What the stored ranges measure together: over the shipped keys, each of which has length 1,
-    /// the number of keys in the set.
+    /// the number of keys in the set. It is 0 where every key measures 0, as keys do that are too
+    /// many to be counted.
     ///
     /// Costs a step and a distance for each stored range. Allocates nothing.
     ///

@@ -2,14 +2,9 @@
 ghost use Rattle.std.specs.Prelude.{◌≡◌, ◌≢◌, ◌⊎◌, ◌+◌, ◌-◌, ◌<◌, ◌≤◌, [], ◌∷◌, length, take, drop, slice_get, slice_index, slice_index_or, insert, remove, IsOk, OnOk};
 ghost use Rattle.std.specs.Borrow.{Lends, sem};
 ghost use Rattle.std.specs.Vec.Iter.{into_iter_items};
-ghost use Rattle.range_store.specs.Heap.{node_of, HasNode, items_of, children_of, full_cells, node_count, HasRoomFor, with_child, with_item, FitsChild, Writes, Stores, Removes, Divides, left_items, right_items, HasPair, RotatesLeft, RotatesRight, Merges, Absorbs};
+ghost use Rattle.range_store.specs.Heap.{node_of, HasNode, items_of, children_of, node_count, HasRoomFor, SameNodes, with_child, with_item, FitsChild, Writes, Stores, Removes, Divides, left_items, right_items, HasPair, RotatesLeft, RotatesRight, Merges, Absorbs};
 
-use crate::btree::blocks::Blocks;
-use crate::btree::child_lists::{
-    append_list, divide_children, drop_list, put_child, store_list, take_child,
-};
-use crate::btree::division::{absorb, divide};
-use arrayvec::ArrayVec;
+use crate::btree::node::Node;
 use slab::Slab;
 use std::alloc::{AllocError, Global};
 use std::marker::Model;
@@ -30,14 +25,12 @@ pub const HALF: usize = (CAPACITY + 1) / 2;
 
 pub const CHILD_PLACES: usize = CAPACITY + 1;
 
-// The list of a node that has no children.
-pub const NO_LIST: usize = usize::MAX;
-
 /// Nodes under numbers, each with items and the numbers of its children.
 #[derive(Drop)]
 pub struct Nodes<T> {
-    blocks: Blocks<T>,
-    lists: Slab<ArrayVec<usize, CHILD_PLACES>>,
+    slab: Slab<Node<T>>,
+    // The numbers of empty nodes that are not in use.
+    spares: Vec<usize>,
 }
 
 impl<T> Model for Nodes<T> {
@@ -47,11 +40,14 @@ impl<T> Model for Nodes<T> {
 
     ghost coded = { heap_code T.code };
 
-    ghost use Rattle.range_store.specs.ChildLists.{heap_of, IsWhole};
+    ghost use Rattle.std.specs.Prelude.{◌≤◌, vec_capacity};
+    ghost use Rattle.slab.specs.Slab.{slab_len};
+    ghost use Rattle.range_store.specs.Spares.{heap_of, IsWhole};
 
-    ghost view = { λ s. heap_of s.blocks s.lists };
+    ghost view = { λ s. heap_of s.slab s.spares.items };
 
-    ghost invariant = { λ s. IsWhole s.blocks s.lists };
+    ghost invariant = { λ s. IsWhole s.slab s.spares.items
+        × (slab_len s.slab ≤ vec_capacity s.spares) };
 }
 
 /// A node was cut in two: `middle` stands between it and `right`.
@@ -70,8 +66,8 @@ impl<T: Drop> Nodes<T> {
         ensures capacity { result.capacity ≡ 0 }
     {
         Nodes {
-            blocks: Blocks::new(alloc),
-            lists: Slab::new(alloc),
+            slab: Slab::new(alloc),
+            spares: Vec::new(alloc),
         }
     }
 
@@ -79,7 +75,7 @@ impl<T: Drop> Nodes<T> {
     pub fn len(&self) -> usize
         ensures { result ≡ node_count self.now }
     {
-        self.blocks.len()
+        self.slab.len() - self.spares.len()
     }
 
     /// How many nodes there can be without an allocation.
@@ -87,21 +83,43 @@ impl<T: Drop> Nodes<T> {
         ensures value { result ≡ self.now.capacity }
         ensures holds_all { node_count self.now ≤ result }
     {
-        self.blocks.capacity().min(self.lists.capacity())
+        self.slab.len()
     }
 
-    /// Makes room for so many more nodes.
-    pub fn reserve(&mut self, additional: usize) -> Result<(), AllocError>
+    /// Makes room for so many more nodes. Where it fails, the room that it made is kept.
+    pub fn reserve(&mut self, alloc: Global, additional: usize) -> Result<(), AllocError>
         ensures room { OnOk result (HasRoomFor self.new additional) }
         ensures succeeds { HasRoomFor self.old additional → IsOk result }
         ensures no_less { self.old.capacity ≤ self.new.capacity }
-        ensures rest_kept { self.new ≡ record self.old { capacity = self.new.capacity } }
+        ensures kept { SameNodes self.old self.new }
     {
-        self.blocks.reserve(additional)?;
-        // Tells the proof that a `usize` counts the nodes and `additional` more.
-        let _capacity = self.blocks.capacity();
-        let wanted = self.blocks.len() + additional;
-        self.lists.reserve(wanted - self.lists.len())
+        let missing = additional.saturating_sub(self.spares.len());
+        if missing == 0 {
+            return Ok(());
+        }
+        self.slab.reserve(missing)?;
+        for _ in 0..missing {
+            self.add_spare(alloc)?;
+        }
+        Ok(())
+    }
+
+    // Adds one empty node.
+    fn add_spare(&mut self, alloc: Global) -> Result<(), AllocError>
+        ensures more { OnOk result (self.new.capacity ≡ self.old.capacity + 1) }
+        ensures no_less { self.old.capacity ≤ self.new.capacity }
+        ensures kept { SameNodes self.old self.new }
+    {
+        let node = Node::new(alloc)?;
+        // For the proof: the number of nodes is a `usize`.
+        let _places = self.slab.capacity();
+        self.spares
+            .reserve(self.slab.len() - self.spares.len() + 1)?;
+        match self.slab.insert(node) {
+            Ok(number) => self.spares.push_reserved(number),
+            Err(_) => return Err(AllocError),
+        }
+        Ok(())
     }
 
     /// How many items a node has.
@@ -109,7 +127,23 @@ impl<T: Drop> Nodes<T> {
         requires { HasNode self.now number }
         ensures { result ≡ length (items_of (node_of self.now number)) }
     {
-        self.blocks.item_count(number)
+        self.slab[number].items.len()
+    }
+
+    /// The items of a node.
+    pub fn items(&self, number: usize) -> &[T]
+        requires { HasNode self.now number }
+        ensures { result.now ≡ items_of (node_of self.now number) }
+    {
+        self.slab[number].items.as_slice()
+    }
+
+    /// The children of a node, by their numbers.
+    pub fn children(&self, number: usize) -> &[usize]
+        requires { HasNode self.now number }
+        ensures { result.now ≡ children_of (node_of self.now number) }
+    {
+        self.slab[number].children.as_slice()
     }
 
     /// The item of a node at an index.
@@ -119,7 +153,7 @@ impl<T: Drop> Nodes<T> {
         ensures { result.now
             ≡ slice_index_or (items_of (node_of self.now number)) index result.now }
     {
-        self.blocks.item_at(number, index)
+        &self.items(number)[index]
     }
 
     /// The child of a node at an index.
@@ -128,27 +162,7 @@ impl<T: Drop> Nodes<T> {
         requires within { index < length (children_of (node_of self.now number)) }
         ensures { result ≡ slice_index (children_of (node_of self.now number)) index }
     {
-        self.lists[self.blocks.list(number)].as_slice()[index]
-    }
-
-    /// The children of a node, by their numbers.
-    pub fn children(&self, number: usize) -> &[usize]
-        requires { HasNode self.now number }
-        ensures { result.now ≡ children_of (node_of self.now number) }
-    {
-        let list = self.blocks.list(number);
-        if list == NO_LIST {
-            return &[];
-        }
-        self.lists[list].as_slice()
-    }
-
-    /// The items of a node, each in a cell.
-    pub fn cells(&self, number: usize) -> &[Option<T>]
-        requires { HasNode self.now number }
-        ensures { result.now ≡ full_cells (items_of (node_of self.now number)) }
-    {
-        self.blocks.cells(number)
+        self.children(number)[index]
     }
 
     /// The item of a node at an index, to be changed where it stands.
@@ -160,7 +174,7 @@ impl<T: Drop> Nodes<T> {
         ensures value { result.now
             ≡ slice_index_or (items_of (node_of self.old number)) index result.now }
     {
-        self.blocks.item_mut(number, index)
+        &mut self.slab[number].items[index]
     }
 
     /// Puts an item in the place of the one at an index, which it returns.
@@ -201,10 +215,10 @@ impl<T: Drop> Nodes<T> {
             (with_child (children_of (node_of self.old number)) (index + 1) child) result.middle
             result.right }
     {
-        let list = self.blocks.list(number);
-        let upper = divide_children(&mut self.lists, list, index + 1, child);
-        let right = self.blocks.store(upper);
-        let middle = divide(&mut self.blocks, number, right, index, item);
+        let right = self.spares.take_last();
+        let mut upper = self.slab.remove(right);
+        let middle = self.slab[number].divide(&mut upper, index, item, index + 1, child);
+        let right = self.slab.insert_reserved(upper);
         Split { middle, right }
     }
 
@@ -217,7 +231,7 @@ impl<T: Drop> Nodes<T> {
             (remove (items_of (node_of self.old number)) index)
             (children_of (node_of self.old number)) }
     {
-        self.blocks.remove(number, index)
+        self.slab[number].items.remove(index)
     }
 
     /// Stores a new node with one item and no child.
@@ -225,8 +239,8 @@ impl<T: Drop> Nodes<T> {
         requires { HasRoomFor self.old 1 }
         ensures { Stores self.old self.new result (item ∷ []) [] }
     {
-        let number = self.blocks.store(NO_LIST);
-        self.blocks.insert(number, 0, item);
+        let number = self.spares.take_last();
+        self.slab[number].items.push_reserved(item);
         number
     }
 
@@ -239,8 +253,8 @@ impl<T: Drop> Nodes<T> {
             [] }
         ensures rest { into_iter_items items.new ≡ drop count (into_iter_items items.old) }
     {
-        let number = self.blocks.store(NO_LIST);
-        self.blocks.fill(number, count, items);
+        let number = self.spares.take_last();
+        self.slab[number].fill(count, items);
         number
     }
 
@@ -249,12 +263,11 @@ impl<T: Drop> Nodes<T> {
         requires { HasRoomFor self.old 1 }
         ensures { Stores self.old self.new result (middle ∷ []) (left ∷ right ∷ []) }
     {
-        let mut children = ArrayVec::new();
-        children.push(left);
-        children.push(right);
-        let list = store_list(&mut self.lists, children);
-        let number = self.blocks.store(list);
-        self.blocks.insert(number, 0, middle);
+        let number = self.spares.take_last();
+        let node = &mut self.slab[number];
+        node.items.push_reserved(middle);
+        node.children.push(left);
+        node.children.push(right);
         number
     }
 
@@ -263,10 +276,9 @@ impl<T: Drop> Nodes<T> {
         requires { HasRoomFor self.old 1 }
         ensures { Stores self.old self.new result [] (child ∷ []) }
     {
-        let mut children = ArrayVec::new();
-        children.push(child);
-        let list = store_list(&mut self.lists, children);
-        self.blocks.store(list)
+        let number = self.spares.take_last();
+        self.slab[number].children.push(child);
+        number
     }
 
     /// Takes a node away, with its items.
@@ -274,8 +286,8 @@ impl<T: Drop> Nodes<T> {
         requires { HasNode self.old number }
         ensures { Removes self.old self.new number }
     {
-        let list = self.blocks.remove_block(number);
-        drop_list(&mut self.lists, list);
+        self.slab[number].clear();
+        self.spares.push_reserved(number);
     }
 
     /// Moves an item from the child after the item at `index` of a node to the one before it.
@@ -347,9 +359,7 @@ impl<T: Drop> Nodes<T> {
             (insert (items_of (node_of self.old number)) index item)
             (with_child (children_of (node_of self.old number)) place child) }
     {
-        self.blocks.insert(number, index, item);
-        let list = self.blocks.list(number);
-        put_child(&mut self.lists, list, place, child);
+        self.slab[number].put(index, item, place, child);
     }
 
     // Takes the item at an index out of a node, and the child at `place`, if there is one.
@@ -363,10 +373,7 @@ impl<T: Drop> Nodes<T> {
             (remove (items_of (node_of self.old number)) index)
             (remove (children_of (node_of self.old number)) place) }
     {
-        let item = self.blocks.remove(number, index);
-        let list = self.blocks.list(number);
-        let child = take_child(&mut self.lists, list, place);
-        (item, child)
+        self.slab[number].take(index, place)
     }
 
     // Moves all that a node has to the end of another, with an item between.
@@ -382,9 +389,9 @@ impl<T: Drop> Nodes<T> {
             + length (children_of (node_of self.old right)) ≤ CHILD_PLACES }
         ensures { Absorbs self.old self.new left middle right }
     {
-        let lower = self.blocks.list(left);
-        let upper = self.blocks.list(right);
-        append_list(&mut self.lists, lower, upper);
-        absorb(&mut self.blocks, left, middle, right);
+        let mut upper = self.slab.remove(right);
+        self.slab[left].absorb(middle, &mut upper);
+        let right = self.slab.insert_reserved(upper);
+        self.spares.push_reserved(right);
     }
 }

@@ -1,59 +1,73 @@
-//! A search below a node: one path down to a leaf, which halves within each node.
-ghost use Rattle.std.specs.Prelude.{◌≡◌, ℕ, suc, ◌+◌, ◌-◌, ◌*◌, ◌<◌, ◌≤◌, length, count_by, IsSome};
-ghost use Rattle.std.specs.List.{All};
-ghost use Rattle.range_store.specs.Counting.{AddsSteps};
-ghost use Rattle.range_store.specs.Falling.{Falls, at_item};
+//! A search below a node: one path down to a leaf, with at most four asks in each node.
+ghost use Rattle.std.specs.Prelude.{◌≡◌, ℕ, suc, ◌+◌, ◌-◌, ◌*◌, ◌<◌, ◌≤◌, length, count_by};
+ghost use Rattle.range_store.specs.Counting.{AddsSteps, one_step_after};
+ghost use Rattle.range_store.specs.Falling.{Falls};
 ghost use Rattle.range_store.specs.Nodes.{items_below, ShapedBut};
 ghost use Rattle.range_store.specs.Edges.{IsEdge, place};
 
-use crate::btree::nodes::{CAPACITY, Nodes};
+use crate::btree::nodes::{CAPACITY, MIN_LEN, Nodes};
 use crate::btree::path::{Edge, MAX_LEVELS, PATH_BASE};
 use crate::storage::Probe;
 
 // How often a node is asked at most.
 pub const MAX_ASKS: usize = 4;
 
-// Reads each second cell, so that the lines of memory in which the cells lie come together, and not
-// one after the other as they are asked.
-fn read_ahead<T>(cells: &[Option<T>])
-    requires full { All IsSome cells.now }
-    requires fits { length cells.now ≤ CAPACITY }
+// How many items are known to pass once one is asked: `step` more than `low`, or `low` still. The
+// answer is a number and not a branch, since a processor cannot guess it.
+#[inline(always)]
+fn ask_ahead<T, P: Probe<T>>(items: &[T], low: usize, step: usize, probe: &mut P) -> usize
+    requires falls { Falls (P.test probe.old) items.now }
+    requires some { 0 < step }
+    requires within { low + step ≤ length items.now }
+    requires fits { length items.now ≤ CAPACITY }
+    ensures passes { low + step ≤ count_by (P.test probe.old) items.now → result ≡ low + step }
+    ensures fails { count_by (P.test probe.old) items.now < low + step → result ≡ low }
+    ensures kept { P.test probe.new ≡ P.test probe.old }
+    ensures counted { P.steps_taken probe.new ≡ one_step_after (P.steps_taken probe.old) }
 {
-    let mut at = 0;
-    while at < cells.len() {
-        if cells[at].is_none() {
-            unreachable!();
-        }
-        at += 2;
-    }
+    low + step * usize::from(probe.ask(&items[low + step - 1]))
 }
 
-// How many of the items in these cells pass, found by halving.
-#[inline(always)]
-pub fn halve<T, P: Probe<T>>(cells: &[Option<T>], probe: &mut P) -> usize
-    requires full { All IsSome cells.now }
-    requires falls { Falls (at_item (P.test probe.old)) cells.now }
-    requires some { 0 < length cells.now }
-    requires fits { length cells.now ≤ CAPACITY }
-    ensures count { result ≡ count_by (at_item (P.test probe.old)) cells.now }
+// How many of fewer than `MIN_LEN` items pass, as only a root has so few.
+fn count_few<T, P: Probe<T>>(items: &[T], probe: &mut P) -> usize
+    requires falls { Falls (P.test probe.old) items.now }
+    requires some { 0 < length items.now }
+    requires few { length items.now < MIN_LEN }
+    ensures count { result ≡ count_by (P.test probe.old) items.now }
     ensures kept { P.test probe.new ≡ P.test probe.old }
     ensures asked { AddsSteps (P.steps_taken probe.old) (P.steps_taken probe.new) 1 MAX_ASKS }
 {
     let mut low = 0;
-    let mut high = cells.len();
-    while low < high {
-        let middle = low + (high - low) / 2;
-        let passes = match &cells[middle] {
-            Some(item) => probe.ask(item),
-            None => unreachable!(),
-        };
-        if passes {
-            low = middle + 1;
-        } else {
-            high = middle;
-        }
+    let mut left = items.len();
+    while left > 0 {
+        let step = left.div_ceil(2);
+        low = ask_ahead(items, low, step, probe);
+        left -= step;
     }
     low
+}
+
+// How many of the items of a node pass. Of `MIN_LEN` or more, four asks tell whatever they answer:
+// so many items at a time that the next steps reach each of those between.
+#[inline(always)]
+pub fn count_passing<T, P: Probe<T>>(items: &[T], probe: &mut P) -> usize
+    requires falls { Falls (P.test probe.old) items.now }
+    requires some { 0 < length items.now }
+    requires fits { length items.now ≤ CAPACITY }
+    ensures count { result ≡ count_by (P.test probe.old) items.now }
+    ensures kept { P.test probe.new ≡ P.test probe.old }
+    ensures asked { AddsSteps (P.steps_taken probe.old) (P.steps_taken probe.new) 1 MAX_ASKS }
+{
+    let len = items.len();
+    if len < MIN_LEN {
+        return count_few(items, probe);
+    }
+    let second = (len - 4).min(4);
+    let first = len - 3 - second;
+    let low = ask_ahead(items, 0, first, probe);
+    let low = ask_ahead(items, low, second, probe);
+    let low = ask_ahead(items, low, 2, probe);
+    ask_ahead(items, low, 1, probe)
 }
 
 // The edge after the items below a node that pass, by one path down to a leaf.
@@ -79,10 +93,7 @@ pub fn search_below<T: Drop, P: Probe<T>>(
     let mut path: u64 = 0;
     let mut weight: u64 = 1;
     'down: loop {
-        let cells = nodes.cells(at);
-        let children = nodes.children(at);
-        read_ahead(cells);
-        let index = halve(cells, probe);
+        let index = count_passing(nodes.items(at), probe);
         if left == 0 {
             return Edge {
                 path,
@@ -92,7 +103,7 @@ pub fn search_below<T: Drop, P: Probe<T>>(
         }
         path += weight * (index as u64);
         weight *= PATH_BASE;
-        at = children[index];
+        at = nodes.child_at(at, index);
         left -= 1;
     }
 }

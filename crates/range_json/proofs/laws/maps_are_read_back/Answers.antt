@@ -1,7 +1,6 @@
 use Rattle.std.proofs.Common.{sym, subst, ◌∙◌, map}
 use Rattle.std.specs.Cmp.{Equal-is}
 use Rattle.range_json.specs.Shapes.{pair_shape, range_shape}
-use Rattle.range_json.specs.Faults.{fault_of}
 use Rattle.range_json.specs.MapFaults.{IsFirstFault}
 use Rattle.range_json.specs.SetReadBack.{list_back}
 use Rattle.range_json.proofs.ReadingBack.{map_back, map_sound}
@@ -20,10 +19,10 @@ returns-clause-sound g c =
     map_sound order g.K.Json.shape g.K.Json.reads g.K.Json.is_value g.K.Json.is_read key_back
     g.met.K.ReadsBack.reads_written g.met.K.PartialEnum.lawful g.V.PartialEq.eq g.met.V.Eq.laws
     g.V.Json.shape g.V.Json.reads g.V.Json.is_value g.V.Json.is_read
-    g.met.V.ReadsBack.reads_back g.met.V.ReadsBack.reads_written items v stored (fault_of e)
+    g.met.V.ReadsBack.reads_back g.met.V.ReadsBack.reads_written items v stored e
     (subst (λ ds.
     IsFirstFault order g.K.Json.reads g.V.Json.reads g.K.Json.is_read g.V.Json.is_read ds
-    (fault_of e))
+    e)
     (list_back
     (map (λ i. pair_shape (range_shape g.K.Json.shape i.key) (g.V.Json.shape i.value)) items))
     fault)

@@ -1,7 +1,6 @@
 use Rattle.std.proofs.Common.{sym, subst, ◌∙◌, map}
 use Rattle.std.specs.Cmp.{Equal-is, on_equiv}
 use Rattle.std.specs.Cmp.Lexicographic.{lists_equiv}
-use Rattle.range_json.specs.Faults.{fault_of}
 use Rattle.range_json.specs.MapFaults.{IsFirstFault}
 use Rattle.range_json.specs.SetReadBack.{set_back}
 use Rattle.range_json.specs.Shapes.{pair_shape, range_shape}
@@ -25,10 +24,10 @@ returns-clause-sound g c =
     g.met.K.ReadsBack.reads_written g.met.K.PartialEnum.lawful g.V.Ord.cmp g.met.V.Ord.total
     g.V.PartialEq.eq g.met.V.Eq.laws g.met.V.Ord.matches_eq g.V.Json.shape g.V.Json.reads
     g.V.Json.is_value g.V.Json.is_read g.met.V.ReadsBack.reads_back
-    g.met.V.ReadsBack.reads_written items v full stored (fault_of e)
+    g.met.V.ReadsBack.reads_written items v full stored e
     (subst (λ ds. IsFirstFault order g.K.Json.reads
     (reads_some_values g.V.Json.reads) g.K.Json.is_read
-    (AreValuesRead g.V.Ord.cmp g.V.Json.is_read) ds (fault_of e))
+    (AreValuesRead g.V.Ord.cmp g.V.Json.is_read) ds e)
     (list_back
     (map (λ i. pair_shape (range_shape g.K.Json.shape i.key)
     (values_shape g.V.Json.shape i.value)) items)) fault)

@@ -2,9 +2,8 @@ use Rattle.std.proofs.Common.{◌≡◌, ◌⊎◌, inl, inr, sym, ap, ◌∙◌
 use Rattle.std.proofs.Math.Seq.{take-length}
 use Rattle.std.proofs.lemmas.List.{take_more, length-take-le, take-append-drop}
 use Rattle.serde_json.specs.View.{view}
-use Rattle.range_json.specs.Faults.{fault_of}
 use Rattle.range_json.specs.MapFaults.{IsMapFault, IsFirstFault, IsFaultOf}
-use Rattle.range_json.specs.declared.error.JsonError.TheVariants.{Memory}
+use Rattle.range_json.specs.declared.error.JsonError.TheVariants.{Memory, Meets}
 use Rattle.range_json.proofs.MapReading.{IsMapSoFar, IsPut, map_begun, map_more, map_fails, map_meets, none_stored}
 use Rattle.range_json.proofs.Reading.{append_one_more}
 use Rattle.range_json.proofs.map.map_from_json.Goals as goal
@@ -71,13 +70,13 @@ returns-in_err-item-clause-fault g c =
           inr
           (subst (λ w.
           IsFaultOf order g.K.Json.reads g.V.Json.reads g.K.Json.is_read g.V.Json.is_read w
-          (fault_of e))
+          e)
           (sym c.in_ok-elements.ensures.found)
           (subst (λ l.
           IsFirstFault order g.K.Json.reads g.V.Json.reads g.K.Json.is_read g.V.Json.is_read
-          (map view l) (fault_of e)) all (map_fails order g.K.Json.reads g.V.Json.reads
+          (map view l) e) all (map_fails order g.K.Json.reads g.V.Json.reads
           g.K.Json.is_read
-          g.V.Json.is_read g.V.PartialEq.eq (take n vs) rest v (fault_of e)
+          g.V.Json.is_read g.V.PartialEq.eq (take n vs) rest v e
           (g.C.Storage.items c.loop-index.map) c.loop-index.invariant (rw size at))))
     ] in
     search (rules, told)
@@ -106,18 +105,18 @@ returns-in_err-insert_element-clause-fault g c =
           inr
           (subst (λ w.
           IsFaultOf order g.K.Json.reads g.V.Json.reads g.K.Json.is_read g.V.Json.is_read w
-          (fault_of e))
+          e)
           (sym c.in_ok-elements.ensures.found)
           (subst (λ l.
           IsFirstFault order g.K.Json.reads g.V.Json.reads g.K.Json.is_read g.V.Json.is_read
-          (map view l) (fault_of e)) all (subst
+          (map view l) e) all (subst
           (λ f. IsFirstFault order g.K.Json.reads g.V.Json.reads g.K.Json.is_read g.V.Json.is_read
-          (map view (take n vs ++ v ∷ rest)) f) (sym at.0.1)
+          (map view (take n vs ++ v ∷ rest)) f) (sym (at.0 ∙ ap (λ i. Meets i) (sym size)))
           (map_meets order g.K.Json.reads g.V.Json.reads g.K.Json.is_read g.V.Json.is_read
           g.V.PartialEq.eq (take n vs) rest v
           (g.C.Storage.items c.loop-index.map) c.in_ok-item.item
           c.loop-index.invariant (rw size c.in_ok-item.ensures.sound)
-          c.in_ok-item.ensures.read c.insert_element.ensures.known (at.1, at.2) at.0.0 at.0.2))))
+          c.in_ok-item.ensures.read c.insert_element.ensures.known (at.1, at.2)))))
     ] in
     search (rules, told)
 

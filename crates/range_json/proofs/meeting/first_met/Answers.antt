@@ -1,7 +1,5 @@
-use Rattle.std.proofs.Common.{◌≡◌, inl, inr, sym, ap, subst, ◌∙◌, ◌+◌, ◌<◌, ◌++◌, ◌∷◌, [], take, drop, length, map, arith}
-use Rattle.std.proofs.Math.Seq.{take-length}
+use Rattle.std.proofs.Common.{◌≡◌, sym, ap, ◌∙◌, ◌+◌, ◌<◌, ◌++◌, ◌∷◌, [], take, drop, length, map, arith}
 use Rattle.std.proofs.lemmas.List.{map-append, take_more, length-take-le, take-append-drop}
-use Rattle.std.specs.List.{AllByRecursion}
 use Rattle.serde_json.specs.View.{view}
 use Rattle.range_algebra.proofs.Lists.{all_more}
 use Rattle.range_json.specs.MapFaults.{MeetNonempty}
@@ -54,7 +52,7 @@ returns-then-meet g c one =
     ∙ take-append-drop (n + 1) vs in
     let r = c.in_ok-range_again.field-0 in
     let s = c.in_ok-range.range in
-    inl (record {
+    record {
       front = map view (take n vs);
       e = view v;
       rest = map view rest;
@@ -63,15 +61,4 @@ returns-then-meet g c one =
       none = c.loop-index.invariant one;
       met = always_meet order is_read g.met.K.PartialEnum.lawful one (view v) d r s
           c.in_ok-range_again.ensures c.in_ok-range.ensures (c.meet.ensures.0 c.if-meet.true);
-    })
-
-pub returns : goal.returns
-returns g c one =
-    let vs = c.args.earlier.now in
-    let n = c.loop-index.index in
-    let full : n ≡ length vs =
-    omega (arith, c.loop-index-test.false, c.loop-index.auto.index-end) in
-    let all : take n vs ≡ vs = ap (λ i. take i vs) full ∙ take-length vs in
-    inr (subst (λ l. AllByRecursion
-    (λ e. NeverMeet g.K.MaybeBounded.order g.K.Json.is_read e (view c.args.element.now))
-    (map view l)) all (c.loop-index.invariant one))
+    }

@@ -2,7 +2,6 @@ use Rattle.std.proofs.Common.{◌≡◌, ◌⊎◌, inl, inr, ap, Some, rules, l
 use Rattle.std.proofs.lemmas.List.{nil_from_length}
 use Rattle.std.specs.BTreeSet.{IsEmpty}
 use Rattle.serde_json.specs.View.{view}
-use Rattle.range_json.specs.Faults.{fault_of}
 use Rattle.range_json.specs.MapFaults.{element_fault}
 use Rattle.range_json.specs.ValueSets.{reads_some_values}
 use Rattle.range_json.specs.declared.error.JsonError.TheVariants.{Memory}
@@ -15,9 +14,9 @@ returns-in_err-element-clause-fault g c =
     let d = view c.args.value.now in
     let told : (e ≡ Memory) ⊎
     (element_fault g.K.Json.reads (reads_some_values g.V.Json.reads) c.args.index d
-    ≡ Some (fault_of e)) = elim c.in_err-element.ensures.fault [
+    ≡ Some e) = elim c.in_err-element.ensures.fault [
       | inl memory ↦ inl memory
-      | inr at ↦ inr (fault_too g.K.Json.reads g.V.Json.reads c.args.index d (fault_of e) at)
+      | inr at ↦ inr (fault_too g.K.Json.reads g.V.Json.reads c.args.index d e at)
     ] in
     search (rules, told)
 

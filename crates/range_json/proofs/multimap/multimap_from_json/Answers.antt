@@ -4,10 +4,9 @@ use Rattle.std.proofs.lemmas.List.{take_more, length-take-le, take-append-drop}
 use Rattle.std.specs.Cmp.{on_equiv}
 use Rattle.std.specs.Cmp.Lexicographic.{lists_equiv}
 use Rattle.serde_json.specs.View.{view}
-use Rattle.range_json.specs.Faults.{fault_of}
 use Rattle.range_json.specs.MapFaults.{IsFirstFault, IsFaultOf}
 use Rattle.range_json.specs.MultimapFaults.{IsMultimapFault}
-use Rattle.range_json.specs.declared.error.JsonError.TheVariants.{Memory}
+use Rattle.range_json.specs.declared.error.JsonError.TheVariants.{Memory, Meets}
 use Rattle.range_json.specs.ValueSets.{reads_some_values, same_values, AreValuesRead}
 use Rattle.range_json.proofs.MapReading.{IsMapSoFar, IsPut, map_begun, map_more, map_fails, map_meets, none_stored}
 use Rattle.range_json.proofs.Multimaps.{fails_with}
@@ -82,14 +81,14 @@ returns-in_err-item-clause-fault g c =
           inr
           (subst (λ w. IsFaultOf order g.K.Json.reads
           (reads_some_values g.V.Json.reads) g.K.Json.is_read
-          (AreValuesRead g.V.Ord.cmp g.V.Json.is_read) w (fault_of e))
+          (AreValuesRead g.V.Ord.cmp g.V.Json.is_read) w e)
           (sym c.in_ok-elements.ensures.found)
           (subst (λ l. IsFirstFault order g.K.Json.reads
           (reads_some_values g.V.Json.reads) g.K.Json.is_read
-          (AreValuesRead g.V.Ord.cmp g.V.Json.is_read) (map view l) (fault_of e)) all
+          (AreValuesRead g.V.Ord.cmp g.V.Json.is_read) (map view l) e) all
           (map_fails order g.K.Json.reads (reads_some_values g.V.Json.reads) g.K.Json.is_read
           (AreValuesRead g.V.Ord.cmp g.V.Json.is_read) (same_values g.V.PartialEq.eq)
-          (take n vs) rest v (fault_of e) (g.C.Storage.items c.loop-index.multimap)
+          (take n vs) rest v e (g.C.Storage.items c.loop-index.multimap)
           c.loop-index.invariant
           (rw size at))))
     ] in
@@ -124,21 +123,21 @@ returns-in_err-insert_values-clause-fault g c =
           inr
           (subst (λ w. IsFaultOf order g.K.Json.reads
           (reads_some_values g.V.Json.reads) g.K.Json.is_read
-          (AreValuesRead g.V.Ord.cmp g.V.Json.is_read) w (fault_of e))
+          (AreValuesRead g.V.Ord.cmp g.V.Json.is_read) w e)
           (sym c.in_ok-elements.ensures.found)
           (subst (λ l. IsFirstFault order g.K.Json.reads
           (reads_some_values g.V.Json.reads) g.K.Json.is_read
-          (AreValuesRead g.V.Ord.cmp g.V.Json.is_read) (map view l) (fault_of e)) all
+          (AreValuesRead g.V.Ord.cmp g.V.Json.is_read) (map view l) e) all
           (subst (λ f. IsFirstFault order g.K.Json.reads
           (reads_some_values g.V.Json.reads) g.K.Json.is_read
           (AreValuesRead g.V.Ord.cmp g.V.Json.is_read) (map view (take n vs ++ v ∷ rest)) f)
-          (sym at.0.1)
+          (sym (at.0 ∙ ap (λ i. Meets i) (sym size)))
           (map_meets order g.K.Json.reads (reads_some_values g.V.Json.reads) g.K.Json.is_read
           (AreValuesRead g.V.Ord.cmp g.V.Json.is_read) (same_values g.V.PartialEq.eq)
           (take n vs) rest v (g.C.Storage.items c.loop-index.multimap)
           c.in_ok-item.item c.loop-index.invariant
           (rw size c.in_ok-item.ensures.sound)
-          c.in_ok-item.ensures.read c.insert_values.ensures.known (at.1, at.2) at.0.0 at.0.2))))
+          c.in_ok-item.ensures.read c.insert_values.ensures.known (at.1, at.2)))))
     ] in
     let is : c.from_residual-in_err-insert_values.result ≡ Err e = search rules in
     fails_with (λ f.

@@ -2,7 +2,7 @@ use Rattle.std.proofs.Common.{◌≡◌, ◌⊎◌, inl, inr, sym, ap, ◌∙◌
 use Rattle.std.proofs.Math.Seq.{take-length}
 use Rattle.std.proofs.lemmas.List.{take_more, length-take-le, take-append-drop}
 use Rattle.serde_json.specs.View.{view}
-use Rattle.range_json.specs.Faults.{fault_of, first_fault}
+use Rattle.range_json.specs.Faults.{first_fault}
 use Rattle.range_json.specs.MapFaults.{element_fault}
 use Rattle.range_json.specs.Overwriting.{fault_of_elements, overwriting_fault}
 use Rattle.range_json.specs.declared.error.JsonError.TheVariants.{Memory}
@@ -56,15 +56,15 @@ returns-in_err-item-clause-fault g c =
     ∙ take-append-drop (n + 1) vs in
     let e = c.in_err-item.field-0.0 in
     let told : (e ≡ Memory) ⊎ (overwriting_fault g.K.Json.reads g.V.Json.reads
-    (view c.args.value.now) ≡ Some (fault_of e)) =
+    (view c.args.value.now) ≡ Some e) =
     elim c.in_err-item.ensures.fault [
       | inl memory ↦ inl memory
       | inr at ↦
           inr
           (ap (fault_of_elements g.K.Json.reads g.V.Json.reads) c.in_ok-elements.ensures.found
-          ∙ subst (λ l. first_fault fault 0 (map view l) ≡ Some (fault_of e)) all
+          ∙ subst (λ l. first_fault fault 0 (map view l) ≡ Some e) all
           (overwriting_fails g.K.MaybeBounded.order g.K.Json.reads g.V.Json.reads g.K.Json.is_read
-          g.V.Json.is_read g.V.PartialEq.eq (take n vs) rest v (fault_of e)
+          g.V.Json.is_read g.V.PartialEq.eq (take n vs) rest v e
           (g.C.Storage.items c.loop-index.map) c.loop-index.invariant (rw size at)))
     ] in
     search (rules, told)

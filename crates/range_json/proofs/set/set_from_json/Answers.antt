@@ -2,7 +2,7 @@ use Rattle.std.proofs.Common.{◌≡◌, ◌⊎◌, inl, inr, sym, ap, ◌∙◌
 use Rattle.std.proofs.Math.Seq.{take-length}
 use Rattle.std.proofs.lemmas.List.{take_more, length-take-le, take-append-drop}
 use Rattle.serde_json.specs.View.{view}
-use Rattle.range_json.specs.Faults.{fault_of, range_fault, first_fault, array_fault, set_fault}
+use Rattle.range_json.specs.Faults.{range_fault, first_fault, array_fault, set_fault}
 use Rattle.range_json.specs.declared.error.JsonError.TheVariants.{Memory}
 use Rattle.range_sets.proofs.Membership.{all_of}
 use Rattle.range_json.proofs.Reading.{set_begun, set_more, set_fails, append_one_more, IsSetSoFar}
@@ -87,15 +87,15 @@ returns-in_err-range-clause-fault g c =
     let array = c.in_ok-elements.ensures.found in
     let e = c.in_err-range.field-0.0 in
     let told : (e ≡ Memory) ⊎ (set_fault g.T.Json.reads (view c.args.value.now)
-    ≡ Some (fault_of e)) =
+    ≡ Some e) =
     elim c.in_err-range.ensures.fault [
       | inl memory ↦ inl memory
       | inr at ↦
           inr (ap (array_fault (range_fault g.T.Json.reads)) array
-          ∙ subst (λ l. first_fault (range_fault g.T.Json.reads) 0 (map view l) ≡ Some (fault_of e))
+          ∙ subst (λ l. first_fault (range_fault g.T.Json.reads) 0 (map view l) ≡ Some e)
           all
           (set_fails g.T.Json.reads g.T.Json.is_read g.T.MaybeBounded.order (take n vs) rest v
-          (fault_of e)
+          e
           (g.C.Storage.items c.loop-index.set) c.loop-index.invariant (rw size at)))
     ] in
     search (rules, told)

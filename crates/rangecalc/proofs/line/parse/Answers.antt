@@ -1,6 +1,6 @@
 use Rattle.std.proofs.Common.{◌∷◌, ◌∙◌, [], ap, sym}
 use Rattle.rangecalc.specs.Lines.{letter, words_of}
-use Rattle.rangecalc.proofs.Progress.{append_nil}
+use Rattle.line_program.proofs.Listing.{append_nil}
 use Rattle.rangecalc.proofs.line.parse.Goals as goal
 
 pub returns-in-Some-whole-clause-read : goal.returns-in-Some-whole-clause-read

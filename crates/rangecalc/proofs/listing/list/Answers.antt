@@ -2,8 +2,9 @@ use Rattle.std.proofs.Common.{subst, sym}
 use Rattle.std.specs.Prelude.{codes}
 use Rattle.btree_range_map.specs.Holding.{box_items}
 use Rattle.rangecalc.specs.Answers.{IsListed}
-use Rattle.rangecalc.specs.Replies.{SpellsItem, SpellsLines}
-use Rattle.rangecalc.proofs.Progress.{writes_as}
+use Rattle.line_program.specs.Listing.{SpellsLines}
+use Rattle.rangecalc.specs.Replies.{SpellsItem}
+use Rattle.line_program.proofs.Listing.{writes_as}
 use Rattle.rangecalc.proofs.listing.list.Goals as goal
 
 pub returns-in-Show : goal.returns-in-Show

@@ -2,7 +2,7 @@ use Rattle.std.proofs.Common.{◌≡◌, ◌∷◌, [], subst}
 use Rattle.std.specs.Prelude.{Bool, codes}
 use Rattle.btree_range_map.specs.References.{range_of}
 use Rattle.rangecalc.specs.Replies.{SpellsGap}
-use Rattle.rangecalc.proofs.Progress.{IsListing, listed_none, listed_some, listing_more, listing_none, on_ok_as}
+use Rattle.line_program.proofs.Listing.{IsListing, listed_none, listed_some, listing_more, listing_none, on_ok_as}
 use Rattle.rangecalc.proofs.listing.write_free.Goals as goal
 
 pub loop-gap-init : goal.loop-gap-init

@@ -1,6 +1,6 @@
 use Rattle.std.proofs.Common.{length}
 use Rattle.rangecalc.specs.Replies.{SpellsGap}
-use Rattle.rangecalc.proofs.Progress.{IsListing}
+use Rattle.line_program.proofs.Listing.{IsListing}
 use Rattle.rangecalc.proofs.listing.write_free.Given as goal
 
 abbrev pub invariant-loop-gap : goal.invariant-loop-gap

@@ -2,7 +2,7 @@ use Rattle.std.proofs.Common.{◌≡◌, ◌∷◌, [], subst}
 use Rattle.std.specs.Prelude.{Bool, codes}
 use Rattle.rangecalc.specs.Ranges.{item_of}
 use Rattle.rangecalc.specs.Replies.{SpellsItem}
-use Rattle.rangecalc.proofs.Progress.{IsListing, listed_none, listed_some, listing_more, listing_none, on_ok_as}
+use Rattle.line_program.proofs.Listing.{IsListing, listed_none, listed_some, listing_more, listing_none, on_ok_as}
 use Rattle.rangecalc.proofs.listing.write_met.Goals as goal
 
 pub loop-range-init : goal.loop-range-init

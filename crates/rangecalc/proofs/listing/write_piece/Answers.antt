@@ -2,7 +2,7 @@ use Rattle.std.proofs.Common.{◌++◌, ◌∷◌, [], refl}
 use Rattle.std.specs.Fmt.{signed_decimal}
 use Rattle.std.specs.Prelude.{codes}
 use Rattle.rangecalc.specs.Replies.{span_text}
-use Rattle.rangecalc.proofs.Progress.{on_ok_as}
+use Rattle.line_program.proofs.Listing.{on_ok_as}
 use Rattle.rangecalc.proofs.listing.write_piece.Goals as goal
 
 pub returns-in-Some : goal.returns-in-Some

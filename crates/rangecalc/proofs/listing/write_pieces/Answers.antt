@@ -2,7 +2,7 @@ use Rattle.std.proofs.Common.{◌≡◌, ◌∷◌, [], subst}
 use Rattle.std.specs.Prelude.{Bool, codes}
 use Rattle.btree_range_map.specs.PieceLists.{shown_piece}
 use Rattle.rangecalc.specs.Replies.{SpellsPiece}
-use Rattle.rangecalc.proofs.Progress.{IsListing, listed_none, listed_some, listing_more, listing_none, on_ok_as}
+use Rattle.line_program.proofs.Listing.{IsListing, listed_none, listed_some, listing_more, listing_none, on_ok_as}
 use Rattle.rangecalc.proofs.listing.write_pieces.Goals as goal
 
 pub loop-piece-init : goal.loop-piece-init

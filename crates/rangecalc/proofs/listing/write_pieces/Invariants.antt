@@ -1,6 +1,6 @@
 use Rattle.std.proofs.Common.{length}
 use Rattle.rangecalc.specs.Replies.{SpellsPiece}
-use Rattle.rangecalc.proofs.Progress.{IsListing}
+use Rattle.line_program.proofs.Listing.{IsListing}
 use Rattle.rangecalc.proofs.listing.write_pieces.Given as goal
 
 abbrev pub invariant-loop-piece : goal.invariant-loop-piece

@@ -5,7 +5,7 @@ use Rattle.rangecalc.specs.Conversation.{IsDone, stored_in}
 use Rattle.rangecalc.specs.Named.{at, put}
 use Rattle.rangecalc.specs.Replies.{truth_text}
 use Rattle.rangecalc.proofs.Letters.{at_each, each_put}
-use Rattle.rangecalc.proofs.Progress.{on_ok_as, writes_as}
+use Rattle.line_program.proofs.Listing.{on_ok_as, writes_as}
 use Rattle.rangecalc.proofs.maps.answer.Goals as goal
 
 pub returns-in-Change : goal.returns-in-Change

@@ -1,6 +1,6 @@
 use Rattle.std.proofs.Common.{ap, inl, inr, refl}
 use Rattle.std.specs.Prelude.{Err, codes}
-use Rattle.rangecalc.proofs.Progress.{on_ok_as, writes_as}
+use Rattle.line_program.proofs.Listing.{on_ok_as, writes_as}
 use Rattle.rangecalc.proofs.maps.answer_line.Goals as goal
 
 pub returns-in-Ok : goal.returns-in-Ok

@@ -1,7 +1,8 @@
 use Rattle.std.proofs.Common.{refl, subst, sym}
 use Rattle.std.specs.Prelude.{OnOk}
-use Rattle.rangecalc.specs.Replies.{SpellsReply, Writes, truth_text}
-use Rattle.rangecalc.proofs.Progress.{on_ok_as}
+use Rattle.line_program.specs.Listing.{Writes}
+use Rattle.rangecalc.specs.Replies.{SpellsReply, truth_text}
+use Rattle.line_program.proofs.Listing.{on_ok_as}
 use Rattle.rangecalc.proofs.write.write_reply.Goals as goal
 
 pub returns-in-Stored : goal.returns-in-Stored

@@ -1,5 +1,6 @@
 use Rattle.btree_range_map.specs.Holding.{box_items, level_count}
-use Rattle.rangerun.proofs.Progress.{on_ok_as, reads_line, answers_known}
+use Rattle.line_program.proofs.Listing.{on_ok_as}
+use Rattle.rangerun.proofs.KnownLines.{reads_line, answers_known}
 use Rattle.rangerun.proofs.reply.answer_line.Goals as goal
 
 pub returns-in-None : goal.returns-in-None

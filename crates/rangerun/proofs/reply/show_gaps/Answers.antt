@@ -3,7 +3,7 @@ use Rattle.btree_range_map.specs.AnyRange.{AnyRange}
 use Rattle.btree_range_map.specs.FreeRanges.{full_range}
 use Rattle.btree_range_map.specs.Pieces.{IsPiece}
 use Rattle.btree_range_map.specs.Range.{IsEmptyRange}
-use Rattle.rangerun.proofs.Progress.{on_ok_as}
+use Rattle.line_program.proofs.Listing.{on_ok_as}
 use Rattle.rangerun.proofs.Steps.{every_as}
 use Rattle.rangerun.proofs.reply.show_gaps.Goals as goal
 

@@ -1,6 +1,6 @@
 use Rattle.std.specs.Prelude.{codes}
 use Rattle.rangerun.specs.Replies.{part_text}
-use Rattle.rangerun.proofs.Progress.{appends_then, on_ok_as}
+use Rattle.line_program.proofs.Listing.{appends_then, on_ok_as}
 use Rattle.rangerun.proofs.reply.write_connected.Goals as goal
 
 pub returns : goal.returns

@@ -2,7 +2,7 @@ use Rattle.std.proofs.Common.{refl, sym, subst}
 use Rattle.btree_range_map.specs.Range.{IsEmptyRange}
 use Rattle.btree_range_map.specs.References.{range_of}
 use Rattle.rangerun.specs.Replies.{HasEnds, span_text}
-use Rattle.rangerun.proofs.Progress.{on_ok_as}
+use Rattle.line_program.proofs.Listing.{on_ok_as}
 use Rattle.rangerun.proofs.Spans.{clone_same}
 use Rattle.rangerun.proofs.reply.write_gap.Goals as goal
 

@@ -4,7 +4,7 @@ use Rattle.btree_range_map.specs.Intervals.{Every}
 use Rattle.btree_range_map.specs.Range.{IsEmptyRange}
 use Rattle.btree_range_map.specs.References.{range_of}
 use Rattle.rangerun.specs.Replies.{SpellsSpan}
-use Rattle.rangerun.proofs.Progress.{IsListing, listed_none, listed_some, listing_more, listing_none, on_ok_as}
+use Rattle.line_program.proofs.Listing.{IsListing, listed_none, listed_some, listing_more, listing_none, on_ok_as}
 use Rattle.rangerun.proofs.reply.write_gaps.Goals as goal
 
 pub loop-gap-init : goal.loop-gap-init

@@ -2,7 +2,7 @@ use Rattle.std.proofs.Common.{length}
 use Rattle.btree_range_map.specs.Intervals.{Every}
 use Rattle.btree_range_map.specs.Range.{IsEmptyRange}
 use Rattle.rangerun.specs.Replies.{SpellsSpan}
-use Rattle.rangerun.proofs.Progress.{IsListing}
+use Rattle.line_program.proofs.Listing.{IsListing}
 use Rattle.rangerun.proofs.reply.write_gaps.Given as goal
 
 abbrev pub invariant-loop-gap : goal.invariant-loop-gap

@@ -4,7 +4,7 @@ use Rattle.btree_range_map.specs.AnyRange.{AnyRange}
 use Rattle.btree_range_map.specs.Item.{Item}
 use Rattle.btree_range_map.specs.Range.{IsEmptyRange}
 use Rattle.rangerun.specs.Replies.{SpellsPart, part_text}
-use Rattle.rangerun.proofs.Progress.{HasShown, shown_none, shown_more, shown_all}
+use Rattle.line_program.proofs.Listing.{HasShown, shown_none, shown_more, shown_all}
 use Rattle.rangerun.proofs.reply.write_parts.Goals as goal
 
 pub loop-range-init : goal.loop-range-init

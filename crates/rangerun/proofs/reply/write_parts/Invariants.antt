@@ -2,7 +2,7 @@ use Rattle.std.proofs.Common.{length}
 use Rattle.std.specs.List.{AllByRecursion}
 use Rattle.btree_range_map.specs.Range.{IsEmptyRange}
 use Rattle.rangerun.specs.Replies.{SpellsPart}
-use Rattle.rangerun.proofs.Progress.{HasShown}
+use Rattle.line_program.proofs.Listing.{HasShown}
 use Rattle.rangerun.proofs.reply.write_parts.Given as goal
 
 abbrev pub invariant-loop-range : goal.invariant-loop-range

@@ -8,4 +8,8 @@ returns g c =
           search rules;
       form =
           search rules;
+      coarse =
+          search rules;
+      only =
+          search rules;
     }

@@ -3,19 +3,19 @@ use Rattle.std.proofs.lemmas.Grind.{div_ceil_times}
 use Rattle.std.proofs.lemmas.Result.{on_ok_weaker}
 use Rattle.range_store.specs.declared.btree.nodes.TheConstants.{MIN_LEN}
 use Rattle.range_store.proofs.Lent.{good_same}
-use Rattle.range_store.proofs.Reserving.{kept_count, kept_items, kept_shape, kept_tree}
+use Rattle.range_store.proofs.Reserving.{kept_items, kept_shape, kept_tree}
 use Rattle.range_store.proofs.btree.BoxStorageStorage.reserve.Goals as goal
 
 pub invariant_of-self : goal.invariant_of-self
 invariant_of-self g c =
     let s = c.args.self.now in
     let kept =
-    ap length (kept_items s.nodes c.reserve.new.self c.reserve.ensures.rest_kept s.levels
+    ap length (kept_items s.nodes c.reserve.new.self c.reserve.ensures.kept s.levels
     s.root) in
     record {
       whole = record {
         tree =
-            kept_tree s.nodes c.reserve.new.self c.reserve.ensures.rest_kept s.levels s.root
+            kept_tree s.nodes c.reserve.new.self c.reserve.ensures.kept s.levels s.root
             s.whole.tree;
         fits = omega (arith, kept, s.whole.fits, c.reserve.ensures.no_less);
         counted = omega (arith, kept, s.whole.counted);
@@ -27,22 +27,21 @@ invariant_of-self g c =
 pub returns-clause-list : goal.returns-clause-list
 returns-clause-list g c =
     let s = c.args.self.now in
-    kept_items s.nodes c.reserve.new.self c.reserve.ensures.rest_kept s.levels s.root
+    kept_items s.nodes c.reserve.new.self c.reserve.ensures.kept s.levels s.root
 
 pub returns-clause-ok : goal.returns-clause-ok
 returns-clause-ok g c =
     let s = c.args.self.now in
     let kept =
-    ap length (kept_items s.nodes c.reserve.new.self c.reserve.ensures.rest_kept s.levels
+    ap length (kept_items s.nodes c.reserve.new.self c.reserve.ensures.kept s.levels
     s.root) in
-    let count = kept_count s.nodes c.reserve.new.self c.reserve.ensures.rest_kept in
     let ceiling = div_ceil_times (s.len + c.args.n) MIN_LEN (omega arith) in
     on_ok_weaker c.reserve.result
     (λ room.
     omega (
       arith,
       kept,
-      count,
+      c.reserve.ensures.kept.len,
       ceiling.0,
       room,
       c.if-n-self.false,
@@ -61,4 +60,4 @@ returns-clause-positions g c q good =
       counted = c.self-1.given.1.0;
       levelled = c.self-1.given.1.1.0;
     })
-    (kept_shape s.nodes c.reserve.new.self c.reserve.ensures.rest_kept) refl refl q good
+    (kept_shape s.nodes c.reserve.new.self c.reserve.ensures.kept) refl refl q good

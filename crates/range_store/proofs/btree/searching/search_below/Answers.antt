@@ -4,40 +4,30 @@ use Rattle.std.proofs.lemmas.List.Sums.{count_by-le-length}
 use Rattle.range_store.specs.Heap.{items_of, node_of}
 use Rattle.range_store.specs.declared.btree.nodes.TheConstants.{CAPACITY}
 use Rattle.range_store.proofs.Descending.{adds_more, adds_none, begins, descends, descent_ends}
-use Rattle.range_store.proofs.Front.{cells_full, count_cells, falls_cells}
 use Rattle.range_store.proofs.Searching.{node_falls}
 use Rattle.range_store.proofs.Paths.{child_within}
 use Rattle.range_store.proofs.PathsBelow.{weight_fits}
 use Rattle.range_store.proofs.btree.searching.search_below.Goals as goal
 use Rattle.range_store.proofs.btree.searching.search_below.Given.{Over}
-use Rattle.range_store.proofs.btree.searching.search_below.Goals.{After-halve-index}
+use Rattle.range_store.proofs.btree.searching.search_below.Goals.{After-count_passing-index}
 
-pub read_ahead-requires-clause-full : goal.read_ahead-requires-clause-full
-read_ahead-requires-clause-full g c =
-    rw c.cells-cells.ensures (cells_full (items_of (node_of c.args.nodes.now c.down.at)))
+pub items-requires : goal.items-requires
+items-requires g c = c.down.invariant.0.lies.shaped.node.present
 
-pub halve-index-requires-clause-full : goal.halve-index-requires-clause-full
-halve-index-requires-clause-full g c =
-    rw c.cells-cells.ensures (cells_full (items_of (node_of c.args.nodes.now c.down.at)))
-
-pub halve-index-requires-clause-falls : goal.halve-index-requires-clause-falls
-halve-index-requires-clause-falls g c =
+pub count_passing-index-requires-clause-falls : goal.count_passing-index-requires-clause-falls
+count_passing-index-requires-clause-falls g c =
     let p = g.P.Probe.test c.args.probe.now in
     let d = c.down.invariant.0 in
-    rw (c.down.invariant.1, c.cells-cells.ensures)
-    (falls_cells p (items_of (node_of c.args.nodes.now c.down.at))
-    (node_falls p 1 CAPACITY c.args.nodes.now c.down.left c.down.at d.lies.shaped d.falls))
+    rw (c.down.invariant.1, c.items.ensures)
+    (node_falls p 1 CAPACITY c.args.nodes.now c.down.left c.down.at d.lies.shaped d.falls)
 
 -- how many of the node's items pass
-counted : (g : Over) (c : After-halve-index g)
-    → c.halve-index.result ≡ count_by (g.P.Probe.test c.args.probe.now)
+counted : (g : Over) (c : After-count_passing-index g)
+    → c.count_passing-index.result ≡ count_by (g.P.Probe.test c.args.probe.now)
     (items_of (node_of c.args.nodes.now c.down.at))
-counted g c =
-    (rw (c.down.invariant.1, c.cells-cells.ensures) at c.halve-index.ensures.count)
-    ∙ count_cells (g.P.Probe.test c.args.probe.now)
-    (items_of (node_of c.args.nodes.now c.down.at))
+counted g c = rw (c.down.invariant.1, c.items.ensures) at c.count_passing-index.ensures.count
 
-few : (g : Over) (c : After-halve-index g) → c.halve-index.result ≤ CAPACITY
+few : (g : Over) (c : After-count_passing-index g) → c.count_passing-index.result ≤ CAPACITY
 few g c =
     let d = c.down.invariant.0 in
     omega (
@@ -50,21 +40,21 @@ few g c =
 
 pub returns-then-left-eq0-clause-edge : goal.returns-then-left-eq0-clause-edge
 returns-then-left-eq0-clause-edge g c =
-    let a = (goal.at.returns-then-left-eq0-clause-edge g c).After-halve-index in
+    let a = (goal.at.returns-then-left-eq0-clause-edge g c).After-count_passing-index in
     (descent_ends (g.P.Probe.test c.args.probe.now) c.args.nodes.now c.args.below c.args.number
     c.down.left c.down.at c.down.path c.down.weight c.if-left-eq0.true c.down.invariant.0
-    c.halve-index.result (counted g a)).edge
+    c.count_passing-index.result (counted g a)).edge
 
 pub returns-then-left-eq0-clause-count : goal.returns-then-left-eq0-clause-count
 returns-then-left-eq0-clause-count g c =
-    let a = (goal.at.returns-then-left-eq0-clause-count g c).After-halve-index in
+    let a = (goal.at.returns-then-left-eq0-clause-count g c).After-count_passing-index in
     (descent_ends (g.P.Probe.test c.args.probe.now) c.args.nodes.now c.args.below c.args.number
     c.down.left c.down.at c.down.path c.down.weight c.if-left-eq0.true c.down.invariant.0
-    c.halve-index.result (counted g a)).count
+    c.count_passing-index.result (counted g a)).count
 
 pub overflow_mul-path : goal.overflow_mul-path
 overflow_mul-path g c =
-    let a = (goal.at.overflow_mul-path g c).After-halve-index in
+    let a = (goal.at.overflow_mul-path g c).After-count_passing-index in
     let d = c.down.invariant.0 in
     omega (
       arith,
@@ -76,7 +66,7 @@ overflow_mul-path g c =
 
 pub overflow_add-path : goal.overflow_add-path
 overflow_add-path g c =
-    let a = (goal.at.overflow_add-path g c).After-halve-index in
+    let a = (goal.at.overflow_add-path g c).After-count_passing-index in
     let d = c.down.invariant.0 in
     omega (
       arith,
@@ -97,16 +87,16 @@ overflow_mul-weight g c =
 
 pub down-preserved : goal.down-preserved
 down-preserved g c =
-    let a = (goal.at.down-preserved g c).After-halve-index in
+    let a = (goal.at.down-preserved g c).After-count_passing-index in
     let d = c.down.invariant.0 in
     let down =
     descends (g.P.Probe.test c.args.probe.now) c.args.nodes.now c.args.below c.args.number
     c.down.left c.down.at c.down.path c.down.weight c.if-left-eq0.false d
-    c.halve-index.result (counted g a) in (
-      rw c.children-children.ensures down,
-      c.halve-index.ensures.kept ∙ c.down.invariant.1,
+    c.count_passing-index.result (counted g a) in (
+      rw c.child_at-at.ensures down,
+      c.count_passing-index.ensures.kept ∙ c.down.invariant.1,
       adds_more _ _ _ c.args.below c.down.left c.if-left-eq0.false d.lies.low c.down.invariant.2
-          c.halve-index.ensures.asked,
+          c.count_passing-index.ensures.asked,
     )
 
 pub down-init : goal.down-init
@@ -117,15 +107,15 @@ down-init g c =
       adds_none (g.P.Probe.steps_taken c.args.probe.now) c.args.below,
     )
 
-pub bounds-children-index : goal.bounds-children-index
-bounds-children-index g c =
-    let a = (goal.at.bounds-children-index g c).After-halve-index in
+pub child_at-at-requires-clause-within : goal.child_at-at-requires-clause-within
+child_at-at-requires-clause-within g c =
+    let a = (goal.at.child_at-at-requires-clause-within g c).After-count_passing-index in
     let s = c.args.nodes.now in
-    let low : c.halve-index.result ≤ length (items_of (node_of s c.down.at)) =
+    let low : c.count_passing-index.result ≤ length (items_of (node_of s c.down.at)) =
     omega (
       arith,
       counted g a,
       count_by-le-length (g.P.Probe.test c.args.probe.now) (items_of (node_of s c.down.at)),
     ) in
-    rw c.children-children.ensures (child_within s c.down.left c.down.at
-    (omega (arith, c.if-left-eq0.false)) c.down.invariant.0.lies.shaped c.halve-index.result low)
+    child_within s c.down.left c.down.at (omega (arith, c.if-left-eq0.false))
+    c.down.invariant.0.lies.shaped c.count_passing-index.result low

@@ -11,5 +11,5 @@ returns-clause-steps g c =
 
 pub invariant_of-self : goal.invariant_of-self
 invariant_of-self g c =
-    prev_iterator _ _ _ _ _ _ _ c.self.inside.back _ c.in-Some.p _ c.self.invariant
+    prev_iterator _ _ _ _ _ c.self.inside.back _ c.in-Some.p _ c.self.invariant
     (omega (arith, c.if-self-eq0.false)) c.in-Some.is c.prev-self-inside.ensures

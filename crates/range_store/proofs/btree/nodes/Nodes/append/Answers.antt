@@ -1,89 +1,102 @@
-use Rattle.std.proofs.Common.{length, sym, ap, subst, ◌∙◌, arith}
-use Rattle.range_store.specs.Heap.{children_of, node_of}
-use Rattle.range_store.specs.ChildLists.{heap_of, list_in, IsListKey}
-use Rattle.range_store.proofs.Absorbing.{absorbed, absorbed_whole, children_alike, lists_apart}
-use Rattle.range_store.proofs.Wholes.{list_key, node_children, node_items, node_there}
+use Rattle.std.proofs.Common.{◌≡◌, Some, arith, sym, ◌∙◌}
+use Rattle.slab.specs.Slab.{get}
+use Rattle.range_store.proofs.Spares.{children_seen, fewer_spares, found, items_seen}
+use Rattle.range_store.proofs.TwoNodes.{absorbed, absorbed_whole, all_back}
 use Rattle.range_store.proofs.btree.nodes.Nodes.append.Goals as goal
+use Rattle.range_store.proofs.btree.nodes.Nodes.append.Goals.{After-push_reserved}
+use Rattle.range_store.proofs.btree.nodes.Nodes.append.Given.{Over}
 
-pub list-lower-requires : goal.list-lower-requires
-list-lower-requires g c = node_there c.self.inside.blocks c.self.inside.lists c.args.left
-    (rw (← c.self.view_is) at c.requires.left)
-
-pub list-upper-requires : goal.list-upper-requires
-list-upper-requires g c = node_there c.self.inside.blocks c.self.inside.lists c.args.right
+pub remove-upper-requires : goal.remove-upper-requires
+remove-upper-requires g c = found c.self.inside.slab c.self.inside.spares.items c.args.right
     (rw (← c.self.view_is) at c.requires.right)
 
-pub append_list-requires-clause-left : goal.append_list-requires-clause-left
-append_list-requires-clause-left g c =
-    subst (λ key. IsListKey c.self.inside.lists key) (sym c.list-lower.ensures)
-    (list_key c.self.inside.blocks c.self.inside.lists c.self.invariant c.args.left)
+pub index_mut-requires : goal.index_mut-requires
+index_mut-requires g c =
+    rw (c.remove-upper.ensures.updates.others c.args.left c.requires.apart) (found
+    c.self.inside.slab c.self.inside.spares.items c.args.left
+    (rw (← c.self.view_is) at c.requires.left))
 
-pub append_list-requires-clause-right : goal.append_list-requires-clause-right
-append_list-requires-clause-right g c =
-    subst (λ key. IsListKey c.self.inside.lists key) (sym c.list-upper.ensures)
-    (list_key c.self.inside.blocks c.self.inside.lists c.self.invariant c.args.right)
-
-pub append_list-requires-clause-apart : goal.append_list-requires-clause-apart
-append_list-requires-clause-apart g c =
-    λ some same. lists_apart c.self.inside.blocks c.self.inside.lists c.self.invariant c.args.left
-    c.args.right c.requires.apart (λ none. some (c.list-upper.ensures ∙ none))
-    (sym c.list-lower.ensures ∙ same ∙ c.list-upper.ensures)
-
-pub append_list-requires-clause-children : goal.append_list-requires-clause-children
-append_list-requires-clause-children g c =
-    let blocks = c.self.inside.blocks in
-    let lists = c.self.inside.lists in
-    let heap = heap_of blocks lists in
-    children_alike (children_of (node_of heap c.args.right))
-    (children_of (node_of heap c.args.left)) _ _
-    (node_children blocks lists c.self.invariant c.args.right
-    ∙ sym (ap (list_in lists) c.list-upper.ensures))
-    (node_children blocks lists c.self.invariant c.args.left
-    ∙ sym (ap (list_in lists) c.list-lower.ensures))
-    (rw (← c.self.view_is) at c.requires.children)
-
-pub append_list-requires-clause-places : goal.append_list-requires-clause-places
-append_list-requires-clause-places g c =
-    let blocks = c.self.inside.blocks in
-    let lists = c.self.inside.lists in
+pub push_reserved-requires : goal.push_reserved-requires
+push_reserved-requires g c =
+    let s = c.self.inside in
     omega (
       arith,
-      rw (← c.self.view_is) at c.requires.places,
-      ap length (node_children blocks lists c.self.invariant c.args.left),
-      ap length (node_children blocks lists c.self.invariant c.args.right),
-      ap (λ key. length (list_in lists key)) c.list-lower.ensures,
-      ap (λ key. length (list_in lists key)) c.list-upper.ensures,
+      fewer_spares s.slab s.spares.items c.self.invariant.0 c.args.right
+          (rw (← c.self.view_is) at c.requires.right),
+      s.spares.ok.0,
+      c.self.invariant.1,
     )
-
-pub absorb-requires-clause-left : goal.absorb-requires-clause-left
-absorb-requires-clause-left g c = node_there c.self.inside.blocks c.self.inside.lists c.args.left
-    (rw (← c.self.view_is) at c.requires.left)
-
-pub absorb-requires-clause-right : goal.absorb-requires-clause-right
-absorb-requires-clause-right g c = node_there c.self.inside.blocks c.self.inside.lists c.args.right
-    (rw (← c.self.view_is) at c.requires.right)
-
-pub absorb-requires-clause-apart : goal.absorb-requires-clause-apart
-absorb-requires-clause-apart g c = c.requires.apart
 
 pub absorb-requires-clause-room : goal.absorb-requires-clause-room
 absorb-requires-clause-room g c =
-    omega (
-      arith,
-      rw (← c.self.view_is) at c.requires.room,
-      ap length (node_items c.self.inside.blocks c.self.inside.lists c.args.left),
-      ap length (node_items c.self.inside.blocks c.self.inside.lists c.args.right),
+    let s = c.self.inside in
+    let first = rw (← c.self.view_is) at c.requires.left in
+    let second = rw (← c.self.view_is) at c.requires.right in
+    let at : get s.slab c.args.left ≡ Some c.index_mut.result.now =
+    sym (c.remove-upper.ensures.updates.others c.args.left c.requires.apart)
+    ∙ c.index_mut.ensures.value in
+    rw (
+      ← items_seen s.slab s.spares.items c.args.left c.index_mut.result.now first at,
+      ← items_seen s.slab s.spares.items c.args.right c.remove-upper.result second
+          c.remove-upper.ensures.value,
     )
+    (rw (← c.self.view_is) at c.requires.room)
+
+pub absorb-requires-clause-places : goal.absorb-requires-clause-places
+absorb-requires-clause-places g c =
+    let s = c.self.inside in
+    let first = rw (← c.self.view_is) at c.requires.left in
+    let second = rw (← c.self.view_is) at c.requires.right in
+    let at : get s.slab c.args.left ≡ Some c.index_mut.result.now =
+    sym (c.remove-upper.ensures.updates.others c.args.left c.requires.apart)
+    ∙ c.index_mut.ensures.value in
+    rw (
+      ← children_seen s.slab s.spares.items c.args.left c.index_mut.result.now first at,
+      ← children_seen s.slab s.spares.items c.args.right c.remove-upper.result second
+          c.remove-upper.ensures.value,
+    )
+    (rw (← c.self.view_is) at c.requires.places)
+
+-- the node comes back under its number
+same_number : (g : Over) (c : After-push_reserved g)
+    → c.insert_reserved-right.result ≡ c.args.right
+same_number g c = c.insert_reserved-right.ensures.key ∙ c.remove-upper.ensures.key_is_next
 
 pub invariant_of-self : goal.invariant_of-self
 invariant_of-self g c =
-    absorbed_whole c.self.inside.blocks c.self.inside.lists c.self.invariant c.args.left
-    c.args.right c.requires.apart c.absorb.new.blocks c.append_list.new.lists c.args.middle
-    c.absorb.ensures (rw (c.list-lower.ensures, c.list-upper.ensures) at c.append_list.ensures)
+    let s = c.self.inside in
+    let a = (goal.at.invariant_of-self g c).After-push_reserved in
+    let back = rw (same_number g a) at c.insert_reserved-right.ensures.updates in (
+      rw (c.push_reserved.ensures.items, same_number g a) (absorbed_whole s.slab
+          c.remove-upper.new.self c.insert_reserved-right.new.self c.args.left c.args.right
+          c.requires.apart c.remove-upper.ensures.updates c.remove-upper.ensures.len
+          c.index_mut.result.now c.absorb.new.self c.index_mut.ensures.value c.absorb.new.upper
+          back c.insert_reserved-right.ensures.len s.spares.items c.self.invariant.0
+          (rw (← c.self.view_is) at c.requires.left) (rw (← c.self.view_is) at c.requires.right)
+          c.remove-upper.result c.remove-upper.ensures.value c.args.middle c.absorb.ensures.left
+          c.absorb.ensures.right),
+      omega (
+        arith,
+        c.self.invariant.1,
+        c.push_reserved.ensures.capacity,
+        all_back s.slab c.remove-upper.new.self c.insert_reserved-right.new.self c.args.left
+            c.args.right c.requires.apart c.remove-upper.ensures.updates
+            c.remove-upper.ensures.len c.index_mut.result.now c.absorb.new.self
+            c.index_mut.ensures.value c.absorb.new.upper back
+            c.insert_reserved-right.ensures.len,
+      ),
+    )
 
 pub returns : goal.returns
 returns g c =
-    rw (← c.self.view_is) (absorbed c.self.inside.blocks c.self.inside.lists c.self.invariant
-    c.args.left c.args.right c.requires.apart c.absorb.new.blocks c.append_list.new.lists
-    c.args.middle c.absorb.ensures
-    (rw (c.list-lower.ensures, c.list-upper.ensures) at c.append_list.ensures))
+    let s = c.self.inside in
+    let a = (goal.at.returns g c).After-push_reserved in
+    let back = rw (same_number g a) at c.insert_reserved-right.ensures.updates in
+    rw (← c.self.view_is, c.push_reserved.ensures.items, same_number g a) (absorbed s.slab
+    c.remove-upper.new.self c.insert_reserved-right.new.self c.args.left c.args.right
+    c.requires.apart c.remove-upper.ensures.updates c.remove-upper.ensures.len
+    c.index_mut.result.now c.absorb.new.self c.index_mut.ensures.value c.absorb.new.upper back
+    c.insert_reserved-right.ensures.len s.spares.items c.self.invariant.0
+    (rw (← c.self.view_is) at c.requires.left) (rw (← c.self.view_is) at c.requires.right)
+    c.remove-upper.result c.remove-upper.ensures.value c.args.middle c.absorb.ensures.left
+    c.absorb.ensures.right)

@@ -1,12 +1,13 @@
-use Rattle.std.proofs.Common.{length, sym, ap, ◌∙◌}
-use Rattle.range_store.proofs.Wholes.{node_there, node_items}
+use Rattle.std.proofs.Common.{sym, ap, length, arith, ◌∙◌}
+use Rattle.range_store.proofs.Spares.{found, items_seen, children_seen}
 use Rattle.range_store.proofs.btree.nodes.Nodes.item_count.Goals as goal
 
-pub item_count-requires : goal.item_count-requires
-item_count-requires g c = node_there c.self.inside.blocks c.self.inside.lists c.args.number
+pub index-requires : goal.index-requires
+index-requires g c =
+    found c.self.inside.slab c.self.inside.spares.items c.args.number
     (rw (← c.self.view_is) at c.requires)
 
 pub returns : goal.returns
 returns g c =
-    rw (← c.self.view_is) (c.item_count.ensures ∙ ap length
-    (sym (node_items c.self.inside.blocks c.self.inside.lists c.args.number)))
+    let s = c.self.inside in
+    rw (← c.self.view_is) (omega (arith, c.len.ensures, c.index.result.now.items.ok.0, ap length (items_seen s.slab s.spares.items c.args.number c.index.result.now (rw (← c.self.view_is) at c.requires) c.index.ensures)))

@@ -1,50 +1,43 @@
-use Rattle.std.proofs.Common.{get_or, length, refl, sym, ap, ◌∙◌, arith}
-use Rattle.std.proofs.Math.ListN.{set}
-use Rattle.range_store.specs.Blocks.{block_of, items_held, list_held, with_block_item}
-use Rattle.range_store.specs.ChildLists.{list_in}
-use Rattle.range_store.proofs.Lists.{list_kept}
-use Rattle.range_store.proofs.Steps.{written_whole}
-use Rattle.range_store.proofs.Tables.{writes_item}
-use Rattle.range_store.proofs.Wholes.{item_written, node_there, node_items}
+use Rattle.std.proofs.Common.{◌<◌, length, arith, ap, get_or, refl, sym, ◌∙◌}
+use Rattle.range_store.proofs.Spares.{found, item_whole, item_written, items_seen}
 use Rattle.range_store.proofs.btree.nodes.Nodes.item_mut.Goals as goal
 
-pub item_mut-requires-clause-present : goal.item_mut-requires-clause-present
-item_mut-requires-clause-present g c =
-    node_there c.self.inside.blocks c.self.inside.lists c.args.number
+pub index_mut-requires : goal.index_mut-requires
+index_mut-requires g c =
+    found c.self.inside.slab c.self.inside.spares.items c.args.number
     (rw (← c.self.view_is) at c.requires.present)
 
-pub item_mut-requires-clause-within : goal.item_mut-requires-clause-within
-item_mut-requires-clause-within g c =
-    omega (
-      arith,
-      rw (← c.self.view_is) at c.requires.within,
-      ap length (node_items c.self.inside.blocks c.self.inside.lists c.args.number),
-    )
+pub index_mut-requires-2 : goal.index_mut-requires-2
+index_mut-requires-2 g c =
+    let s = c.self.inside in
+    let present = rw (← c.self.view_is) at c.requires.present in
+    let items = items_seen s.slab s.spares.items c.args.number c.index_mut.result.now present
+    c.index_mut.ensures.value in
+    let within : c.args.index < length c.index_mut.result.now.items.items =
+    rw (← items) (rw (← c.self.view_is) at c.requires.within) in
+    omega (arith, c.index_mut.result.now.items.ok.0, within)
 
 pub invariant_of-self-lent : goal.invariant_of-self-lent
 invariant_of-self-lent g c w =
-    let blocks = c.self.inside.blocks in
-    let lists = c.self.inside.lists in
-    let n = c.args.number in
-    let present = node_there blocks lists n (rw (← c.self.view_is) at c.requires.present) in
-    written_whole blocks (with_block_item blocks n c.args.index w) lists lists n c.self.invariant
-    (set (items_held (block_of blocks n)) c.args.index w)
-    (list_in lists (list_held (block_of blocks n))) (writes_item blocks n c.args.index w present)
-    (list_kept lists (list_held (block_of blocks n)))
+    let s = c.self.inside in
+    let present = rw (← c.self.view_is) at c.requires.present in
+    item_whole s.slab s.spares.items c.self.invariant.0 c.args.number c.index_mut.result.now _
+    c.index_mut.ensures.value present _ c.self.invariant.1 refl refl
 
 pub returns : goal.returns
 returns g c =
-    let blocks = c.self.inside.blocks in
-    let lists = c.self.inside.lists in
-    let n = c.args.number in (
+    let s = c.self.inside in
+    let present = rw (← c.self.view_is) at c.requires.present in
+    let items = items_seen s.slab s.spares.items c.args.number c.index_mut.result.now present
+    c.index_mut.ensures.value in (
       (
         refl,
-        λ w. rw (← c.self.view_is) (item_written blocks lists c.self.invariant n c.args.index w),
+        λ w. rw (← c.self.view_is) (item_written s.slab s.spares.items c.args.number c.args.index w
+            c.index_mut.result.now _ c.index_mut.ensures.value present refl refl),
       ),
       record {
         writes_back = tt;
-        value = rw (← c.self.view_is) (c.item_mut.ensures.value
-            ∙ ap (λ xs. get_or xs c.args.index c.item_mut.result.now)
-            (sym (node_items blocks lists n)));
+        value = rw (← c.self.view_is) (c.index_mut-2.ensures.value
+            ∙ ap (λ xs. get_or xs c.args.index c.index_mut-2.result.now) (sym items));
       },
     )

@@ -1,9 +1,25 @@
-use Rattle.std.proofs.Common.{sym, ap, ◌∙◌}
-use Rattle.range_store.specs.Heap.{node_count}
-use Rattle.range_store.proofs.Wholes.{nodes_count}
+use Rattle.std.proofs.Common.{arith}
+use Rattle.range_store.proofs.Spares.{counted}
 use Rattle.range_store.proofs.btree.nodes.Nodes.len.Goals as goal
+
+pub overflow_sub-result : goal.overflow_sub-result
+overflow_sub-result g c =
+    let s = c.self.inside in
+    omega (
+      arith,
+      counted s.slab s.spares.items c.self.invariant.0,
+      s.spares.ok.0,
+      c.len.ensures,
+      c.len-2.ensures,
+    )
 
 pub returns : goal.returns
 returns g c =
-    c.len.ensures ∙ sym (nodes_count c.self.inside.blocks c.self.inside.lists)
-    ∙ ap node_count c.self.view_is
+    let s = c.self.inside in
+    rw (← c.self.view_is) (omega (
+      arith,
+      counted s.slab s.spares.items c.self.invariant.0,
+      s.spares.ok.0,
+      c.len.ensures,
+      c.len-2.ensures,
+    ))

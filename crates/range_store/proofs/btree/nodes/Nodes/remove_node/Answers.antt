@@ -1,24 +1,43 @@
-use Rattle.range_store.proofs.Steps.{removed, removed_whole}
-use Rattle.range_store.proofs.Wholes.{list_key, node_there}
+use Rattle.std.proofs.Common.{arith, sym, ◌∙◌}
+use Rattle.range_store.proofs.Spares.{edited_len, emptied, emptied_whole, fewer_spares, found}
 use Rattle.range_store.proofs.btree.nodes.Nodes.remove_node.Goals as goal
 
-pub remove_block-list-requires : goal.remove_block-list-requires
-remove_block-list-requires g c = node_there c.self.inside.blocks c.self.inside.lists c.args.number
+pub index_mut-requires : goal.index_mut-requires
+index_mut-requires g c =
+    found c.self.inside.slab c.self.inside.spares.items c.args.number
     (rw (← c.self.view_is) at c.requires)
 
-pub drop_list-requires : goal.drop_list-requires
-drop_list-requires g c =
-    rw c.remove_block-list.ensures.list (list_key c.self.inside.blocks c.self.inside.lists
-    c.self.invariant c.args.number)
+pub push_reserved-requires : goal.push_reserved-requires
+push_reserved-requires g c =
+    let s = c.self.inside in
+    let present = rw (← c.self.view_is) at c.requires in
+    omega (
+      arith,
+      fewer_spares s.slab s.spares.items c.self.invariant.0 c.args.number present,
+      s.spares.ok.0,
+      c.self.invariant.1,
+    )
 
 pub invariant_of-self : goal.invariant_of-self
 invariant_of-self g c =
-    removed_whole c.self.inside.blocks c.remove_block-list.new.self c.self.inside.lists
-    c.drop_list.new.lists c.args.number c.self.invariant c.remove_block-list.ensures.rest
-    (rw c.remove_block-list.ensures.list at c.drop_list.ensures)
+    let s = c.self.inside in
+    let present = rw (← c.self.view_is) at c.requires in (
+      rw c.push_reserved.ensures.items (emptied_whole s.slab s.spares.items c.self.invariant.0
+          c.args.number c.index_mut.result.now c.clear.new.self c.index_mut.ensures.value
+          c.clear.ensures present),
+      omega (
+        arith,
+        c.self.invariant.1,
+        c.push_reserved.ensures.capacity,
+        edited_len s.slab s.spares.items c.self.invariant.0 c.args.number c.index_mut.result.now
+            c.clear.new.self c.index_mut.ensures.value _ _ c.clear.ensures,
+      ),
+    )
 
 pub returns : goal.returns
 returns g c =
-    rw (← c.self.view_is) (removed c.self.inside.blocks c.remove_block-list.new.self
-    c.self.inside.lists c.drop_list.new.lists c.args.number c.self.invariant
-    c.remove_block-list.ensures.rest (rw c.remove_block-list.ensures.list at c.drop_list.ensures))
+    let s = c.self.inside in
+    let present = rw (← c.self.view_is) at c.requires in
+    rw (← c.self.view_is, c.push_reserved.ensures.items) (emptied s.slab s.spares.items
+    c.self.invariant.0 c.args.number c.index_mut.result.now c.clear.new.self
+    c.index_mut.ensures.value c.clear.ensures present)

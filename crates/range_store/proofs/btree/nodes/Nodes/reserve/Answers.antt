@@ -1,75 +1,62 @@
-use Rattle.std.proofs.Common.{refl, ap, arith}
-use Rattle.std.proofs.lemmas.Bool.{false≢true}
-use Rattle.std.proofs.lemmas.Result.{on_ok_weaker}
+use Rattle.std.proofs.Common.{ap, arith}
 use Rattle.slab.specs.Slab.{slab_len}
-use Rattle.range_store.specs.Blocks.{block_count}
-use Rattle.range_store.proofs.Wholes.{nodes_count, block_room, list_room, fewer_lists, reserved_whole, reserved_heap}
+use Rattle.range_store.specs.Heap.{node_count}
+use Rattle.range_store.specs.Spares.{heap_of}
+use Rattle.range_store.proofs.Spares.{counted, spares_left}
 use Rattle.range_store.proofs.btree.nodes.Nodes.reserve.Goals as goal
+
+pub returns-then-missing-eq0-clause-room : goal.returns-then-missing-eq0-clause-room
+returns-then-missing-eq0-clause-room g c =
+    let s = c.self.inside in
+    rw (← c.self.view_is) (omega (
+      arith,
+      counted s.slab s.spares.items c.self.invariant.0,
+      s.spares.ok.0,
+      c.len.ensures,
+      c.saturating_sub-missing.ensures,
+      c.if-missing-eq0.true,
+    ))
 
 pub returns-in_err-reserve-clause-succeeds : goal.returns-in_err-reserve-clause-succeeds
 returns-in_err-reserve-clause-succeeds g c room =
-    absurd (false≢true (c.in_err-reserve.ensures.succeeds
-    (block_room c.self.inside.blocks c.self.inside.lists c.args.additional
-    (rw (← c.self.view_is) at room))))
-
-pub overflow_sub-wanted : goal.overflow_sub-wanted
-overflow_sub-wanted g c =
-    omega (
+    let s = c.self.inside in
+    absurd (omega (
       arith,
-      c.len-2.ensures,
+      spares_left s.slab s.spares.items c.self.invariant.0 c.args.additional
+          (rw (← c.self.view_is) at room),
+      s.spares.ok.0,
       c.len.ensures,
-      ap block_count c.reserve.ensures.rest_kept,
-      fewer_lists c.self.inside.blocks c.self.inside.lists c.self.invariant,
-    )
-
-pub invariant_of-self-2 : goal.invariant_of-self-2
-invariant_of-self-2 g c =
-    reserved_whole c.self.inside.blocks c.reserve.new.self c.self.inside.lists c.reserve-2.new.self
-    c.self.invariant c.reserve.ensures.rest_kept c.reserve-2.ensures.rest_kept
-    c.reserve-2.ensures.capacity
-
-pub returns-clause-succeeds : goal.returns-clause-succeeds
-returns-clause-succeeds g c room =
-    let places = list_room c.self.inside.blocks c.self.inside.lists c.args.additional
-    (rw (← c.self.view_is) at room) in
-    c.reserve-2.ensures.succeeds (omega (
-      arith,
-      places,
-      c.len-2.ensures,
-      c.len.ensures,
-      ap block_count
-          c.reserve.ensures.rest_kept,
-      fewer_lists c.self.inside.blocks c.self.inside.lists
-          c.self.invariant,
+      c.saturating_sub-missing.ensures,
+      c.if-missing-eq0.false,
     ))
 
-pub returns-clause-rest_kept : goal.returns-clause-rest_kept
-returns-clause-rest_kept g c =
-    rw (← c.self.view_is) (reserved_heap c.self.inside.blocks c.reserve.new.self
-    c.self.inside.lists c.reserve-2.new.self c.reserve.ensures.rest_kept
-    c.reserve-2.ensures.rest_kept)
-
-pub returns-clause-no_less : goal.returns-clause-no_less
-returns-clause-no_less g c =
-    rw (← c.self.view_is) (omega (arith, c.reserve.ensures.no_less, c.reserve-2.ensures.capacity))
-
-pub invariant_of-self : goal.invariant_of-self
-invariant_of-self g c =
-    reserved_whole c.self.inside.blocks c.reserve.new.self c.self.inside.lists c.self.inside.lists
-    c.self.invariant c.reserve.ensures.rest_kept refl (omega arith)
+pub returns-in_err-add_spare-clause-succeeds : goal.returns-in_err-add_spare-clause-succeeds
+returns-in_err-add_spare-clause-succeeds g c room =
+    let s = c.self.inside in
+    absurd (omega (
+      arith,
+      spares_left s.slab s.spares.items c.self.invariant.0 c.args.additional
+          (rw (← c.self.view_is) at room),
+      s.spares.ok.0,
+      c.len.ensures,
+      c.saturating_sub-missing.ensures,
+      c.if-missing-eq0.false,
+    ))
 
 pub returns-clause-room : goal.returns-clause-room
 returns-clause-room g c =
-    on_ok_weaker c.reserve-2.result (λ room. omega (
+    let s = c.self.inside in
+    let nodes = ap (λ slab. node_count (heap_of slab s.spares.items)) c.reserve.ensures.rest_kept in
+    omega (
       arith,
-      room,
-      c.in_ok-reserve.ensures.room,
-      c.reserve.ensures.no_less,
-      c.reserve-2.ensures.capacity,
+      nodes,
+      ap slab_len c.reserve.ensures.rest_kept,
+      counted s.slab s.spares.items c.self.invariant.0,
+      s.spares.ok.0,
       c.len.ensures,
-      c.len-2.ensures,
-      nodes_count c.reserve.new.self c.reserve-2.new.self,
-      fewer_lists c.self.inside.blocks c.self.inside.lists c.self.invariant,
-      ap block_count c.reserve.ensures.rest_kept,
-      ap slab_len c.reserve-2.ensures.rest_kept,
-    )) c.reserve-2.ensures.room
+      c.saturating_sub-missing.ensures,
+      c.if-missing-eq0.false,
+      c.loop-test.false,
+      c.loop.invariant.more,
+      c.loop.invariant.kept.len,
+    )

@@ -1,39 +1,83 @@
-use Rattle.std.proofs.Common.{[], ◌∷◌, refl, arith}
-use Rattle.range_store.proofs.Lists.{list_absent}
-use Rattle.range_store.proofs.Steps.{stored, stored_whole}
-use Rattle.range_store.proofs.Tables.{adds_first}
-use Rattle.range_store.proofs.Wholes.{block_room, list_room}
+use Rattle.std.proofs.Common.{◌≡◌, ◌<◌, [], ◌∷◌, ◌++◌, length, arith, refl, ap, ◌∙◌}
+use Rattle.range_store.specs.Spares.{IsRewritten}
+use Rattle.range_store.proofs.Spares.{bare_children, bare_items, edited_len, filled, filled_whole, spare_found, spares_left}
 use Rattle.range_store.proofs.btree.nodes.Nodes.store_leaf.Goals as goal
+use Rattle.range_store.proofs.btree.nodes.Nodes.store_leaf.Goals.{After-push_reserved}
+use Rattle.range_store.proofs.btree.nodes.Nodes.store_leaf.Given.{Over}
 
-pub store-number-requires : goal.store-number-requires
-store-number-requires g c = block_room c.self.inside.blocks c.self.inside.lists 1
-    (rw (← c.self.view_is) at c.requires)
+pub take_last-number-requires : goal.take_last-number-requires
+take_last-number-requires g c =
+    let s = c.self.inside in
+    omega (
+      arith,
+      spares_left s.slab s.spares.items c.self.invariant.0 1
+          (rw (← c.self.view_is) at c.requires),
+      s.spares.ok.0,
+    )
 
-pub insert-requires-clause-present : goal.insert-requires-clause-present
-insert-requires-clause-present g c = rw c.store-number.ensures.stored refl
+pub index_mut-requires : goal.index_mut-requires
+index_mut-requires g c =
+    let s = c.self.inside in
+    spare_found s.slab s.spares.items c.take_last-number.new.self.items c.self.invariant.0
+    c.take_last-number.result c.take_last-number.ensures.items
 
-pub insert-requires-clause-within : goal.insert-requires-clause-within
-insert-requires-clause-within g c = omega arith
+-- the spare has nothing
+blank_items : (g : Over) (c : After-push_reserved g) → c.index_mut.result.now.items.items ≡ []
+blank_items g c =
+    let s = c.self.inside in
+    bare_items s.slab s.spares.items c.take_last-number.new.self.items c.self.invariant.0
+    c.take_last-number.result c.take_last-number.ensures.items c.index_mut.result.now
+    c.index_mut.ensures.value
 
-pub insert-requires-clause-room : goal.insert-requires-clause-room
-insert-requires-clause-room g c = rw c.store-number.ensures.stored (omega arith)
+blank_children : (g : Over) (c : After-push_reserved g) → c.index_mut.result.now.children.items ≡ []
+blank_children g c =
+    let s = c.self.inside in
+    bare_children s.slab s.spares.items c.take_last-number.new.self.items c.self.invariant.0
+    c.take_last-number.result c.take_last-number.ensures.items c.index_mut.result.now
+    c.index_mut.ensures.value
+
+pub push_reserved-requires : goal.push_reserved-requires
+push_reserved-requires g c =
+    let s = c.self.inside in
+    omega (
+      arith,
+      ap length (bare_items s.slab s.spares.items c.take_last-number.new.self.items c.self.invariant.0
+          c.take_last-number.result c.take_last-number.ensures.items c.index_mut.result.now
+          c.index_mut.ensures.value),
+      c.index_mut.result.now.items.ok.0,
+      c.self.invariant.0.roomy c.take_last-number.result c.index_mut.result.now
+          c.index_mut.ensures.value,
+    )
+
+rewritten : (g : Over) (c : After-push_reserved g) → IsRewritten c.index_mut.result.now (record c.index_mut.result.now { items = c.push_reserved.new.self }) (c.args.item ∷ []) ([])
+rewritten g c =
+    record {
+      items_are = c.push_reserved.ensures.items ∙ ap (λ xs. xs ++ c.args.item ∷ [])
+          (blank_items g c);
+      children_are = blank_children g c;
+      room = omega (arith, c.push_reserved.ensures.capacity);
+    }
 
 pub invariant_of-self : goal.invariant_of-self
 invariant_of-self g c =
-    let blocks = c.self.inside.blocks in
-    let lists = c.self.inside.lists in
-    stored_whole blocks c.insert.new.self lists lists c.store-number.result c.self.invariant _
-    (c.args.item ∷ []) [] (adds_first blocks c.store-number.new.self c.insert.new.self
-    c.store-number.result _ c.args.item c.store-number.ensures c.insert.ensures)
-    (list_room blocks lists 1 (rw (← c.self.view_is) at c.requires))
-    (list_absent lists c.self.invariant.none)
+    let s = c.self.inside in
+    let a = (goal.at.invariant_of-self g c).After-push_reserved in (
+      filled_whole s.slab s.spares.items c.self.invariant.0 c.take_last-number.result
+          c.index_mut.result.now _ c.index_mut.ensures.value _ _ (rewritten g a)
+          c.take_last-number.new.self.items c.take_last-number.ensures.items,
+      omega (
+        arith,
+        c.self.invariant.1,
+        c.take_last-number.ensures.capacity,
+        edited_len s.slab s.spares.items c.self.invariant.0 c.take_last-number.result
+            c.index_mut.result.now _ c.index_mut.ensures.value _ _ (rewritten g a),
+      ),
+    )
 
 pub returns : goal.returns
 returns g c =
-    let blocks = c.self.inside.blocks in
-    let lists = c.self.inside.lists in
-    rw (← c.self.view_is) (stored blocks c.insert.new.self lists lists c.store-number.result
-    c.self.invariant _ (c.args.item ∷ []) [] (adds_first blocks c.store-number.new.self
-    c.insert.new.self c.store-number.result _ c.args.item c.store-number.ensures
-    c.insert.ensures) (list_room blocks lists 1 (rw (← c.self.view_is) at c.requires))
-    (list_absent lists c.self.invariant.none))
+    let s = c.self.inside in
+    let a = (goal.at.returns g c).After-push_reserved in
+    rw (← c.self.view_is) (filled s.slab s.spares.items c.self.invariant.0
+    c.take_last-number.result c.index_mut.result.now _ c.index_mut.ensures.value _ _ (rewritten g a)
+    c.take_last-number.new.self.items c.take_last-number.ensures.items)

@@ -1,0 +1,22 @@
+//! Sets of IP addresses, and the prefixes that they have.
+//!
+//! [`Ipv4`] and [`Ipv6`] are key types of `btree_range_map`, and an [`AddressSet`] is a set of such
+//! keys. [`PrefixSet::prefixes`] goes over the prefixes that have just the addresses of a set, as
+//! few as can be.
+#![tactic(auto)]
+
+pub mod address;
+pub mod ipv4;
+pub mod ipv6;
+pub mod prefix;
+pub mod prefixes;
+
+pub use address::Address;
+use btree_range_map::RangeSet;
+pub use ipv4::Ipv4;
+pub use ipv6::Ipv6;
+pub use prefix::Prefix;
+pub use prefixes::{PrefixSet, Prefixes};
+
+/// A set of addresses of one family.
+pub type AddressSet<A> = RangeSet<A>;

@@ -1,0 +1,12 @@
+//! A caller at one type of each public call that no example shows. Their proofs show that what the
+//! calls require can be met.
+#![tactic(auto)]
+
+mod bounds;
+mod commands;
+mod containers;
+mod json;
+mod maps;
+mod multimaps;
+mod ranges;
+mod sets;

@@ -1,0 +1,4 @@
+pub mod Best
+pub mod Firsts
+pub mod Lists
+pub mod TokenLists

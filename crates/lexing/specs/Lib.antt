@@ -1,0 +1,3 @@
+pub mod Lexers
+pub mod Runs
+pub mod Tokens

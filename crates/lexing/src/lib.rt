@@ -1,0 +1,35 @@
+//! Texts cut into tokens by the rules of a lexer.
+//!
+//! A [`Lexer`] is an automaton over characters whose accepting states belong to rules.
+//! [`Scanner::tokens`] goes over the tokens of a text: each is the longest piece that some rule
+//! accepts from its place on, by the first such rule.
+//!
+//! ```
+//! let mut rules = Rules::new(alloc);
+//! rules.start(0)?;
+//! rules.add(0, '0'..='9', 1)?; // digits
+//! rules.add(1, '0'..='9', 1)?;
+//! rules.add(0, ' ', 2)?; // a space
+//! let mut lexer = Lexer::new(alloc, Moves::build(rules));
+//! let number = lexer.add_rule("number", false)?;
+//! let space = lexer.add_rule("space", true)?; // whose tokens are skipped
+//! lexer.accept(1, number)?;
+//! lexer.accept(2, space)?;
+//! let mut tokens = lexer.tokens("12 345");
+//! assert!(rt; tokens.next() == Some(Ok(Token { rule: number, start: 0, end: 2 })));
+//! assert!(rt; tokens.next() == Some(Ok(Token { rule: number, start: 3, end: 6 })));
+//! assert!(rt; tokens.next() == None);
+//! ```
+#![tactic(auto)]
+
+mod cutting;
+mod lexer;
+mod scanner;
+mod token;
+mod tokens;
+
+pub use cutting::cut;
+pub use lexer::Lexer;
+pub use scanner::Scanner;
+pub use token::{LexError, Match, Token};
+pub use tokens::Tokens;

@@ -1,0 +1,45 @@
+//! What finds the tokens of a lexer.
+ghost use Rattle.std.specs.Prelude.{◌≡◌, ◌↔◌, IsTrue, IfOk, OnErr, MatchOption};
+ghost use Rattle.lexing.specs.declared.lexer.Lexer.{Lexer};
+ghost use Rattle.lexing.specs.Lexers.{IsSkipped};
+ghost use Rattle.lexing.specs.Tokens.{IsToken, BeginsWithNone};
+
+use crate::token::Match;
+use crate::tokens::Tokens;
+use btree_range_map::MapError;
+
+/// Finds the tokens of a lexer.
+pub trait Scanner {
+    /// The lexer whose tokens are found.
+    ghost lexer: { Self → Lexer };
+
+    /// Holds of a scanner that allocates, so that it may fail.
+    ghost may_refuse: { Self → Type 0 };
+
+    /// The token that the text begins with: the longest beginning that some rule accepts, by the
+    /// first such rule; none where each beginning that a rule accepts is empty.
+    fn longest_match(&self, text: &str) -> Result<Option<Match>, MapError>
+        ensures longest { IfOk result
+            (λ found. MatchOption found (BeginsWithNone (lexer self.now) text.now)
+            (λ m. IsToken (lexer self.now) text.now m.rule m.len)) }
+        ensures refused { OnErr result (may_refuse self.now) };
+
+    /// Whether tokens of the rule are skipped. Allocates nothing.
+    fn is_skipped(&self, rule: u32) -> bool
+        ensures { IsTrue result ↔ IsSkipped (lexer self.now) rule };
+
+    /// The tokens of the text, but for those that are skipped. Allocates as `longest_match`.
+    ///
+    /// Each token is the longest piece of the text from its place on that some rule accepts, by the
+    /// first such rule. A text of `n` characters costs at most `n * n` steps, where a long piece is
+    /// looked at for each short token; where no rule looks far beyond its tokens, about `n`.
+    final fn tokens<'a>(&'a self, text: &'a str) -> Tokens<'a, Self>
+    where
+        Self: Sized,
+        ensures scanner { result.scanner.now ≡ self.now }
+        ensures text { result.text.now ≡ text.now }
+        ensures start { result.at ≡ 0 }
+    {
+        Tokens::new(self, text)
+    }
+}

@@ -1,0 +1,136 @@
+//! The tokens of a text, one after the other.
+ghost use Rattle.std.specs.Prelude.{◌≡◌, ◌-◌, ◌<◌, length, IsTrue, OnSome, MatchResult};
+ghost use Rattle.std.specs.Str.{IsCharBoundary};
+ghost use Rattle.std.specs.Iterator.{at_most};
+ghost use Rattle.lexing.specs.Runs.{IsNext, IsTokenAt, IsReasonAt, IsBehindOne};
+
+use crate::scanner::Scanner;
+use crate::token::{LexError, Token};
+use std::iter::FusedIterator;
+
+/// The tokens that are left of a text. See [`Scanner::tokens`].
+///
+/// Where no token begins, `next` gives `NoToken` with the place, and the next call goes on behind
+/// the character there. After `Memory` nothing is left.
+#[derive(Drop)]
+pub struct Tokens<'a, S: Scanner> {
+    pub(crate) scanner: &'a S,
+    pub(crate) text: &'a str,
+    pub(crate) at: usize,
+    ghost on_boundary: { IsCharBoundary text.now at },
+}
+
+impl<'a, S: Scanner> Tokens<'a, S> {
+    pub(crate) fn new(scanner: &'a S, text: &'a str) -> Self
+        ensures scanner { result.scanner.now ≡ scanner.now }
+        ensures text { result.text.now ≡ text.now }
+        ensures start { result.at ≡ 0 }
+    {
+        Tokens {
+            scanner,
+            text,
+            at: 0,
+        }
+    }
+
+    /// The place in bytes from which the text is still to be cut. Allocates nothing.
+    pub fn place(&self) -> usize
+        ensures { result ≡ self.now.at }
+    {
+        self.at
+    }
+}
+
+impl<'a, S: Scanner> Iterator for Tokens<'a, S> {
+    type Item = Result<Token, LexError>;
+
+    ghost next_gives = { λ s item t. (t.scanner.now ≡ s.scanner.now) × (t.text.now ≡ s.text.now)
+        × IsNext (S.lexer s.scanner.now) s.text.now (S.may_refuse s.scanner.now) s.at item t.at };
+
+    ghost remaining = { λ s. at_most (length s.text.now - s.at) };
+
+    fn next(&mut self) -> Option<Result<Token, LexError>> {
+        let step = next_from(self.scanner, self.text, self.at);
+        self.at = step.after;
+        step.item
+    }
+}
+
+impl<'a, S: Scanner> FusedIterator for Tokens<'a, S> {}
+
+/// What comes next, and the place after it.
+#[derive(Drop)]
+struct Step {
+    item: Option<Result<Token, LexError>>,
+    after: usize,
+}
+
+fn next_from<S: Scanner>(scanner: &S, text: &str, start: usize) -> Step
+    requires { IsCharBoundary text.now start }
+    ensures next { IsNext (S.lexer scanner.now) text.now (S.may_refuse scanner.now) start
+        result.item result.after }
+    ensures boundary { IsCharBoundary text.now result.after }
+    ensures further { OnSome result.item (start < result.after) }
+{
+    let mut at = start;
+    while at < text.len() {
+        match token_at(scanner, text, at) {
+            Ok(token) => {
+                at = token.end;
+                if !scanner.is_skipped(token.rule) {
+                    return Step {
+                        item: Some(Ok(token)),
+                        after: at,
+                    };
+                }
+            }
+            Err(LexError::NoToken(place)) => {
+                return Step {
+                    item: Some(Err(LexError::NoToken(place))),
+                    after: behind_one(text, at),
+                };
+            }
+            Err(LexError::Memory) => {
+                return Step {
+                    item: Some(Err(LexError::Memory)),
+                    after: text.len(),
+                };
+            }
+        }
+    }
+    Step {
+        item: None,
+        after: at,
+    }
+}
+
+/// The token at the place.
+pub(crate) fn token_at<S: Scanner>(scanner: &S, text: &str, at: usize) -> Result<Token, LexError>
+    requires { IsCharBoundary text.now at }
+    ensures { MatchResult result (IsTokenAt (S.lexer scanner.now) text.now at)
+        (IsReasonAt (S.lexer scanner.now) text.now (S.may_refuse scanner.now) at) }
+{
+    match scanner.longest_match(&text[at..]) {
+        Ok(Some(found)) => Ok(Token {
+            rule: found.rule,
+            start: at,
+            end: at + found.len,
+        }),
+        Ok(None) => Err(LexError::NoToken(at)),
+        Err(_) => Err(LexError::Memory),
+    }
+}
+
+/// The place behind the character at the place.
+fn behind_one(text: &str, at: usize) -> usize
+    requires boundary { IsCharBoundary text.now at }
+    requires within { at < length text.now }
+    ensures one { IsBehindOne text.now at result }
+    ensures boundary { IsCharBoundary text.now result }
+    ensures further { at < result }
+{
+    match text[at..].chars().next() {
+        Some(c) => at + c.len_utf8(),
+        None => text.len(),
+    }
+}

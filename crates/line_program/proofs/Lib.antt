@@ -1,0 +1,4 @@
+mod FirstLine
+pub mod Progress
+pub mod Conversations
+pub mod Listing

@@ -1,0 +1,3 @@
+pub mod Conversation
+pub mod Lines
+pub mod Listing

@@ -1,0 +1,37 @@
+use Rattle.std.proofs.Common.{◌≡◌, Ok, sym, ap, ◌∙◌, ◌+◌, ◌<◌, ◌++◌, ◌∷◌, [], take, drop, length, map, arith}
+use Rattle.std.proofs.lemmas.List.{map-append, take_more, length-take-le, take-append-drop}
+use Rattle.serde_json.specs.View.{view}
+use Rattle.range_json.specs.MapFaults.{HasOneReading}
+use Rattle.range_json.specs.Meetings.{IsFirstMeeting, IsFirstMetBy}
+use Rattle.range_json.proofs.Meetings.{some_too}
+use Rattle.range_json.proofs.Reading.{append_one_more, same_length}
+use Rattle.range_json.proofs.meeting.met_earlier.Goals as goal
+
+pub returns : goal.returns
+returns g c =
+    let order = g.K.MaybeBounded.order in
+    let is_read = g.K.Json.is_read in
+    let vs = c.in-Ok.elements.now in
+    let n = c.args.index in
+    let v = c.index-elements-index.result in
+    let within : n < length vs = omega (arith, c.if-index-elements.false) in
+    let more : take (n + 1) vs ≡ take n vs ++ v ∷ [] =
+    take_more vs n v within
+    ∙ ap (λ w. take n vs ++ w ∷ []) (sym c.index-elements-index.is) in
+    let rest = drop (n + 1) vs in
+    let all : take n vs ++ v ∷ rest ≡ vs =
+    sym (append_one_more (take n vs) v rest) ∙ ap (λ l. l ++ rest) (sym more)
+    ∙ take-append-drop (n + 1) vs in
+    some_too (λ j. HasOneReading order is_read
+    → IsFirstMeeting order is_read (map view (take n vs)) (view v) j)
+    (λ j. HasOneReading order is_read → IsFirstMetBy order is_read (view c.args.whole.now) n j)
+    c.first_met.result (λ j first one.
+    record {
+      front = map view (take n vs);
+      d = view v;
+      rest = map view rest;
+      elements = c.in-Ok.ensures.found
+          ∙ ap (λ l. Ok l) (sym (ap (map view) all) ∙ map-append view (take n vs) (v ∷ rest));
+      place = same_length (take n vs) ∙ length-take-le n vs (omega (arith, within));
+      first = first one;
+    }) c.first_met.ensures

@@ -1,6 +1,0 @@
-//! Automata over characters.
-
-mod lexer;
-mod refused;
-mod rows;
-mod support;

@@ -1,0 +1,128 @@
+"""Refused memory: each allocation of each call is refused in turn, and what became of it is looked at.
+
+Two programs are built without a proof, so that one allocation of a run can be refused: `refusals` of
+tests/, whose calls look themselves at what became of them, and `rangerun`, which plays the
+conversations of memory.txt. There the replies have to be those of the conversation without the line
+that was refused, with `memory` in the place of that line's, or those of the lines before it and
+`read error`, since to read a line may allocate too.
+"""
+
+import collections
+import concurrent.futures
+import os
+import pathlib
+import shutil
+import subprocess
+import sys
+import tempfile
+import time
+
+from tools import conversations
+from tools.repository import CRATES, PROCESSORS, TOP, Counts, Ended, run, told, workspace
+
+WRAPPED = "-Wl,--wrap=malloc,--wrap=realloc"
+
+
+def built(crate, folder):
+    """Builds the program of a crate so that an allocation can be refused, and returns its path."""
+    words = [sys.executable, TOP / "bindings" / "unproved.py", folder, crate]
+    ended = run([*words, WRAPPED, TOP / "tools" / "refused.c"])
+    if ended.returncode:
+        sys.exit(f"{ended.stdout[-2000:]}\n{crate.name}: cannot be built")
+    return folder / crate.name
+
+
+def refusing(program, number, given=b"", words=()):
+    """Runs a program of which one allocation is refused. Returns how it ended, and how many it asked for."""
+    environment = {"REFUSED": str(number)}
+    ran = subprocess.run([program, *words], input=given, capture_output=True, env=environment)
+    errors, _, asked = ran.stderr.rpartition(b"allocations ")
+    return Ended(ran.stdout, errors, ran.returncode), int(asked)
+
+
+def refuse_trial(program, trial):
+    """Refuses each allocation of a trial, from the last on until it is one before the call.
+
+    Returns how many the call met, and what it answered otherwise than it may."""
+    given = f"{trial}\n".encode()
+    _, number = refusing(program, 0, given)
+    refused = 0
+    while number > 0:
+        word = refusing(program, number, given)[0].out.partition(b" ")[0].decode()
+        if word == "early":
+            break
+        if word not in ("kept", "done"):
+            return refused, [f"refusal {number} of trial {trial}: {word or 'no answer'}"]
+        refused, number = refused + (word == "kept"), number - 1
+    return refused, []
+
+
+def refuse_calls(program, wanted):
+    """Refuses the allocations of the calls that have one of the words in their names, or of all."""
+    began = time.monotonic()
+    names = [line.partition(" ")[2] for line in refusing(program, 0)[0].out.decode().splitlines()]
+    trials = [it for it, name in enumerate(names) if not wanted or any(word in name for word in wanted)]
+    with concurrent.futures.ThreadPoolExecutor(PROCESSORS) as pool:
+        found = [*pool.map(lambda trial: refuse_trial(program, trial), trials)]
+    refused, wrong = collections.Counter(), []
+    for trial, (met, strays) in zip(trials, found):
+        refused[names[trial]] += met
+        wrong += [f"{names[trial]}: {it}" for it in strays]
+    if wanted:
+        print("".join(f"{name}: {met} allocations refused\n" for name, met in refused.items()), end="")
+    what = f"{refused.total()} allocations of {len(refused)} calls refused in {len(trials)} trials"
+    return told(what, Counts(len(trials) - len(wrong), len(wrong)), began, "\n".join(wrong))
+
+
+def may_end(program, talk):
+    """Returns how a conversation may end where one of its lines is refused, and where reading one is."""
+    ends, stops, before = [], [Ended(b"", b"", 1)], b""
+    for place, (line, replies) in enumerate(talk.lines):
+        rest = b"".join(it for it, _ in talk.lines[:place] + talk.lines[place + 1 :])
+        without = refusing(program, 0, rest, talk.words)[0].out
+        if without.startswith(before):
+            ends.append(Ended(before + b"memory\n" + without[len(before) :], b"", 0))
+        stops.append(Ended(before, b"read error\n", 1))
+        before += replies
+    return ends, [*stops, Ended(before, b"read error\n", 1)]
+
+
+def refuse_lines(program, talk):
+    """Refuses each allocation of a conversation. Returns how many, and those of which something else came."""
+    ends, stops = may_end(program, talk)
+    whole, asked = refusing(program, 0, talk.input(), talk.words)
+    wrong = [] if whole == talk.wanted() else [f"with enough memory {whole}"]
+    met = set()
+    for number in range(1, asked + 1):
+        found, _ = refusing(program, number, talk.input(), talk.words)
+        if found in ends:
+            met.add(ends.index(found))
+        elif found not in stops and found != whole:
+            wrong.append(f"refusal {number}: {str([*found])[:300]}")
+    return asked, len(met), wrong
+
+
+def refuse_conversations(program, folder):
+    began = time.monotonic()
+    talks = conversations.of_file(folder / "conversations" / "memory.txt")
+    with concurrent.futures.ThreadPoolExecutor(PROCESSORS) as pool:
+        found = [*pool.map(lambda talk: refuse_lines(program, talk), talks)]
+    wrong = [f"{talk.name}: {it}" for talk, (_, _, strays) in zip(talks, found) for it in strays]
+    wrong += [f"{talk.name}: no line was refused" for talk, (_, met, _) in zip(talks, found) if not met]
+    failed = sum(bool(strays) or not met for _, met, strays in found)
+    what = f"{sum(asked for asked, _, _ in found)} allocations of {len(talks)} conversations refused"
+    what += f", at {sum(met for _, met, _ in found)} lines"
+    return told(what, Counts(len(talks) - failed, failed), began, "\n".join(wrong))
+
+
+def refuse(wanted=()):
+    """Refuses each allocation of the calls with one of the words in their names; of all and of the conversations."""
+    if not shutil.which("cc"):
+        return [told("refused memory", Counts(0, 0, 1), time.monotonic(), "")]
+    names = ["refusals"] if wanted else ["refusals", "rangerun"]
+    with workspace() as crates, tempfile.TemporaryDirectory() as room:
+        with concurrent.futures.ThreadPoolExecutor() as pool:
+            programs = [*pool.map(lambda name: built(crates / name, pathlib.Path(room)), names)]
+        counts = [refuse_calls(programs[0], wanted)]
+        counts += [refuse_conversations(it, CRATES / "rangerun") for it in programs[1:]]
+    return counts

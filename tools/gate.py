@@ -1,0 +1,171 @@
+"""The gate, the same work for some crates, and all tests without a proof."""
+
+import concurrent.futures
+import hashlib
+import os
+import shutil
+import subprocess
+import time
+
+from tools import conversations, examples, faults, mutants
+from tools.repository import (
+    PROCESSORS,
+    TOP,
+    Counts,
+    below,
+    counted,
+    crates,
+    passed,
+    run,
+    tell,
+    told,
+)
+
+# A check takes less than this; what `rt` expects of it, by its lines, is up to three times as much.
+MEMORY_OF_A_CHECK = 5 * 1024**3
+
+
+def lanes():
+    """Returns how many checks run side by side: one a processor, as far as there is memory."""
+    memory = os.sysconf("SC_PAGE_SIZE") * os.sysconf("SC_PHYS_PAGES")
+    return max(1, min(PROCESSORS, memory // MEMORY_OF_A_CHECK))
+
+
+def proofs(names):
+    """Runs `rt ci`, of the crates that are named or of all, and tells all lines but those of what is proved."""
+    environment = {"RT_JOBS": str(lanes()), **os.environ, "PYTHONUNBUFFERED": "1"}
+    how = {"stdout": subprocess.PIPE, "stderr": subprocess.STDOUT, "errors": "replace"}
+    whole = subprocess.Popen(["rt", "ci", *names], cwd=TOP, env=environment, **how)
+    line = ""
+    for line in map(str.rstrip, whole.stdout):
+        if not line.endswith(": proved") and not line.startswith("statements "):
+            tell(line)
+    return counted(line, whole.wait())
+
+
+def gate():
+    """Does the whole of it: what can be seen at once comes before the proofs, what is only run after them."""
+    fresh = [examples.compared(), *fresh_mutants()]
+    if any(it.failed for it in fresh):
+        return fresh
+    proved = proofs([])
+    if proved.failed:
+        return [*fresh, proved]
+    every = crates().values()
+    programs = [it.folder for it in every if it.is_proved and it.has_conversations]
+    with examples.workspace() as room, concurrent.futures.ThreadPoolExecutor(PROCESSORS) as pool:
+        runs = [pool.submit(tests, it, room) for it in every if not it.is_proved]
+        runs.append(pool.submit(examples.run_in, room))
+        runs += [pool.submit(conversations.count, it, conversations.play_built) for it in programs]
+        runs.append(pool.submit(counting, "random conversations", ["crates/rangecalc/fuzz", "--conversations", "1000"]))
+        ended = [it.result() for it in runs]
+    bindings = counting("bindings: C, Rust and Python", ["./bindings/run"])
+    return [*fresh, proved, *ended, *faults.refuse(), bindings]
+
+
+def fresh_mutants():
+    """Returns a failure for each crate that changed since its mutants were tried."""
+    changed, never = mutants.stale()
+    for name in never:
+        tell(f"{name}: its mutants were not tried yet")
+    for name in changed:
+        tell(f"{name}: changed since its mutants were tried: ./check mutants {name}")
+    return [Counts(0, 1) for _ in changed]
+
+
+def counting(what, words):
+    """Runs a command that says in its last line how much passed and failed."""
+    began, ended = time.monotonic(), run(words)
+    return told(what, counted(ended.stdout, ended.returncode), began, ended.stdout)
+
+
+def several(names):
+    """Does the gate's work for crates and those that use them."""
+    every = crates()
+    chosen = [it for it in every.values() if below(every, it.name) & names]
+    proved = [it.name for it in chosen if it.is_proved]
+    results = [proofs(proved)] if proved else []
+    stale, _ = mutants.stale()
+    results += mutants.try_all(name for name in proved if name in stale)
+    return [*results, *quickly(every, [it for it in chosen if not it.is_proved or it.has_conversations])]
+
+
+def quick(names=()):
+    """Runs tests, programs, conversations and examples with no proof, of some crates or of all."""
+    every = crates()
+    return quickly(every, [it for it in every.values() if not names or it.name in names])
+
+
+def quickly(every, chosen):
+    """Runs all that can be run of the crates, side by side, those first that use most others."""
+    kit, tasks = run(["rt", "version"]).stdout.encode(), []
+    for crate in sorted(chosen, key=lambda it: -len(below(every, it.name))):
+        digest = hashlib.sha256(kit)
+        for part in sorted(below(every, crate.name)):
+            for path in every[part].files():
+                digest.update(f"{path.relative_to(TOP)}\0".encode() + path.read_bytes())
+        digest.update(examples.read_by(crate))
+        tasks += [(crate, call, digest.hexdigest()) for call in calls(crate)]
+    with examples.workspace() as room, concurrent.futures.ThreadPoolExecutor(PROCESSORS) as pool:
+        return [*pool.map(lambda task: unless_passed(*task, room), tasks)]
+
+
+def calls(crate):
+    """Returns what can be run of a crate without a proof."""
+    found = [tests] if crate.has_tests else []
+    found += [program] if crate.is_program else []
+    found += [talks] if crate.has_conversations else []
+    return found + ([doc_examples] if crate.name == examples.CRATE_ABOVE else [])
+
+
+def unless_passed(crate, call, digest, room):
+    """Runs a task, unless it passed before on the same files."""
+    kept = crate.folder / "out" / f"quick-{call.__name__}"
+    if kept.exists() and kept.read_text() == digest:
+        return told(f"{crate.name}: {call.__name__}, as before", Counts(1), time.monotonic(), "")
+    counts = call(crate, room)
+    if not counts.failed:
+        kept.parent.mkdir(exist_ok=True)
+        kept.write_text(digest)
+    return counts
+
+
+def tests(crate, room):
+    """Runs the tests of a crate, or the program that stands in their place."""
+    if crate.is_program and not crate.has_tests:
+        return program(crate, room)
+    began, ended = time.monotonic(), run(["rt", "try", "--test"], room / crate.name)
+    last = [line for line in ended.stdout.splitlines() if line.startswith("test result: ")]
+    numbers = last[-1].replace(";", " ").split() if last else []
+    found = int(numbers[numbers.index("passed") - 1]) if numbers else 0
+    lost = int(numbers[numbers.index("failed") - 1]) if numbers else 1
+    counts = Counts(found, max(lost, int(ended.returncode != 0)))
+    return told(f"{crate.name}: tests", counts, began, ended.stdout)
+
+
+def program(crate, room):
+    """Runs a program on its files, and compares what it writes and its status.
+
+    A program of tests/ with a folder `conversations` is given its files, one after the other."""
+
+    def read(name):
+        path = room / crate.name / name
+        return path.read_bytes() if path.exists() else b""
+
+    given = read("stdin")
+    if not crate.is_proved:
+        files = sorted((room / crate.name).glob("conversations/*.txt"))
+        given += b"\n".join(path.read_bytes() for path in files)
+    began, words = time.monotonic(), ["rt", "try", "--", *read("args").decode().splitlines()]
+    ended = subprocess.run(words, cwd=room / crate.name, input=given, capture_output=True)
+    is_well = ended.stdout == read("stdout") and ended.returncode == int(read("status") or 0)
+    said = (ended.stdout + ended.stderr).decode(errors="replace")
+    return told(f"{crate.name}: program", Counts(int(is_well), int(not is_well)), began, said)
+
+
+def talks(crate, room):
+    return conversations.count(room / crate.name, conversations.play_unproved)
+
+
+def doc_examples(_crate, room):
+    return examples.compared().and_more([examples.run_in(room)])

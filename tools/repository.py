@@ -1,0 +1,172 @@
+"""The crates of this repository, copies of them for what is built without a proof, and runs of `rt`."""
+
+import contextlib
+import os
+import pathlib
+import re
+import shutil
+import subprocess
+import tempfile
+import time
+import typing
+
+TOP = pathlib.Path(__file__).resolve().parent.parent
+CRATES = TOP / "crates"
+# The lists of the crates, each with those that it names: what is proved, and what is only run.
+PROVED, UNPROVED = TOP / "crates.txt", TOP / "tests" / "tests.txt"
+# Files of tests/ that hold Rattle, which no tool is to take for Rust, nor `rt ci` for proved code.
+UNPROVED_SUFFIX = ".rt.txt"
+PROCESSORS = len(os.sched_getaffinity(0))
+START = time.monotonic()
+
+os.environ["PATH"] += os.pathsep + "/opt/rattle/bin"
+
+
+class Counts(typing.NamedTuple):
+    """How much passed, failed and was skipped."""
+
+    passed: int
+    failed: int = 0
+    skipped: int = 0
+
+    def __str__(self):
+        skipped = f", {self.skipped} skipped" if self.skipped else ""
+        return f"{self.passed} passed, {self.failed} failed{skipped}"
+
+    def and_more(self, others):
+        return Counts(*map(sum, zip(self, *others)))
+
+
+class Ended(typing.NamedTuple):
+    """What a program wrote, what it wrote to standard error, and its exit status."""
+
+    out: bytes
+    errors: bytes
+    status: int
+
+
+class Crate:
+    """A crate, the crates of the repository that it names, and whether it is proved or stands in tests/."""
+
+    def __init__(self, name, named, is_proved):
+        self.name, self.named, self.is_proved = name, named, is_proved
+        self.folder = (CRATES if is_proved else TOP / "tests") / name
+        sources = [path for path in self.folder.glob("src/**/*") if path.is_file()]
+        self.is_program = any(path.name.startswith("main.rt") for path in sources)
+        self.has_tests = any(b"#[test]" in path.read_bytes() for path in sources)
+        self.has_conversations = is_proved and (self.folder / "conversations").is_dir()
+
+    def files(self):
+        """Returns what its tests and its program are built from and run on."""
+        folders = [self.folder / name for name in ("src", "specs", "conversations", "data")]
+        found = [path for folder in folders for path in folder.rglob("*") if path.is_file()]
+        return sorted(found + [path for path in self.folder.iterdir() if path.is_file()])
+
+
+def listed(path):
+    """Returns the crates of a list by their names, each with the crates that it names."""
+    found = {}
+    for line in path.read_text().splitlines():
+        head, _, rest = line.partition("#")[0].partition(":")
+        if head.strip():
+            found[head.split()[0]] = rest.split()
+    return found
+
+
+def crates():
+    """Returns the crates by their names, each after those that it names."""
+    proved, ordered = listed(PROVED), {}
+    every = proved | listed(UNPROVED)
+
+    def add(name):
+        own = [other for other in every[name] if other in every]
+        for other in own:
+            add(other)
+        ordered.setdefault(name, Crate(name, own, name in proved))
+
+    for name in every:
+        add(name)
+    return ordered
+
+
+def below(every, name):
+    """Returns the names of the crate and of all that it uses."""
+    return {name}.union(*(below(every, other) for other in every[name].named))
+
+
+@contextlib.contextmanager
+def workspace(more=""):
+    """Gives a folder with copies of all crates, those of tests/ too, for what is built without a proof.
+
+    More is further lines of crates.txt."""
+    with tempfile.TemporaryDirectory() as room:
+        top = pathlib.Path(room)
+        left_out = shutil.ignore_patterns("out", "must-fail", "mutants", "proofs")
+        for folder in [*CRATES.iterdir(), *(TOP / "tests").iterdir()]:
+            if folder.is_dir():
+                shutil.copytree(folder, top / "crates" / folder.name, ignore=left_out)
+        for path in [*top.rglob(f"src/**/*{UNPROVED_SUFFIX}")]:
+            path.rename(path.with_suffix(""))
+        (top / "crates.txt").write_text(PROVED.read_text() + UNPROVED.read_text() + more)
+        shutil.copy(TOP / "HANDLES", top)
+        yield top / "crates"
+
+
+def tell(text):
+    minutes, seconds = divmod(int(time.monotonic() - START), 60)
+    print(f"{minutes:3}:{seconds:02}  {text}", flush=True)
+
+
+def run(words, folder=TOP):
+    """Runs a command, with what it writes to both its streams as one text."""
+    how = {"stdout": subprocess.PIPE, "stderr": subprocess.STDOUT, "errors": "replace"}
+    return subprocess.run(words, cwd=folder, stdin=subprocess.DEVNULL, **how)
+
+
+def passed(what, words, folder=TOP):
+    """Runs a command that passes or fails as one, and shows what it wrote where it fails."""
+    began = time.monotonic()
+    ended = run(words, folder)
+    is_well = ended.returncode == 0
+    return told(what, Counts(int(is_well), int(not is_well)), began, ended.stdout)
+
+
+def told(what, counts, began, said):
+    """Tells how something ended, shows what was said of it where it failed, and returns the counts."""
+    text = said.rstrip() + "\n" if counts.failed and said.strip() else ""
+    print(text, end="")
+    tell(f"{what}: {counts} in {time.monotonic() - began:.0f} s")
+    return counts
+
+
+def counted(text, status):
+    """Returns what the last line of a command's output counts; one failure where it ended otherwise."""
+    last = text.rstrip().rpartition("\n")[2]
+    found = re.search(r"(\d+) passed, (\d+) failed(?:, (\d+) skipped)?", last)
+    counts = Counts(*(int(it or 0) for it in found.groups())) if found else Counts(0, 1)
+    return counts._replace(failed=max(counts.failed, int(status != 0)))
+
+
+def cases(folder, inputs, flags=()):
+    """Runs the program of a crate, built without a proof, on each input with its arguments, by names.
+
+    Returns how each ended; what has no answer is left out, and what `rt` said stands under None."""
+    with tempfile.TemporaryDirectory() as room:
+        for name, (given, words) in inputs.items():
+            pathlib.Path(room, name).write_bytes(given)
+            arguments = b"".join(word + b"\n" for word in words)
+            pathlib.Path(room, f"{name}.args").write_bytes(arguments)
+        command = ["rt", "try", "--steps", "1", "--cases", room, *flags]
+        ran = subprocess.run(command, cwd=folder, capture_output=True)
+    found = {None: Ended(ran.stdout, ran.stderr, ran.returncode)}
+    parts = re.split(rb"^== (\S+)\n", ran.stdout, flags=re.M)[1:]
+    written, errors = dict(zip(parts[::2], parts[1::2])), b""
+    for line in ran.stderr.splitlines(keepends=True):
+        if line.startswith(b"case="):
+            fields = dict(word.split(b"=", 1) for word in line.split())
+            out = written.get(fields[b"case"], b"")
+            found[fields[b"case"].decode()] = Ended(out, errors, int(fields.get(b"status", -1)))
+            errors = b""
+        elif not line.startswith((b"allocations: ", b"interpreter: ", b"checked: ")):
+            errors += line
+    return found
