@@ -331,6 +331,57 @@ static void keys_of_two_sets(void) {
     brm_destroy(&part);
 }
 
+/* Batches: all ranges in both directions, arrays that are too long, too short and empty, and other handles. */
+static void batches(void) {
+    enum { RANGES = 50, ROOM = 7 };
+    brm_handle map = BRM_HANDLE_CLOSED, keys = BRM_HANDLE_CLOSED, set = BRM_HANDLE_CLOSED;
+    brm_entry_u64 entries[RANGES + 5];
+    brm_entry_i64 signed_entries[ROOM];
+    brm_range_u64 ranges[ROOM];
+    size_t count = 77, shown = 0;
+    memset(entries, 0xaa, sizeof entries);
+    memset(signed_entries, 0, sizeof signed_entries);
+    memset(ranges, 0, sizeof ranges);
+    EXPECT(brm_map_u64_read(&map, 0, entries, ROOM, &count) == BRM_CLOSED && count == 77);
+    EXPECT(brm_map_u64_create(&map) == BRM_DONE && brm_map_i64_create(&keys) == BRM_DONE);
+    EXPECT(brm_set_u64_create(&set) == BRM_DONE);
+    EXPECT(brm_map_u64_read(&map, 0, entries, ROOM, &count) == BRM_DONE && count == 0);
+    for (uint64_t i = 0; i < RANGES; i++) {
+        brm_range_u64 range = upto(10 * i, 10 * i + 5);
+        brm_range_i64 below = {-10 * (int64_t)i - 5, -10 * (int64_t)i, BRM_END_EXCLUDED};
+        EXPECT(put(&map, range, i) == BRM_DONE && brm_set_u64_insert(&set, &range) == BRM_DONE);
+        EXPECT(brm_map_i64_insert(&keys, &below, i) == BRM_DONE);
+    }
+    EXPECT(brm_map_u64_read(&map, 0, entries, RANGES + 5, &count) == BRM_DONE && count == RANGES);
+    for (uint64_t i = 0; i < RANGES; i++) EXPECT(is_entry(entries[i], upto(10 * i, 10 * i + 5), i));
+    EXPECT(entries[RANGES].value == 0xaaaaaaaaaaaaaaaa && entries[RANGES].range.start == 0xaaaaaaaaaaaaaaaa);
+    EXPECT(brm_map_u64_read_back(&map, UINT64_MAX, entries, RANGES + 5, &count) == BRM_DONE && count == RANGES);
+    for (uint64_t i = 0; i < RANGES; i++) EXPECT(entries[i].value == RANGES - 1 - i);
+    for (uint64_t key = 0; shown < RANGES; key = entries[count - 1].range.end) {
+        EXPECT(brm_map_u64_read(&map, key, entries, ROOM, &count) == BRM_DONE && count > 0 && count <= ROOM);
+        for (size_t i = 0; i < count; i++) EXPECT(entries[i].value == shown++);
+        if (count == 0) break;
+    }
+    EXPECT(brm_map_u64_read(&map, 14, entries, 2, &count) == BRM_DONE && count == 2 && entries[0].value == 1);
+    EXPECT(brm_map_u64_read(&map, 15, entries, 2, &count) == BRM_DONE && count == 2 && entries[0].value == 2);
+    EXPECT(brm_map_u64_read_back(&map, 20, entries, 2, &count) == BRM_DONE && count == 2 && entries[0].value == 2);
+    EXPECT(brm_map_u64_read_back(&map, 19, entries, 2, &count) == BRM_DONE && entries[0].value == 1 && entries[1].value == 0);
+    EXPECT(brm_map_u64_read_back(&map, 4, entries, 2, &count) == BRM_DONE && count == 1 && entries[0].value == 0);
+    EXPECT(brm_map_u64_read(&map, 10 * RANGES, entries, 2, &count) == BRM_DONE && count == 0);
+    EXPECT(brm_map_u64_read(&map, 0, entries, 0, &count) == BRM_DONE && count == 0);
+    EXPECT(brm_map_i64_read(&keys, -1, signed_entries, ROOM, &count) == BRM_DONE && count == 1);
+    EXPECT(signed_entries[0].range.start == -5 && signed_entries[0].value == 0);
+    EXPECT(brm_map_i64_read_back(&keys, -1, signed_entries, ROOM, &count) == BRM_DONE && count == ROOM);
+    EXPECT(signed_entries[ROOM - 1].value == ROOM - 1 && signed_entries[ROOM - 1].range.end == -10 * (ROOM - 1));
+    EXPECT(brm_set_u64_read(&set, 21, ranges, ROOM, &count) == BRM_DONE && count == ROOM && ranges[0].start == 20);
+    EXPECT(brm_set_u64_read_back(&set, 21, ranges, ROOM, &count) == BRM_DONE && count == 3 && ranges[2].start == 0);
+    EXPECT(brm_set_u64_read(&map, 0, ranges, ROOM, &count) == BRM_OTHER_KIND && count == 3 && ranges[0].start == 20);
+    EXPECT(brm_map_u64_read_back(&set, 0, entries, ROOM, &count) == BRM_OTHER_KIND && count == 3);
+    brm_destroy(&map);
+    brm_destroy(&keys);
+    brm_destroy(&set);
+}
+
 static void status_texts(void) {
     for (int i = BRM_DONE; i <= BRM_NOT_READ; i++) EXPECT(strlen(brm_status_text((brm_status)i)) > 3);
     EXPECT(strcmp(brm_status_text(BRM_NO_ROOM), "the buffer is too short") == 0);
@@ -402,6 +453,7 @@ int main(void) {
     handles_given_twice();
     clones();
     keys_of_two_sets();
+    batches();
     status_texts();
     texts();
     printf("C: %s\n", failures ? "FAILED" : "passed");

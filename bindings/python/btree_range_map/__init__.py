@@ -9,8 +9,10 @@
     >>> ports
     RangeMap({0:80: 'system', 80: 'web', 81:1024: 'system'})
     >>> free = RangeSet([slice(0, 100)]) - RangeSet([10, slice(20, 30)])
-    >>> list(free)
-    [Range(start=0, end=10, ...), Range(start=11, end=20, ...), Range(start=30, end=100, ...)]
+    >>> free
+    RangeSet({0:10, 11:20, 30:100})
+    >>> [(keys.start, keys.end) for keys, owner in ports.items()]
+    [(0, 80), (80, 80), (80, 1024)]
 
 A key is a whole number from 0 to 2**64 - 1, or of another kind that `keys` names: "u8" to "u64", "i8" to "i64", or "char"
 for characters. A slice `a:b` is a range with its start and without its end, either of which may be left out; `Range` says
@@ -19,11 +21,11 @@ any other, and a key alone is the range of that key.
 
 from __future__ import annotations
 
-import copy as _copying
+import copy as _copy
 import ctypes
 import json
 import threading
-from typing import Any, Generic, Hashable, Iterable, Iterator, TypeVar, Union
+from typing import Any, Generic, Hashable, Iterable, Iterator, TypeVar
 
 from . import _library as _c
 from ._keys import KEYS, Keys, Range
@@ -33,7 +35,6 @@ __all__ = ["Connected", "NotLoaded", "Range", "RangeMap", "RangeSet"]
 __version__ = "0.2.0"
 
 V = TypeVar("V")
-D = TypeVar("D")
 
 _SIGN = 2**63
 _MISSING: Any = object()
@@ -73,6 +74,8 @@ def _as_range(keys: Any) -> Range:
         if keys.step != 1:
             raise ValueError("a range has no step")
         return Range(keys.start, keys.stop)
+    if keys is None:
+        raise TypeError("None is no key and no range")
     return Range(keys, keys, True, True)
 
 
@@ -541,7 +544,7 @@ class RangeMap(_Collection, Generic[V]):
             return made
 
     def __deepcopy__(self, memo: dict[int, Any]) -> RangeMap[V]:
-        items = [(keys, _copying.deepcopy(value, memo)) for keys, value in self.items()]
+        items = [(keys, _copy.deepcopy(value, memo)) for keys, value in self.items()]
         return RangeMap(items, keys=self._keys.name)
 
     def __reduce__(self) -> Any:
@@ -825,5 +828,3 @@ class RangeSet(_Collection):
 def _set_of(ranges: list, keys: str) -> RangeSet:
     return RangeSet(ranges, keys=keys)
 
-
-_Any = Union[RangeMap, RangeSet]
