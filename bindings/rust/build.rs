@@ -12,7 +12,9 @@ fn main() {
     println!("cargo:rerun-if-changed={}", archive.display());
     if !archive.exists() {
         println!("cargo::error={} is missing", archive.display());
-        println!("cargo::error=take the .crate that bindings/package makes, or set RANGE_MAP_LIB to the archive's folder");
+        println!(
+            "cargo::error=take the .crate that bindings/package makes, or set RANGE_MAP_LIB to the archive's folder"
+        );
         return;
     }
     println!("cargo:rustc-link-search=native={}", folder.display());

@@ -106,7 +106,11 @@ fn main() {
         let (order, ascending) = (mixed(n), (0..n).collect::<Vec<_>>());
         let row = |what, ours, theirs| println!("| {n} | {what} | {ours} | {theirs} |");
         row("insertion, no order", best(n, || drop(proved(&order))), best(n, || drop(reference(&order))));
-        row("insertion, ascending", best(n, || drop(proved(&ascending))), best(n, || drop(reference(&ascending))));
+        row(
+            "insertion, ascending",
+            best(n, || drop(proved(&ascending))),
+            best(n, || drop(reference(&ascending))),
+        );
         let (ours, theirs) = (proved(&order), reference(&order));
         row(
             "look-up",

@@ -102,8 +102,13 @@ macro_rules! calls {
                 #[link_name = concat!($prefix, "pop_last")]
                 fn pop_last(handle: *mut RawHandle, entry: &mut $entry) -> u32;
                 #[link_name = concat!($prefix, "read")]
-                fn read(at: *const RawHandle, from: $key, to: *mut $entry, capacity: usize, count: &mut usize)
-                -> u32;
+                fn read(
+                    at: *const RawHandle,
+                    from: $key,
+                    to: *mut $entry,
+                    capacity: usize,
+                    count: &mut usize,
+                ) -> u32;
                 #[link_name = concat!($prefix, "read_back")]
                 fn read_back(
                     at: *const RawHandle,

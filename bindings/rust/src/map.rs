@@ -171,7 +171,10 @@ impl<K: Key, V: Eq + Hash> RangeMap<K, V> {
     }
 
     /// The parts of the range of which no key is bound, in ascending order.
-    pub fn gaps<'a>(&'a self, range: impl RangeBounds<K> + Clone + 'a) -> impl Iterator<Item = Range<K>> + 'a {
+    pub fn gaps<'a>(
+        &'a self,
+        range: impl RangeBounds<K> + Clone + 'a,
+    ) -> impl Iterator<Item = Range<K>> + 'a {
         let ends = Range { start: range.start_bound().cloned(), end: range.end_bound().cloned() }.ends();
         let mut rest = ends;
         let mut bound = self.pieces(range);
@@ -226,7 +229,9 @@ impl<K: Key, V: Eq + Hash> RangeMap<K, V> {
         V: Clone,
     {
         keys.iter()
-            .flat_map(|range| self.pieces(range).map(|(piece, value)| (piece, value.clone())).collect::<Vec<_>>())
+            .flat_map(|range| {
+                self.pieces(range).map(|(piece, value)| (piece, value.clone())).collect::<Vec<_>>()
+            })
             .collect()
     }
 

@@ -161,7 +161,16 @@ const SIGN: u64 = 1 << 63;
 integer_keys!(u64, true, |key: u64| key, |place: u64| place, u64);
 integer_keys!(u64, false, |key: u64| key, |place: u64| place, u8, u16, u32, usize);
 integer_keys!(i64, true, |key: i64| key as u64 ^ SIGN, |place: u64| (place ^ SIGN) as i64, i64);
-integer_keys!(i64, false, |key: i64| key as u64 ^ SIGN, |place: u64| (place ^ SIGN) as i64, i8, i16, i32, isize);
+integer_keys!(
+    i64,
+    false,
+    |key: i64| key as u64 ^ SIGN,
+    |place: u64| (place ^ SIGN) as i64,
+    i8,
+    i16,
+    i32,
+    isize
+);
 
 /// How many code points are no characters, and which is the first.
 const SURROGATES: u32 = 0x800;

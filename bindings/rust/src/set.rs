@@ -152,12 +152,20 @@ impl<K: Key> RangeSet<K> {
 
     /// A set of the keys that are in both sets.
     pub fn intersection(&self, other: &RangeSet<K>) -> RangeSet<K> {
-        if std::ptr::eq(self, other) { self.clone() } else { self.with(other, ffi::brm_raw_set_u64_intersection) }
+        if std::ptr::eq(self, other) {
+            self.clone()
+        } else {
+            self.with(other, ffi::brm_raw_set_u64_intersection)
+        }
     }
 
     /// A set of the keys of this set that are not in the other.
     pub fn difference(&self, other: &RangeSet<K>) -> RangeSet<K> {
-        if std::ptr::eq(self, other) { RangeSet::new() } else { self.with(other, ffi::brm_raw_set_u64_difference) }
+        if std::ptr::eq(self, other) {
+            RangeSet::new()
+        } else {
+            self.with(other, ffi::brm_raw_set_u64_difference)
+        }
     }
 
     /// A set of the keys that are in just one of the sets.
@@ -170,7 +178,8 @@ impl<K: Key> RangeSet<K> {
     }
 
     fn with(&self, other: &RangeSet<K>, call: TwoSets) -> RangeSet<K> {
-        RangeSet::opened(|made| unsafe { call(self.handle.get(), other.handle.get(), made) }).expect(NO_MEMORY)
+        RangeSet::opened(|made| unsafe { call(self.handle.get(), other.handle.get(), made) })
+            .expect(NO_MEMORY)
     }
 
     /// A set of just the keys that this one does not hold.
@@ -180,8 +189,13 @@ impl<K: Key> RangeSet<K> {
                 .expect(NO_MEMORY);
         if !K::IS_NATIVE {
             // of keys that are fewer than those of the library
-            let past = RawRange { start: K::GREATEST.place(), end: 0, flags: ffi::START_EXCLUDED | ffi::END_UNBOUNDED };
-            let before = RawRange { start: 0, end: K::LEAST.place(), flags: ffi::START_UNBOUNDED | ffi::END_EXCLUDED };
+            let past = RawRange {
+                start: K::GREATEST.place(),
+                end: 0,
+                flags: ffi::START_EXCLUDED | ffi::END_UNBOUNDED,
+            };
+            let before =
+                RawRange { start: 0, end: K::LEAST.place(), flags: ffi::START_UNBOUNDED | ffi::END_EXCLUDED };
             for range in [past, before] {
                 done(unsafe { (CALLS.remove)(others.handle.get_mut(), &range) }).expect(NO_MEMORY);
             }

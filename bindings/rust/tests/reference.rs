@@ -181,7 +181,10 @@ fn values_of_any_type_answer_as_a_reference() {
             }
             4 => {
                 let is_free = wanted.range(first..=last).next().is_none();
-                assert_eq!(map.try_insert(first..=last, value.clone()), if is_free { Ok(()) } else { Err(value.clone()) });
+                assert_eq!(
+                    map.try_insert(first..=last, value.clone()),
+                    if is_free { Ok(()) } else { Err(value.clone()) }
+                );
                 if is_free {
                     wanted.extend((first..=last).map(|key| (key, value.clone())));
                 }
@@ -205,7 +208,8 @@ fn values_of_any_type_answer_as_a_reference() {
     assert_eq!(map.key_count(), wanted.len() as u128);
     let ranges = map.iter().map(|(range, _)| range).collect::<Vec<_>>();
     assert!(ranges.iter().rev().copied().eq(map.iter().rev().map(|(range, _)| range)));
-    let joins = wanted.iter().filter(|(key, value)| key.checked_sub(1).and_then(|it| wanted.get(&it)) == Some(value));
+    let joins =
+        wanted.iter().filter(|(key, value)| key.checked_sub(1).and_then(|it| wanted.get(&it)) == Some(value));
     assert_eq!(map.len(), wanted.len() - joins.count());
 }
 
@@ -218,14 +222,25 @@ fn maps_do_what_collections_do() {
         use std::hash::{BuildHasher, BuildHasherDefault, DefaultHasher};
         BuildHasherDefault::<DefaultHasher>::default().hash_one(map)
     };
-    assert!(map == same && hashed(&map) == hashed(&same) && map.clone() == map && RangeMap::<u8, u8>::default().is_empty());
+    assert!(
+        map == same
+            && hashed(&map) == hashed(&same)
+            && map.clone() == map
+            && RangeMap::<u8, u8>::default().is_empty()
+    );
     let mut other = map.clone();
     other.extend([(5..35, "c")]);
     assert!(other != map && other.len() == 3 && map.len() == 2);
     assert_eq!(format!("{other:?}"), r#"{0..5: "a", 5..35: "c", 35..40: "b"}"#);
-    assert_eq!(other.overlapping(4..6).map(|(range, _)| range).collect::<Vec<_>>(), [(0..5).into(), (5..35).into()]);
+    assert_eq!(
+        other.overlapping(4..6).map(|(range, _)| range).collect::<Vec<_>>(),
+        [(0..5).into(), (5..35).into()]
+    );
     let rest = other.split_off(35);
-    assert_eq!((other.last_range_value(), rest.first_range_value()), (Some(((5..35).into(), &"c")), Some(((35..=39).into(), &"b"))));
+    assert_eq!(
+        (other.last_range_value(), rest.first_range_value()),
+        (Some(((5..35).into(), &"c")), Some(((35..=39).into(), &"b")))
+    );
     let over = map.overlay(&other);
     assert_eq!((over.get(4), over.get(7), over.get(36)), (Some(&"a"), Some(&"c"), Some(&"b")));
     let keys: RangeSet<u64> = [8..12, 38..50].into();
@@ -247,8 +262,14 @@ fn keys_of_each_type() {
         assert_eq!((map.get(K::LEAST), map.key_count()), (None, count - 1));
         let set: RangeSet<K> = [K::LEAST..=K::LEAST].into();
         let others = set.complement();
-        assert_eq!((others.key_count(), others.contains(K::GREATEST), set.union(&others).key_count()), (count - 1, true, count));
-        assert_eq!(others.iter().next_back().and_then(|range| range.ends()), Some((K::LEAST.successor().unwrap(), K::GREATEST)));
+        assert_eq!(
+            (others.key_count(), others.contains(K::GREATEST), set.union(&others).key_count()),
+            (count - 1, true, count)
+        );
+        assert_eq!(
+            others.iter().next_back().and_then(|range| range.ends()),
+            Some((K::LEAST.successor().unwrap(), K::GREATEST))
+        );
         assert!(set.union(&others).len() == 1 && others.complement() == set && set.is_disjoint(&others));
     }
     whole::<u8>(1 << 8);
@@ -265,8 +286,11 @@ fn keys_of_each_type() {
     // characters on both sides of the code points that are none touch
     let set: RangeSet<char> = ['a'..='\u{d7ff}', '\u{e000}'..='\u{e010}'].into();
     assert_eq!(set.iter().collect::<Vec<_>>(), [('a'..='\u{e010}').into()]);
-    let signed: RangeSet<i8> = [-3..4].into();
-    assert_eq!((signed.first(), signed.contains(-3), signed.contains(4)), (Some((-3..4).into()), true, false));
+    let signed: RangeSet<i8> = std::iter::once(-3..4).collect();
+    assert_eq!(
+        (signed.first(), signed.contains(-3), signed.contains(4)),
+        (Some((-3..4).into()), true, false)
+    );
 }
 
 #[test]
@@ -295,8 +319,10 @@ fn two_sets_make_a_third() {
             (0..random.below(8)).map(|_| (random.below(100), random.below(20))).collect()
         };
         let (some, more) = (drawn(), drawn());
-        let set_of = |ranges: &[(u64, u64)]| ranges.iter().map(|(at, n)| *at..at + n).collect::<RangeSet<u64>>();
-        let holds = |ranges: &[(u64, u64)], key: u64| ranges.iter().any(|(at, n)| (*at..at + n).contains(&key));
+        let set_of =
+            |ranges: &[(u64, u64)]| ranges.iter().map(|(at, n)| *at..at + n).collect::<RangeSet<u64>>();
+        let holds =
+            |ranges: &[(u64, u64)], key: u64| ranges.iter().any(|(at, n)| (*at..at + n).contains(&key));
         let (set, other) = (set_of(&some), set_of(&more));
         let made = [&set | &other, &set & &other, &set - &other, &set ^ &other, set.complement()];
         for key in 0..130 {
@@ -304,9 +330,17 @@ fn two_sets_make_a_third() {
             let wanted = [first || second, first && second, first && !second, first != second, !first];
             assert_eq!(made.each_ref().map(|it| it.contains(key)), wanted);
             let before = (0..=key).rev().find(|it| holds(&some, *it));
-            assert_eq!(set.previous(key).map(|it| first_and_last(it).1 >= before.unwrap()), before.map(|_| true));
+            assert_eq!(
+                set.previous(key).map(|it| first_and_last(it).1 >= before.unwrap()),
+                before.map(|_| true)
+            );
         }
-        assert!((&set | &set) == set && (&set & &set) == set && (&set - &set).is_empty() && (&set ^ &set).is_empty());
+        assert!(
+            (&set | &set) == set
+                && (&set & &set) == set
+                && (&set - &set).is_empty()
+                && (&set ^ &set).is_empty()
+        );
         assert!(made[1].is_subset(&set) && made[0].is_superset(&other) && made[2].is_disjoint(&other));
         assert_eq!(set.is_disjoint(&set), set.is_empty());
         assert_eq!(set == other, made[3].is_empty());
