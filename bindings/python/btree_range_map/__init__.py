@@ -21,6 +21,7 @@ any other, and a key alone is the range of that key.
 
 from __future__ import annotations
 
+import contextlib
 import copy as _copy
 import ctypes
 import json
@@ -178,6 +179,13 @@ class _Collection:
         with self._lock:
             return _check(getattr(self._kind, name)(self._handle, *words))
 
+    @contextlib.contextmanager
+    def _locked_with(self, other: _Collection) -> Iterator[None]:
+        """Holds the locks of both, always in the same order."""
+        first, second = sorted((self, other), key=id)
+        with first._lock, second._lock:
+            yield
+
     def _one(self, name: str, *words: Any) -> Any:
         """What the call writes of a stored range, `None` where there is none."""
         with self._lock:
@@ -254,7 +262,8 @@ class _Collection:
 
     def __len__(self) -> int:
         """How many ranges are stored."""
-        return int(_calls.brm_count(self._handle))
+        with self._lock:
+            return int(_calls.brm_count(self._handle))
 
     def __bool__(self) -> bool:
         return len(self) > 0
@@ -737,10 +746,10 @@ class RangeSet(_Collection):
     def _with(self, other: Any, name: str) -> Any:
         if not self._alike(other):
             return NotImplemented
-        # two calls on two sets by two threads do not wait for one another, since the interpreter's lock is kept
         second = other.copy() if other is self else other
         made = self._opened()
-        _check(getattr(self._kind, name)(self._handle, second._handle, made._handle))
+        with self._locked_with(second):
+            _check(getattr(self._kind, name)(self._handle, second._handle, made._handle))
         return made
 
     def __or__(self, other: Any) -> RangeSet:
@@ -767,7 +776,8 @@ class RangeSet(_Collection):
         if not self._alike(other):
             return NotImplemented
         second = other.copy() if other is self else other
-        return _check(getattr(self._kind, name)(self._handle, second._handle))
+        with self._locked_with(second):
+            return _check(getattr(self._kind, name)(self._handle, second._handle))
 
     def __le__(self, other: Any) -> bool:
         """Whether each key of this set is in the other."""
@@ -795,7 +805,8 @@ class RangeSet(_Collection):
             return NotImplemented
         if self is other:
             return True
-        return self._keys is other._keys and _check(_calls.brm_raw_equal(self._handle, other._handle))
+        with self._locked_with(other):
+            return self._keys is other._keys and _check(_calls.brm_raw_equal(self._handle, other._handle))
 
     def __repr__(self) -> str:
         kind = "" if self._keys.name == "u64" else f", keys={self._keys.name!r}"

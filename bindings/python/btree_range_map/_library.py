@@ -1,6 +1,7 @@
 """The functions of btree_range_map.h, over the shared library of this package.
 
-The interpreter's lock is kept during each call (`PyDLL`), since a call is short. So calls on one collection never meet.
+The interpreter's lock is kept during each call (`PyDLL`), since a call is short. Each collection has a lock of its own
+beside it, which holds through methods that are more than one call, and where the interpreter has no lock.
 """
 
 from __future__ import annotations

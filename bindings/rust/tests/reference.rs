@@ -165,7 +165,7 @@ fn values_of_any_type_answer_as_a_reference() {
     let mut random = Random(9);
     let mut map: RangeMap<u16, String> = RangeMap::new();
     let mut wanted: BTreeMap<u16, String> = BTreeMap::new();
-    for step in 0..30_000 {
+    for step in 0..1_000_000 {
         let first = random.below(200) as u16;
         let last = first + random.below(20) as u16;
         // many values that are used for a while alone
