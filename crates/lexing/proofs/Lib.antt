@@ -1,4 +1,7 @@
 pub mod Best
 pub mod Firsts
+pub mod Growing
 pub mod Lists
+pub mod Rows
+pub mod Running
 pub mod TokenLists

@@ -22,14 +22,18 @@
 //! ```
 #![tactic(auto)]
 
+mod build;
 mod cutting;
 mod lexer;
+mod machine;
 mod scanner;
 mod token;
 mod tokens;
 
+pub use build::BuildError;
 pub use cutting::cut;
 pub use lexer::Lexer;
+pub use machine::Machine;
 pub use scanner::Scanner;
 pub use token::{LexError, Match, Token};
 pub use tokens::Tokens;

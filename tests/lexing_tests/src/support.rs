@@ -2,7 +2,7 @@
 
 use btree_range_map::generic::map::MapError;
 use charmoves::{Moves, Rules};
-use lexing::{LexError, Lexer, Scanner, Token, Tokens};
+use lexing::{LexError, Lexer, Machine, Scanner, Token, Tokens};
 use std::alloc::Global;
 use std::process::Abort;
 use std::test::Fail;
@@ -86,6 +86,10 @@ pub fn play<R: Abort>(rt: &R, alloc: Global, table: &Table<'_>) -> Result<(), Fa
     let lexer = lexer_of(alloc, table).expect(rt, "the lexer");
     if let Some(text) = wrong_text(&lexer, table.texts) {
         panic!(rt; "{text}");
+    }
+    let machine = Machine::build(alloc, lexer, 100).expect(rt, "the machine");
+    if let Some(text) = wrong_text(&machine, table.texts) {
+        panic!(rt; "by the machine: {text}");
     }
     Ok(())
 }
