@@ -155,6 +155,8 @@ def is_of(function, root, path, line, turned):
     if root == "src":
         return f"src/{path}.rt" == function.file and function.first <= line <= function.last
     *folders, name, _ = ["", "", *path.split("/")]
+    # The folder of a function that calls itself begins so.
+    name = name.removeprefix("+")
     same = [it for it in turned if it.name == name]
     if function not in same:
         return False
