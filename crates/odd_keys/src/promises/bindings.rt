@@ -1,7 +1,7 @@
 //! The last write wins: whatever commands a map is given, the last one on a key that was not refused
 //! decides what the key is bound to. Over every lawful key.
 
-ghost use Rattle.std.specs.Prelude.{IfOk};
+ghost use Rattle.std.specs.Prelude.{IfOk, IfSome};
 ghost use Rattle.std.specs.Option.{option_copied};
 ghost use Rattle.std.specs.Ordering.{int_eq};
 ghost use Rattle.btree_range_map.specs.Bindings.{Binds};
@@ -103,12 +103,20 @@ pub fn over_blind_bytes(
     number_by_commands(alloc, commands, key)
 }
 
-/// Over a type that has no key.
-pub fn over_never(alloc: Global, commands: Commands<Never>, key: Never) -> Numbers<Never>
-    ensures { IfOk result (λ answered. IsDecided ⟦<Never as MaybeBounded>⟧.order int_eq IsAdded key
-        commands.items answered.replies.items answered.value) }
+/// Over a type that has no key, so that a caller has none to ask for.
+pub fn over_never(
+    alloc: Global,
+    commands: Commands<Never>,
+    key: Option<Never>,
+) -> Option<Numbers<Never>>
+    ensures { IfSome result (λ numbers. IfOk numbers (λ answered. IfSome key
+        (λ k. IsDecided ⟦<Never as MaybeBounded>⟧.order int_eq IsAdded k commands.items
+        answered.replies.items answered.value))) }
 {
-    number_by_commands(alloc, commands, key)
+    match key {
+        Some(key) => Some(number_by_commands(alloc, commands, key)),
+        None => None,
+    }
 }
 
 /// Over a type that has one key.
