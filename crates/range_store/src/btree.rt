@@ -1,5 +1,5 @@
 //! A container kept as a B-tree.
-ghost use Rattle.std.specs.Prelude.{◌≡◌, ◌+◌, ◌-◌, ◌*◌, ◌^◌, ◌<◌, ◌≤◌, ◌++◌, [], length, insert, MatchOption, Some, None};
+ghost use Rattle.std.specs.Prelude.{◌≡◌, ◌+◌, ◌-◌, ◌*◌, ◌^◌, ◌<◌, ◌≤◌, [], length, insert, MatchOption, Some, None};
 ghost use Rattle.std.specs.Option.{ForSome};
 ghost use Rattle.range_store.specs.Depth.{HasLevels};
 ghost use Rattle.range_store.specs.Nodes.{items_below, IsRoomy, IsRoomy-prop};
@@ -20,6 +20,7 @@ use crate::btree::path::stands_first;
 use crate::btree::searching::MAX_ASKS;
 use crate::storage::{Chunk, Probe, Storage};
 use std::alloc::{AllocError, Global};
+use std::mem;
 
 /// Items in a B-tree: insertion, removal and search take steps in the logarithm of their number.
 #[derive(Drop)]
@@ -183,15 +184,12 @@ impl<T: Drop> Storage<T> for BoxStorage<T> {
         self.insert(edge, item)
     }
 
-    fn append(&mut self, added: Vec<T>)
-        requires has_room { length added.items ≤ box_room self.old }
-        ensures list { box_items self.new ≡ box_items self.old ++ added.items }
-        ensures space { box_room self.old ≡ box_room self.new + length added.items }
-    {
-        if self.levels == 0 && !added.is_empty() {
-            self.build(added);
+    fn append(&mut self, added: &mut Vec<T>) {
+        let items = mem::replace(added, Vec::new(self.alloc));
+        if self.levels == 0 && !items.is_empty() {
+            self.build(items);
         } else {
-            self.push_all(added);
+            self.push_all(items);
         }
     }
 
@@ -222,7 +220,7 @@ impl<T: Drop> Storage<T> for BoxStorage<T> {
         }
         let mut copy = BoxStorage::new(self.alloc);
         copy.reserve(copies.len())?;
-        copy.append(copies);
+        copy.append(&mut copies);
         Ok(copy)
     }
 

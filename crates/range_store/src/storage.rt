@@ -245,21 +245,21 @@ pub trait Storage<T>: Drop {
             × (rank self.new result
             ≡ place_before (λ q. rank self.old q) (length (items self.old)) before) };
 
-    /// Puts the items, in their order, after all others.
+    /// Moves the items out of `added`, in their order, behind all others.
     ///
-    /// Takes from the capacity, and never fails. Searches nothing: a vector moves none of its
-    /// items, an empty B-tree is built from its leaves up, and another changes nodes at its end.
-    /// The default inserts one item after the other.
-    fn append(&mut self, added: Vec<T>)
-        requires has_room { length added.items ≤ room self.old }
-        ensures list { items self.new ≡ items self.old ++ added.items }
-        ensures space { room self.old ≡ room self.new + length added.items }
+    /// Takes from the capacity, and never fails. Searches nothing: an empty B-tree is built from
+    /// its leaves up, and another changes nodes at its end. The default inserts one item after the
+    /// other, for which a vector moves none of its items.
+    fn append(&mut self, added: &mut Vec<T>)
+        requires has_room { length added.old.items ≤ room self.old }
+        ensures list { items self.new ≡ items self.old ++ added.old.items }
+        ensures moved { added.new.items ≡ [] }
+        ensures space { room self.old ≡ room self.new + length added.old.items }
     {
-        let mut left = added.into_iter();
-        while let Some(item) = left.next() {
+        added.reverse();
+        while let Some(item) = added.pop() {
             let _inserted = self.insert_at(None, item);
         }
-        left.destroy_empty();
     }
 
     /// Takes the item at the position out, and returns it with the position of the one after it.

@@ -1,5 +1,5 @@
 //! A container kept as a sorted vector.
-ghost use Rattle.std.specs.Prelude.{◌≡◌, ℕ, ◌+◌, ◌-◌, ◌<◌, ◌≤◌, ◌++◌, List, length, insert, vec_len, vec_capacity};
+ghost use Rattle.std.specs.Prelude.{◌≡◌, ℕ, ◌+◌, ◌-◌, ◌<◌, ◌≤◌, List, length, insert, vec_len, vec_capacity};
 ghost use Rattle.std.specs.Option.{ForSome};
 ghost use Rattle.std.proofs.Common.{arith, refl};
 ghost use Rattle.range_store.specs.Rewriting.{with_vec_item, good_with};
@@ -132,18 +132,6 @@ impl<T: Drop> Storage<T> for VecStorage<T> {
         match self.stored.insert(at, item) {
             Ok(()) => VecPosition(at),
             Err(_) => unreachable!(),
-        }
-    }
-
-    fn append(&mut self, added: Vec<T>)
-        requires has_room { length added.items
-            ≤ vec_capacity self.old.stored - vec_len self.old.stored }
-        ensures list { self.new.stored.items ≡ self.old.stored.items ++ added.items }
-        ensures space { vec_capacity self.old.stored - vec_len self.old.stored
-            ≡ vec_capacity self.new.stored - vec_len self.new.stored + length added.items }
-    {
-        for item in added {
-            self.stored.push_reserved(item);
         }
     }
 

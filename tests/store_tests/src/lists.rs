@@ -21,7 +21,7 @@ fn append_numbers<C: Storage<u64>>(
     many: u64,
 ) -> Result<(), AllocError> {
     storage.reserve(many as usize)?;
-    storage.append(numbers(alloc, many)?);
+    storage.append(&mut numbers(alloc, many)?);
     Ok(())
 }
 

@@ -12,14 +12,14 @@ use std::marker::PhantomData;
 /// A map of just these items.
 pub fn map_of<K: PartialEnum, X: Eq + Drop, C: Storage<Item<AnyRange<K>, X>>>(
     alloc: Global,
-    items: Vec<Item<AnyRange<K>, X>>,
+    mut items: Vec<Item<AnyRange<K>, X>>,
 ) -> Result<RangeMap<K, X, C>, AllocError>
     requires { IsStored K.order X.eq items.items }
     ensures { IfOk result (λ map. C.items map ≡ items.items) }
 {
     let mut stored = C::new(alloc);
     stored.reserve(items.len())?;
-    stored.append(items);
+    stored.append(&mut items);
     Ok(RangeMap {
         stored,
         alloc,
