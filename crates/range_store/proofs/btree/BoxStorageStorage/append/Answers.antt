@@ -12,5 +12,5 @@ build-requires-clause-empty g c =
 
 pub build-requires-clause-some : goal.build-requires-clause-some
 build-requires-clause-some g c =
-    some_items c.is_empty.result c.args.added.now.len (length c.args.added.now.items)
-    c.is_empty.ensures c.if-not-is_empty.true c.args.added.now.ok.0
+    some_items c.is_empty.result c.replace-items.result.len (length c.replace-items.result.items)
+    c.is_empty.ensures c.if-not-is_empty.true c.replace-items.result.ok.0
