@@ -1,14 +1,14 @@
 -- Two nodes of a slab that got items of each other: one was taken out, and put back under its
 -- number once the other was written.
-use Rattle.std.proofs.Common.{◌≡◌, ◌≢◌, ℕ, ◌+◌, ◌≤◌, List, [], ◌∷◌, ◌++◌, get_or, take, drop, Some, None, IsSome, refl, sym, ap, ◌∙◌, inl, inr, arith}
+use Rattle.std.proofs.Common.{◌≡◌, ◌≢◌, ℕ, ◌+◌, ◌≤◌, List, [], ◌∷◌, ◌++◌, get_or, take, drop, Some, None, IsSome, refl, sym, ◌∙◌, inl, inr, arith}
 use Rattle.std.specs.Prelude.{vec_capacity}
 use Rattle.std.proofs.lemmas.Bool.{cases_eq}
 use Rattle.slab.specs.Slab.{Slab, get, slab_len, with_value, Updates}
 use Rattle.range_store.specs.declared.btree.node.Node.{Node}
 use Rattle.range_store.specs.declared.btree.nodes.TheConstants.{CAPACITY}
-use Rattle.range_store.specs.Heap.{Heap, HasNode, node_of, items_of, children_of, Absorbs, Divides}
+use Rattle.range_store.specs.Heap.{HasNode, Absorbs, Divides}
 use Rattle.range_store.specs.Spares.{heap_of, IsRewritten, IsWhole}
-use Rattle.range_store.proofs.Spares.{children_seen, edited, edited_len, edited_whole, emptied, emptied_whole, in_use, items_seen, stored, stored_whole, value_len, value_updates, written, written_whole}
+use Rattle.range_store.proofs.Spares.{children_seen, edited, edited_whole, emptied, emptied_whole, in_use, items_seen, stored, stored_whole, value_len, value_updates, written, written_whole}
 
 module _ {T : Type 0} (slab taken new : Slab (Node T)) (n m : ℕ) (apart : n ≢ m)
     (gone : Updates slab taken m None) (less : slab_len taken + 1 ≡ slab_len slab)

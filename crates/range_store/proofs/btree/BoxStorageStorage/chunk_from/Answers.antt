@@ -1,4 +1,4 @@
-use Rattle.std.proofs.Common.{◌≡◌, ◌≤◌, ◌+◌, ◌-◌, length, ap, arith, rules, sym, subst, ◌∙◌, drop, take}
+use Rattle.std.proofs.Common.{◌≡◌, ◌≤◌, ◌+◌, ◌-◌, length, ap, arith, rules, sym, subst, drop, take}
 use Rattle.std.proofs.lemmas.List.{length-drop, length-take}
 use Rattle.range_store.specs.Heap.{items_of, node_of}
 use Rattle.range_store.specs.Holding.{box_items, box_place, box_rank, good_home, next_at, rank_is, IsGood}

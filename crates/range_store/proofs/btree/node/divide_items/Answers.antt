@@ -1,4 +1,4 @@
-use Rattle.std.proofs.Common.{◌-◌, ◌++◌, [], drop, sym, ap, ◌∙◌, arith}
+use Rattle.std.proofs.Common.{◌-◌, ◌++◌, drop, sym, ap, ◌∙◌, arith}
 use Rattle.std.specs.List.{insert}
 use Rattle.range_store.proofs.Dividing.{last_item, left_high, left_low, middle_high, middle_low, right_high, right_low, shorter}
 use Rattle.range_store.proofs.btree.node.divide_items.Goals as goal

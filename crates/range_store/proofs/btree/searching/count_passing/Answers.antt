@@ -1,4 +1,4 @@
-use Rattle.std.proofs.Common.{◌≡◌, ◌-◌, length, arith, ◌∙◌}
+use Rattle.std.proofs.Common.{◌-◌, length, arith, ◌∙◌}
 use Rattle.range_store.proofs.Front.{narrowed, narrowing}
 use Rattle.range_store.proofs.btree.searching.count_passing.Goals as goal
 

@@ -1,5 +1,5 @@
-use Rattle.std.proofs.Common.{sym, ap, length, arith, ◌∙◌}
-use Rattle.range_store.proofs.Spares.{found, items_seen, children_seen}
+use Rattle.std.proofs.Common.{ap, length, arith}
+use Rattle.range_store.proofs.Spares.{found, items_seen}
 use Rattle.range_store.proofs.btree.nodes.Nodes.item_count.Goals as goal
 
 pub index-requires : goal.index-requires

@@ -1,5 +1,4 @@
-use Rattle.std.proofs.Common.{sym, subst, ap, length, arith, ◌∙◌}
-use Rattle.range_store.specs.Heap.{FitsChild}
+use Rattle.std.proofs.Common.{arith}
 use Rattle.range_store.proofs.Spares.{children_seen, edited, edited_len, edited_whole, found, items_seen}
 use Rattle.range_store.proofs.btree.nodes.Nodes.put_beside.Goals as goal
 

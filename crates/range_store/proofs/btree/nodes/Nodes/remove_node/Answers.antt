@@ -1,4 +1,4 @@
-use Rattle.std.proofs.Common.{arith, sym, ◌∙◌}
+use Rattle.std.proofs.Common.{arith}
 use Rattle.range_store.proofs.Spares.{edited_len, emptied, emptied_whole, fewer_spares, found}
 use Rattle.range_store.proofs.btree.nodes.Nodes.remove_node.Goals as goal
 

@@ -1,4 +1,4 @@
-use Rattle.std.proofs.Common.{◌≡◌, ◌<◌, [], ◌∷◌, ◌++◌, length, arith, refl, ap, ◌∙◌}
+use Rattle.std.proofs.Common.{◌≡◌, [], ◌∷◌, ◌++◌, length, arith, ap, ◌∙◌}
 use Rattle.range_store.specs.Spares.{IsRewritten}
 use Rattle.range_store.proofs.Spares.{bare_children, bare_items, edited_len, filled, filled_whole, spare_found, spares_left}
 use Rattle.range_store.proofs.btree.nodes.Nodes.store_above.Goals as goal

@@ -1,4 +1,4 @@
-use Rattle.std.proofs.Common.{◌≡◌, ◌<◌, [], ◌∷◌, ◌++◌, length, take, arith, refl, ap, ◌∙◌}
+use Rattle.std.proofs.Common.{◌≡◌, [], ◌++◌, length, take, arith, ap, ◌∙◌}
 use Rattle.std.specs.Vec.Iter.{into_iter_items}
 use Rattle.range_store.specs.Spares.{IsRewritten}
 use Rattle.range_store.proofs.Spares.{bare_children, bare_items, edited_len, filled, filled_whole, spare_found, spares_left}
