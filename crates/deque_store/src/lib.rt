@@ -1,7 +1,9 @@
 //! A container of one's own: items in a ring buffer, which moves the fewer of those around an item
 //! that comes or goes.
 #![tactic(auto)]
-ghost use Rattle.std.specs.Prelude.{◌≡◌, ℕ, ◌+◌, ◌<◌, ◌≤◌, length};
+ghost use Rattle.std.specs.Prelude.{◌≡◌, ℕ, ◌+◌, ◌<◌, ◌≤◌, List, length, insert};
+ghost use Rattle.std.specs.Option.{ForSome};
+ghost use Rattle.range_store.specs.ListPlaces.{place_before};
 ghost use Rattle.std.proofs.Common.{arith, refl};
 ghost use Rattle.std.specs.VecDeque.{deque_len, deque_capacity};
 
@@ -92,14 +94,12 @@ impl<T: Drop> Storage<T> for DequeStorage<T> {
     }
 
     fn search<P: Probe<T>>(&self, probe: &mut P) -> Option<usize> {
-        let mut passed = 0;
-        while passed < self.stored.len() && probe.ask(&self.stored[passed]) {
-            passed += 1;
+        for at in 0..self.stored.len() {
+            if !probe.ask(&self.stored[at]) {
+                return at.checked_sub(1);
+            }
         }
-        if passed == 0 {
-            return None;
-        }
-        Some(passed - 1)
+        self.stored.len().checked_sub(1)
     }
 
     fn reserve(&mut self, n: usize) -> Result<(), AllocError> {
@@ -111,7 +111,15 @@ impl<T: Drop> Storage<T> for DequeStorage<T> {
         Ok(())
     }
 
-    fn insert_at(&mut self, before: Option<usize>, item: T) -> usize {
+    fn insert_at(&mut self, before: Option<usize>, item: T) -> usize
+        requires good { ForSome before (λ p. p < length self.old.stored.items) }
+        requires has_room { 1 ≤ self.old.room }
+        ensures list { self.new.stored.items ≡ insert self.old.stored.items
+            (place_before (λ q. q) (length self.old.stored.items) before) item }
+        ensures space { self.old.room ≡ self.new.room + 1 }
+        ensures position { (result < length self.new.stored.items)
+            × (result ≡ place_before (λ q. q) (length self.old.stored.items) before) }
+    {
         let at = match before {
             Some(p) => p,
             None => self.stored.len(),
