@@ -60,7 +60,8 @@ class Crate:
         """Returns what its tests and its program are built from and run on."""
         folders = [self.folder / name for name in ("src", "specs", "conversations", "data")]
         found = [path for folder in folders for path in folder.rglob("*") if path.is_file()]
-        return sorted(found + [path for path in self.folder.iterdir() if path.is_file()])
+        found += [path for path in self.folder.iterdir() if path.is_file()]
+        return sorted(found + [TOP / path for path in borrowed(self.folder)])
 
 
 def listed(path):
@@ -89,6 +90,12 @@ def crates():
     return ordered
 
 
+def borrowed(folder):
+    """Returns the files of other crates that a crate of tests/ is built from and run on too, as paths from the top."""
+    path = folder / "borrowed.txt"
+    return [pathlib.Path(line) for line in path.read_text().split()] if path.exists() else []
+
+
 def below(every, name):
     """Returns the names of the crate and of all that it uses."""
     return {name}.union(*(below(every, other) for other in every[name].named))
@@ -104,7 +111,12 @@ def workspace(more=""):
         left_out = shutil.ignore_patterns("out", "must-fail", "mutants", "proofs")
         for folder in [*CRATES.iterdir(), *(TOP / "tests").iterdir()]:
             if folder.is_dir():
-                shutil.copytree(folder, top / "crates" / folder.name, ignore=left_out)
+                copy = top / "crates" / folder.name
+                shutil.copytree(folder, copy, ignore=left_out)
+                for path in borrowed(folder):
+                    target = copy.joinpath(*path.parts[2:])
+                    target.parent.mkdir(exist_ok=True)
+                    shutil.copy(TOP / path, target)
         for path in [*top.rglob(f"src/**/*{UNPROVED_SUFFIX}")]:
             path.rename(path.with_suffix(""))
         (top / "crates.txt").write_text(PROVED.read_text() + UNPROVED.read_text() + more)
