@@ -3,6 +3,12 @@
 //! [`Ipv4`] and [`Ipv6`] are key types of `btree_range_map`, and an [`AddressSet`] is a set of such
 //! keys. [`PrefixSet::prefixes`] goes over the prefixes that have just the addresses of a set, as
 //! few as can be.
+//!
+//! Where to find what:
+//!
+//! - keys too many to be counted: `src/ipv6.rt`, `specs/Addresses.antt`
+//! - the prefixes of a set of addresses: `src/{prefix,prefixes}.rt`,
+//!   `specs/{Prefixes,Tiles}.antt`; that no fewer have its addresses, `proofs/{Fewest,Sets}.antt`
 #![tactic(auto)]
 
 pub mod address;

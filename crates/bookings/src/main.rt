@@ -5,6 +5,12 @@
 //! the bookings that have some of them. With `other` in front, as in `other book 540..600 NAME`, a
 //! line speaks of the other calendar. `common 540..1020 30` replies the first 30 minutes among
 //! these that are free in both.
+//!
+//! Where to find what:
+//!
+//! - what a calendar promises of its bookings, over a shipped key: `src/calendar.rt`,
+//!   `specs/Calendars.antt`; which minutes a bound holds in `proofs/Minutes.antt`, where there is
+//!   room in `proofs/Room.antt`
 #![tactic(auto)]
 
 use std::alloc::Global;

@@ -3,6 +3,13 @@
 //! A [`RangeMap`] binds each key of a range to one value. Ranges that touch and have equal values
 //! are kept as one, so a map stores no more ranges than its bindings need. A [`RangeSet`] is a set
 //! of keys, kept in the same way; a [`RangeMultiMap`] gives each key a set of values.
+//!
+//! Where to find what:
+//!
+//! - short names for callers' contracts, and how many keys a type has:
+//!   `specs/{Names,KeyNumbers}.antt`
+//! - laws that callers cite: which keys a range and a stored range hold, keys by their indices,
+//!   the zero measure: `specs/{HeldKeys,KeyLaws}.antt`
 #![tactic(auto)]
 
 pub mod btree;

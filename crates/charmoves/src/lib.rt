@@ -16,6 +16,15 @@
 //! assert!(rt; moves.accepts("-12")?);
 //! assert!(rt; !moves.accepts("1-2")?);
 //! ```
+//!
+//! Where to find what:
+//!
+//! - rules, steps and accepted texts of an automaton: `src/{rules,moves}.rt`,
+//!   `specs/Automata.antt`
+//! - one state after the other, one character after the other:
+//!   `proofs/{Stepping,Paths,Leads,Leading}.antt`
+//! - the longest beginning of a text of which something holds, by characters and by bytes:
+//!   `specs/Beginnings.antt`, `proofs/Fronts.antt`
 #![tactic(auto)]
 
 mod longest;

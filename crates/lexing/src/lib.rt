@@ -20,6 +20,13 @@
 //! assert!(rt; tokens.next() == Some(Ok(Token { rule: number, start: 3, end: 6 })));
 //! assert!(rt; tokens.next() == None);
 //! ```
+//!
+//! Where to find what:
+//!
+//! - what the rules of a lexer accept, the token that a text begins with:
+//!   `src/{lexer,scanner}.rt`, `specs/{Lexers,Tokens}.antt`, `proofs/{Best,Firsts}.antt`
+//! - the tokens of a text, one after the other: `src/{tokens,cutting}.rt`, `specs/Runs.antt`,
+//!   `proofs/Cutting.antt`
 #![tactic(auto)]
 
 mod cutting;

@@ -1,4 +1,14 @@
 //! Programs that answer each line of a text by a text: reading lines, and writing the answers.
+//!
+//! Where to find what:
+//!
+//! - a program that answers lines, and how one is served: each line is read where it lies in the
+//!   reader's buffer: `src/program.rt`, `specs/Conversation.antt`,
+//!   `proofs/{FirstLine,Progress}.antt`
+//! - a conversation seen in other states, as a program's in the lists that it stores:
+//!   `proofs/Conversations.antt`
+//! - lines cut at a byte, numbers written in digits, a line for each element of a list:
+//!   `src/line.rt`, `specs/{Lines,Listing}.antt`, `proofs/Listing.antt`
 #![tactic(auto)]
 
 pub mod line;

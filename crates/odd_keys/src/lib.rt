@@ -1,4 +1,12 @@
 //! Keys, values and sets of values that are lawful and unlike those of std.
+//!
+//! Where to find what:
+//!
+//! - keys of which several are equal: by their indices `specs/Classes.antt`, `src/half.rt`; by
+//!   cross products `specs/Fractions.antt`
+//! - keys that cannot be cloned: `src/single.rt`, `specs/Singles.antt`
+//! - the two promises of a map, over every lawful and every complete key, and at each key type:
+//!   `src/promises/{bindings,lists}.rt`, `specs/Promises.antt`
 #![tactic(auto)]
 
 pub mod blind;

@@ -1,5 +1,28 @@
 //! One change to the ranges that a container stores: what a range meets, the borders of the change,
 //! the memory and the clones that it wants, and then the change itself, which cannot fail any more.
+//!
+//! Where to find what:
+//!
+//! - a map's search window: `src/window.rt`
+//! - which of its items reach out of the range, and what becomes of one that surrounds it:
+//!   `src/reach.rt`, `specs/Reach.antt`, `proofs/Surrounded.antt`
+//! - chains of intervals with values on a line of places, what is cut out of them and put
+//!   between: `specs/Chains.antt`, lemmas in `proofs/{Chains,ChainSides,ChainJoins}.antt`
+//! - what becomes of the items at a range's borders: `src/{borders,cut}.rt`, both sides together
+//!   in `proofs/Planned.antt`
+//! - the one way of changing a map: `src/`: `bind.rt`, `unbind.rt` and `replace.rt` plan,
+//!   `splice.rt` commits
+//! - ranges that come before or after all stored ones, put in with no search: `src/append.rt`,
+//!   `proofs/OuterRange.antt`
+//! - a range put between two others, neither of which it joins: `bind_isolated` in `src/bind.rt`,
+//!   `proofs/Between.antt`
+//! - whole ranges taken out: `unbind_whole` in `src/unbind.rt`
+//! - chains that come to stand between two places of another: `proofs/Splices.antt`
+//! - what a closure is asked of a range, and what it returns, as one list: `src/pieces.rt`,
+//!   `proofs/{RangePieces,AnswerLists,PieceAnswers,Asked}.antt`
+//! - which bounds an update leaves as they are written: `specs/Spelling.antt`,
+//!   `proofs/{Spelling,SpelledChanges}.antt`
+//! - how many steps a call takes: `specs/Costs.antt`, proved in `proofs/Lengths.antt`
 #![tactic(auto)]
 
 pub mod apart;

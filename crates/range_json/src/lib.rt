@@ -1,4 +1,23 @@
 //! Ranges, sets and maps as JSON values, and what JSON values are read as.
+//!
+//! Where to find what:
+//!
+//! - what a key or a plain value is written as: `src/{unsigned,signed,characters,plain}.rt`,
+//!   `specs/Keys.antt`, read back by `specs/ReadBack.antt`
+//! - bounds, ranges and sets as JSON values: `src/{bound,range,set}.rt`, `specs/Shapes.antt`;
+//!   their faults in `specs/Faults.antt`
+//! - a map in either shape, its elements and its faults: `src/{map,version,element}.rt`,
+//!   `specs/MapFaults.antt`, the loop in `proofs/MapReading.antt`
+//! - what an error of JSON found, in the value that it is given again:
+//!   `src/{explanation,found}.rt`
+//! - which earlier element one meets, looked for by the explanation alone: `src/meeting.rt`,
+//!   `specs/Meetings.antt`, `proofs/Meetings.antt`
+//! - a map of which the last element counts: `src/overwriting.rt`, `specs/Overwriting.antt`,
+//!   `proofs/OverwritingLoop.antt`
+//! - a set of values as an array, a multimap as a map of arrays: `src/{value_set,multimap}.rt`,
+//!   `specs/{ValueSets,MultimapFaults,SetReadBack}.antt`, `proofs/{ValueSets,Multimaps}.antt`
+//! - what is written is read back: laws for users: `src/laws.rt`, `specs/{Laws,Values}.antt`,
+//!   `proofs/{Keeping,ReadingBack,Exact}.antt`
 #![tactic(auto)]
 
 mod array;

@@ -1,4 +1,11 @@
 //! Reads lines, keeps four range maps, and prints the replies.
+//!
+//! Where to find what:
+//!
+//! - what a line of `rangecalc` does to four maps, by its one call, and the reply:
+//!   `specs/{Lines,Answers,Two,Conversation}.antt`, the calls in `src/{answer,listing,two,maps}.rt`
+//! - the four maps by their letters, in code and in contracts: one is changed, the others stay:
+//!   `src/named.rt`, `specs/Named.antt`
 #![tactic(auto)]
 
 use std::io::{self, BufReader, BufWriter, ErrorKind, LineWriter};
