@@ -35,7 +35,7 @@ fn value_from_json<V: Json>(alloc: Global, value: &Value, index: usize) -> Resul
 }
 
 /// The range and the value of the element at `index`.
-pub(crate) fn element_from_json<K: Json, V: Json>(
+pub fn element_from_json<K: Json, V: Json>(
     alloc: Global,
     value: &Value,
     index: usize,

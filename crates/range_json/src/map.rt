@@ -21,7 +21,7 @@ use serde_json::Value;
 use std::alloc::{AllocError, Global};
 
 /// A range and its value, as an array of two.
-pub(crate) fn pair_to_json<K: Json, V: Json>(
+pub fn pair_to_json<K: Json, V: Json>(
     alloc: Global,
     range: &AnyRange<K>,
     value: &V,

@@ -5,7 +5,7 @@ ghost use Rattle.range_algebra.specs.Range.{ClonesAreEqual};
 ghost use Rattle.range_change.specs.Bindings.{IsCoarse, IsOnlyCoarse};
 ghost use Rattle.range_change.specs.Stored.{IsStored};
 ghost use Rattle.range_change.specs.declared.error.UpdateError.TheVariants.{Closure as ClosureError, Memory as MemoryError};
-ghost use Rattle.range_merge.specs.Combining.{MayAnswerBoth, MayBeAskedOfBoth, AreCombined, IsCombination, MayFailOnBoth, MaySucceedOnBoth};
+ghost use Rattle.range_merge.specs.Combining.{MayAnswerBoth, MayBeAskedOfBoth, AreCombined, IsCombination, MayFailOnBoth, MayGiveValueOnBoth};
 
 use crate::inner::build::map_of;
 use crate::map::RangeMap;
@@ -42,10 +42,10 @@ fn gather_both<
         → MayFailOnBoth K.order (MayAnswerBoth F.Fn f.now) (C.items map.now) (D.items other.now)
         e }
     ensures some { IfOk result (λ answers. 0 < length answers.items
-        → MaySucceedOnBoth K.order (MayAnswerBoth F.Fn f.now) (C.items map.now)
+        → MayGiveValueOnBoth K.order (MayAnswerBoth F.Fn f.now) (C.items map.now)
         (D.items other.now)) }
     ensures memory { result ≡ Err MemoryError
-        → MaySucceedOnBoth K.order (MayAnswerBoth F.Fn f.now) (C.items map.now)
+        → MayGiveValueOnBoth K.order (MayAnswerBoth F.Fn f.now) (C.items map.now)
         (D.items other.now) }
 {
     map.in_form();
@@ -73,7 +73,7 @@ impl<K: PartialEnum + Clone, V: Eq + Drop, C: Storage<Item<AnyRange<K>, V>>> Ran
     ///
     /// Allocates a list of what the closure returns, clones of the bounds of its pieces, and the
     /// new map's ranges, all at once; fails with `Memory` where an allocation does, and only once the
-    /// closure answered without an error. Goes once over both maps, and searches neither.
+    /// closure answered a value. Goes once over both maps, and searches neither.
     ///
     /// ```
     /// // of a map that binds 0..=5 to 1, and one that binds 4..9 to 10
@@ -108,7 +108,7 @@ impl<K: PartialEnum + Clone, V: Eq + Drop, C: Storage<Item<AnyRange<K>, V>>> Ran
             → MayFailOnBoth K.order (MayAnswerBoth F.Fn f) (C.items self.now) (D.items other.now)
             e }
         ensures memory { result ≡ Err MemoryError
-            → MaySucceedOnBoth K.order (MayAnswerBoth F.Fn f) (C.items self.now)
+            → MayGiveValueOnBoth K.order (MayAnswerBoth F.Fn f) (C.items self.now)
             (D.items other.now) }
     {
         let answers = gather_both(self, other, &f)?;
