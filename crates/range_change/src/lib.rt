@@ -1,5 +1,6 @@
-//! One change to the ranges that a container stores: what a range meets, the borders of the change,
-//! the memory and the clones that it wants, and then the change itself, which cannot fail any more.
+//! One change to the ranges that a container stores. First come what a range meets, the borders of
+//! the change, and the memory and the clones that it wants. The change itself then cannot fail any
+//! more.
 //!
 //! Where to find what:
 //!
