@@ -82,7 +82,7 @@ def comment_before(lines, at):
 def exported(every):
     """Returns the names that the root exports, and those of its module `json`."""
     folders = [every[name].folder for name in ("btree_range_map", "range_json", "range_set_json")]
-    paths = [path for folder in folders for path in (folder / "src").rglob("*.rt")]
+    paths = [it for folder in folders for it in (folder / "src").rglob("*.rt") if it.name != "inner.rt"]
     uses = (it for path in paths for it in re.findall(r"^ *pub use ([^;]*);", path.read_text(), re.M))
     return {word for use in uses for word in re.findall(r"\w+", use)} | {"RangeMap", "RangeSet", "RangeMultiMap"}
 
