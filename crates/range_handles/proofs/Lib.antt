@@ -1,4 +1,6 @@
 mod AsBox
 mod Completeness
+mod Fills
+mod Flags
 mod Floats
 mod Upto

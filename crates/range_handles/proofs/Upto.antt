@@ -8,7 +8,7 @@ use Rattle.btree_range_map.specs.Counted.{counted_lawful}
 use Rattle.btree_range_map.specs.Range.{IsEmptyRange}
 use Rattle.btree_range_map.specs.Signed.{IsSigned, signed_counted}
 use Rattle.btree_range_map.specs.Unsigned.{unsigned_counted}
-use Rattle.range_c_types.specs.Flags.{upto_key}
+use Rattle.range_handles.specs.Flags.{upto_key}
 use Rattle.range_handles.specs.Lists.{unsigned_keys, signed_keys}
 
 none_past : (o : Ordering) → is_gt o ≡ false → ordering_then o Equal ≡ Greater → ⊥

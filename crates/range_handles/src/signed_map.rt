@@ -1,8 +1,9 @@
 //! Maps of `i64` keys to `u64` values, and the calls on a collection that may be one.
-ghost use Rattle.std.specs.Prelude.{◌≡◌, ◌≢◌, ◌⊎◌, ◌↔◌, ◌+◌, ◌*◌, ◌^◌, List, [], ◌∷◌, ◌++◌, Some, None, length, IsTrue, IfOk, IfErr, nat_eq};
+ghost use Rattle.std.specs.Prelude.{◌<◌, ◌≤◌, map, take, drop, reverse, ◌≡◌, ◌≢◌, ◌⊎◌, ◌↔◌, ◌+◌, ◌*◌, ◌^◌, List, [], ◌∷◌, ◌++◌, Some, None, length, IsTrue, IfOk, IfErr, nat_eq};
 ghost use Rattle.btree_range_map.specs.Apart.{IsConnectedError};
-ghost use Rattle.btree_range_map.specs.Bindings.{Binds, IsBound, IsItemFor, IsBoundAfter, IsUnboundAfter, IsLeastCount};
+ghost use Rattle.btree_range_map.specs.Bindings.{Binds, IsBound, IsItemFor, IsBoundAfter, IsUnboundAfter, IsLeastCount, BindAlike};
 ghost use Rattle.btree_range_map.specs.Holding.{box_items};
+ghost use Rattle.btree_range_map.specs.ListOrder.{IsCopyOf};
 ghost use Rattle.btree_range_map.specs.JsonError.TheVariants.{Memory};
 ghost use Rattle.serde_json.specs.View.{view};
 ghost use Rattle.serde_json.specs.Written.{compact_text};
@@ -10,17 +11,18 @@ ghost use Rattle.btree_range_map.specs.Lookups.{BindsKeyOf, IsConnectedToSome};
 ghost use Rattle.btree_range_map.specs.Numbers.{IsNumberOfKeys};
 ghost use Rattle.btree_range_map.specs.Range.{IsEmptyRange};
 ghost use Rattle.btree_range_map.specs.Overlapping.{AreOverlapping};
-ghost use Rattle.range_c_types.specs.Flags.{signed_range_of, signed_entry_item, number_of, from_key, upto_key};
+ghost use Rattle.range_handles.specs.Flags.{signed_range_of, signed_entry_item, number_of, from_key, upto_key};
 ghost use Rattle.range_handles.specs.Held.{HoldsSignedMap, signed_items};
 ghost use Rattle.range_handles.specs.Texts.{signed_data, IsSignedMapRead, IsSignedFault};
 ghost use Rattle.range_handles.specs.Lists.{signed_keys, SignedRanges};
 
+use crate::batch::{fill, fill_back};
+use crate::bounds::{Length, SignedBounds, SignedEntry};
 use crate::collection::Collection;
+use crate::status::{CONNECTED, DONE, NO_MEMORY, NONE, OTHER_KIND, answer, of_refusal};
 use btree_range_map::json::{JsonError, map_from_json, map_to_json};
 use btree_range_map::range::traits::measure_counts_keys;
 use btree_range_map::{AnyRange, RangeMap};
-use range_c_types::bounds::{Length, SignedBounds, SignedEntry};
-use range_c_types::status::{CONNECTED, DONE, NO_MEMORY, NONE, OTHER_KIND, answer, of_refusal};
 use serde_json::Value;
 use std::alloc::{AllocError, Global};
 use std::marker::Model;
@@ -60,6 +62,26 @@ impl SignedMap {
         ensures least { IsLeastCount signed_keys nat_eq self.now result }
     {
         self.map.range_count()
+    }
+
+    pub fn clear(&mut self)
+        ensures { self.new ≡ [] }
+    {
+        self.map.clear();
+    }
+
+    pub fn copied(&self) -> Result<SignedMap, AllocError>
+        ensures { IfOk result (λ copy. IsCopyOf signed_keys nat_eq copy self.now) }
+    {
+        Ok(SignedMap {
+            map: self.map.clone()?,
+        })
+    }
+
+    pub fn equals(&self, other: &SignedMap) -> bool
+        ensures { IsTrue result ↔ BindAlike signed_keys nat_eq self.now other.now }
+    {
+        self.map.eq_across(&other.map)
     }
 
     /// The text that it is saved as.
@@ -392,6 +414,71 @@ pub fn pop_last(collection: &mut Collection, entry: &mut SignedEntry) -> u32
             }
             None => NONE,
         },
+        _ => OTHER_KIND,
+    }
+}
+
+/// Writes the stored ranges from the first that ends at the key or after it on, in ascending
+/// order, as many as the array takes, and how many.
+///
+/// Fewer than the array takes are written where there are no more. What lies behind them in the
+/// array stays as it was.
+pub fn read(
+    collection: &Collection,
+    key: i64,
+    entries: &mut [SignedEntry],
+    count: &mut usize,
+) -> u32
+    ensures read { result ≡ DONE → (rest : SignedRanges)
+        × AreOverlapping signed_keys (signed_items (Some collection.now)) (from_key key)
+        (map signed_entry_item (take count.new entries.new) ++ rest)
+        × (count.new < length entries.old → rest ≡ []) }
+    ensures within { result ≡ DONE → count.new ≤ length entries.old }
+    ensures behind { result ≡ DONE → drop count.new entries.new ≡ drop count.new entries.old }
+    ensures unwritten { result ≢ DONE
+        → (entries.new ≡ entries.old) × (count.new ≡ count.old) }
+    ensures answer { HoldsSignedMap (Some collection.now) → result ≡ DONE }
+    ensures other { (¬ HoldsSignedMap (Some collection.now)) → result ≡ OTHER_KIND }
+{
+    match collection {
+        Collection::Signed(kept) => {
+            let mut items = kept.map.iter_from(key);
+            *count = fill(&mut items, entries);
+            DONE
+        }
+        _ => OTHER_KIND,
+    }
+}
+
+/// Writes the stored ranges from the last that starts at the key or before it on, in descending
+/// order, as many as the array takes, and how many.
+///
+/// Fewer than the array takes are written where there are no more. What lies behind them in the
+/// array stays as it was.
+#[tactic(auto, using(crate::proofs::Upto::signed_upto))]
+pub fn read_back(
+    collection: &Collection,
+    key: i64,
+    entries: &mut [SignedEntry],
+    count: &mut usize,
+) -> u32
+    ensures read { result ≡ DONE → (rest : SignedRanges)
+        × AreOverlapping signed_keys (signed_items (Some collection.now)) (upto_key key)
+        (rest ++ reverse (map signed_entry_item (take count.new entries.new)))
+        × (count.new < length entries.old → rest ≡ []) }
+    ensures within { result ≡ DONE → count.new ≤ length entries.old }
+    ensures behind { result ≡ DONE → drop count.new entries.new ≡ drop count.new entries.old }
+    ensures unwritten { result ≢ DONE
+        → (entries.new ≡ entries.old) × (count.new ≡ count.old) }
+    ensures answer { HoldsSignedMap (Some collection.now) → result ≡ DONE }
+    ensures other { (¬ HoldsSignedMap (Some collection.now)) → result ≡ OTHER_KIND }
+{
+    match collection {
+        Collection::Signed(kept) => {
+            let mut items = kept.map.overlapping(..=key);
+            *count = fill_back(&mut items, entries);
+            DONE
+        }
         _ => OTHER_KIND,
     }
 }

@@ -1,29 +1,33 @@
 //! Sets of `u64` keys, and the calls on a collection that may be one.
-ghost use Rattle.std.specs.Prelude.{◌≡◌, ◌≢◌, ◌⊎◌, ◌↔◌, ◌+◌, ◌*◌, ◌^◌, ℕ, List, [], ◌∷◌, ◌++◌, Some, None, length, IsTrue, IfOk, IfErr};
+ghost use Rattle.std.specs.Prelude.{◌<◌, ◌≤◌, map, take, drop, reverse, true, ◌≡◌, ◌≢◌, ◌⊎◌, ◌↔◌, ◌+◌, ◌*◌, ◌^◌, ℕ, List, [], ◌∷◌, ◌++◌, Some, None, length, IsTrue, IfOk, IfErr};
 ghost use Rattle.btree_range_map.specs.AnyRange.{AnyRange};
 ghost use Rattle.btree_range_map.specs.FreeRanges.{item_ranges};
 ghost use Rattle.btree_range_map.specs.Holding.{box_items};
-ghost use Rattle.btree_range_map.specs.KeySets.{HoldsKey, HoldsAlso, HoldsWithout, IsLeastCount};
+ghost use Rattle.btree_range_map.specs.ListOrder.{IsCopyOf};
+ghost use Rattle.btree_range_map.specs.Together.{BindKeysOf, ShareNoKey};
+ghost use Rattle.btree_range_map.specs.KeySets.{HoldAlike, HoldsKey, HoldsAlso, HoldsTheOthers, HoldsWithout, IsLeastCount};
 ghost use Rattle.btree_range_map.specs.JsonError.TheVariants.{Memory};
 ghost use Rattle.serde_json.specs.View.{view};
 ghost use Rattle.serde_json.specs.Written.{compact_text};
 ghost use Rattle.btree_range_map.specs.Lookups.{BindsKeyOf};
 ghost use Rattle.btree_range_map.specs.Numbers.{IsNumberOfKeys};
+ghost use Rattle.btree_range_map.specs.Overlapping.{AreOverlapping};
 ghost use Rattle.btree_range_map.specs.Range.{IsEmptyRange};
 ghost use Rattle.btree_range_map.specs.SetReads.{AreRangesThatMeet};
-ghost use Rattle.btree_range_map.specs.TwoSets.{HoldsEither, HoldsBoth};
-ghost use Rattle.range_c_types.specs.Flags.{range_of, number_of, from_key, upto_key};
+ghost use Rattle.btree_range_map.specs.TwoSets.{HoldsEither, HoldsBoth, HoldsFirstAlone, HoldsJustOne};
+ghost use Rattle.range_handles.specs.Flags.{range_of, bounds_item, number_of, from_key, upto_key};
 ghost use Rattle.range_handles.specs.Held.{HoldsSet, IsRangeFor, set_items};
 ghost use Rattle.range_handles.specs.Texts.{set_data, IsUnsignedSetRead, IsSetFault};
 ghost use Rattle.range_handles.specs.Lists.{unsigned_keys, KeyRanges};
 
+use crate::batch::{fill, fill_back};
+use crate::bounds::{Bounds, Length};
 use crate::collection::Collection;
 use crate::handle::Handle;
+use crate::status::{DONE, NO_MEMORY, NONE, OTHER_KIND, answer};
 use btree_range_map::json::{JsonError, set_from_json, set_to_json};
 use btree_range_map::range::traits::measure_counts_keys;
 use btree_range_map::{AnyRange, RangeSet};
-use range_c_types::bounds::{Bounds, Length};
-use range_c_types::status::{DONE, NO_MEMORY, NONE, OTHER_KIND, answer};
 use serde_json::Value;
 use std::alloc::{AllocError, Global};
 use std::marker::Model;
@@ -62,6 +66,38 @@ impl UnsignedSet {
         ensures least { IsLeastCount unsigned_keys self.now result }
     {
         self.set.range_count()
+    }
+
+    pub fn clear(&mut self)
+        ensures { self.new ≡ [] }
+    {
+        self.set.clear();
+    }
+
+    pub fn copied(&self) -> Result<UnsignedSet, AllocError>
+        ensures { IfOk result (λ copy. IsCopyOf unsigned_keys (λ _ _. true) copy self.now) }
+    {
+        Ok(UnsignedSet {
+            set: self.set.clone()?,
+        })
+    }
+
+    pub fn equals(&self, other: &UnsignedSet) -> bool
+        ensures { IsTrue result ↔ HoldAlike unsigned_keys self.now other.now }
+    {
+        self.set.eq_across(&other.set)
+    }
+
+    fn is_subset(&self, other: &UnsignedSet) -> bool
+        ensures { IsTrue result ↔ BindKeysOf unsigned_keys self.now other.now }
+    {
+        self.set.is_subset(&other.set)
+    }
+
+    fn is_disjoint(&self, other: &UnsignedSet) -> bool
+        ensures { IsTrue result ↔ ShareNoKey unsigned_keys self.now other.now }
+    {
+        self.set.is_disjoint(&other.set)
     }
 
     /// The text that it is saved as.
@@ -390,5 +426,170 @@ pub fn intersection(
             }
         }
         (_, _) => OTHER_KIND,
+    }
+}
+
+/// Opens a closed handle on a set of the keys of the first set that are not in the other.
+pub fn difference(
+    alloc: Global,
+    collection: &Collection,
+    other: &Collection,
+    made: &mut Handle,
+) -> u32
+    ensures made { result ≡ DONE → HoldsSet made.new.seal.held × HoldsFirstAlone unsigned_keys
+        (set_items (Some collection.now)) (set_items (Some other.now))
+        (set_items made.new.seal.held) }
+    ensures refused { result ≢ DONE → made.new.seal.held ≡ made.old.seal.held }
+    ensures answer { HoldsSet (Some collection.now) → HoldsSet (Some other.now)
+        → (result ≡ DONE) ⊎ (result ≡ NO_MEMORY) }
+    ensures other { (¬ HoldsSet (Some collection.now)) ⊎ (¬ HoldsSet (Some other.now))
+        → result ≡ OTHER_KIND }
+{
+    match (collection, other) {
+        (Collection::Set(first), Collection::Set(second)) => {
+            match first.set.difference(&second.set) {
+                Ok(set) => made.fill(alloc, Collection::Set(UnsignedSet { set })),
+                Err(_) => NO_MEMORY,
+            }
+        }
+        (_, _) => OTHER_KIND,
+    }
+}
+
+/// Opens a closed handle on a set of the keys that are in just one of the two sets.
+pub fn symmetric_difference(
+    alloc: Global,
+    collection: &Collection,
+    other: &Collection,
+    made: &mut Handle,
+) -> u32
+    ensures made { result ≡ DONE → HoldsSet made.new.seal.held × HoldsJustOne unsigned_keys
+        (set_items (Some collection.now)) (set_items (Some other.now))
+        (set_items made.new.seal.held) }
+    ensures refused { result ≢ DONE → made.new.seal.held ≡ made.old.seal.held }
+    ensures answer { HoldsSet (Some collection.now) → HoldsSet (Some other.now)
+        → (result ≡ DONE) ⊎ (result ≡ NO_MEMORY) }
+    ensures other { (¬ HoldsSet (Some collection.now)) ⊎ (¬ HoldsSet (Some other.now))
+        → result ≡ OTHER_KIND }
+{
+    match (collection, other) {
+        (Collection::Set(first), Collection::Set(second)) => {
+            match first.set.symmetric_difference(&second.set) {
+                Ok(set) => made.fill(alloc, Collection::Set(UnsignedSet { set })),
+                Err(_) => NO_MEMORY,
+            }
+        }
+        (_, _) => OTHER_KIND,
+    }
+}
+
+/// Opens a closed handle on a set of just the keys that are not in the set.
+pub fn complement(alloc: Global, collection: &Collection, made: &mut Handle) -> u32
+    ensures made { result ≡ DONE → HoldsSet made.new.seal.held × HoldsTheOthers unsigned_keys
+        (set_items (Some collection.now)) (set_items made.new.seal.held) }
+    ensures refused { result ≢ DONE → made.new.seal.held ≡ made.old.seal.held }
+    ensures answer { HoldsSet (Some collection.now) → (result ≡ DONE) ⊎ (result ≡ NO_MEMORY) }
+    ensures other { (¬ HoldsSet (Some collection.now)) → result ≡ OTHER_KIND }
+{
+    match collection {
+        Collection::Set(kept) => match kept.set.complement() {
+            Ok(set) => made.fill(alloc, Collection::Set(UnsignedSet { set })),
+            Err(_) => NO_MEMORY,
+        },
+        _ => OTHER_KIND,
+    }
+}
+
+/// Whether each key of the set is in the other.
+pub fn is_subset(collection: &Collection, other: &Collection) -> u32
+    ensures yes { result ≡ DONE → BindKeysOf unsigned_keys
+        (set_items (Some collection.now)) (set_items (Some other.now)) }
+    ensures no { result ≡ NONE → ¬ BindKeysOf unsigned_keys
+        (set_items (Some collection.now)) (set_items (Some other.now)) }
+    ensures answer { HoldsSet (Some collection.now) → HoldsSet (Some other.now)
+        → (result ≡ DONE) ⊎ (result ≡ NONE) }
+    ensures other { (¬ HoldsSet (Some collection.now)) ⊎ (¬ HoldsSet (Some other.now))
+        → result ≡ OTHER_KIND }
+{
+    match (collection, other) {
+        (Collection::Set(first), Collection::Set(second)) => answer(first.is_subset(second)),
+        (_, _) => OTHER_KIND,
+    }
+}
+
+/// Whether no key is in both sets.
+pub fn is_disjoint(collection: &Collection, other: &Collection) -> u32
+    ensures yes { result ≡ DONE → ShareNoKey unsigned_keys
+        (set_items (Some collection.now)) (set_items (Some other.now)) }
+    ensures no { result ≡ NONE → ¬ ShareNoKey unsigned_keys
+        (set_items (Some collection.now)) (set_items (Some other.now)) }
+    ensures answer { HoldsSet (Some collection.now) → HoldsSet (Some other.now)
+        → (result ≡ DONE) ⊎ (result ≡ NONE) }
+    ensures other { (¬ HoldsSet (Some collection.now)) ⊎ (¬ HoldsSet (Some other.now))
+        → result ≡ OTHER_KIND }
+{
+    match (collection, other) {
+        (Collection::Set(first), Collection::Set(second)) => answer(first.is_disjoint(second)),
+        (_, _) => OTHER_KIND,
+    }
+}
+
+/// Writes the stored ranges from the first that ends at the key or after it on, in ascending
+/// order, as many as the array takes, and how many.
+///
+/// Fewer than the array takes are written where there are no more. What lies behind them in the
+/// array stays as it was.
+pub fn read(collection: &Collection, key: u64, entries: &mut [Bounds], count: &mut usize) -> u32
+    ensures read { result ≡ DONE → (rest : KeyRanges)
+        × AreOverlapping unsigned_keys (set_items (Some collection.now)) (from_key key)
+        (map bounds_item (take count.new entries.new) ++ rest)
+        × (count.new < length entries.old → rest ≡ []) }
+    ensures within { result ≡ DONE → count.new ≤ length entries.old }
+    ensures behind { result ≡ DONE → drop count.new entries.new ≡ drop count.new entries.old }
+    ensures unwritten { result ≢ DONE
+        → (entries.new ≡ entries.old) × (count.new ≡ count.old) }
+    ensures answer { HoldsSet (Some collection.now) → result ≡ DONE }
+    ensures other { (¬ HoldsSet (Some collection.now)) → result ≡ OTHER_KIND }
+{
+    match collection {
+        Collection::Set(kept) => {
+            let mut items = kept.set.as_map().iter_from(key);
+            *count = fill(&mut items, entries);
+            DONE
+        }
+        _ => OTHER_KIND,
+    }
+}
+
+/// Writes the stored ranges from the last that starts at the key or before it on, in descending
+/// order, as many as the array takes, and how many.
+///
+/// Fewer than the array takes are written where there are no more. What lies behind them in the
+/// array stays as it was.
+#[tactic(auto, using(crate::proofs::Upto::unsigned_upto))]
+pub fn read_back(
+    collection: &Collection,
+    key: u64,
+    entries: &mut [Bounds],
+    count: &mut usize,
+) -> u32
+    ensures read { result ≡ DONE → (rest : KeyRanges)
+        × AreOverlapping unsigned_keys (set_items (Some collection.now)) (upto_key key)
+        (rest ++ reverse (map bounds_item (take count.new entries.new)))
+        × (count.new < length entries.old → rest ≡ []) }
+    ensures within { result ≡ DONE → count.new ≤ length entries.old }
+    ensures behind { result ≡ DONE → drop count.new entries.new ≡ drop count.new entries.old }
+    ensures unwritten { result ≢ DONE
+        → (entries.new ≡ entries.old) × (count.new ≡ count.old) }
+    ensures answer { HoldsSet (Some collection.now) → result ≡ DONE }
+    ensures other { (¬ HoldsSet (Some collection.now)) → result ≡ OTHER_KIND }
+{
+    match collection {
+        Collection::Set(kept) => {
+            let mut items = kept.set.as_map().overlapping(..=key);
+            *count = fill_back(&mut items, entries);
+            DONE
+        }
+        _ => OTHER_KIND,
     }
 }

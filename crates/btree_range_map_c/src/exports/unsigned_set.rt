@@ -1,27 +1,29 @@
 //! The calls on sets of `u64` keys.
-ghost use Rattle.std.specs.Prelude.{◌≡◌, ◌≢◌, ◌⊎◌, ◌↔◌, ℕ, List, [], ◌∷◌, ◌++◌, IsSome, Some, None, true, false};
+ghost use Rattle.std.specs.Prelude.{◌<◌, ◌≤◌, map, take, drop, reverse, length, ◌≡◌, ◌≢◌, ◌⊎◌, ◌↔◌, ℕ, List, [], ◌∷◌, ◌++◌, IsSome, Some, None, true, false};
 ghost use Rattle.btree_range_map.specs.AnyRange.{AnyRange};
 ghost use Rattle.btree_range_map.specs.FreeRanges.{item_ranges};
-ghost use Rattle.btree_range_map.specs.KeySets.{HoldsKey, HoldsAlso, HoldsWithout};
+ghost use Rattle.btree_range_map.specs.KeySets.{HoldsKey, HoldsAlso, HoldsTheOthers, HoldsWithout};
 ghost use Rattle.btree_range_map.specs.Lookups.{BindsKeyOf};
 ghost use Rattle.btree_range_map.specs.Numbers.{IsNumberOfKeys};
+ghost use Rattle.btree_range_map.specs.Overlapping.{AreOverlapping};
 ghost use Rattle.btree_range_map.specs.Range.{IsEmptyRange};
 ghost use Rattle.btree_range_map.specs.SetReads.{AreRangesThatMeet};
-ghost use Rattle.btree_range_map.specs.TwoSets.{HoldsEither, HoldsBoth};
-ghost use Rattle.range_c_types.specs.Flags.{range_of, number_of, from_key, upto_key};
+ghost use Rattle.btree_range_map.specs.TwoSets.{HoldsEither, HoldsBoth, HoldsFirstAlone, HoldsJustOne};
+ghost use Rattle.btree_range_map.specs.Together.{BindKeysOf, ShareNoKey};
+ghost use Rattle.range_handles.specs.Flags.{range_of, bounds_item, number_of, from_key, upto_key};
 ghost use Rattle.range_handles.specs.Held.{HoldsSet, IsRangeFor, set_items};
 ghost use Rattle.range_handles.specs.Lists.{unsigned_keys, KeyRanges};
 
-use range_c_types::bounds::{Bounds, Length};
-use range_c_types::status::{CLOSED, DONE, NO_MEMORY, NONE, OPEN, OTHER_KIND};
+use range_handles::bounds::{Bounds, Length};
 use range_handles::collection::Collection;
 use range_handles::handle::Handle;
+use range_handles::status::{CLOSED, DONE, NO_MEMORY, NONE, OPEN, OTHER_KIND};
 use range_handles::unsigned_set::{self, UnsignedSet};
 use std::alloc::Global;
 
 /// Opens a closed handle, on an empty set. Allocates one block.
 #[unsafe(no_mangle)]
-pub extern "C" fn range_set_u64_create(alloc: Global, handle: &mut Handle) -> u32
+pub extern "C" fn brm_set_u64_create(alloc: Global, handle: &mut Handle) -> u32
     ensures created { result ≡ DONE → (HoldsSet handle.new.seal.held)
         × (set_items handle.new.seal.held ≡ []) }
     ensures refused { result ≢ DONE → handle.new.seal.held ≡ handle.old.seal.held }
@@ -36,7 +38,7 @@ pub extern "C" fn range_set_u64_create(alloc: Global, handle: &mut Handle) -> u3
 
 /// Adds each key of the range. An empty range changes nothing.
 #[unsafe(no_mangle)]
-pub extern "C" fn range_set_u64_insert(alloc: Global, handle: &mut Handle, range: &Bounds) -> u32
+pub extern "C" fn brm_set_u64_insert(handle: &mut Handle, range: &Bounds) -> u32
     ensures added { result ≡ DONE
         → HoldsAlso unsigned_keys (set_items handle.old.seal.held)
         (set_items handle.new.seal.held) (range_of range.now) }
@@ -54,15 +56,12 @@ pub extern "C" fn range_set_u64_insert(alloc: Global, handle: &mut Handle, range
     if !handle.is_open {
         return CLOSED;
     }
-    let mut collection = handle.take(alloc);
-    let status = unsigned_set::insert(collection.as_mut(), range);
-    *handle = Handle::open(collection);
-    status
+    unsigned_set::insert(handle.seal.as_mut(), range)
 }
 
 /// Takes each key of the range away. An empty range changes nothing.
 #[unsafe(no_mangle)]
-pub extern "C" fn range_set_u64_remove(alloc: Global, handle: &mut Handle, range: &Bounds) -> u32
+pub extern "C" fn brm_set_u64_remove(handle: &mut Handle, range: &Bounds) -> u32
     ensures removed { result ≡ DONE
         → HoldsWithout unsigned_keys (set_items handle.old.seal.held)
         (set_items handle.new.seal.held) (range_of range.now) }
@@ -80,20 +79,12 @@ pub extern "C" fn range_set_u64_remove(alloc: Global, handle: &mut Handle, range
     if !handle.is_open {
         return CLOSED;
     }
-    let mut collection = handle.take(alloc);
-    let status = unsigned_set::remove(collection.as_mut(), range);
-    *handle = Handle::open(collection);
-    status
+    unsigned_set::remove(handle.seal.as_mut(), range)
 }
 
 /// Writes the stored range that holds the key.
 #[unsafe(no_mangle)]
-pub extern "C" fn range_set_u64_get(
-    alloc: Global,
-    handle: &mut Handle,
-    key: u64,
-    entry: &mut Bounds,
-) -> u32
+pub extern "C" fn brm_set_u64_get(handle: &mut Handle, key: u64, entry: &mut Bounds) -> u32
     ensures unchanged { handle.new.seal.held ≡ handle.old.seal.held }
     ensures found { result ≡ DONE
         → IsRangeFor unsigned_keys (set_items handle.old.seal.held) key (range_of entry.new) }
@@ -107,15 +98,12 @@ pub extern "C" fn range_set_u64_get(
     if !handle.is_open {
         return CLOSED;
     }
-    let collection = handle.take(alloc);
-    let status = unsigned_set::get(collection.as_ref(), key, entry);
-    *handle = Handle::open(collection);
-    status
+    unsigned_set::get(handle.seal.as_mut(), key, entry)
 }
 
 /// Whether the key is in the set: `DONE` where it is, `NONE` where it is not.
 #[unsafe(no_mangle)]
-pub extern "C" fn range_set_u64_contains(alloc: Global, handle: &mut Handle, key: u64) -> u32
+pub extern "C" fn brm_set_u64_contains(handle: &mut Handle, key: u64) -> u32
     ensures unchanged { handle.new.seal.held ≡ handle.old.seal.held }
     ensures yes { result ≡ DONE → HoldsKey unsigned_keys (set_items handle.old.seal.held) key }
     ensures no { result ≡ NONE → ¬ HoldsKey unsigned_keys (set_items handle.old.seal.held) key }
@@ -127,19 +115,12 @@ pub extern "C" fn range_set_u64_contains(alloc: Global, handle: &mut Handle, key
     if !handle.is_open {
         return CLOSED;
     }
-    let collection = handle.take(alloc);
-    let status = unsigned_set::contains(collection.as_ref(), key);
-    *handle = Handle::open(collection);
-    status
+    unsigned_set::contains(handle.seal.as_mut(), key)
 }
 
 /// Whether some key of the range is in the set: `DONE` where one is, `NONE` where none is.
 #[unsafe(no_mangle)]
-pub extern "C" fn range_set_u64_intersects(
-    alloc: Global,
-    handle: &mut Handle,
-    range: &Bounds,
-) -> u32
+pub extern "C" fn brm_set_u64_intersects(handle: &mut Handle, range: &Bounds) -> u32
     ensures unchanged { handle.new.seal.held ≡ handle.old.seal.held }
     ensures yes { result ≡ DONE
         → BindsKeyOf unsigned_keys (set_items handle.old.seal.held) (range_of range.now) }
@@ -153,15 +134,12 @@ pub extern "C" fn range_set_u64_intersects(
     if !handle.is_open {
         return CLOSED;
     }
-    let collection = handle.take(alloc);
-    let status = unsigned_set::intersects(collection.as_ref(), range);
-    *handle = Handle::open(collection);
-    status
+    unsigned_set::intersects(handle.seal.as_mut(), range)
 }
 
 /// Writes how many keys are in the set.
 #[unsafe(no_mangle)]
-pub extern "C" fn range_set_u64_len(alloc: Global, handle: &mut Handle, length: &mut Length) -> u32
+pub extern "C" fn brm_set_u64_len(handle: &mut Handle, length: &mut Length) -> u32
     ensures unchanged { handle.new.seal.held ≡ handle.old.seal.held }
     ensures counted { result ≡ DONE → IsNumberOfKeys unsigned_keys
         (HoldsKey unsigned_keys (set_items handle.old.seal.held)) (number_of length.new) }
@@ -174,15 +152,12 @@ pub extern "C" fn range_set_u64_len(alloc: Global, handle: &mut Handle, length: 
     if !handle.is_open {
         return CLOSED;
     }
-    let collection = handle.take(alloc);
-    let status = unsigned_set::len(collection.as_ref(), length);
-    *handle = Handle::open(collection);
-    status
+    unsigned_set::len(handle.seal.as_mut(), length)
 }
 
 /// Writes the first stored range.
 #[unsafe(no_mangle)]
-pub extern "C" fn range_set_u64_first(alloc: Global, handle: &mut Handle, entry: &mut Bounds) -> u32
+pub extern "C" fn brm_set_u64_first(handle: &mut Handle, entry: &mut Bounds) -> u32
     ensures unchanged { handle.new.seal.held ≡ handle.old.seal.held }
     ensures first { result ≡ DONE → (rest : List (AnyRange ℕ))
         × (item_ranges (set_items handle.old.seal.held) ≡ range_of entry.new ∷ rest) }
@@ -196,15 +171,12 @@ pub extern "C" fn range_set_u64_first(alloc: Global, handle: &mut Handle, entry:
     if !handle.is_open {
         return CLOSED;
     }
-    let collection = handle.take(alloc);
-    let status = unsigned_set::first(collection.as_ref(), entry);
-    *handle = Handle::open(collection);
-    status
+    unsigned_set::first(handle.seal.as_mut(), entry)
 }
 
 /// Writes the last stored range.
 #[unsafe(no_mangle)]
-pub extern "C" fn range_set_u64_last(alloc: Global, handle: &mut Handle, entry: &mut Bounds) -> u32
+pub extern "C" fn brm_set_u64_last(handle: &mut Handle, entry: &mut Bounds) -> u32
     ensures unchanged { handle.new.seal.held ≡ handle.old.seal.held }
     ensures last { result ≡ DONE → (front : List (AnyRange ℕ))
         × (item_ranges (set_items handle.old.seal.held) ≡ front ++ range_of entry.new ∷ []) }
@@ -218,10 +190,7 @@ pub extern "C" fn range_set_u64_last(alloc: Global, handle: &mut Handle, entry: 
     if !handle.is_open {
         return CLOSED;
     }
-    let collection = handle.take(alloc);
-    let status = unsigned_set::last(collection.as_ref(), entry);
-    *handle = Handle::open(collection);
-    status
+    unsigned_set::last(handle.seal.as_mut(), entry)
 }
 
 /// Writes the first stored range that ends at the key or after it.
@@ -229,12 +198,7 @@ pub extern "C" fn range_set_u64_last(alloc: Global, handle: &mut Handle, entry: 
 /// It is the first of those that meet the keys from this one on; all before it end below the key.
 /// Costs one search.
 #[unsafe(no_mangle)]
-pub extern "C" fn range_set_u64_next(
-    alloc: Global,
-    handle: &mut Handle,
-    key: u64,
-    entry: &mut Bounds,
-) -> u32
+pub extern "C" fn brm_set_u64_next(handle: &mut Handle, key: u64, entry: &mut Bounds) -> u32
     ensures unchanged { handle.new.seal.held ≡ handle.old.seal.held }
     ensures next { result ≡ DONE → (rest : List (AnyRange ℕ))
         × AreRangesThatMeet unsigned_keys (set_items handle.old.seal.held) (from_key key)
@@ -250,10 +214,7 @@ pub extern "C" fn range_set_u64_next(
     if !handle.is_open {
         return CLOSED;
     }
-    let collection = handle.take(alloc);
-    let status = unsigned_set::next(collection.as_ref(), key, entry);
-    *handle = Handle::open(collection);
-    status
+    unsigned_set::next(handle.seal.as_mut(), key, entry)
 }
 
 /// Writes the last stored range that starts at the key or before it.
@@ -261,12 +222,7 @@ pub extern "C" fn range_set_u64_next(
 /// It is the last of those that meet the keys up to this one; all after it start past the key.
 /// Costs two searches.
 #[unsafe(no_mangle)]
-pub extern "C" fn range_set_u64_previous(
-    alloc: Global,
-    handle: &mut Handle,
-    key: u64,
-    entry: &mut Bounds,
-) -> u32
+pub extern "C" fn brm_set_u64_previous(handle: &mut Handle, key: u64, entry: &mut Bounds) -> u32
     ensures unchanged { handle.new.seal.held ≡ handle.old.seal.held }
     ensures previous { result ≡ DONE → (front : List (AnyRange ℕ))
         × AreRangesThatMeet unsigned_keys (set_items handle.old.seal.held) (upto_key key)
@@ -282,19 +238,12 @@ pub extern "C" fn range_set_u64_previous(
     if !handle.is_open {
         return CLOSED;
     }
-    let collection = handle.take(alloc);
-    let status = unsigned_set::previous(collection.as_ref(), key, entry);
-    *handle = Handle::open(collection);
-    status
+    unsigned_set::previous(handle.seal.as_mut(), key, entry)
 }
 
 /// Takes the first stored range out, and writes it. Allocates nothing.
 #[unsafe(no_mangle)]
-pub extern "C" fn range_set_u64_pop_first(
-    alloc: Global,
-    handle: &mut Handle,
-    entry: &mut Bounds,
-) -> u32
+pub extern "C" fn brm_set_u64_pop_first(handle: &mut Handle, entry: &mut Bounds) -> u32
     ensures first { result ≡ DONE → item_ranges (set_items handle.old.seal.held)
         ≡ range_of entry.new ∷ item_ranges (set_items handle.new.seal.held) }
     ensures none { result ≢ DONE → set_items handle.old.seal.held ≡ [] }
@@ -309,19 +258,12 @@ pub extern "C" fn range_set_u64_pop_first(
     if !handle.is_open {
         return CLOSED;
     }
-    let mut collection = handle.take(alloc);
-    let status = unsigned_set::pop_first(collection.as_mut(), entry);
-    *handle = Handle::open(collection);
-    status
+    unsigned_set::pop_first(handle.seal.as_mut(), entry)
 }
 
 /// Takes the last stored range out, and writes it. Allocates nothing.
 #[unsafe(no_mangle)]
-pub extern "C" fn range_set_u64_pop_last(
-    alloc: Global,
-    handle: &mut Handle,
-    entry: &mut Bounds,
-) -> u32
+pub extern "C" fn brm_set_u64_pop_last(handle: &mut Handle, entry: &mut Bounds) -> u32
     ensures last { result ≡ DONE → item_ranges (set_items handle.old.seal.held)
         ≡ item_ranges (set_items handle.new.seal.held) ++ range_of entry.new ∷ [] }
     ensures none { result ≢ DONE → set_items handle.old.seal.held ≡ [] }
@@ -336,17 +278,14 @@ pub extern "C" fn range_set_u64_pop_last(
     if !handle.is_open {
         return CLOSED;
     }
-    let mut collection = handle.take(alloc);
-    let status = unsigned_set::pop_last(collection.as_mut(), entry);
-    *handle = Handle::open(collection);
-    status
+    unsigned_set::pop_last(handle.seal.as_mut(), entry)
 }
 
 /// Opens a closed handle on a set of the keys that are in either set, which stay as they are.
 ///
 /// Allocates its ranges, a list of them before, and one block more. Goes once over both sets.
 #[unsafe(no_mangle)]
-pub extern "C" fn range_set_u64_union(
+pub extern "C" fn brm_raw_set_u64_union(
     alloc: Global,
     handle: &mut Handle,
     other: &mut Handle,
@@ -375,19 +314,14 @@ pub extern "C" fn range_set_u64_union(
     if !handle.is_open || !other.is_open {
         return CLOSED;
     }
-    let collection = handle.take(alloc);
-    let second = other.take(alloc);
-    let status = unsigned_set::union(alloc, collection.as_ref(), second.as_ref(), made);
-    *handle = Handle::open(collection);
-    *other = Handle::open(second);
-    status
+    unsigned_set::union(alloc, handle.seal.as_mut(), other.seal.as_mut(), made)
 }
 
 /// Opens a closed handle on a set of the keys that are in both sets, which stay as they are.
 ///
 /// Allocates its ranges, a list of them before, and one block more. Goes once over both sets.
 #[unsafe(no_mangle)]
-pub extern "C" fn range_set_u64_intersection(
+pub extern "C" fn brm_raw_set_u64_intersection(
     alloc: Global,
     handle: &mut Handle,
     other: &mut Handle,
@@ -416,10 +350,222 @@ pub extern "C" fn range_set_u64_intersection(
     if !handle.is_open || !other.is_open {
         return CLOSED;
     }
-    let collection = handle.take(alloc);
-    let second = other.take(alloc);
-    let status = unsigned_set::intersection(alloc, collection.as_ref(), second.as_ref(), made);
-    *handle = Handle::open(collection);
-    *other = Handle::open(second);
-    status
+    unsigned_set::intersection(alloc, handle.seal.as_mut(), other.seal.as_mut(), made)
+}
+
+/// Opens a closed handle on a set of the keys of the first set that are not in the other.
+/// Both stay as they are.
+///
+/// Allocates its ranges, a list of them before, and one block more. Goes once over both sets.
+#[unsafe(no_mangle)]
+pub extern "C" fn brm_raw_set_u64_difference(
+    alloc: Global,
+    handle: &mut Handle,
+    other: &mut Handle,
+    made: &mut Handle,
+) -> u32
+    ensures unchanged { (handle.new.seal.held ≡ handle.old.seal.held)
+        × (other.new.seal.held ≡ other.old.seal.held) }
+    ensures made { result ≡ DONE → HoldsSet made.new.seal.held × HoldsFirstAlone unsigned_keys
+        (set_items handle.old.seal.held) (set_items other.old.seal.held)
+        (set_items made.new.seal.held) }
+    ensures refused { result ≢ DONE → made.new.seal.held ≡ made.old.seal.held }
+    ensures open { made.old.is_open ≡ true → result ≡ OPEN }
+    ensures closed { made.old.is_open ≡ false
+        → (handle.old.is_open ≡ false) ⊎ (other.old.is_open ≡ false) → result ≡ CLOSED }
+    ensures answer { made.old.is_open ≡ false
+        → HoldsSet handle.old.seal.held → HoldsSet other.old.seal.held
+        → (result ≡ DONE) ⊎ (result ≡ NO_MEMORY) }
+    ensures other { made.old.is_open ≡ false
+        → handle.old.is_open ≡ true → other.old.is_open ≡ true
+        → (¬ HoldsSet handle.old.seal.held) ⊎ (¬ HoldsSet other.old.seal.held)
+        → result ≡ OTHER_KIND }
+{
+    if made.is_open {
+        return OPEN;
+    }
+    if !handle.is_open || !other.is_open {
+        return CLOSED;
+    }
+    unsigned_set::difference(alloc, handle.seal.as_mut(), other.seal.as_mut(), made)
+}
+
+/// Opens a closed handle on a set of the keys that are in just one of the sets, which stay as they
+/// are.
+///
+/// Allocates its ranges, a list of them before, and one block more. Goes once over both sets.
+#[unsafe(no_mangle)]
+pub extern "C" fn brm_raw_set_u64_symmetric_difference(
+    alloc: Global,
+    handle: &mut Handle,
+    other: &mut Handle,
+    made: &mut Handle,
+) -> u32
+    ensures unchanged { (handle.new.seal.held ≡ handle.old.seal.held)
+        × (other.new.seal.held ≡ other.old.seal.held) }
+    ensures made { result ≡ DONE → HoldsSet made.new.seal.held × HoldsJustOne unsigned_keys
+        (set_items handle.old.seal.held) (set_items other.old.seal.held)
+        (set_items made.new.seal.held) }
+    ensures refused { result ≢ DONE → made.new.seal.held ≡ made.old.seal.held }
+    ensures open { made.old.is_open ≡ true → result ≡ OPEN }
+    ensures closed { made.old.is_open ≡ false
+        → (handle.old.is_open ≡ false) ⊎ (other.old.is_open ≡ false) → result ≡ CLOSED }
+    ensures answer { made.old.is_open ≡ false
+        → HoldsSet handle.old.seal.held → HoldsSet other.old.seal.held
+        → (result ≡ DONE) ⊎ (result ≡ NO_MEMORY) }
+    ensures other { made.old.is_open ≡ false
+        → handle.old.is_open ≡ true → other.old.is_open ≡ true
+        → (¬ HoldsSet handle.old.seal.held) ⊎ (¬ HoldsSet other.old.seal.held)
+        → result ≡ OTHER_KIND }
+{
+    if made.is_open {
+        return OPEN;
+    }
+    if !handle.is_open || !other.is_open {
+        return CLOSED;
+    }
+    unsigned_set::symmetric_difference(alloc, handle.seal.as_mut(), other.seal.as_mut(), made)
+}
+
+/// Opens a closed handle on a set of just the keys that are not in the set, which stays as it is.
+///
+/// Allocates its ranges, and one block more. Goes once over the set.
+#[unsafe(no_mangle)]
+pub extern "C" fn brm_raw_set_u64_complement(
+    alloc: Global,
+    handle: &mut Handle,
+    made: &mut Handle,
+) -> u32
+    ensures unchanged { handle.new.seal.held ≡ handle.old.seal.held }
+    ensures made { result ≡ DONE → HoldsSet made.new.seal.held × HoldsTheOthers unsigned_keys
+        (set_items handle.old.seal.held) (set_items made.new.seal.held) }
+    ensures refused { result ≢ DONE → made.new.seal.held ≡ made.old.seal.held }
+    ensures open { made.old.is_open ≡ true → result ≡ OPEN }
+    ensures closed { made.old.is_open ≡ false → handle.old.is_open ≡ false → result ≡ CLOSED }
+    ensures answer { made.old.is_open ≡ false → HoldsSet handle.old.seal.held
+        → (result ≡ DONE) ⊎ (result ≡ NO_MEMORY) }
+    ensures other { made.old.is_open ≡ false
+        → handle.old.is_open ≡ true → (¬ HoldsSet handle.old.seal.held) → result ≡ OTHER_KIND }
+{
+    if made.is_open {
+        return OPEN;
+    }
+    if !handle.is_open {
+        return CLOSED;
+    }
+    unsigned_set::complement(alloc, handle.seal.as_mut(), made)
+}
+
+/// Whether each key of the set is in the other: `DONE` where it is, `NONE` where it is not.
+///
+/// Goes once over both sets.
+#[unsafe(no_mangle)]
+pub extern "C" fn brm_raw_set_u64_is_subset(handle: &mut Handle, other: &mut Handle) -> u32
+    ensures unchanged { (handle.new.seal.held ≡ handle.old.seal.held)
+        × (other.new.seal.held ≡ other.old.seal.held) }
+    ensures yes { result ≡ DONE → BindKeysOf unsigned_keys
+        (set_items handle.old.seal.held) (set_items other.old.seal.held) }
+    ensures no { result ≡ NONE → ¬ BindKeysOf unsigned_keys
+        (set_items handle.old.seal.held) (set_items other.old.seal.held) }
+    ensures closed { (handle.old.is_open ≡ false) ⊎ (other.old.is_open ≡ false)
+        → result ≡ CLOSED }
+    ensures answer { HoldsSet handle.old.seal.held → HoldsSet other.old.seal.held
+        → (result ≡ DONE) ⊎ (result ≡ NONE) }
+    ensures other { handle.old.is_open ≡ true → other.old.is_open ≡ true
+        → (¬ HoldsSet handle.old.seal.held) ⊎ (¬ HoldsSet other.old.seal.held)
+        → result ≡ OTHER_KIND }
+{
+    if !handle.is_open || !other.is_open {
+        return CLOSED;
+    }
+    unsigned_set::is_subset(handle.seal.as_mut(), other.seal.as_mut())
+}
+
+/// Whether no key is in both sets: `DONE` where none is, `NONE` where one is.
+///
+/// Goes once over both sets.
+#[unsafe(no_mangle)]
+pub extern "C" fn brm_raw_set_u64_is_disjoint(handle: &mut Handle, other: &mut Handle) -> u32
+    ensures unchanged { (handle.new.seal.held ≡ handle.old.seal.held)
+        × (other.new.seal.held ≡ other.old.seal.held) }
+    ensures yes { result ≡ DONE → ShareNoKey unsigned_keys
+        (set_items handle.old.seal.held) (set_items other.old.seal.held) }
+    ensures no { result ≡ NONE → ¬ ShareNoKey unsigned_keys
+        (set_items handle.old.seal.held) (set_items other.old.seal.held) }
+    ensures closed { (handle.old.is_open ≡ false) ⊎ (other.old.is_open ≡ false)
+        → result ≡ CLOSED }
+    ensures answer { HoldsSet handle.old.seal.held → HoldsSet other.old.seal.held
+        → (result ≡ DONE) ⊎ (result ≡ NONE) }
+    ensures other { handle.old.is_open ≡ true → other.old.is_open ≡ true
+        → (¬ HoldsSet handle.old.seal.held) ⊎ (¬ HoldsSet other.old.seal.held)
+        → result ≡ OTHER_KIND }
+{
+    if !handle.is_open || !other.is_open {
+        return CLOSED;
+    }
+    unsigned_set::is_disjoint(handle.seal.as_mut(), other.seal.as_mut())
+}
+
+/// Writes the stored ranges from the first that ends at the key or after it on, in ascending
+/// order, as many as the array takes, and how many.
+///
+/// Fewer than the array takes are written where there are no more. What lies behind them in the
+/// array stays as it was. Costs one search, and a step for each range.
+#[unsafe(no_mangle)]
+pub extern "C" fn brm_set_u64_read(
+    handle: &mut Handle,
+    key: u64,
+    entries: &mut [Bounds],
+    count: &mut usize,
+) -> u32
+    ensures unchanged { handle.new.seal.held ≡ handle.old.seal.held }
+    ensures read { result ≡ DONE → (rest : KeyRanges)
+        × AreOverlapping unsigned_keys (set_items handle.old.seal.held) (from_key key)
+        (map bounds_item (take count.new entries.new) ++ rest)
+        × (count.new < length entries.old → rest ≡ []) }
+    ensures within { result ≡ DONE → count.new ≤ length entries.old }
+    ensures behind { result ≡ DONE → drop count.new entries.new ≡ drop count.new entries.old }
+    ensures unwritten { result ≢ DONE
+        → (entries.new ≡ entries.old) × (count.new ≡ count.old) }
+    ensures answer { HoldsSet handle.old.seal.held → result ≡ DONE }
+    ensures closed { handle.old.is_open ≡ false → result ≡ CLOSED }
+    ensures other { handle.old.is_open ≡ true → (¬ HoldsSet handle.old.seal.held)
+        → result ≡ OTHER_KIND }
+{
+    if !handle.is_open {
+        return CLOSED;
+    }
+    unsigned_set::read(handle.seal.as_mut(), key, entries, count)
+}
+
+/// Writes the stored ranges from the last that starts at the key or before it on, in descending
+/// order, as many as the array takes, and how many.
+///
+/// Fewer than the array takes are written where there are no more. What lies behind them in the
+/// array stays as it was. Costs two searches, and a step for each range.
+#[unsafe(no_mangle)]
+pub extern "C" fn brm_set_u64_read_back(
+    handle: &mut Handle,
+    key: u64,
+    entries: &mut [Bounds],
+    count: &mut usize,
+) -> u32
+    ensures unchanged { handle.new.seal.held ≡ handle.old.seal.held }
+    ensures read { result ≡ DONE → (rest : KeyRanges)
+        × AreOverlapping unsigned_keys (set_items handle.old.seal.held) (upto_key key)
+        (rest ++ reverse (map bounds_item (take count.new entries.new)))
+        × (count.new < length entries.old → rest ≡ []) }
+    ensures within { result ≡ DONE → count.new ≤ length entries.old }
+    ensures behind { result ≡ DONE → drop count.new entries.new ≡ drop count.new entries.old }
+    ensures unwritten { result ≢ DONE
+        → (entries.new ≡ entries.old) × (count.new ≡ count.old) }
+    ensures answer { HoldsSet handle.old.seal.held → result ≡ DONE }
+    ensures closed { handle.old.is_open ≡ false → result ≡ CLOSED }
+    ensures other { handle.old.is_open ≡ true → (¬ HoldsSet handle.old.seal.held)
+        → result ≡ OTHER_KIND }
+{
+    if !handle.is_open {
+        return CLOSED;
+    }
+    unsigned_set::read_back(handle.seal.as_mut(), key, entries, count)
 }

@@ -4,12 +4,12 @@ use Rattle.std.specs.declared.ops.Bound.{Bound}
 use Rattle.std.specs.declared.ops.Bound.TheVariants.{Included, Excluded, Unbounded}
 use Rattle.btree_range_map.specs.AnyRange.{AnyRange}
 use Rattle.btree_range_map.specs.Item.{Item}
-use Rattle.range_c_types.specs.declared.bounds.TheConstants.{START_EXCLUDED, START_UNBOUNDED, END_EXCLUDED, END_UNBOUNDED}
-use Rattle.range_c_types.specs.declared.bounds.Bounds.{Bounds}
-use Rattle.range_c_types.specs.declared.bounds.SignedBounds.{SignedBounds}
-use Rattle.range_c_types.specs.declared.bounds.Entry.{Entry}
-use Rattle.range_c_types.specs.declared.bounds.SignedEntry.{SignedEntry}
-use Rattle.range_c_types.specs.declared.bounds.Length.{Length}
+use Rattle.range_handles.specs.declared.bounds.TheConstants.{START_EXCLUDED, START_UNBOUNDED, END_EXCLUDED, END_UNBOUNDED}
+use Rattle.range_handles.specs.declared.bounds.Bounds.{Bounds}
+use Rattle.range_handles.specs.declared.bounds.SignedBounds.{SignedBounds}
+use Rattle.range_handles.specs.declared.bounds.Entry.{Entry}
+use Rattle.range_handles.specs.declared.bounds.SignedEntry.{SignedEntry}
+use Rattle.range_handles.specs.declared.bounds.Length.{Length}
 
 abbrev pub has_flag : ℕ → ℕ → Bool
 has_flag flags flag = not (nat_eq (bit_and flags flag) 0)
@@ -58,6 +58,10 @@ entry_item e = record { key = range_of e.range; value = e.value }
 
 abbrev pub signed_entry_item : SignedEntry → Item (AnyRange ℤ) ℕ
 signed_entry_item e = record { key = signed_range_of e.range; value = e.value }
+
+-- the item of a set that the bounds say
+abbrev pub bounds_item : Bounds → Item (AnyRange ℕ) (Unit {0})
+bounds_item b = record { key = range_of b; value = tt }
 
 -- the number of keys that the parts say
 abbrev pub number_of : Length → ℕ

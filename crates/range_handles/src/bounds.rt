@@ -1,6 +1,6 @@
 //! Ranges and entries as they cross to C.
 ghost use Rattle.std.specs.Prelude.{◌≡◌, ◌+◌};
-ghost use Rattle.range_c_types.specs.Flags.{range_of, signed_range_of, start_bound, end_bound, start_flag, end_flag, key_or, number_of};
+ghost use Rattle.range_handles.specs.Flags.{range_of, signed_range_of, start_bound, end_bound, start_flag, end_flag, key_or, number_of};
 
 use btree_range_map::AnyRange;
 use std::ops::Bound;
