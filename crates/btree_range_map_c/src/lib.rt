@@ -6,8 +6,8 @@
 //!
 //! Where to find what:
 //!
-//! - the calls for C, and what each does to a collection that may be of another kind:
-//!   `src/exports/`, `range_handles/src/{unsigned_map,signed_map,unsigned_set}.rt`
+//! - the calls for C, kind by kind: `src/exports/`; what each does to a map or a set:
+//!   `range_handles/src/{kept_map,kept_set,reads}.rt`
 #![tactic(auto)]
 
 mod exports;

@@ -9,10 +9,9 @@ ghost use Rattle.range_handles.specs.Fewest.{IsLeastRangeCount};
 ghost use Rattle.range_handles.specs.Held.{range_count, emptied};
 ghost use Rattle.range_handles.specs.Texts.{data_of, IsDataFault, IsDataRead, IsFaultyText, IsTextRead};
 
-use crate::signed_map::SignedMap;
+use crate::kept_map::KeptMap;
+use crate::kept_set::KeptSet;
 use crate::status::{DONE, NO_MEMORY, NONE, NOT_JSON, NOT_READ, OTHER_KIND, answer};
-use crate::unsigned_map::UnsignedMap;
-use crate::unsigned_set::UnsignedSet;
 use btree_range_map::json::JsonError;
 use serde_json::Value;
 use std::alloc::{AllocError, Global};
@@ -20,9 +19,9 @@ use std::alloc::{AllocError, Global};
 /// A map or a set, which a contract sees as its ranges.
 #[derive(Drop)]
 pub enum Collection {
-    Unsigned(UnsignedMap),
-    Signed(SignedMap),
-    Set(UnsignedSet),
+    Unsigned(KeptMap<u64>),
+    Signed(KeptMap<i64>),
+    Set(KeptSet<u64>),
 }
 
 impl Collection {
@@ -96,9 +95,9 @@ impl Collection {
             (λ e. (e ≡ Memory) ⊎ IsDataFault self.now (view value.now) e) }
     {
         match self {
-            Collection::Unsigned(_) => Ok(Collection::Unsigned(UnsignedMap::read(alloc, value)?)),
-            Collection::Signed(_) => Ok(Collection::Signed(SignedMap::read(alloc, value)?)),
-            Collection::Set(_) => Ok(Collection::Set(UnsignedSet::read(alloc, value)?)),
+            Collection::Unsigned(_) => Ok(Collection::Unsigned(KeptMap::read(alloc, value)?)),
+            Collection::Signed(_) => Ok(Collection::Signed(KeptMap::read(alloc, value)?)),
+            Collection::Set(_) => Ok(Collection::Set(KeptSet::read(alloc, value)?)),
         }
     }
 

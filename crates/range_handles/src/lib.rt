@@ -10,6 +10,8 @@
 //!   `src/{handle,seal,parts}.rt`, `specs/Seals.antt`; how a call reaches it where it lies:
 //!   `src/seal/lend.rt`, `specs/Lending.antt`; what it holds in `specs/Held.antt`, that no fewer
 //!   ranges would do in `specs/Fewest.antt`
+//! - what is done to a map or a set of any kind of keys, each call said once:
+//!   `src/{kept_map,kept_set,reads}.rt`; what two sets are asked in `src/kept_set/algebra.rt`
 //! - ranges as two keys and flags, and what a call returns: `src/{bounds,status}.rt`,
 //!   `specs/Flags.antt`; many at once in `src/batch.rt`, `proofs/Fills.antt`
 //! - what a handle of any kind is saved as and loaded from: `src/collection.rt`,
@@ -21,9 +23,10 @@ pub mod batch;
 pub mod bounds;
 pub mod collection;
 pub mod handle;
+pub mod kept_map;
+pub mod kept_set;
+pub mod key;
 pub mod parts;
+pub mod reads;
 pub mod seal;
-pub mod signed_map;
 pub mod status;
-pub mod unsigned_map;
-pub mod unsigned_set;

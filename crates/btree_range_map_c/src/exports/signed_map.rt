@@ -12,7 +12,8 @@ ghost use Rattle.range_handles.specs.Lists.{signed_keys, SignedRanges};
 use range_handles::bounds::{Length, SignedBounds, SignedEntry};
 use range_handles::collection::Collection;
 use range_handles::handle::Handle;
-use range_handles::signed_map::{self, SignedMap};
+use range_handles::kept_map::KeptMap;
+use range_handles::reads;
 use range_handles::status::{CLOSED, CONNECTED, DONE, NO_MEMORY, NONE, OPEN, OTHER_KIND};
 use std::alloc::Global;
 
@@ -28,7 +29,7 @@ pub extern "C" fn brm_map_i64_create(alloc: Global, handle: &mut Handle) -> u32
     if handle.is_open {
         return OPEN;
     }
-    handle.fill(alloc, Collection::Signed(SignedMap::new(alloc)))
+    handle.fill(alloc, Collection::Signed(KeptMap::new(alloc)))
 }
 
 /// Binds each key of the range to the value. An empty range changes nothing.
@@ -51,7 +52,10 @@ pub extern "C" fn brm_map_i64_insert(handle: &mut Handle, range: &SignedBounds, 
     if !handle.is_open {
         return CLOSED;
     }
-    signed_map::insert(handle.seal.as_mut(), range, value)
+    match handle.seal.as_mut() {
+        Collection::Signed(kept) => kept.insert(range.range(), value),
+        _ => OTHER_KIND,
+    }
 }
 
 /// Binds each key of a range that neither meets nor touches a stored one.
@@ -83,7 +87,10 @@ pub extern "C" fn brm_map_i64_insert_disconnected(
     if !handle.is_open {
         return CLOSED;
     }
-    signed_map::insert_disconnected(handle.seal.as_mut(), range, value)
+    match handle.seal.as_mut() {
+        Collection::Signed(kept) => kept.insert_disconnected(range.range(), value),
+        _ => OTHER_KIND,
+    }
 }
 
 /// Binds no key of the range. An empty range changes nothing.
@@ -106,7 +113,10 @@ pub extern "C" fn brm_map_i64_remove(handle: &mut Handle, range: &SignedBounds) 
     if !handle.is_open {
         return CLOSED;
     }
-    signed_map::remove(handle.seal.as_mut(), range)
+    match handle.seal.as_mut() {
+        Collection::Signed(kept) => kept.remove(range.range()),
+        _ => OTHER_KIND,
+    }
 }
 
 /// Writes the stored range that holds the key, with its value.
@@ -129,7 +139,10 @@ pub extern "C" fn brm_map_i64_get(handle: &mut Handle, key: i64, entry: &mut Sig
     if !handle.is_open {
         return CLOSED;
     }
-    signed_map::get(handle.seal.as_mut(), key, entry)
+    match handle.seal.as_mut() {
+        Collection::Signed(kept) => reads::get(kept.as_map(), key, entry),
+        _ => OTHER_KIND,
+    }
 }
 
 /// Whether the key is bound: `DONE` where it is, `NONE` where it is not.
@@ -146,7 +159,10 @@ pub extern "C" fn brm_map_i64_contains(handle: &mut Handle, key: i64) -> u32
     if !handle.is_open {
         return CLOSED;
     }
-    signed_map::contains(handle.seal.as_mut(), key)
+    match handle.seal.as_mut() {
+        Collection::Signed(kept) => reads::contains(kept.as_map(), key),
+        _ => OTHER_KIND,
+    }
 }
 
 /// Whether some key of the range is bound: `DONE` where one is, `NONE` where none is.
@@ -165,7 +181,10 @@ pub extern "C" fn brm_map_i64_intersects(handle: &mut Handle, range: &SignedBoun
     if !handle.is_open {
         return CLOSED;
     }
-    signed_map::intersects(handle.seal.as_mut(), range)
+    match handle.seal.as_mut() {
+        Collection::Signed(kept) => reads::intersects(kept.as_map(), range.range()),
+        _ => OTHER_KIND,
+    }
 }
 
 /// Writes how many keys are bound.
@@ -183,7 +202,10 @@ pub extern "C" fn brm_map_i64_len(handle: &mut Handle, length: &mut Length) -> u
     if !handle.is_open {
         return CLOSED;
     }
-    signed_map::len(handle.seal.as_mut(), length)
+    match handle.seal.as_mut() {
+        Collection::Signed(kept) => reads::len(kept.as_map(), length),
+        _ => OTHER_KIND,
+    }
 }
 
 /// Writes the first stored range, with its value.
@@ -202,7 +224,10 @@ pub extern "C" fn brm_map_i64_first(handle: &mut Handle, entry: &mut SignedEntry
     if !handle.is_open {
         return CLOSED;
     }
-    signed_map::first(handle.seal.as_mut(), entry)
+    match handle.seal.as_mut() {
+        Collection::Signed(kept) => reads::first(kept.as_map(), entry),
+        _ => OTHER_KIND,
+    }
 }
 
 /// Writes the last stored range, with its value.
@@ -221,7 +246,10 @@ pub extern "C" fn brm_map_i64_last(handle: &mut Handle, entry: &mut SignedEntry)
     if !handle.is_open {
         return CLOSED;
     }
-    signed_map::last(handle.seal.as_mut(), entry)
+    match handle.seal.as_mut() {
+        Collection::Signed(kept) => reads::last(kept.as_map(), entry),
+        _ => OTHER_KIND,
+    }
 }
 
 /// Writes the first stored range that ends at the key or after it, with its value.
@@ -245,7 +273,10 @@ pub extern "C" fn brm_map_i64_next(handle: &mut Handle, key: i64, entry: &mut Si
     if !handle.is_open {
         return CLOSED;
     }
-    signed_map::next(handle.seal.as_mut(), key, entry)
+    match handle.seal.as_mut() {
+        Collection::Signed(kept) => reads::next(kept.as_map(), key, entry),
+        _ => OTHER_KIND,
+    }
 }
 
 /// Writes the last stored range that starts at the key or before it, with its value.
@@ -273,7 +304,10 @@ pub extern "C" fn brm_map_i64_previous(
     if !handle.is_open {
         return CLOSED;
     }
-    signed_map::previous(handle.seal.as_mut(), key, entry)
+    match handle.seal.as_mut() {
+        Collection::Signed(kept) => reads::previous(kept.as_map(), key, entry),
+        _ => OTHER_KIND,
+    }
 }
 
 /// Takes the first stored range out, and writes it with its value. Allocates nothing.
@@ -293,7 +327,10 @@ pub extern "C" fn brm_map_i64_pop_first(handle: &mut Handle, entry: &mut SignedE
     if !handle.is_open {
         return CLOSED;
     }
-    signed_map::pop_first(handle.seal.as_mut(), entry)
+    match handle.seal.as_mut() {
+        Collection::Signed(kept) => kept.pop_first(entry),
+        _ => OTHER_KIND,
+    }
 }
 
 /// Takes the last stored range out, and writes it with its value. Allocates nothing.
@@ -313,7 +350,10 @@ pub extern "C" fn brm_map_i64_pop_last(handle: &mut Handle, entry: &mut SignedEn
     if !handle.is_open {
         return CLOSED;
     }
-    signed_map::pop_last(handle.seal.as_mut(), entry)
+    match handle.seal.as_mut() {
+        Collection::Signed(kept) => kept.pop_last(entry),
+        _ => OTHER_KIND,
+    }
 }
 
 /// Writes the stored ranges from the first that ends at the key or after it on, in ascending
@@ -345,7 +385,10 @@ pub extern "C" fn brm_map_i64_read(
     if !handle.is_open {
         return CLOSED;
     }
-    signed_map::read(handle.seal.as_mut(), key, entries, count)
+    match handle.seal.as_mut() {
+        Collection::Signed(kept) => reads::read(kept.as_map(), key, entries, count),
+        _ => OTHER_KIND,
+    }
 }
 
 /// Writes the stored ranges from the last that starts at the key or before it on, in descending
@@ -377,5 +420,8 @@ pub extern "C" fn brm_map_i64_read_back(
     if !handle.is_open {
         return CLOSED;
     }
-    signed_map::read_back(handle.seal.as_mut(), key, entries, count)
+    match handle.seal.as_mut() {
+        Collection::Signed(kept) => reads::read_back(kept.as_map(), key, entries, count),
+        _ => OTHER_KIND,
+    }
 }

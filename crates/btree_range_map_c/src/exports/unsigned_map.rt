@@ -12,8 +12,9 @@ ghost use Rattle.range_handles.specs.Lists.{unsigned_keys, Ranges};
 use range_handles::bounds::{Bounds, Entry, Length};
 use range_handles::collection::Collection;
 use range_handles::handle::Handle;
+use range_handles::kept_map::KeptMap;
+use range_handles::reads;
 use range_handles::status::{CLOSED, CONNECTED, DONE, NO_MEMORY, NONE, OPEN, OTHER_KIND};
-use range_handles::unsigned_map::{self, UnsignedMap};
 use std::alloc::Global;
 
 /// Opens a closed handle, on an empty map. Allocates one block.
@@ -28,7 +29,7 @@ pub extern "C" fn brm_map_u64_create(alloc: Global, handle: &mut Handle) -> u32
     if handle.is_open {
         return OPEN;
     }
-    handle.fill(alloc, Collection::Unsigned(UnsignedMap::new(alloc)))
+    handle.fill(alloc, Collection::Unsigned(KeptMap::new(alloc)))
 }
 
 /// Binds each key of the range to the value. An empty range changes nothing.
@@ -51,7 +52,10 @@ pub extern "C" fn brm_map_u64_insert(handle: &mut Handle, range: &Bounds, value:
     if !handle.is_open {
         return CLOSED;
     }
-    unsigned_map::insert(handle.seal.as_mut(), range, value)
+    match handle.seal.as_mut() {
+        Collection::Unsigned(kept) => kept.insert(range.range(), value),
+        _ => OTHER_KIND,
+    }
 }
 
 /// Binds each key of a range that neither meets nor touches a stored one.
@@ -82,7 +86,10 @@ pub extern "C" fn brm_map_u64_insert_disconnected(
     if !handle.is_open {
         return CLOSED;
     }
-    unsigned_map::insert_disconnected(handle.seal.as_mut(), range, value)
+    match handle.seal.as_mut() {
+        Collection::Unsigned(kept) => kept.insert_disconnected(range.range(), value),
+        _ => OTHER_KIND,
+    }
 }
 
 /// Binds no key of the range. An empty range changes nothing.
@@ -105,7 +112,10 @@ pub extern "C" fn brm_map_u64_remove(handle: &mut Handle, range: &Bounds) -> u32
     if !handle.is_open {
         return CLOSED;
     }
-    unsigned_map::remove(handle.seal.as_mut(), range)
+    match handle.seal.as_mut() {
+        Collection::Unsigned(kept) => kept.remove(range.range()),
+        _ => OTHER_KIND,
+    }
 }
 
 /// Writes the stored range that holds the key, with its value.
@@ -127,7 +137,10 @@ pub extern "C" fn brm_map_u64_get(handle: &mut Handle, key: u64, entry: &mut Ent
     if !handle.is_open {
         return CLOSED;
     }
-    unsigned_map::get(handle.seal.as_mut(), key, entry)
+    match handle.seal.as_mut() {
+        Collection::Unsigned(kept) => reads::get(kept.as_map(), key, entry),
+        _ => OTHER_KIND,
+    }
 }
 
 /// Whether the key is bound: `DONE` where it is, `NONE` where it is not.
@@ -144,7 +157,10 @@ pub extern "C" fn brm_map_u64_contains(handle: &mut Handle, key: u64) -> u32
     if !handle.is_open {
         return CLOSED;
     }
-    unsigned_map::contains(handle.seal.as_mut(), key)
+    match handle.seal.as_mut() {
+        Collection::Unsigned(kept) => reads::contains(kept.as_map(), key),
+        _ => OTHER_KIND,
+    }
 }
 
 /// Whether some key of the range is bound: `DONE` where one is, `NONE` where none is.
@@ -163,7 +179,10 @@ pub extern "C" fn brm_map_u64_intersects(handle: &mut Handle, range: &Bounds) ->
     if !handle.is_open {
         return CLOSED;
     }
-    unsigned_map::intersects(handle.seal.as_mut(), range)
+    match handle.seal.as_mut() {
+        Collection::Unsigned(kept) => reads::intersects(kept.as_map(), range.range()),
+        _ => OTHER_KIND,
+    }
 }
 
 /// Writes how many keys are bound.
@@ -181,7 +200,10 @@ pub extern "C" fn brm_map_u64_len(handle: &mut Handle, length: &mut Length) -> u
     if !handle.is_open {
         return CLOSED;
     }
-    unsigned_map::len(handle.seal.as_mut(), length)
+    match handle.seal.as_mut() {
+        Collection::Unsigned(kept) => reads::len(kept.as_map(), length),
+        _ => OTHER_KIND,
+    }
 }
 
 /// Writes the first stored range, with its value.
@@ -200,7 +222,10 @@ pub extern "C" fn brm_map_u64_first(handle: &mut Handle, entry: &mut Entry) -> u
     if !handle.is_open {
         return CLOSED;
     }
-    unsigned_map::first(handle.seal.as_mut(), entry)
+    match handle.seal.as_mut() {
+        Collection::Unsigned(kept) => reads::first(kept.as_map(), entry),
+        _ => OTHER_KIND,
+    }
 }
 
 /// Writes the last stored range, with its value.
@@ -219,7 +244,10 @@ pub extern "C" fn brm_map_u64_last(handle: &mut Handle, entry: &mut Entry) -> u3
     if !handle.is_open {
         return CLOSED;
     }
-    unsigned_map::last(handle.seal.as_mut(), entry)
+    match handle.seal.as_mut() {
+        Collection::Unsigned(kept) => reads::last(kept.as_map(), entry),
+        _ => OTHER_KIND,
+    }
 }
 
 /// Writes the first stored range that ends at the key or after it, with its value.
@@ -243,7 +271,10 @@ pub extern "C" fn brm_map_u64_next(handle: &mut Handle, key: u64, entry: &mut En
     if !handle.is_open {
         return CLOSED;
     }
-    unsigned_map::next(handle.seal.as_mut(), key, entry)
+    match handle.seal.as_mut() {
+        Collection::Unsigned(kept) => reads::next(kept.as_map(), key, entry),
+        _ => OTHER_KIND,
+    }
 }
 
 /// Writes the last stored range that starts at the key or before it, with its value.
@@ -267,7 +298,10 @@ pub extern "C" fn brm_map_u64_previous(handle: &mut Handle, key: u64, entry: &mu
     if !handle.is_open {
         return CLOSED;
     }
-    unsigned_map::previous(handle.seal.as_mut(), key, entry)
+    match handle.seal.as_mut() {
+        Collection::Unsigned(kept) => reads::previous(kept.as_map(), key, entry),
+        _ => OTHER_KIND,
+    }
 }
 
 /// Takes the first stored range out, and writes it with its value. Allocates nothing.
@@ -287,7 +321,10 @@ pub extern "C" fn brm_map_u64_pop_first(handle: &mut Handle, entry: &mut Entry) 
     if !handle.is_open {
         return CLOSED;
     }
-    unsigned_map::pop_first(handle.seal.as_mut(), entry)
+    match handle.seal.as_mut() {
+        Collection::Unsigned(kept) => kept.pop_first(entry),
+        _ => OTHER_KIND,
+    }
 }
 
 /// Takes the last stored range out, and writes it with its value. Allocates nothing.
@@ -307,7 +344,10 @@ pub extern "C" fn brm_map_u64_pop_last(handle: &mut Handle, entry: &mut Entry) -
     if !handle.is_open {
         return CLOSED;
     }
-    unsigned_map::pop_last(handle.seal.as_mut(), entry)
+    match handle.seal.as_mut() {
+        Collection::Unsigned(kept) => kept.pop_last(entry),
+        _ => OTHER_KIND,
+    }
 }
 
 /// Writes the stored ranges from the first that ends at the key or after it on, in ascending
@@ -339,7 +379,10 @@ pub extern "C" fn brm_map_u64_read(
     if !handle.is_open {
         return CLOSED;
     }
-    unsigned_map::read(handle.seal.as_mut(), key, entries, count)
+    match handle.seal.as_mut() {
+        Collection::Unsigned(kept) => reads::read(kept.as_map(), key, entries, count),
+        _ => OTHER_KIND,
+    }
 }
 
 /// Writes the stored ranges from the last that starts at the key or before it on, in descending
@@ -371,5 +414,8 @@ pub extern "C" fn brm_map_u64_read_back(
     if !handle.is_open {
         return CLOSED;
     }
-    unsigned_map::read_back(handle.seal.as_mut(), key, entries, count)
+    match handle.seal.as_mut() {
+        Collection::Unsigned(kept) => reads::read_back(kept.as_map(), key, entries, count),
+        _ => OTHER_KIND,
+    }
 }

@@ -1,22 +1,22 @@
 //! The calls on sets of `u64` keys.
-ghost use Rattle.std.specs.Prelude.{◌<◌, ◌≤◌, map, take, drop, reverse, length, ◌≡◌, ◌≢◌, ◌⊎◌, ◌↔◌, ℕ, List, [], ◌∷◌, ◌++◌, IsSome, Some, None, true, false};
-ghost use Rattle.btree_range_map.specs.AnyRange.{AnyRange};
+ghost use Rattle.std.specs.Prelude.{◌<◌, ◌≤◌, map, take, drop, reverse, length, ◌≡◌, ◌≢◌, ◌⊎◌, ◌↔◌, [], ◌∷◌, ◌++◌, IsSome, Some, None, true, false};
+ghost use Rattle.btree_range_map.specs.Bindings.{IsItemFor};
 ghost use Rattle.btree_range_map.specs.FreeRanges.{item_ranges};
 ghost use Rattle.btree_range_map.specs.KeySets.{HoldsKey, HoldsAlso, HoldsWithout};
 ghost use Rattle.btree_range_map.specs.Lookups.{BindsKeyOf};
 ghost use Rattle.btree_range_map.specs.Numbers.{IsNumberOfKeys};
 ghost use Rattle.btree_range_map.specs.Overlapping.{AreOverlapping};
 ghost use Rattle.btree_range_map.specs.Range.{IsEmptyRange};
-ghost use Rattle.btree_range_map.specs.SetReads.{AreRangesThatMeet};
 ghost use Rattle.range_handles.specs.Flags.{range_of, bounds_item, number_of, from_key, upto_key};
-ghost use Rattle.range_handles.specs.Held.{HoldsSet, IsRangeFor, set_items};
+ghost use Rattle.range_handles.specs.Held.{HoldsSet, set_items};
 ghost use Rattle.range_handles.specs.Lists.{unsigned_keys, KeyRanges};
 
 use range_handles::bounds::{Bounds, Length};
 use range_handles::collection::Collection;
 use range_handles::handle::Handle;
+use range_handles::kept_set::KeptSet;
+use range_handles::reads;
 use range_handles::status::{CLOSED, DONE, NO_MEMORY, NONE, OPEN, OTHER_KIND};
-use range_handles::unsigned_set::{self, UnsignedSet};
 use std::alloc::Global;
 
 /// Opens a closed handle, on an empty set. Allocates one block.
@@ -31,7 +31,7 @@ pub extern "C" fn brm_set_u64_create(alloc: Global, handle: &mut Handle) -> u32
     if handle.is_open {
         return OPEN;
     }
-    handle.fill(alloc, Collection::Set(UnsignedSet::new(alloc)))
+    handle.fill(alloc, Collection::Set(KeptSet::new(alloc)))
 }
 
 /// Adds each key of the range. An empty range changes nothing.
@@ -54,7 +54,10 @@ pub extern "C" fn brm_set_u64_insert(handle: &mut Handle, range: &Bounds) -> u32
     if !handle.is_open {
         return CLOSED;
     }
-    unsigned_set::insert(handle.seal.as_mut(), range)
+    match handle.seal.as_mut() {
+        Collection::Set(kept) => kept.insert(range.range()),
+        _ => OTHER_KIND,
+    }
 }
 
 /// Takes each key of the range away. An empty range changes nothing.
@@ -77,7 +80,10 @@ pub extern "C" fn brm_set_u64_remove(handle: &mut Handle, range: &Bounds) -> u32
     if !handle.is_open {
         return CLOSED;
     }
-    unsigned_set::remove(handle.seal.as_mut(), range)
+    match handle.seal.as_mut() {
+        Collection::Set(kept) => kept.remove(range.range()),
+        _ => OTHER_KIND,
+    }
 }
 
 /// Writes the stored range that holds the key.
@@ -85,7 +91,7 @@ pub extern "C" fn brm_set_u64_remove(handle: &mut Handle, range: &Bounds) -> u32
 pub extern "C" fn brm_set_u64_get(handle: &mut Handle, key: u64, entry: &mut Bounds) -> u32
     ensures unchanged { handle.new.seal.held ≡ handle.old.seal.held }
     ensures found { result ≡ DONE
-        → IsRangeFor unsigned_keys (set_items handle.old.seal.held) key (range_of entry.new) }
+        → IsItemFor unsigned_keys (set_items handle.old.seal.held) key (bounds_item entry.new) }
     ensures free { result ≢ DONE → ¬ HoldsKey unsigned_keys (set_items handle.old.seal.held) key }
     ensures unwritten { result ≢ DONE → entry.new ≡ entry.old }
     ensures answer { HoldsSet handle.old.seal.held → (result ≡ DONE) ⊎ (result ≡ NONE) }
@@ -96,7 +102,10 @@ pub extern "C" fn brm_set_u64_get(handle: &mut Handle, key: u64, entry: &mut Bou
     if !handle.is_open {
         return CLOSED;
     }
-    unsigned_set::get(handle.seal.as_mut(), key, entry)
+    match handle.seal.as_mut() {
+        Collection::Set(kept) => reads::get(kept.as_map(), key, entry),
+        _ => OTHER_KIND,
+    }
 }
 
 /// Whether the key is in the set: `DONE` where it is, `NONE` where it is not.
@@ -113,7 +122,10 @@ pub extern "C" fn brm_set_u64_contains(handle: &mut Handle, key: u64) -> u32
     if !handle.is_open {
         return CLOSED;
     }
-    unsigned_set::contains(handle.seal.as_mut(), key)
+    match handle.seal.as_mut() {
+        Collection::Set(kept) => reads::contains(kept.as_map(), key),
+        _ => OTHER_KIND,
+    }
 }
 
 /// Whether some key of the range is in the set: `DONE` where one is, `NONE` where none is.
@@ -132,7 +144,10 @@ pub extern "C" fn brm_set_u64_intersects(handle: &mut Handle, range: &Bounds) ->
     if !handle.is_open {
         return CLOSED;
     }
-    unsigned_set::intersects(handle.seal.as_mut(), range)
+    match handle.seal.as_mut() {
+        Collection::Set(kept) => reads::intersects(kept.as_map(), range.range()),
+        _ => OTHER_KIND,
+    }
 }
 
 /// Writes how many keys are in the set.
@@ -150,15 +165,18 @@ pub extern "C" fn brm_set_u64_len(handle: &mut Handle, length: &mut Length) -> u
     if !handle.is_open {
         return CLOSED;
     }
-    unsigned_set::len(handle.seal.as_mut(), length)
+    match handle.seal.as_mut() {
+        Collection::Set(kept) => reads::len(kept.as_map(), length),
+        _ => OTHER_KIND,
+    }
 }
 
 /// Writes the first stored range.
 #[unsafe(no_mangle)]
 pub extern "C" fn brm_set_u64_first(handle: &mut Handle, entry: &mut Bounds) -> u32
     ensures unchanged { handle.new.seal.held ≡ handle.old.seal.held }
-    ensures first { result ≡ DONE → (rest : List (AnyRange ℕ))
-        × (item_ranges (set_items handle.old.seal.held) ≡ range_of entry.new ∷ rest) }
+    ensures first { result ≡ DONE → (rest : KeyRanges)
+        × (set_items handle.old.seal.held ≡ bounds_item entry.new ∷ rest) }
     ensures none { result ≢ DONE → set_items handle.old.seal.held ≡ [] }
     ensures unwritten { result ≢ DONE → entry.new ≡ entry.old }
     ensures answer { HoldsSet handle.old.seal.held → (result ≡ DONE) ⊎ (result ≡ NONE) }
@@ -169,15 +187,18 @@ pub extern "C" fn brm_set_u64_first(handle: &mut Handle, entry: &mut Bounds) -> 
     if !handle.is_open {
         return CLOSED;
     }
-    unsigned_set::first(handle.seal.as_mut(), entry)
+    match handle.seal.as_mut() {
+        Collection::Set(kept) => reads::first(kept.as_map(), entry),
+        _ => OTHER_KIND,
+    }
 }
 
 /// Writes the last stored range.
 #[unsafe(no_mangle)]
 pub extern "C" fn brm_set_u64_last(handle: &mut Handle, entry: &mut Bounds) -> u32
     ensures unchanged { handle.new.seal.held ≡ handle.old.seal.held }
-    ensures last { result ≡ DONE → (front : List (AnyRange ℕ))
-        × (item_ranges (set_items handle.old.seal.held) ≡ front ++ range_of entry.new ∷ []) }
+    ensures last { result ≡ DONE → (front : KeyRanges)
+        × (set_items handle.old.seal.held ≡ front ++ bounds_item entry.new ∷ []) }
     ensures none { result ≢ DONE → set_items handle.old.seal.held ≡ [] }
     ensures unwritten { result ≢ DONE → entry.new ≡ entry.old }
     ensures answer { HoldsSet handle.old.seal.held → (result ≡ DONE) ⊎ (result ≡ NONE) }
@@ -188,7 +209,10 @@ pub extern "C" fn brm_set_u64_last(handle: &mut Handle, entry: &mut Bounds) -> u
     if !handle.is_open {
         return CLOSED;
     }
-    unsigned_set::last(handle.seal.as_mut(), entry)
+    match handle.seal.as_mut() {
+        Collection::Set(kept) => reads::last(kept.as_map(), entry),
+        _ => OTHER_KIND,
+    }
 }
 
 /// Writes the first stored range that ends at the key or after it.
@@ -198,11 +222,11 @@ pub extern "C" fn brm_set_u64_last(handle: &mut Handle, entry: &mut Bounds) -> u
 #[unsafe(no_mangle)]
 pub extern "C" fn brm_set_u64_next(handle: &mut Handle, key: u64, entry: &mut Bounds) -> u32
     ensures unchanged { handle.new.seal.held ≡ handle.old.seal.held }
-    ensures next { result ≡ DONE → (rest : List (AnyRange ℕ))
-        × AreRangesThatMeet unsigned_keys (set_items handle.old.seal.held) (from_key key)
-        (range_of entry.new ∷ rest) }
+    ensures next { result ≡ DONE → (rest : KeyRanges)
+        × AreOverlapping unsigned_keys (set_items handle.old.seal.held) (from_key key)
+        (bounds_item entry.new ∷ rest) }
     ensures none { result ≡ NONE
-        → AreRangesThatMeet unsigned_keys (set_items handle.old.seal.held) (from_key key) [] }
+        → AreOverlapping unsigned_keys (set_items handle.old.seal.held) (from_key key) [] }
     ensures unwritten { result ≢ DONE → entry.new ≡ entry.old }
     ensures answer { HoldsSet handle.old.seal.held → (result ≡ DONE) ⊎ (result ≡ NONE) }
     ensures closed { handle.old.is_open ≡ false → result ≡ CLOSED }
@@ -212,7 +236,10 @@ pub extern "C" fn brm_set_u64_next(handle: &mut Handle, key: u64, entry: &mut Bo
     if !handle.is_open {
         return CLOSED;
     }
-    unsigned_set::next(handle.seal.as_mut(), key, entry)
+    match handle.seal.as_mut() {
+        Collection::Set(kept) => reads::next(kept.as_map(), key, entry),
+        _ => OTHER_KIND,
+    }
 }
 
 /// Writes the last stored range that starts at the key or before it.
@@ -222,11 +249,11 @@ pub extern "C" fn brm_set_u64_next(handle: &mut Handle, key: u64, entry: &mut Bo
 #[unsafe(no_mangle)]
 pub extern "C" fn brm_set_u64_previous(handle: &mut Handle, key: u64, entry: &mut Bounds) -> u32
     ensures unchanged { handle.new.seal.held ≡ handle.old.seal.held }
-    ensures previous { result ≡ DONE → (front : List (AnyRange ℕ))
-        × AreRangesThatMeet unsigned_keys (set_items handle.old.seal.held) (upto_key key)
-        (front ++ range_of entry.new ∷ []) }
+    ensures previous { result ≡ DONE → (front : KeyRanges)
+        × AreOverlapping unsigned_keys (set_items handle.old.seal.held) (upto_key key)
+        (front ++ bounds_item entry.new ∷ []) }
     ensures none { result ≡ NONE
-        → AreRangesThatMeet unsigned_keys (set_items handle.old.seal.held) (upto_key key) [] }
+        → AreOverlapping unsigned_keys (set_items handle.old.seal.held) (upto_key key) [] }
     ensures unwritten { result ≢ DONE → entry.new ≡ entry.old }
     ensures answer { HoldsSet handle.old.seal.held → (result ≡ DONE) ⊎ (result ≡ NONE) }
     ensures closed { handle.old.is_open ≡ false → result ≡ CLOSED }
@@ -236,7 +263,10 @@ pub extern "C" fn brm_set_u64_previous(handle: &mut Handle, key: u64, entry: &mu
     if !handle.is_open {
         return CLOSED;
     }
-    unsigned_set::previous(handle.seal.as_mut(), key, entry)
+    match handle.seal.as_mut() {
+        Collection::Set(kept) => reads::previous(kept.as_map(), key, entry),
+        _ => OTHER_KIND,
+    }
 }
 
 /// Takes the first stored range out, and writes it. Allocates nothing.
@@ -256,7 +286,10 @@ pub extern "C" fn brm_set_u64_pop_first(handle: &mut Handle, entry: &mut Bounds)
     if !handle.is_open {
         return CLOSED;
     }
-    unsigned_set::pop_first(handle.seal.as_mut(), entry)
+    match handle.seal.as_mut() {
+        Collection::Set(kept) => kept.pop_first(entry),
+        _ => OTHER_KIND,
+    }
 }
 
 /// Takes the last stored range out, and writes it. Allocates nothing.
@@ -276,7 +309,10 @@ pub extern "C" fn brm_set_u64_pop_last(handle: &mut Handle, entry: &mut Bounds) 
     if !handle.is_open {
         return CLOSED;
     }
-    unsigned_set::pop_last(handle.seal.as_mut(), entry)
+    match handle.seal.as_mut() {
+        Collection::Set(kept) => kept.pop_last(entry),
+        _ => OTHER_KIND,
+    }
 }
 
 /// Writes the stored ranges from the first that ends at the key or after it on, in ascending
@@ -308,7 +344,10 @@ pub extern "C" fn brm_set_u64_read(
     if !handle.is_open {
         return CLOSED;
     }
-    unsigned_set::read(handle.seal.as_mut(), key, entries, count)
+    match handle.seal.as_mut() {
+        Collection::Set(kept) => reads::read(kept.as_map(), key, entries, count),
+        _ => OTHER_KIND,
+    }
 }
 
 /// Writes the stored ranges from the last that starts at the key or before it on, in descending
@@ -340,5 +379,8 @@ pub extern "C" fn brm_set_u64_read_back(
     if !handle.is_open {
         return CLOSED;
     }
-    unsigned_set::read_back(handle.seal.as_mut(), key, entries, count)
+    match handle.seal.as_mut() {
+        Collection::Set(kept) => reads::read_back(kept.as_map(), key, entries, count),
+        _ => OTHER_KIND,
+    }
 }

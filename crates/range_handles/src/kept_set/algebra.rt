@@ -8,8 +8,8 @@ ghost use Rattle.range_handles.specs.Lists.{unsigned_keys};
 
 use crate::collection::Collection;
 use crate::handle::Handle;
+use crate::kept_set::KeptSet;
 use crate::status::{DONE, NO_MEMORY, NONE, OTHER_KIND, answer};
-use crate::unsigned_set::UnsignedSet;
 use std::alloc::Global;
 
 /// Opens a closed handle on a set of the keys that are in either set.
@@ -26,7 +26,7 @@ pub fn union(alloc: Global, collection: &Collection, other: &Collection, made: &
     match (collection, other) {
         (Collection::Set(first), Collection::Set(second)) => {
             match first.set.union(&second.set) {
-                Ok(set) => made.fill(alloc, Collection::Set(UnsignedSet { set })),
+                Ok(set) => made.fill(alloc, Collection::Set(KeptSet { set })),
                 Err(_) => NO_MEMORY,
             }
         }
@@ -53,7 +53,7 @@ pub fn intersection(
     match (collection, other) {
         (Collection::Set(first), Collection::Set(second)) => {
             match first.set.intersection(&second.set) {
-                Ok(set) => made.fill(alloc, Collection::Set(UnsignedSet { set })),
+                Ok(set) => made.fill(alloc, Collection::Set(KeptSet { set })),
                 Err(_) => NO_MEMORY,
             }
         }
@@ -80,7 +80,7 @@ pub fn difference(
     match (collection, other) {
         (Collection::Set(first), Collection::Set(second)) => {
             match first.set.difference(&second.set) {
-                Ok(set) => made.fill(alloc, Collection::Set(UnsignedSet { set })),
+                Ok(set) => made.fill(alloc, Collection::Set(KeptSet { set })),
                 Err(_) => NO_MEMORY,
             }
         }
@@ -107,7 +107,7 @@ pub fn symmetric_difference(
     match (collection, other) {
         (Collection::Set(first), Collection::Set(second)) => {
             match first.set.symmetric_difference(&second.set) {
-                Ok(set) => made.fill(alloc, Collection::Set(UnsignedSet { set })),
+                Ok(set) => made.fill(alloc, Collection::Set(KeptSet { set })),
                 Err(_) => NO_MEMORY,
             }
         }
@@ -125,7 +125,7 @@ pub fn complement(alloc: Global, collection: &Collection, made: &mut Handle) -> 
 {
     match collection {
         Collection::Set(kept) => match kept.set.complement() {
-            Ok(set) => made.fill(alloc, Collection::Set(UnsignedSet { set })),
+            Ok(set) => made.fill(alloc, Collection::Set(KeptSet { set })),
             Err(_) => NO_MEMORY,
         },
         _ => OTHER_KIND,
@@ -144,7 +144,9 @@ pub fn is_subset(collection: &Collection, other: &Collection) -> u32
         → result ≡ OTHER_KIND }
 {
     match (collection, other) {
-        (Collection::Set(first), Collection::Set(second)) => answer(first.is_subset(second)),
+        (Collection::Set(first), Collection::Set(second)) => answer(
+            first.set.is_subset(&second.set),
+        ),
         (_, _) => OTHER_KIND,
     }
 }
@@ -161,7 +163,9 @@ pub fn is_disjoint(collection: &Collection, other: &Collection) -> u32
         → result ≡ OTHER_KIND }
 {
     match (collection, other) {
-        (Collection::Set(first), Collection::Set(second)) => answer(first.is_disjoint(second)),
+        (Collection::Set(first), Collection::Set(second)) => answer(
+            first.set.is_disjoint(&second.set),
+        ),
         (_, _) => OTHER_KIND,
     }
 }
