@@ -2,4 +2,3 @@ mod AsBox
 mod Fills
 mod Flags
 mod Floats
-mod Upto
