@@ -1,0 +1,4 @@
+//! Lexers from patterns.
+#![tactic(auto)]
+
+mod part;
