@@ -49,3 +49,11 @@ pub record IsWithin (part : Part) (low high : ℕ) : Type 0 where
   pub ends : (q : ℕ) → IsAmong q part.ends.items → LiesWithin low high q
   pub edges : (p c q : ℕ) → HasEdge part.edges.items p c q
       → LiesWithin low high p × LiesWithin low high q
+
+-- the number lies between these two, and leads to the state
+abbrev pub HasPiece : ℕ → ℕ → ℕ → ℕ → ℕ → Type 0
+HasPiece first last to c q = ((first ≤ c) × (c ≤ last)) × (q ≡ to)
+
+-- the numbers from first to last are characters, on one side of the surrogates
+abbrev pub AreCharacters : ℕ → ℕ → Type 0
+AreCharacters first last = first ≤ last → (last ≤ 0xD7FF) ⊎ ((0xE000 ≤ first) × (last ≤ 0x10_FFFF))
