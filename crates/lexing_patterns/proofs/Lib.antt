@@ -1,7 +1,9 @@
 pub mod Any
 pub mod Building
 pub mod Joining
+pub mod Literals
 pub mod Meanings
 pub mod CharacterRanges
+pub mod Repeating
 pub mod Results
 pub mod Within

@@ -5,5 +5,6 @@ mod builder;
 mod error;
 mod part;
 mod pieces;
+mod trees;
 
 pub use error::PatternError;
