@@ -1,5 +1,5 @@
 -- Lists with one of which something holds.
-use Rattle.std.proofs.Common.{◌≡◌, refl, ◌↔◌, ◌⊎◌, inl, inr, Bool, true, false, IsTrue, List, [], ◌∷◌, ◌++◌}
+use Rattle.std.proofs.Common.{◌≡◌, refl, ◌↔◌, ◌⊎◌, inl, inr, true, false, IsTrue, List, [], ◌∷◌, ◌++◌}
 use Rattle.lexing_patterns.specs.Parts.{AnyOf}
 
 pub any-append : {X : Type 0} (P : X → Type 0) (xs ys : List X)

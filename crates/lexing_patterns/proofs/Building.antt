@@ -1,11 +1,11 @@
 -- What is built from what was built.
-use Rattle.std.proofs.Common.{◌≡◌, refl, sym, ◌↔◌, ◌⊎◌, inl, inr, ℕ, ◌≤◌, Bool, true, false, List, [], ◌∷◌}
+use Rattle.std.proofs.Common.{◌≡◌, ◌↔◌, ◌⊎◌, inl, inr, ℕ, ◌≤◌, Bool, true, false, List, []}
 use Rattle.std.specs.Str.{all_scalars}
 use Rattle.regex_class.specs.Ranges.{in_ranges}
 use Rattle.regex_hir.specs.Re.{Re, empty, byte_in, char_in, cat, alt, plus}
 use Rattle.regex_hir.specs.Meaning.{optional}
 use Rattle.lexing_patterns.specs.declared.part.Part.{Part}
-use Rattle.lexing_patterns.specs.Languages.{InTurn, RoundsOf, OneOf, IsLanguage}
+use Rattle.lexing_patterns.specs.Languages.{InTurn, RoundsOf, OneOf}
 use Rattle.lexing_patterns.specs.Parts.{Reads, IsWithin}
 use Rattle.lexing_patterns.specs.Built.{IsBuilt}
 use Rattle.lexing_patterns.proofs.Meanings.{language_same, language_empty, language_nothing, language_cat, language_alt, language_plus, language_char_in, language_byte_in, language_through}

@@ -1,5 +1,5 @@
 -- The leads of ranges of characters.
-use Rattle.std.proofs.Common.{◌≡◌, refl, sym, ap, subst, ◌∙◌, ◌↔◌, ◌⊎◌, inl, inr, ℕ, ◌≤◌, ◌<◌, min, max, Bool, true, false, ◌||◌, IsTrue, List, [], ◌∷◌, ◌++◌, arith}
+use Rattle.std.proofs.Common.{◌≡◌, refl, sym, ap, subst, ◌∙◌, ◌↔◌, ◌⊎◌, inl, inr, ℕ, ◌≤◌, min, max, Bool, true, false, ◌||◌, IsTrue, List, [], ◌∷◌, ◌++◌, arith}
 use Rattle.std.proofs.lemmas.Bool.Decides.{nat_tests}
 use Rattle.std.specs.Char.{IsScalar}
 use Rattle.std.specs.Str.{all_scalars}
@@ -53,10 +53,13 @@ module _ (old between new : ℕ → ℕ → Type 0) (first last to low_last high
             (inl ((low c q).1 (inr ((p.0.0, omega (arith, below, p.0.1, is_low)), p.1))))
         | inr above ↦
             (high c q).1
-            (inr ((
-              omega (arith, above, p.0.0, is_high),
-              omega (arith, above, p.0.1, is_last),
-            ), p.1))
+            (inr (
+              (
+                omega (arith, above, p.0.0, is_high),
+                omega (arith, above, p.0.1, is_last),
+              ),
+              p.1,
+            ))
       ]
     ],
   )

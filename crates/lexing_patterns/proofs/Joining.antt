@@ -1,8 +1,7 @@
 -- Automata put together, over what leads in, the steps, the ends and whether the empty text is read.
 use Rattle.std.proofs.Common.{◌≡◌, refl, sym, ap, subst, ◌∙◌, ◌↔◌, ◌⊎◌, inl, inr, ℕ, ◌≤◌, ◌<◌, List, [], ◌∷◌, ◌++◌, arith, append-nil}
-use Rattle.std.proofs.lemmas.Bool.{cases_lt}
 use Rattle.lexing_patterns.specs.Languages.{InTurn, RoundsOf, one_text, more_texts}
-use Rattle.lexing_patterns.specs.Parts.{Path, ReadsBy, LiesWithin}
+use Rattle.lexing_patterns.specs.Parts.{Path, ReadsBy}
 
 pub same_both : {A B C : Type 0} → A ↔ B → B ↔ C → A ↔ C
 same_both ab bc = (λ a. bc.0 (ab.0 a), λ c. ab.1 (bc.1 c))
@@ -41,6 +40,30 @@ reads-same I J S T E F A B ins steps ends empty (c ∷ w) = (
   ),
 )
 
+-- steps from states below the middle to such states, and from others to others
+module _ (S T : ℕ → ℕ → ℕ → Type 0) (middle : ℕ)
+    (step_first : (p c q : ℕ) → S p c q → (middle ≤ p) × (middle ≤ q))
+    (step_second : (p c q : ℕ) → T p c q → (p < middle) × (q < middle)) where
+  pub stays_above : (p : ℕ) (w : List ℕ) (q : ℕ) → middle ≤ p → Path (λ a d b. T a d b ⊎ S a d b) p w q
+      → Path S p w q × (middle ≤ q)
+  stays_above p [] q at path = (path, subst (λ x. middle ≤ x) path at)
+  stays_above p (c ∷ w) q at path = elim path.1 [
+    | inl low ↦ absurd (omega (arith, at, (step_second p c path.0 low).0))
+    | inr high ↦
+        let rest = stays_above path.0 w q (step_first p c path.0 high).1 path.2 in
+        ((path.0, high, rest.0), rest.1)
+  ]
+
+  pub stays_below : (p : ℕ) (w : List ℕ) (q : ℕ) → p < middle → Path (λ a d b. T a d b ⊎ S a d b) p w q
+      → Path T p w q × (q < middle)
+  stays_below p [] q at path = (path, subst (λ x. x < middle) path at)
+  stays_below p (c ∷ w) q at path = elim path.1 [
+    | inl low ↦
+        let rest = stays_below path.0 w q (step_second p c path.0 low).1 path.2 in
+        ((path.0, low, rest.0), rest.1)
+    | inr high ↦ absurd (omega (arith, at, (step_first p c path.0 high).0))
+  ]
+
 -- two automata, the states of the second below the middle and those of the first from there on
 module _ (I J : ℕ → ℕ → Type 0) (S T : ℕ → ℕ → ℕ → Type 0) (E F : ℕ → Type 0) (A B : Type 0)
     (middle : ℕ) (in_first : (c q : ℕ) → I c q → middle ≤ q)
@@ -48,7 +71,6 @@ module _ (I J : ℕ → ℕ → Type 0) (S T : ℕ → ℕ → ℕ → Type 0) (
     (step_first : (p c q : ℕ) → S p c q → (middle ≤ p) × (middle ≤ q))
     (step_second : (p c q : ℕ) → T p c q → (p < middle) × (q < middle))
     (end_first : (q : ℕ) → E q → middle ≤ q) (end_second : (q : ℕ) → F q → q < middle) where
-
   abbrev First : List ℕ → Type 0
   First = ReadsBy I S E A
 
@@ -61,26 +83,6 @@ module _ (I J : ℕ → ℕ → Type 0) (S T : ℕ → ℕ → ℕ → Type 0) (
   abbrev pub EitherReads : List ℕ → Type 0
   EitherReads = ReadsBy (λ c q. J c q ⊎ I c q) BothSteps (λ q. F q ⊎ E q) (B ⊎ A)
 
-  above : (p : ℕ) (w : List ℕ) (q : ℕ) → middle ≤ p → Path BothSteps p w q
-      → Path S p w q × (middle ≤ q)
-  above p [] q at path = (path, subst (λ x. middle ≤ x) path at)
-  above p (c ∷ w) q at path = elim path.1 [
-    | inl low ↦ absurd (omega (arith, at, (step_second p c path.0 low).0))
-    | inr high ↦
-        let rest = above path.0 w q (step_first p c path.0 high).1 path.2 in
-        ((path.0, high, rest.0), rest.1)
-  ]
-
-  below : (p : ℕ) (w : List ℕ) (q : ℕ) → p < middle → Path BothSteps p w q
-      → Path T p w q × (q < middle)
-  below p [] q at path = (path, subst (λ x. x < middle) path at)
-  below p (c ∷ w) q at path = elim path.1 [
-    | inl low ↦
-        let rest = below path.0 w q (step_second p c path.0 low).1 path.2 in
-        ((path.0, low, rest.0), rest.1)
-    | inr high ↦ absurd (omega (arith, at, (step_first p c path.0 high).0))
-  ]
-
   pub either_reads : (w : List ℕ) → EitherReads w ↔ (First w ⊎ Second w)
   either_reads [] = (
     λ h. elim h [ inl b ↦ inr b | inr a ↦ inl a ],
@@ -88,20 +90,20 @@ module _ (I J : ℕ → ℕ → Type 0) (S T : ℕ → ℕ → ℕ → Type 0) (
   )
   either_reads (c ∷ w) = (
     λ h. let (s, t, enters, path, ends) = h in
-    elim enters [
-      | inl low ↦
-          let along = below s w t (in_second c s low) path in
-          elim ends [
-            | inl f ↦ inr (s, t, low, along.0, f)
-            | inr e ↦ absurd (omega (arith, along.1, end_first t e))
-          ]
-      | inr high ↦
-          let along = above s w t (in_first c s high) path in
-          elim ends [
-            | inl f ↦ absurd (omega (arith, along.1, end_second t f))
-            | inr e ↦ inl (s, t, high, along.0, e)
-          ]
-    ],
+        elim enters [
+          | inl low ↦
+              let along = stays_below S T middle step_first step_second s w t (in_second c s low) path in
+              elim ends [
+                | inl f ↦ inr (s, t, low, along.0, f)
+                | inr e ↦ absurd (omega (arith, along.1, end_first t e))
+              ]
+          | inr high ↦
+              let along = stays_above S T middle step_first step_second s w t (in_first c s high) path in
+              elim ends [
+                | inl f ↦ absurd (omega (arith, along.1, end_second t f))
+                | inr e ↦ inl (s, t, high, along.0, e)
+              ]
+        ],
     λ h. elim h [
       | inl a ↦ (
         a.0,
@@ -269,15 +271,23 @@ module _ (I : ℕ → ℕ → Type 0) (S : ℕ → ℕ → ℕ → Type 0) (E : 
       let (u, v, t, parts, front, ends, rest) = leaves path.0 w q path.2 end in
       elim path.1 [
         | inl step ↦ (c ∷ u, v, t, ap (λ x. c ∷ x) parts, (path.0, step, front), ends, rest)
-        | inr again ↦ ([], c ∷ w, p, refl, refl, again.0, inr (elim rest [
-          | inl none ↦
-              let all : c ∷ u ≡ c ∷ w =
-              ap (λ x. c ∷ x) (sym (append-nil u) ∙ ap (λ x. u ++ x) (sym none) ∙ sym parts) in
-              subst Rounds all (one_text (c ∷ u) (path.0, t, again.1, front, ends))
-          | inr more ↦
-              subst Rounds (ap (λ x. c ∷ x) (sym parts))
-              (rounds-front (c ∷ u) v (path.0, t, again.1, front, ends) more)
-        ]))
+        | inr again ↦ (
+          [],
+          c ∷ w,
+          p,
+          refl,
+          refl,
+          again.0,
+          inr (elim rest [
+            | inl none ↦
+                let all : c ∷ u ≡ c ∷ w =
+                ap (λ x. c ∷ x) (sym (append-nil u) ∙ ap (λ x. u ++ x) (sym none) ∙ sym parts) in
+                subst Rounds all (one_text (c ∷ u) (path.0, t, again.1, front, ends))
+            | inr more ↦
+                subst Rounds (ap (λ x. c ∷ x) (sym parts))
+                (rounds-front (c ∷ u) v (path.0, t, again.1, front, ends) more)
+          ]),
+        )
       ]
 
   loop_splits : (w : List ℕ) → LoopReads w → Rounds w

@@ -1,12 +1,11 @@
 -- A text, one character after the other from its end.
-use Rattle.std.proofs.Common.{◌≡◌, refl, sym, ap, ap₂, subst, ◌∙◌, ◌↔◌, ◌⊎◌, inl, inr, ℕ, zero, suc, ◌-◌, ◌+◌, ◌≤◌, ◌<◌, Bool, true, List, [], ◌∷◌, ◌++◌, length, drop, get_or, arith}
+use Rattle.std.proofs.Common.{◌≡◌, refl, sym, ap, ap₂, subst, ◌∙◌, ◌↔◌, inl, inr, ℕ, zero, suc, ◌-◌, ◌+◌, ◌≤◌, ◌<◌, true, List, [], ◌∷◌, ◌++◌, length, drop, get_or, arith}
 use Rattle.std.proofs.lemmas.Bool.{and_parts}
 use Rattle.std.proofs.lemmas.List.{drop_more}
 use Rattle.std.proofs.lemmas.Str.{chars-encodes}
 use Rattle.std.specs.Str.{encode_utf8_all, all_scalars, chars}
-use Rattle.std.specs.Char.{IsScalar}
 use Rattle.regex_class.specs.Ranges.{in_ranges}
-use Rattle.regex_hir.specs.Re.{Re, empty, literal, char_in, cat}
+use Rattle.regex_hir.specs.Re.{empty, literal, char_in, cat}
 use Rattle.lexing_patterns.specs.declared.part.Part.{Part}
 use Rattle.lexing_patterns.specs.Languages.{InTurn, OneOf, IsLanguage}
 use Rattle.lexing_patterns.specs.Parts.{Reads}

@@ -1,14 +1,13 @@
 -- The languages of patterns, one for each of their forms.
-use Rattle.std.proofs.Common.{◌≡◌, refl, sym, ap, ap₂, subst, ◌∙◌, ◌↔◌, ◌⊎◌, inl, inr, ⊎_elim, ℕ, ◌+◌, ◌<◌, ◌≤◌, zero, suc, Bool, true, false, List, [], ◌∷◌, ◌++◌, length, drop, get_or, Some, arith, append_assoc, append-nil, length-append, slice_get, true≢false}
+use Rattle.std.proofs.Common.{◌≡◌, refl, sym, ap, subst, ◌∙◌, ◌↔◌, ◌⊎◌, inl, inr, ℕ, ◌+◌, ◌<◌, ◌≤◌, zero, suc, Bool, true, List, [], ◌∷◌, ◌++◌, length, drop, Some, arith, append_assoc, append-nil, length-append, slice_get, true≢false}
 use Rattle.std.proofs.Math.Seq.{drop-append_seam}
 use Rattle.std.proofs.lemmas.Bool.{and_parts, and_from}
 use Rattle.std.proofs.lemmas.Str.{cons_from_encodes, encodes-append, encodes-chars, length-encode, encode_ascii, len_utf8_ascii}
 use Rattle.std.specs.Str.{encode_utf8_all, all_scalars, chars, IsUtf8}
-use Rattle.std.specs.Char.{IsScalar, len_utf8, encode_utf8}
+use Rattle.std.specs.Char.{len_utf8, encode_utf8}
 use Rattle.regex_class.specs.Ranges.{in_ranges}
 use Rattle.regex_hir.specs.Re.{Re, empty, literal, byte_in, char_in, cat, alt, group, plus}
 use Rattle.regex_hir.specs.Matches.{Matches, Rounds, one_round, next_round}
-use Rattle.regex_hir.specs.Text.{char_at, has_bytes_at}
 use Rattle.regex_hir.proofs.TextLemmas.{char_at_parts, char_at_from, has_bytes_at_parts, has_bytes_at_from, char_at_ascii}
 use Rattle.lexing_patterns.specs.Languages.{InTurn, RoundsOf, one_text, more_texts, OneOf, MatchesBehind, GoesOnTo, IsLanguage}
 

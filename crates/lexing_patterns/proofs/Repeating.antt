@@ -1,5 +1,5 @@
 -- Repetitions, by what they are made of; and the same of a part, told in other words.
-use Rattle.std.proofs.Common.{◌≡◌, refl, sym, ap, subst, ◌∙◌, ℕ, zero, suc, ◌-◌, ◌+◌, ◌≤◌, Bool, Option, Some, None, Result, IfOk, arith}
+use Rattle.std.proofs.Common.{◌≡◌, refl, sym, ap, subst, ℕ, zero, suc, ◌-◌, Bool, Some, None, Result, IfOk, arith}
 use Rattle.regex_hir.specs.Re.{Re, plus}
 use Rattle.regex_hir.specs.Meaning.{repeat, copies, up_to, optional}
 use Rattle.lexing_patterns.specs.declared.part.Part.{Part}

@@ -1,5 +1,5 @@
 -- Where the states of parts lie that are put together.
-use Rattle.std.proofs.Common.{◌↔◌, ◌⊎◌, inl, inr, ℕ, ◌≤◌, ◌<◌, arith}
+use Rattle.std.proofs.Common.{ℕ, ◌≤◌, arith}
 use Rattle.lexing_patterns.specs.Parts.{LiesWithin}
 
 module _ (low middle high : ℕ) (below : low ≤ middle) (above : middle ≤ high) where

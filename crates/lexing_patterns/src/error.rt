@@ -2,6 +2,8 @@
 ghost use Rattle.std.specs.Prelude.{◌≡◌};
 ghost use Rattle.lexing_patterns.specs.declared.error.PatternError.TheVariants.{Memory};
 
+use btree_range_map::MapError;
+use lexing::LexError;
 use std::alloc::{AllocError, AllocFailed};
 use thiserror::Error;
 
@@ -25,6 +27,14 @@ pub enum PatternError {
     Memory,
 }
 
+/// Which rule is not taken, and why. Where memory ran out behind the last rule, that is its number.
+#[derive(Clone, Copy, Debug, PartialEq, Eq, Drop, Error)]
+#[error("rule {rule}: {error}")]
+pub struct RuleError {
+    pub rule: usize,
+    pub error: PatternError,
+}
+
 impl From<AllocError> for PatternError {
     ghost from_gives = { λ _ e. e ≡ Memory };
 
@@ -39,6 +49,22 @@ impl<T: Drop> From<AllocFailed<T>> for PatternError {
 
     fn from(failed: AllocFailed<T>) -> PatternError {
         drop(failed);
+        PatternError::Memory
+    }
+}
+
+impl From<MapError> for PatternError {
+    ghost from_gives = { λ _ e. e ≡ Memory };
+
+    fn from(_error: MapError) -> PatternError {
+        PatternError::Memory
+    }
+}
+
+impl From<LexError> for PatternError {
+    ghost from_gives = { λ _ e. e ≡ Memory };
+
+    fn from(_error: LexError) -> PatternError {
         PatternError::Memory
     }
 }

@@ -148,7 +148,11 @@ fn leads_with(mut leads: Vec<Lead>, more: &[Lead], wanted: bool) -> Result<Vec<L
 }
 
 /// The states, with others behind them where these are wanted.
-fn states_with(mut states: Vec<u32>, more: &[u32], wanted: bool) -> Result<Vec<u32>, AllocError>
+pub(crate) fn states_with(
+    mut states: Vec<u32>,
+    more: &[u32],
+    wanted: bool,
+) -> Result<Vec<u32>, AllocError>
     ensures { IfOk result (λ r. (q : ℕ) → IsAmong q r.items
         ↔ (IsAmong q states.items ⊎ (IsTrue wanted × IsAmong q more.now))) }
 {
@@ -170,7 +174,7 @@ fn link_all(edges: &mut Vec<Edge>, states: &[u32], leads: &[Lead]) -> Result<(),
 }
 
 /// Adds edges that lead on from the state by each lead.
-fn link(edges: &mut Vec<Edge>, from: u32, leads: &[Lead]) -> Result<(), AllocError>
+pub(crate) fn link(edges: &mut Vec<Edge>, from: u32, leads: &[Lead]) -> Result<(), AllocError>
     ensures { OnOk result ((p c q : ℕ) → HasEdge edges.new.items p c q
         ↔ (HasEdge edges.old.items p c q ⊎ ((p ≡ from) × Leads leads.now c q))) }
 {

@@ -11,7 +11,9 @@ use regex_class::ClassRange;
 use std::alloc::{AllocError, Global};
 
 const BEFORE_SURROGATES: u32 = 0xD7FF;
+
 const AFTER_SURROGATES: u32 = 0xE000;
+
 const LAST: u32 = 0x10_FFFF;
 
 /// Accepts one character of the ranges, which leads to the state.

@@ -1,7 +1,7 @@
-use Rattle.std.proofs.Common.{◌≡◌, refl, sym, ap, ◌∙◌, ◌↔◌, ◌⊎◌, inl, inr, ℕ, List, ◌++◌, IsTrue, Bool, true, false}
-use Rattle.lexing_patterns.specs.Parts.{AnyOf, Leads, HasEdge, LeadsBy, IsAmong, Reads, IsWithin, LiesWithin}
+use Rattle.std.proofs.Common.{◌≡◌, sym, ◌∙◌, ◌↔◌, ◌⊎◌, inl, inr, ℕ, IsTrue}
+use Rattle.lexing_patterns.specs.Parts.{Leads, HasEdge, LeadsBy, IsAmong}
 use Rattle.lexing_patterns.proofs.Any.{any-append}
-use Rattle.lexing_patterns.proofs.Joining.{reads-same, either_reads, EitherReads, same_both}
+use Rattle.lexing_patterns.proofs.Joining.{reads-same, either_reads, same_both}
 use Rattle.lexing_patterns.proofs.Within.{low_lies, high_lies}
 use Rattle.lexing_patterns.proofs.part.either.Goals as goal
 use Rattle.lexing_patterns.proofs.part.either.Goals.{then-empty, else-empty}
@@ -12,20 +12,20 @@ returns-clause-reads c =
     let one = c.args.one in
     let other = c.args.other in
     let leads : (d q : ℕ) → Leads c.extend_from_slice.new.self.items d q
-        ↔ (Leads c.args.other.leads.items d q ⊎ Leads c.args.one.leads.items d q) =
+    ↔ (Leads c.args.other.leads.items d q ⊎ Leads c.args.one.leads.items d q) =
     λ d q. rw (c.in_ok-extend_from_slice.ensures.items, c.deref.ensures.value)
     (any-append (LeadsBy d q) c.args.other.leads.items c.args.one.leads.items) in
     let ends : (q : ℕ) → IsAmong q c.extend_from_slice-2.new.self.items
-        ↔ (IsAmong q c.args.other.ends.items ⊎ IsAmong q c.args.one.ends.items) =
+    ↔ (IsAmong q c.args.other.ends.items ⊎ IsAmong q c.args.one.ends.items) =
     λ q. rw (c.in_ok-extend_from_slice-2.ensures.items, c.deref-2.ensures.value)
     (any-append (λ state. q ≡ state) c.args.other.ends.items c.args.one.ends.items) in
     let edges : (p d q : ℕ) → HasEdge c.extend_from_slice-3.new.self.items p d q
-        ↔ (HasEdge c.args.other.edges.items p d q ⊎ HasEdge c.args.one.edges.items p d q) =
+    ↔ (HasEdge c.args.other.edges.items p d q ⊎ HasEdge c.args.one.edges.items p d q) =
     λ p d q. rw (c.in_ok-extend_from_slice-3.ensures.items, c.deref-3.ensures.value)
     (any-append (λ edge. (p ≡ edge.from) × LeadsBy d q edge.lead) c.args.other.edges.items
     c.args.one.edges.items) in
     let empty : IsTrue c.if-empty.empty
-        ↔ (IsTrue c.args.other.empty ⊎ IsTrue c.args.one.empty) =
+    ↔ (IsTrue c.args.other.empty ⊎ IsTrue c.args.one.empty) =
     elim c.if-empty.branch [
       | then-empty w ↦ (λ _. inl w.if-empty.true, λ _. w.empty-is ∙ w.if-empty.true)
       | else-empty w ↦ (

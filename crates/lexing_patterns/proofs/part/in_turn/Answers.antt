@@ -1,5 +1,5 @@
-use Rattle.std.proofs.Common.{◌≡◌, refl, sym, ap, ◌∙◌, ◌↔◌, ◌⊎◌, inl, inr, ℕ, List, ◌++◌, IsTrue, Bool, true, false}
-use Rattle.lexing_patterns.specs.Parts.{AnyOf, Leads, HasEdge, LeadsBy, IsAmong, Reads, IsWithin, LiesWithin}
+use Rattle.std.proofs.Common.{◌≡◌, sym, ◌∙◌, ◌↔◌, ◌⊎◌, inl, inr, ℕ, ◌++◌, IsTrue, Bool, true, false}
+use Rattle.lexing_patterns.specs.Parts.{Leads, HasEdge, LeadsBy, IsAmong}
 use Rattle.lexing_patterns.proofs.Any.{any-append}
 use Rattle.lexing_patterns.proofs.Joining.{reads-same, turn_reads, same_both}
 use Rattle.lexing_patterns.proofs.Within.{low_lies, high_lies}
@@ -12,29 +12,33 @@ returns-clause-reads c =
     let one = c.args.front in
     let other = c.args.back in
     let leads : (d q : ℕ) → Leads c.in_ok-leads.leads.items d q
-        ↔ (Leads c.args.front.leads.items d q
-        ⊎ (IsTrue c.args.front.empty × Leads c.args.back.leads.items d q)) =
+    ↔ (Leads c.args.front.leads.items d q
+    ⊎ (IsTrue c.args.front.empty × Leads c.args.back.leads.items d q)) =
     λ d q. rw (← c.deref-5.ensures.value) (c.in_ok-leads.ensures d q) in
     let ends : (q : ℕ) → IsAmong q c.in_ok-ends.ends.items
-        ↔ (IsAmong q c.args.back.ends.items
-        ⊎ (IsTrue c.args.back.empty × IsAmong q c.args.front.ends.items)) =
+    ↔ (IsAmong q c.args.back.ends.items
+    ⊎ (IsTrue c.args.back.empty × IsAmong q c.args.front.ends.items)) =
     λ q. rw (← c.deref-4.ensures.value) (c.in_ok-ends.ensures q) in
     let edges : (p d q : ℕ) → HasEdge c.link_all.new.edges.items p d q
-        ↔ ((HasEdge c.args.back.edges.items p d q ⊎ HasEdge c.args.front.edges.items p d q)
-        ⊎ (IsAmong p c.args.front.ends.items × Leads c.args.back.leads.items d q)) =
+    ↔ ((HasEdge c.args.back.edges.items p d q ⊎ HasEdge c.args.front.edges.items p d q)
+    ⊎ (IsAmong p c.args.front.ends.items × Leads c.args.back.leads.items d q)) =
     λ p d q.
     let both = any-append (λ edge. (p ≡ edge.from) × LeadsBy d q edge.lead)
-        c.args.back.edges.items c.args.front.edges.items in
+    c.args.back.edges.items c.args.front.edges.items in
     let made : HasEdge c.link_all.new.edges.items p d q
-        ↔ (HasEdge (c.args.back.edges.items ++ c.args.front.edges.items) p d q
-        ⊎ (IsAmong p c.args.front.ends.items × Leads c.args.back.leads.items d q)) =
-    rw (← c.deref-2.ensures.value, ← c.deref-3.ensures.value, ← c.deref.ensures.value,
-    ← c.in_ok-extend_from_slice.ensures.items) (c.in_ok-link_all.ensures p d q) in (
+    ↔ (HasEdge (c.args.back.edges.items ++ c.args.front.edges.items) p d q
+    ⊎ (IsAmong p c.args.front.ends.items × Leads c.args.back.leads.items d q)) =
+    rw (
+      ← c.deref-2.ensures.value,
+      ← c.deref-3.ensures.value,
+      ← c.deref.ensures.value,
+      ← c.in_ok-extend_from_slice.ensures.items,
+    ) (c.in_ok-link_all.ensures p d q) in (
       λ h. elim (made.0 h) [ inl old ↦ inl (both.0 old) | inr new ↦ inr new ],
       λ h. elim h [ inl old ↦ made.1 (inl (both.1 old)) | inr new ↦ made.1 (inr new) ],
     ) in
     let empty : IsTrue c.if-front.empty
-        ↔ (IsTrue c.args.front.empty × IsTrue c.args.back.empty) =
+    ↔ (IsTrue c.args.front.empty × IsTrue c.args.back.empty) =
     elim c.if-front.branch [
       | then-front w ↦ (λ h. (w.if-front.true, sym w.empty-is ∙ h), λ h. w.empty-is ∙ h.1)
       | else-front w ↦ (

@@ -1,8 +1,8 @@
-use Rattle.std.proofs.Common.{◌≡◌, sym, ap, ◌∙◌, ◌↔◌, ◌⊎◌, List, take, ◌++◌, [], ◌∷◌, get_or, ◌+◌, ◌<◌, length, arith}
+use Rattle.std.proofs.Common.{◌≡◌, ap, ◌∙◌, take, length, arith}
 use Rattle.std.proofs.lemmas.List.{take_more}
 use Rattle.std.proofs.Math.Seq.{take-length}
 use Rattle.lexing_patterns.specs.declared.part.Lead.{Lead}
-use Rattle.lexing_patterns.specs.Parts.{AnyOf, HasEdge, LeadsBy}
+use Rattle.lexing_patterns.specs.Parts.{HasEdge, LeadsBy}
 use Rattle.lexing_patterns.proofs.Any.{any-more, any-given, left_or}
 use Rattle.lexing_patterns.proofs.part.link.Goals as goal
 
@@ -10,8 +10,10 @@ pub loop-lead-preserved : goal.loop-lead-preserved
 loop-lead-preserved c =
     λ p d q.
     let lead : Lead = record { first = 0; last = 0; to = 0 } in
-    rw (c.in_ok-push.ensures.items,
-    take_more c.args.leads.now c.loop-lead.lead-index lead c.loop-lead-test.true)
+    rw (
+      c.in_ok-push.ensures.items,
+      take_more c.args.leads.now c.loop-lead.lead-index lead c.loop-lead-test.true,
+    )
     (any-more (λ edge. (p ≡ edge.from) × LeadsBy d q edge.lead)
     (λ lead. (p ≡ c.args.from) × LeadsBy d q lead) (HasEdge c.args.edges.now.items p d q)
     c.loop-lead.edges.items (take c.loop-lead.lead-index c.args.leads.now) _ _

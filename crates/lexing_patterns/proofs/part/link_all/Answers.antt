@@ -1,7 +1,7 @@
-use Rattle.std.proofs.Common.{◌≡◌, sym, ap, ◌∙◌, ◌↔◌, ◌⊎◌, List, take, ◌++◌, [], ◌∷◌, get_or, ◌+◌, ◌<◌, length, arith}
+use Rattle.std.proofs.Common.{◌≡◌, ap, ◌∙◌, take, length, arith}
 use Rattle.std.proofs.lemmas.List.{take_more}
 use Rattle.std.proofs.Math.Seq.{take-length}
-use Rattle.lexing_patterns.specs.Parts.{AnyOf, HasEdge, Leads, IsAmong}
+use Rattle.lexing_patterns.specs.Parts.{HasEdge, Leads}
 use Rattle.lexing_patterns.proofs.Any.{any-step, any-also, left_or}
 use Rattle.lexing_patterns.proofs.part.link_all.Goals as goal
 

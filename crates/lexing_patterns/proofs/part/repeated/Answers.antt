@@ -1,5 +1,5 @@
-use Rattle.std.proofs.Common.{◌≡◌, refl, sym, ap, ◌∙◌, ◌↔◌, ◌⊎◌, inl, inr, ℕ, List, IsTrue}
-use Rattle.lexing_patterns.specs.Parts.{Leads, HasEdge, IsAmong, IsWithin, LiesWithin}
+use Rattle.std.proofs.Common.{◌↔◌, ◌⊎◌, inl, inr, ℕ, IsTrue}
+use Rattle.lexing_patterns.specs.Parts.{Leads, HasEdge, IsAmong}
 use Rattle.lexing_patterns.proofs.Joining.{reads-same, loop_reads, same_both}
 use Rattle.lexing_patterns.proofs.part.repeated.Goals as goal
 
@@ -8,8 +8,8 @@ returns-clause-reads c =
     λ w.
     let part = c.args.part in
     let edges : (p d q : ℕ) → HasEdge c.link_all.new.edges.items p d q
-        ↔ (HasEdge c.args.part.edges.items p d q
-        ⊎ (IsAmong p c.args.part.ends.items × Leads c.args.part.leads.items d q)) =
+    ↔ (HasEdge c.args.part.edges.items p d q
+    ⊎ (IsAmong p c.args.part.ends.items × Leads c.args.part.leads.items d q)) =
     λ p d q. rw (← c.deref.ensures.value, ← c.deref-2.ensures.value)
     (c.in_ok-link_all.ensures p d q) in
     same_both (reads-same (Leads part.leads.items) _ (HasEdge c.link_all.new.edges.items) _

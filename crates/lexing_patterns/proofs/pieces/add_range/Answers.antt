@@ -1,4 +1,3 @@
-use Rattle.std.proofs.Common.{◌≡◌}
 use Rattle.lexing_patterns.specs.Parts.{Leads}
 use Rattle.lexing_patterns.proofs.CharacterRanges.{range_added, range_leads_there}
 use Rattle.lexing_patterns.proofs.Results.{on_ok}

@@ -1,8 +1,7 @@
-use Rattle.std.proofs.Common.{◌≡◌, sym, ap, ◌∙◌, ◌↔◌, ◌⊎◌, inl, inr, List, take, length, arith, true}
+use Rattle.std.proofs.Common.{◌≡◌, ap, ◌∙◌, inl, inr, take, length, arith}
 use Rattle.std.proofs.lemmas.List.{take_more}
 use Rattle.std.proofs.Math.Seq.{take-length}
-use Rattle.regex_class.specs.Ranges.{in_ranges}
-use Rattle.lexing_patterns.specs.Parts.{AnyOf, Leads, HasPiece}
+use Rattle.lexing_patterns.specs.Parts.{Leads, HasPiece}
 use Rattle.lexing_patterns.proofs.Any.{any-step}
 use Rattle.lexing_patterns.proofs.CharacterRanges.{in_ranges_any}
 use Rattle.lexing_patterns.proofs.pieces.leads_of.Goals as goal

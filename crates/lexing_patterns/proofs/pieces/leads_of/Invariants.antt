@@ -7,5 +7,5 @@ abbrev pub invariant-loop-range : goal.invariant-loop-range
 invariant-loop-range l = record {
   members : (c q : ℕ) → IsScalar c → Leads l.leads.items c q
       ↔ (⊥ ⊎ AnyOf (λ r. HasPiece r.0 r.1 l.to c q) (take l.range-index l.ranges));
-  one : (c q : ℕ) → Leads l.leads.items c q → q ≡ l.to
+  one : (c q : ℕ) → Leads l.leads.items c q → q ≡ l.to;
 }

@@ -1,5 +1,5 @@
-use Rattle.std.proofs.Common.{◌≡◌, sym, ap, ◌∙◌, [], ◌∷◌, ◌+◌, inl, inr, arith}
-use Rattle.lexing_patterns.specs.Parts.{Leads, IsAmong}
+use Rattle.std.proofs.Common.{inl, inr, arith}
+use Rattle.lexing_patterns.specs.Parts.{Leads}
 use Rattle.lexing_patterns.proofs.CharacterRanges.{one_read}
 use Rattle.lexing_patterns.proofs.pieces.one_of.Goals as goal
 

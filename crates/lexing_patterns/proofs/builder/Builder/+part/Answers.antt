@@ -1,9 +1,8 @@
-use Rattle.std.proofs.Common.{◌≡◌, ℕ, ◌+◌, ◌-◌, ◌≤◌, Bool, length, drop, map, sym, ap, ◌∙◌, arith, add-one, refl}
+use Rattle.std.proofs.Common.{◌≡◌, ◌+◌, ◌-◌, length, arith, add-one}
 use Rattle.std.proofs.lemmas.List.{drop_all, drop_more}
-use Rattle.regex_hir.specs.Re.{Re}
 use Rattle.regex_hir.specs.Meaning.{meaning}
-use Rattle.regex_hir.proofs.MeaningLemmas.{meaning-Empty, meaning-Literal, meaning-Bytes, meaning-Chars, meaning-Repetition, meaning-Capture, meaning-Concat, meaning-Alternation}
-use Rattle.lexing_patterns.proofs.Repeating.{repeat_bounded, repeat_star, repeat_plus, retold}
+use Rattle.regex_hir.proofs.MeaningLemmas.{meaning-Empty}
+use Rattle.lexing_patterns.proofs.Repeating.{repeat_bounded, repeat_star, repeat_plus}
 use Rattle.lexing_patterns.proofs.Results.{if_ok}
 use Rattle.lexing_patterns.proofs.builder.Builder.+part.Goals as goal
 

@@ -1,10 +1,8 @@
-use Rattle.std.proofs.Common.{◌≡◌, sym, ap, subst, ◌∙◌, Result, Ok, Err, IfOk}
 use Rattle.regex_hir.specs.Re.{char_in}
 use Rattle.lexing_patterns.specs.Built.{IsBuilt}
 use Rattle.lexing_patterns.proofs.Building.{built_byte}
 use Rattle.lexing_patterns.proofs.Results.{if_ok}
 use Rattle.lexing_patterns.proofs.builder.Builder.byte.Goals as goal
-
 
 pub returns-clause-built : goal.returns-clause-built
 returns-clause-built c =

@@ -1,4 +1,4 @@
-use Rattle.std.proofs.Common.{◌≡◌, sym, ap, subst, ◌∙◌, ◌+◌}
+use Rattle.std.proofs.Common.{sym}
 use Rattle.lexing_patterns.proofs.Building.{built_char}
 use Rattle.lexing_patterns.proofs.builder.Builder.character.Goals as goal
 

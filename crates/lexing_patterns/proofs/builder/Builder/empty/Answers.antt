@@ -1,4 +1,3 @@
-use Rattle.std.proofs.Common.{◌≡◌, refl, sym, ap, subst, ◌∙◌, ◌+◌, ◌≤◌, arith}
 use Rattle.lexing_patterns.proofs.Building.{built_empty}
 use Rattle.lexing_patterns.proofs.builder.Builder.empty.Goals as goal
 

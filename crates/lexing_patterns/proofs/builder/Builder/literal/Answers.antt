@@ -1,9 +1,8 @@
-use Rattle.std.proofs.Common.{◌≡◌, [], ◌∷◌, sym, ap, subst, ◌∙◌, length, drop, ◌<◌, ◌≤◌, true, arith}
+use Rattle.std.proofs.Common.{◌≡◌, [], ◌∷◌, sym, ap, subst, ◌∙◌, drop, true, arith}
 use Rattle.std.proofs.lemmas.List.{drop_all}
 use Rattle.std.proofs.lemmas.Str.{scalars-chars, encodes-chars}
-use Rattle.std.specs.Str.{all_scalars, encode_utf8_all, chars, IsUtf8}
+use Rattle.std.specs.Str.{all_scalars, encode_utf8_all, IsUtf8}
 use Rattle.regex_hir.specs.Re.{literal, char_in}
-use Rattle.lexing_patterns.specs.Built.{IsBuilt}
 use Rattle.lexing_patterns.proofs.Literals.{literal_ends, literal_begins}
 use Rattle.lexing_patterns.proofs.builder.Builder.literal.Goals as goal
 

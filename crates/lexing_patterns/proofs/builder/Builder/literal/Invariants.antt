@@ -1,6 +1,4 @@
-use Rattle.std.proofs.Common.{ℕ, ◌≤◌, ◌≡◌, ◌↔◌, drop, List, true}
-use Rattle.std.specs.Str.{all_scalars}
-use Rattle.lexing_patterns.specs.Parts.{IsWithin, Reads}
+use Rattle.std.proofs.Common.{◌≤◌, drop}
 use Rattle.lexing_patterns.specs.Built.{IsBuilt}
 use Rattle.regex_hir.specs.Re.{literal}
 use Rattle.std.specs.Str.{encode_utf8_all}
