@@ -1,7 +1,7 @@
 -- Blocks of numbers that begin with the same bits.
 use Rattle.std.proofs.Common.{◌≡◌, ℕ, ◌+◌, ◌-◌, ◌*◌, ◌/◌, ◌%◌, ◌^◌, ◌≤◌, ◌<◌, inl, inr, ap, ◌∙◌, arith}
 use Rattle.std.proofs.Math.Nat.{div-add-mod', mul-le-mul_right}
-use Rattle.std.proofs.Math.Pow.{pow-add}
+use Rattle.std.proofs.Math.Pow.{pow-add, pow_pos}
 use Rattle.std.proofs.lemmas.Bool.{cases_lt}
 use Rattle.std.proofs.lemmas.Nat.{pow_below}
 
@@ -32,3 +32,10 @@ size_is size told free same less is =
     let small : 2 ^ told < 2 ^ 128 = pow_below told 128 less in
     let shown : (1 * 2 ^ told) % 2 ^ 128 ≡ 2 ^ told = omega (arith, small) in
     is ∙ shown ∙ ap (λ k. 2 ^ k) same
+
+-- the block lies within the addresses, as its number does
+pub block_within : (first last free n : ℕ) → first ≡ n - n % 2 ^ free → last + 1 ≡ first + 2 ^ free
+    → (width : ℕ) → free ≤ width → n < 2 ^ width → (first < 2 ^ width) × (last < 2 ^ width)
+block_within first last free n first_is last_is width le small =
+    let fits = block_fits width free n le small in
+    let some = pow_pos free in (omega (arith, fits, some), omega (arith, fits))

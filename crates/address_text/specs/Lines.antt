@@ -6,6 +6,7 @@ use Rattle.std.specs.Net.Grammar.{IsNumber}
 use Rattle.std.specs.Str.{IsUtf8}
 use Rattle.address_text.specs.Texts.{IsAddressText, width}
 use Rattle.address_text.specs.declared.family.Family.{Family}
+use Rattle.address_text.specs.declared.family.Family.TheVariants.{V4, V6}
 use Rattle.address_text.specs.declared.line.Line.{Line}
 use Rattle.address_text.specs.declared.line.Line.TheVariants.{Nothing, Addresses}
 
@@ -69,3 +70,17 @@ module _ (strict : Bool) where
   Says line Nothing = content line ≡ []
   Says line (Addresses family first last) =
       IsUtf8 (content line) × IsSpan family (content line) first last
+
+-- the ends that a line names are addresses
+abbrev pub AreAddresses : Line → Type 0
+AreAddresses Nothing = Unit {0}
+AreAddresses (Addresses family first last) =
+    (first < 2 ^ width family) × (last < 2 ^ width family)
+
+-- the line says the address
+abbrev pub SaysAddress : Family → ℕ → Line → Type 0
+SaysAddress family n Nothing = ⊥
+SaysAddress V4 n (Addresses V4 first last) = (first ≤ n) × (n ≤ last)
+SaysAddress V4 n (Addresses V6 first last) = ⊥
+SaysAddress V6 n (Addresses V4 first last) = ⊥
+SaysAddress V6 n (Addresses V6 first last) = (first ≤ n) × (n ≤ last)

@@ -3,7 +3,7 @@
 ghost use Rattle.std.specs.Prelude.{◌≡◌, ◌≢◌, ◌+◌, ◌-◌, ◌%◌, ◌≤◌, ◌<◌, ◌^◌, ℕ, IfSome, MatchOption, position};
 ghost use Rattle.std.specs.List.{before_first};
 ghost use Rattle.std.specs.Net.Grammar.{IsNumber};
-ghost use Rattle.address_text.specs.Lines.{IsPrefixSpan, IsRangeSpan, IsSpan, Says, content, trimmed, is_hash};
+ghost use Rattle.address_text.specs.Lines.{AreAddresses, IsPrefixSpan, IsRangeSpan, IsSpan, Says, content, trimmed, is_hash};
 ghost use Rattle.address_text.specs.Texts.{width};
 ghost use Rattle.address_text.specs.declared.line.Line.{Line};
 
@@ -74,9 +74,17 @@ fn block_of(number: u128, free: u8) -> (u128, u128)
 }
 
 /// The addresses of a prefix, by the texts before and after its slash.
-fn prefix_span(family: Family, address: &str, digits: &str, strict: bool) -> Option<(u128, u128)>
-    ensures { MatchOption result ((first last : ℕ) → ¬ IsPrefixSpan strict family address.now digits.now first last)
+fn prefix_span(
+    family: Family,
+    address: &str,
+    digits: &str,
+    strict: bool,
+) -> Option<(u128, u128)>
+    ensures cases { MatchOption result ((first last : ℕ)
+        → ¬ IsPrefixSpan strict family address.now digits.now first last)
         (λ span. IsPrefixSpan strict family address.now digits.now span.0 span.1) }
+    ensures fits { IfSome result
+        (λ span. (span.0 < 2 ^ width family) × (span.1 < 2 ^ width family)) }
 {
     let number = family.read(address)?;
     let length = length_of(digits)?;
@@ -92,8 +100,11 @@ fn prefix_span(family: Family, address: &str, digits: &str, strict: bool) -> Opt
 
 /// The addresses of a range, by the texts before and after its dash.
 fn range_span(family: Family, first: &str, last: &str) -> Option<(u128, u128)>
-    ensures { MatchOption result ((from to : ℕ) → ¬ IsRangeSpan family first.now last.now from to)
+    ensures cases { MatchOption result ((from to : ℕ)
+        → ¬ IsRangeSpan family first.now last.now from to)
         (λ span. IsRangeSpan family first.now last.now span.0 span.1) }
+    ensures fits { IfSome result
+        (λ span. (span.0 < 2 ^ width family) × (span.1 < 2 ^ width family)) }
 {
     let first = family.read(trimmed_of(first))?;
     let last = family.read(trimmed_of(last))?;
@@ -105,8 +116,11 @@ fn range_span(family: Family, first: &str, last: &str) -> Option<(u128, u128)>
 
 /// The addresses of the family that a text says, or `None` where it says none.
 fn span_of(family: Family, text: &str, strict: bool) -> Option<(u128, u128)>
-    ensures { MatchOption result ((first last : ℕ) → ¬ IsSpan strict family text.now first last)
+    ensures cases { MatchOption result ((first last : ℕ)
+        → ¬ IsSpan strict family text.now first last)
         (λ span. IsSpan strict family text.now span.0 span.1) }
+    ensures fits { IfSome result
+        (λ span. (span.0 < 2 ^ width family) × (span.1 < 2 ^ width family)) }
 {
     if let Some((address, digits)) = text.split_once('/') {
         return prefix_span(family, address, digits, strict);
@@ -125,8 +139,9 @@ fn span_of(family: Family, text: &str, strict: bool) -> Option<(u128, u128)>
 /// length have to be 0; else they are taken for 0. White space may stand around each, and at the
 /// dash. A comment may have any bytes. Allocates nothing.
 pub fn line_of(line: &[u8], strict: bool) -> Option<Line>
-    ensures { MatchOption result ((said : Line) → ¬ Says strict line.now said)
+    ensures cases { MatchOption result ((said : Line) → ¬ Says strict line.now said)
         (λ said. Says strict line.now said) }
+    ensures fits { IfSome result AreAddresses }
 {
     let Ok(text) = str::from_utf8(content_of(line)) else {
         return None;

@@ -6,8 +6,8 @@ use Rattle.address_text.specs.declared.line.Line.{Line}
 use Rattle.address_text.proofs.Spans.{says_neither}
 use Rattle.address_text.proofs.line.line_of.Goals as goal
 
-pub returns-in_err-first : goal.returns-in_err-first
-returns-in_err-first c =
+pub returns-in_err-first-clause-cases : goal.returns-in_err-first-clause-cases
+returns-in_err-first-clause-cases c =
     let line = c.args.line.now in
     let strict = c.args.strict in
     let text_is : c.in-Ok.text.now ≡ content line =
@@ -18,6 +18,6 @@ returns-in_err-first c =
     (sym c.from_residual.ensures)
     (says_neither strict line (λ none. some (text_is ∙ none))
     (subst (λ text. (first last : ℕ) → ¬ IsSpan strict V4 text first last) text_is
-    c.in_default-span_of.ensures)
+    c.in_default-span_of.ensures.cases)
     (subst (λ text. (first last : ℕ) → ¬ IsSpan strict V6 text first last) text_is
-    c.in_err-first.ensures))
+    c.in_err-first.ensures.cases))
