@@ -12,20 +12,20 @@ use crate::storage::Probe;
 // How often a node is asked at most.
 pub const MAX_ASKS: usize = 4;
 
-// How many items are known to pass once one is asked: `step` more than `low`, or `low` still. The
-// answer is a number and not a branch, since a processor cannot guess it.
+// How many items are known to pass once one is asked: all before `end`, or `low` still. The answer
+// is a number and not a branch, since a processor cannot guess it.
 #[inline(always)]
-fn ask_ahead<T, P: Probe<T>>(items: &[T], low: usize, step: usize, probe: &mut P) -> usize
+fn ask_ahead<T, P: Probe<T>>(items: &[T], low: usize, end: usize, probe: &mut P) -> usize
     requires falls { Falls (P.test probe.old) items.now }
-    requires some { 0 < step }
-    requires within { low + step ≤ length items.now }
+    requires some { low < end }
+    requires within { end ≤ length items.now }
     requires fits { length items.now ≤ CAPACITY }
-    ensures passes { low + step ≤ count_by (P.test probe.old) items.now → result ≡ low + step }
-    ensures fails { count_by (P.test probe.old) items.now < low + step → result ≡ low }
+    ensures passes { end ≤ count_by (P.test probe.old) items.now → result ≡ end }
+    ensures fails { count_by (P.test probe.old) items.now < end → result ≡ low }
     ensures kept { P.test probe.new ≡ P.test probe.old }
     ensures counted { P.steps_taken probe.new ≡ one_step_after (P.steps_taken probe.old) }
 {
-    low + step * usize::from(probe.ask(&items[low + step - 1]))
+    low + (end - low) * usize::from(probe.ask(&items[end - 1]))
 }
 
 // How many of fewer than `MIN_LEN` items pass, as only a root has so few.
@@ -41,14 +41,15 @@ fn count_few<T, P: Probe<T>>(items: &[T], probe: &mut P) -> usize
     let mut left = items.len();
     while left > 0 {
         let step = left.div_ceil(2);
-        low = ask_ahead(items, low, step, probe);
+        low = ask_ahead(items, low, low + step, probe);
         left -= step;
     }
     low
 }
 
 // How many of the items of a node pass. Of `MIN_LEN` or more, four asks tell whatever they answer:
-// so many items at a time that the next steps reach each of those between.
+// so many items at a time that the next steps reach each of those between. The second asks the same
+// item whatever the first answers, so that a processor reads both at once.
 #[inline(always)]
 pub fn count_passing<T, P: Probe<T>>(items: &[T], probe: &mut P) -> usize
     requires falls { Falls (P.test probe.old) items.now }
@@ -62,12 +63,11 @@ pub fn count_passing<T, P: Probe<T>>(items: &[T], probe: &mut P) -> usize
     if len < MIN_LEN {
         return count_few(items, probe);
     }
-    let second = (len - 4).min(4);
-    let first = len - 3 - second;
+    let first = len.max(8) - 7;
     let low = ask_ahead(items, 0, first, probe);
-    let low = ask_ahead(items, low, second, probe);
-    let low = ask_ahead(items, low, 2, probe);
-    ask_ahead(items, low, 1, probe)
+    let low = ask_ahead(items, low, len - 3, probe);
+    let low = ask_ahead(items, low, low + 2, probe);
+    ask_ahead(items, low, low + 1, probe)
 }
 
 // The edge after the items below a node that pass, by one path down to a leaf.
