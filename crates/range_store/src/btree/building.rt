@@ -5,7 +5,7 @@ ghost use Rattle.range_store.specs.Building.{IsBuilt, HasRoomToBuild};
 ghost use Rattle.range_store.specs.Heap.{HasRoomFor};
 ghost use Rattle.range_store.specs.Nodes.{items_below};
 
-use crate::btree::node::next_item;
+use crate::btree::rows::next_item;
 use crate::btree::nodes::{CAPACITY, Nodes};
 use std::vec::IntoIter;
 

@@ -4,7 +4,9 @@ ghost use Rattle.std.specs.Borrow.{Lends, sem};
 ghost use Rattle.std.specs.Vec.Iter.{into_iter_items};
 ghost use Rattle.range_store.specs.Heap.{node_of, HasNode, items_of, children_of, node_count, HasRoomFor, SameNodes, with_child, with_item, FitsChild, Writes, Stores, Removes, Divides, left_items, right_items, HasPair, RotatesLeft, RotatesRight, Merges, Absorbs};
 
-use crate::btree::node::Node;
+use crate::btree::node::{Node, divide_children};
+use crate::btree::rows::Rows;
+use arrayvec::ArrayVec;
 use slab::Slab;
 use std::alloc::{AllocError, Global};
 use std::marker::Model;
@@ -28,26 +30,10 @@ pub const CHILD_PLACES: usize = CAPACITY + 1;
 /// Nodes under numbers, each with items and the numbers of its children.
 #[derive(Drop)]
 pub struct Nodes<T> {
-    slab: Slab<Node<T>>,
+    slab: Slab<Node>,
+    rows: Rows<T>,
     // The numbers of empty nodes that are not in use.
     spares: Vec<usize>,
-}
-
-impl<T> Model for Nodes<T> {
-    ghost use Rattle.range_store.specs.Heap.{Heap, heap_code};
-
-    ghost Value = { Heap T };
-
-    ghost coded = { heap_code T.code };
-
-    ghost use Rattle.std.specs.Prelude.{◌≤◌, vec_capacity};
-    ghost use Rattle.slab.specs.Slab.{slab_len};
-    ghost use Rattle.range_store.specs.Spares.{heap_of, IsWhole};
-
-    ghost view = { λ s. heap_of s.slab s.spares.items };
-
-    ghost invariant = { λ s. IsWhole s.slab s.spares.items
-        × (slab_len s.slab ≤ vec_capacity s.spares) };
 }
 
 /// A node was cut in two: `middle` stands between it and `right`.
@@ -58,7 +44,6 @@ pub struct Split<T> {
 }
 
 impl<T: Drop> Nodes<T> {
-    ghost use Rattle.range_store.specs.contracts.btree.nodes.Nodes.{the_row};
 
     /// No nodes. Allocates nothing.
     pub fn new(alloc: Global) -> Self
@@ -67,6 +52,7 @@ impl<T: Drop> Nodes<T> {
     {
         Nodes {
             slab: Slab::new(alloc),
+            rows: Rows::new(alloc),
             spares: Vec::new(alloc),
         }
     }
@@ -98,24 +84,23 @@ impl<T: Drop> Nodes<T> {
             return Ok(());
         }
         self.slab.reserve(missing)?;
+        self.rows.reserve(missing)?;
         for _ in 0..missing {
-            self.add_spare(alloc)?;
+            self.add_spare()?;
         }
         Ok(())
     }
 
     // Adds one empty node.
-    fn add_spare(&mut self, alloc: Global) -> Result<(), AllocError>
+    fn add_spare(&mut self) -> Result<(), AllocError>
         ensures more { OnOk result (self.new.capacity ≡ self.old.capacity + 1) }
         ensures no_less { self.old.capacity ≤ self.new.capacity }
         ensures kept { SameNodes self.old self.new }
     {
-        let node = Node::new(alloc)?;
-        // For the proof: the number of nodes is a `usize`.
-        let _places = self.slab.capacity();
+        self.rows.add_to(self.slab.vacant_key())?;
         self.spares
             .reserve(self.slab.len() - self.spares.len() + 1)?;
-        match self.slab.insert(node) {
+        match self.slab.insert(Node::new()) {
             Ok(number) => self.spares.push_reserved(number),
             Err(_) => return Err(AllocError),
         }
@@ -127,15 +112,14 @@ impl<T: Drop> Nodes<T> {
         requires { HasNode self.now number }
         ensures { result ≡ length (items_of (node_of self.now number)) }
     {
-        self.slab[number].items.len()
+        self.slab[number].len
     }
 
-    /// The items of a node.
-    pub fn items(&self, number: usize) -> &[T]
-        requires { HasNode self.now number }
-        ensures { result.now ≡ items_of (node_of self.now number) }
+    /// The cells of a node, of which the first have its items.
+    #[inline(always)]
+    pub fn cells(&self, number: usize) -> &[Option<T>]
     {
-        self.slab[number].items.as_slice()
+        self.rows.row(number)
     }
 
     /// The children of a node, by their numbers.
@@ -153,7 +137,7 @@ impl<T: Drop> Nodes<T> {
         ensures { result.now
             ≡ slice_index_or (items_of (node_of self.now number)) index result.now }
     {
-        &self.items(number)[index]
+        self.rows.item_at(number, index)
     }
 
     /// The child of a node at an index.
@@ -174,7 +158,7 @@ impl<T: Drop> Nodes<T> {
         ensures value { result.now
             ≡ slice_index_or (items_of (node_of self.old number)) index result.now }
     {
-        &mut self.slab[number].items[index]
+        self.rows.item_mut(number, index)
     }
 
     /// Puts an item in the place of the one at an index, which it returns.
@@ -216,9 +200,17 @@ impl<T: Drop> Nodes<T> {
             result.right }
     {
         let right = self.spares.take_last();
-        let mut upper = self.slab.remove(right);
-        let middle = self.slab[number].divide(&mut upper, index, item, index + 1, child);
-        let right = self.slab.insert_reserved(upper);
+        let node = &mut self.slab[number];
+        node.len = HALF;
+        let mut upper = ArrayVec::new();
+        if let Some(child) = child {
+            upper = divide_children(&mut node.children, index + 1, child);
+        }
+        self.slab[right] = Node {
+            len: CAPACITY - HALF,
+            children: upper,
+        };
+        let middle = self.rows.divide(number, right, index, item);
         Split { middle, right }
     }
 
@@ -231,7 +223,10 @@ impl<T: Drop> Nodes<T> {
             (remove (items_of (node_of self.old number)) index)
             (children_of (node_of self.old number)) }
     {
-        self.slab[number].items.remove(index)
+        let node = &mut self.slab[number];
+        let len = node.len;
+        node.len = len - 1;
+        self.rows.take(number, len, index)
     }
 
     /// Stores a new node with one item and no child.
@@ -240,7 +235,8 @@ impl<T: Drop> Nodes<T> {
         ensures { Stores self.old self.new result (item ∷ []) [] }
     {
         let number = self.spares.take_last();
-        self.slab[number].items.push_reserved(item);
+        self.slab[number].len = 1;
+        self.rows.put(number, 0, 0, item);
         number
     }
 
@@ -254,7 +250,8 @@ impl<T: Drop> Nodes<T> {
         ensures rest { into_iter_items items.new ≡ drop count (into_iter_items items.old) }
     {
         let number = self.spares.take_last();
-        self.slab[number].fill(count, items);
+        self.slab[number].len = count;
+        self.rows.fill(number, count, items);
         number
     }
 
@@ -265,9 +262,10 @@ impl<T: Drop> Nodes<T> {
     {
         let number = self.spares.take_last();
         let node = &mut self.slab[number];
-        node.items.push_reserved(middle);
+        node.len = 1;
         node.children.push(left);
         node.children.push(right);
+        self.rows.put(number, 0, 0, middle);
         number
     }
 
@@ -286,7 +284,8 @@ impl<T: Drop> Nodes<T> {
         requires { HasNode self.old number }
         ensures { Removes self.old self.new number }
     {
-        self.slab[number].clear();
+        self.slab[number] = Node::new();
+        self.rows.clear(number);
         self.spares.push_reserved(number);
     }
 
@@ -359,7 +358,13 @@ impl<T: Drop> Nodes<T> {
             (insert (items_of (node_of self.old number)) index item)
             (with_child (children_of (node_of self.old number)) place child) }
     {
-        self.slab[number].put(index, item, place, child);
+        let node = &mut self.slab[number];
+        let len = node.len;
+        node.len = len + 1;
+        if let Some(child) = child {
+            node.children.insert(place, child);
+        }
+        self.rows.put(number, len, index, item);
     }
 
     // Takes the item at an index out of a node, and the child at `place`, if there is one.
@@ -373,7 +378,11 @@ impl<T: Drop> Nodes<T> {
             (remove (items_of (node_of self.old number)) index)
             (remove (children_of (node_of self.old number)) place) }
     {
-        self.slab[number].take(index, place)
+        let node = &mut self.slab[number];
+        let len = node.len;
+        node.len = len - 1;
+        let child = node.children.pop_at(place);
+        (self.rows.take(number, len, index), child)
     }
 
     // Moves all that a node has to the end of another, with an item between.
@@ -389,9 +398,15 @@ impl<T: Drop> Nodes<T> {
             + length (children_of (node_of self.old right)) ≤ CHILD_PLACES }
         ensures { Absorbs self.old self.new left middle right }
     {
-        let mut upper = self.slab.remove(right);
-        self.slab[left].absorb(middle, &mut upper);
-        let right = self.slab.insert_reserved(upper);
+        let upper = mem::replace(&mut self.slab[right], Node::new());
+        let node = &mut self.slab[left];
+        let len = node.len;
+        node.len = len + 1 + upper.len;
+        node.children
+            .try_extend_from_slice(upper.children.as_slice())
+            .unwrap();
+        self.rows.put(left, len, len, middle);
+        self.rows.move_end(right, 0, upper.len, left, len + 1);
         self.spares.push_reserved(right);
     }
 }

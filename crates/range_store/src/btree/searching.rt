@@ -15,33 +15,46 @@ pub const MAX_ASKS: usize = 4;
 // How many items are known to pass once one is asked: all before `end`, or `low` still. The answer
 // is a number and not a branch, since a processor cannot guess it.
 #[inline(always)]
-fn ask_ahead<T, P: Probe<T>>(items: &[T], low: usize, end: usize, probe: &mut P) -> usize
-    requires falls { Falls (P.test probe.old) items.now }
+fn ask_ahead<T, P: Probe<T>>(cells: &[Option<T>], low: usize, end: usize, probe: &mut P) -> usize
+    requires falls { Falls (P.test probe.old) cells.now }
     requires some { low < end }
-    requires within { end ≤ length items.now }
-    requires fits { length items.now ≤ CAPACITY }
-    ensures passes { end ≤ count_by (P.test probe.old) items.now → result ≡ end }
-    ensures fails { count_by (P.test probe.old) items.now < end → result ≡ low }
+    requires within { end ≤ length cells.now }
+    requires fits { length cells.now ≤ CAPACITY }
+    ensures passes { end ≤ count_by (P.test probe.old) cells.now → result ≡ end }
+    ensures fails { count_by (P.test probe.old) cells.now < end → result ≡ low }
     ensures kept { P.test probe.new ≡ P.test probe.old }
     ensures counted { P.steps_taken probe.new ≡ one_step_after (P.steps_taken probe.old) }
 {
-    low + (end - low) * usize::from(probe.ask(&items[end - 1]))
+    match &cells[end - 1] {
+        Some(item) => low + (end - low) * usize::from(probe.ask(item)),
+        None => unreachable!(),
+    }
+}
+
+// How many cells of a row have an item.
+#[inline(always)]
+fn count_full<T>(cells: &[Option<T>]) -> usize {
+    let mut len = 0;
+    for cell in cells {
+        len += usize::from(cell.is_some());
+    }
+    len
 }
 
 // How many of fewer than `MIN_LEN` items pass, as only a root has so few.
-fn count_few<T, P: Probe<T>>(items: &[T], probe: &mut P) -> usize
-    requires falls { Falls (P.test probe.old) items.now }
-    requires some { 0 < length items.now }
-    requires few { length items.now < MIN_LEN }
-    ensures count { result ≡ count_by (P.test probe.old) items.now }
+fn count_few<T, P: Probe<T>>(cells: &[Option<T>], len: usize, probe: &mut P) -> usize
+    requires falls { Falls (P.test probe.old) cells.now }
+    requires some { 0 < length cells.now }
+    requires few { length cells.now < MIN_LEN }
+    ensures count { result ≡ count_by (P.test probe.old) cells.now }
     ensures kept { P.test probe.new ≡ P.test probe.old }
     ensures asked { AddsSteps (P.steps_taken probe.old) (P.steps_taken probe.new) 1 MAX_ASKS }
 {
     let mut low = 0;
-    let mut left = items.len();
+    let mut left = len;
     while left > 0 {
         let step = left.div_ceil(2);
-        low = ask_ahead(items, low, low + step, probe);
+        low = ask_ahead(cells, low, low + step, probe);
         left -= step;
     }
     low
@@ -51,23 +64,23 @@ fn count_few<T, P: Probe<T>>(items: &[T], probe: &mut P) -> usize
 // so many items at a time that the next steps reach each of those between. The second asks the same
 // item whatever the first answers, so that a processor reads both at once.
 #[inline(always)]
-pub fn count_passing<T, P: Probe<T>>(items: &[T], probe: &mut P) -> usize
-    requires falls { Falls (P.test probe.old) items.now }
-    requires some { 0 < length items.now }
-    requires fits { length items.now ≤ CAPACITY }
-    ensures count { result ≡ count_by (P.test probe.old) items.now }
+pub fn count_passing<T, P: Probe<T>>(cells: &[Option<T>], probe: &mut P) -> usize
+    requires falls { Falls (P.test probe.old) cells.now }
+    requires some { 0 < length cells.now }
+    requires fits { length cells.now ≤ CAPACITY }
+    ensures count { result ≡ count_by (P.test probe.old) cells.now }
     ensures kept { P.test probe.new ≡ P.test probe.old }
     ensures asked { AddsSteps (P.steps_taken probe.old) (P.steps_taken probe.new) 1 MAX_ASKS }
 {
-    let len = items.len();
+    let len = count_full(cells);
     if len < MIN_LEN {
-        return count_few(items, probe);
+        return count_few(cells, len, probe);
     }
     let first = len.max(8) - 7;
-    let low = ask_ahead(items, 0, first, probe);
-    let low = ask_ahead(items, low, len - 3, probe);
-    let low = ask_ahead(items, low, low + 2, probe);
-    ask_ahead(items, low, low + 1, probe)
+    let low = ask_ahead(cells, 0, first, probe);
+    let low = ask_ahead(cells, low, len - 3, probe);
+    let low = ask_ahead(cells, low, low + 2, probe);
+    ask_ahead(cells, low, low + 1, probe)
 }
 
 // The edge after the items below a node that pass, by one path down to a leaf.
@@ -92,18 +105,17 @@ pub fn search_below<T: Drop, P: Probe<T>>(
     let mut left = below;
     let mut path: u64 = 0;
     let mut weight: u64 = 1;
-    'down: loop {
-        let index = count_passing(nodes.items(at), probe);
-        if left == 0 {
-            return Edge {
-                path,
-                leaf: at,
-                index,
-            };
-        }
+    'down: while left > 0 {
+        let children = nodes.children(at);
+        let index = count_passing(nodes.cells(at), probe);
         path += weight * (index as u64);
         weight *= PATH_BASE;
-        at = nodes.child_at(at, index);
+        at = children[index];
         left -= 1;
+    }
+    Edge {
+        path,
+        leaf: at,
+        index: count_passing(nodes.cells(at), probe),
     }
 }
