@@ -2,11 +2,11 @@
 ghost use Rattle.std.specs.Prelude.{◌≡◌, ◌≢◌, ◌⊎◌, ◌+◌, ◌-◌, ◌<◌, ◌≤◌, [], ◌∷◌, length, take, drop, slice_get, slice_index, slice_index_or, insert, remove, IsOk, OnOk};
 ghost use Rattle.std.specs.Borrow.{Lends, sem};
 ghost use Rattle.std.specs.Vec.Iter.{into_iter_items};
+ghost use Rattle.range_store.specs.Rows.{HoldsItems};
 ghost use Rattle.range_store.specs.Heap.{node_of, HasNode, items_of, children_of, node_count, HasRoomFor, SameNodes, with_child, with_item, FitsChild, Writes, Stores, Removes, Divides, left_items, right_items, HasPair, RotatesLeft, RotatesRight, Merges, Absorbs};
 
-use crate::btree::node::{Node, divide_children};
+use crate::btree::node::Node;
 use crate::btree::rows::Rows;
-use arrayvec::ArrayVec;
 use slab::Slab;
 use std::alloc::{AllocError, Global};
 use std::marker::Model;
@@ -36,6 +36,23 @@ pub struct Nodes<T> {
     spares: Vec<usize>,
 }
 
+impl<T> Model for Nodes<T> {
+    ghost use Rattle.range_store.specs.Heap.{Heap, heap_code};
+
+    ghost Value = { Heap T };
+
+    ghost coded = { heap_code T.code };
+
+    ghost use Rattle.std.specs.Prelude.{◌≤◌, vec_capacity};
+    ghost use Rattle.slab.specs.Slab.{slab_len};
+    ghost use Rattle.range_store.specs.Spares.{heap_of, IsWhole};
+
+    ghost view = { λ s. heap_of s.slab s.rows s.spares.items };
+
+    ghost invariant = { λ s. IsWhole s.slab s.rows s.spares.items
+        × (slab_len s.slab ≤ vec_capacity s.spares) };
+}
+
 /// A node was cut in two: `middle` stands between it and `right`.
 #[derive(Drop)]
 pub struct Split<T> {
@@ -44,6 +61,7 @@ pub struct Split<T> {
 }
 
 impl<T: Drop> Nodes<T> {
+    ghost use Rattle.range_store.specs.contracts.btree.nodes.Nodes.{the_row};
 
     /// No nodes. Allocates nothing.
     pub fn new(alloc: Global) -> Self
@@ -118,8 +136,10 @@ impl<T: Drop> Nodes<T> {
     /// The cells of a node, of which the first have its items.
     #[inline(always)]
     pub fn cells(&self, number: usize) -> &[Option<T>]
+        requires { HasNode self.now number }
+        ensures { HoldsItems result.now (items_of (node_of self.now number)) }
     {
-        self.rows.row(number)
+        self.rows.cells(number)
     }
 
     /// The children of a node, by their numbers.
@@ -200,16 +220,8 @@ impl<T: Drop> Nodes<T> {
             result.right }
     {
         let right = self.spares.take_last();
-        let node = &mut self.slab[number];
-        node.len = HALF;
-        let mut upper = ArrayVec::new();
-        if let Some(child) = child {
-            upper = divide_children(&mut node.children, index + 1, child);
-        }
-        self.slab[right] = Node {
-            len: CAPACITY - HALF,
-            children: upper,
-        };
+        let upper = self.slab[number].divide(index + 1, child);
+        self.slab[right] = upper;
         let middle = self.rows.divide(number, right, index, item);
         Split { middle, right }
     }
@@ -223,9 +235,8 @@ impl<T: Drop> Nodes<T> {
             (remove (items_of (node_of self.old number)) index)
             (children_of (node_of self.old number)) }
     {
-        let node = &mut self.slab[number];
-        let len = node.len;
-        node.len = len - 1;
+        let len = self.item_count(number);
+        self.slab[number].len = len - 1;
         self.rows.take(number, len, index)
     }
 
@@ -284,8 +295,9 @@ impl<T: Drop> Nodes<T> {
         requires { HasNode self.old number }
         ensures { Removes self.old self.new number }
     {
+        let len = self.item_count(number);
         self.slab[number] = Node::new();
-        self.rows.clear(number);
+        self.rows.clear(number, len);
         self.spares.push_reserved(number);
     }
 
@@ -358,12 +370,7 @@ impl<T: Drop> Nodes<T> {
             (insert (items_of (node_of self.old number)) index item)
             (with_child (children_of (node_of self.old number)) place child) }
     {
-        let node = &mut self.slab[number];
-        let len = node.len;
-        node.len = len + 1;
-        if let Some(child) = child {
-            node.children.insert(place, child);
-        }
+        let len = self.slab[number].add(place, child);
         self.rows.put(number, len, index, item);
     }
 
@@ -378,10 +385,8 @@ impl<T: Drop> Nodes<T> {
             (remove (items_of (node_of self.old number)) index)
             (remove (children_of (node_of self.old number)) place) }
     {
-        let node = &mut self.slab[number];
-        let len = node.len;
-        node.len = len - 1;
-        let child = node.children.pop_at(place);
+        let len = self.item_count(number);
+        let child = self.slab[number].take(place);
         (self.rows.take(number, len, index), child)
     }
 
@@ -399,14 +404,8 @@ impl<T: Drop> Nodes<T> {
         ensures { Absorbs self.old self.new left middle right }
     {
         let upper = mem::replace(&mut self.slab[right], Node::new());
-        let node = &mut self.slab[left];
-        let len = node.len;
-        node.len = len + 1 + upper.len;
-        node.children
-            .try_extend_from_slice(upper.children.as_slice())
-            .unwrap();
-        self.rows.put(left, len, len, middle);
-        self.rows.move_end(right, 0, upper.len, left, len + 1);
+        let len = self.slab[left].absorb(&upper);
+        self.rows.absorb(left, len, middle, right, upper.len);
         self.spares.push_reserved(right);
     }
 }
