@@ -688,12 +688,13 @@ pub fits_count : {T : Type 0} (child : Option ℕ) (xs : List T) (ks : List ℕ)
 fits_count None xs ks many is fits = fits
 fits_count (Some k) xs ks many is fits = omega arith
 
--- a number with no node has no items
-pub vacant_row : {T : Type 0} (slab : Slab Node) (rows : List (List T)) (spares : List ℕ)
-    → IsWhole slab rows spares → (n : ℕ) → get slab n ≡ None → row_of rows n ≡ []
-vacant_row slab rows spares whole n vacant = none_left (row_of rows n)
-    (whole.lens n ∙ ap len_of vacant)
-  where
-    none_left : (xs : List T) → length xs ≡ 0 → xs ≡ []
-    none_left [] none = refl
-    none_left (x ∷ xs) none = absurd (omega arith)
+module _ {T : Type 0} where
+  none_left : (xs : List T) → length xs ≡ 0 → xs ≡ []
+  none_left [] none = refl
+  none_left (x ∷ xs) none = absurd (omega arith)
+
+  -- a number with no node has no items
+  pub vacant_row : (slab : Slab Node) (rows : List (List T)) (spares : List ℕ)
+      → IsWhole slab rows spares → (n : ℕ) → get slab n ≡ None → row_of rows n ≡ []
+  vacant_row slab rows spares whole n vacant =
+      none_left (row_of rows n) (whole.lens n ∙ ap len_of vacant)

@@ -2,6 +2,7 @@
 ghost use Rattle.std.specs.Prelude.{◌≡◌, ℕ, suc, ◌+◌, ◌-◌, ◌*◌, ◌<◌, ◌≤◌, length, count_by};
 ghost use Rattle.range_store.specs.Counting.{AddsSteps, one_step_after};
 ghost use Rattle.range_store.specs.Falling.{Falls};
+ghost use Rattle.range_store.specs.Rows.{HoldsItems, items_in};
 ghost use Rattle.range_store.specs.Nodes.{items_below, ShapedBut};
 ghost use Rattle.range_store.specs.Edges.{IsEdge, place};
 
@@ -16,12 +17,12 @@ pub const MAX_ASKS: usize = 4;
 // is a number and not a branch, since a processor cannot guess it.
 #[inline(always)]
 fn ask_ahead<T, P: Probe<T>>(cells: &[Option<T>], low: usize, end: usize, probe: &mut P) -> usize
-    requires falls { Falls (P.test probe.old) cells.now }
+    requires held { HoldsItems cells.now (items_in cells.now) }
+    requires falls { Falls (P.test probe.old) (items_in cells.now) }
     requires some { low < end }
-    requires within { end ≤ length cells.now }
-    requires fits { length cells.now ≤ CAPACITY }
-    ensures passes { end ≤ count_by (P.test probe.old) cells.now → result ≡ end }
-    ensures fails { count_by (P.test probe.old) cells.now < end → result ≡ low }
+    requires within { end ≤ length (items_in cells.now) }
+    ensures passes { end ≤ count_by (P.test probe.old) (items_in cells.now) → result ≡ end }
+    ensures fails { count_by (P.test probe.old) (items_in cells.now) < end → result ≡ low }
     ensures kept { P.test probe.new ≡ P.test probe.old }
     ensures counted { P.steps_taken probe.new ≡ one_step_after (P.steps_taken probe.old) }
 {
@@ -31,9 +32,12 @@ fn ask_ahead<T, P: Probe<T>>(cells: &[Option<T>], low: usize, end: usize, probe:
     }
 }
 
-// How many cells of a row have an item.
+// How many cells have an item. It reads each, so that the lines of memory in which a node's cells
+// lie come together, and not one after the other as they are asked.
 #[inline(always)]
-fn count_full<T>(cells: &[Option<T>]) -> usize {
+fn count_full<T>(cells: &[Option<T>]) -> usize
+    ensures { result ≡ length (items_in cells.now) }
+{
     let mut len = 0;
     for cell in cells {
         len += usize::from(cell.is_some());
@@ -43,10 +47,12 @@ fn count_full<T>(cells: &[Option<T>]) -> usize {
 
 // How many of fewer than `MIN_LEN` items pass, as only a root has so few.
 fn count_few<T, P: Probe<T>>(cells: &[Option<T>], len: usize, probe: &mut P) -> usize
-    requires falls { Falls (P.test probe.old) cells.now }
-    requires some { 0 < length cells.now }
-    requires few { length cells.now < MIN_LEN }
-    ensures count { result ≡ count_by (P.test probe.old) cells.now }
+    requires held { HoldsItems cells.now (items_in cells.now) }
+    requires falls { Falls (P.test probe.old) (items_in cells.now) }
+    requires len { len ≡ length (items_in cells.now) }
+    requires some { 0 < len }
+    requires few { len < MIN_LEN }
+    ensures count { result ≡ count_by (P.test probe.old) (items_in cells.now) }
     ensures kept { P.test probe.new ≡ P.test probe.old }
     ensures asked { AddsSteps (P.steps_taken probe.old) (P.steps_taken probe.new) 1 MAX_ASKS }
 {
@@ -65,10 +71,10 @@ fn count_few<T, P: Probe<T>>(cells: &[Option<T>], len: usize, probe: &mut P) -> 
 // item whatever the first answers, so that a processor reads both at once.
 #[inline(always)]
 pub fn count_passing<T, P: Probe<T>>(cells: &[Option<T>], probe: &mut P) -> usize
-    requires falls { Falls (P.test probe.old) cells.now }
-    requires some { 0 < length cells.now }
-    requires fits { length cells.now ≤ CAPACITY }
-    ensures count { result ≡ count_by (P.test probe.old) cells.now }
+    requires held { HoldsItems cells.now (items_in cells.now) }
+    requires falls { Falls (P.test probe.old) (items_in cells.now) }
+    requires some { 0 < length (items_in cells.now) }
+    ensures count { result ≡ count_by (P.test probe.old) (items_in cells.now) }
     ensures kept { P.test probe.new ≡ P.test probe.old }
     ensures asked { AddsSteps (P.steps_taken probe.old) (P.steps_taken probe.new) 1 MAX_ASKS }
 {
@@ -105,17 +111,18 @@ pub fn search_below<T: Drop, P: Probe<T>>(
     let mut left = below;
     let mut path: u64 = 0;
     let mut weight: u64 = 1;
-    'down: while left > 0 {
-        let children = nodes.children(at);
+    'down: loop {
         let index = count_passing(nodes.cells(at), probe);
+        if left == 0 {
+            return Edge {
+                path,
+                leaf: at,
+                index,
+            };
+        }
         path += weight * (index as u64);
         weight *= PATH_BASE;
-        at = children[index];
+        at = nodes.child_at(at, index);
         left -= 1;
-    }
-    Edge {
-        path,
-        leaf: at,
-        index: count_passing(nodes.cells(at), probe),
     }
 }

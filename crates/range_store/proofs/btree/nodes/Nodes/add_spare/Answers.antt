@@ -93,3 +93,10 @@ returns-clause-kept g c =
     rw (← c.self.view_is, c.push_reserved.ensures.items, c.reserve.ensures.items) (added s.slab c.insert.new.self s.rows c.add_to.new.self s.spares.items
     c.self.invariant.0 c.in-Ok.number c.new.result [] changes c.in-Ok.ensures.was_vacant
     c.in-Ok.ensures.len refl c.new.ensures.children)
+
+pub returns-in-Err-clause-kept : goal.returns-in-Err-clause-kept
+returns-in-Err-clause-kept g c =
+    let s = c.self.inside in
+    rw (← c.self.view_is, c.reserve.ensures.items, c.in-Err.ensures.err) (grown s.slab s.rows
+    c.add_to.new.self s.spares.items c.self.invariant.0 c.add_to.ensures.no_less
+    c.add_to.ensures.kept)

@@ -1,4 +1,4 @@
-use Rattle.std.proofs.Common.{ap, arith}
+use Rattle.std.proofs.Common.{ap, arith, ◌∙◌}
 use Rattle.slab.specs.Slab.{slab_len}
 use Rattle.range_store.specs.Heap.{node_count}
 use Rattle.range_store.specs.Spares.{heap_of}
@@ -46,7 +46,9 @@ returns-in_err-add_spare-clause-succeeds g c room =
 pub returns-clause-room : goal.returns-clause-room
 returns-clause-room g c =
     let s = c.self.inside in
-    let nodes = ap (λ slab. node_count (heap_of slab s.rows s.spares.items)) c.reserve.ensures.rest_kept in
+    let nodes = ap (λ rows. node_count (heap_of c.reserve.new.self rows s.spares.items))
+    c.reserve-2.ensures
+    ∙ ap (λ slab. node_count (heap_of slab s.rows s.spares.items)) c.reserve.ensures.rest_kept in
     omega (
       arith,
       nodes,
