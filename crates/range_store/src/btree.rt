@@ -19,7 +19,7 @@ pub use crate::btree::nodes::{CAPACITY, MAX_LEN, MIN_LEN};
 pub use crate::btree::path::Edge;
 use crate::btree::path::stands_first;
 use crate::btree::searching::MAX_ASKS;
-use crate::storage::{Chunk, Probe, Storage};
+use crate::storage::{Probe, Storage};
 use std::alloc::{AllocError, Global};
 
 /// Items in a B-tree: insertion, removal and search take steps in the logarithm of their number.
