@@ -41,25 +41,25 @@ module _ {T : Type 0} where
   -- the last item of a row went
   module _ (rows now : List (List T)) (n left : ℕ) (there : n < length rows) (some : 0 < left)
       (few : left ≤ length (row_of rows n)) (was : now ≡ set rows n (take left (row_of rows n)))
-      where
-    here : row_of now n ≡ take left (row_of rows n)
-    here = ap (λ zs. row_of zs n) was
-        ∙ get_or-set_same rows n (take left (row_of rows n)) [] there
+    where
+      here : row_of now n ≡ take left (row_of rows n)
+      here = ap (λ zs. row_of zs n) was
+          ∙ get_or-set_same rows n (take left (row_of rows n)) [] there
 
-    pub left_length : length (row_of now n) ≡ left
-    left_length = ap length here ∙ length-take-le left (row_of rows n) few
+      pub left_length : length (row_of now n) ≡ left
+      left_length = ap length here ∙ length-take-le left (row_of rows n) few
 
-    shorter : remove (row_of now n) (left - 1) ≡ take (left - 1) (row_of rows n)
-    shorter =
-        without_last (row_of now n) (left - 1) (omega (arith, left_length))
-        ∙ ap (take (left - 1)) here ∙ take-take (left - 1) left (row_of rows n) (omega arith)
+      shorter : remove (row_of now n) (left - 1) ≡ take (left - 1) (row_of rows n)
+      shorter =
+          without_last (row_of now n) (left - 1) (omega (arith, left_length))
+          ∙ ap (take (left - 1)) here ∙ take-take (left - 1) left (row_of rows n) (omega arith)
 
-    pub taken_last : set now n (remove (row_of now n) (left - 1))
-        ≡ set rows n (take (left - 1) (row_of rows n))
-    taken_last =
-        ap (λ zs. set zs n (remove (row_of now n) (left - 1))) was
-        ∙ set-set rows n (take left (row_of rows n)) (remove (row_of now n) (left - 1))
-        ∙ ap (set rows n) shorter
+      pub taken_last : set now n (remove (row_of now n) (left - 1))
+          ≡ set rows n (take (left - 1) (row_of rows n))
+      taken_last =
+          ap (λ zs. set zs n (remove (row_of now n) (left - 1))) was
+          ∙ set-set rows n (take left (row_of rows n)) (remove (row_of now n) (left - 1))
+          ∙ ap (set rows n) shorter
 
   -- the last item of one row went to the place behind those that another had
   module _ (rows now : List (List T)) (from to left : ℕ) (from_there : from < length rows)
@@ -178,60 +178,60 @@ module _ {T : Type 0} (rows one two three : List (List T)) (l r : ℕ) (l_there 
 
     -- the last item of the first half went
     module _ (less : k ≤ 11) (some : 0 < k) (taken : two ≡ set one l (remove (row_of one l) (k - 1)))
-        where
-      shorter_left : remove (row_of one l) (k - 1) ≡ take (k - 1) whole
-      shorter_left =
-          without_last (row_of one l) (k - 1)
-          (omega (arith, ap length left_one, length-take-le k whole (omega (arith, many))))
-          ∙ ap (take (k - 1)) left_one ∙ take-take (k - 1) k whole (omega arith)
+      where
+        shorter_left : remove (row_of one l) (k - 1) ≡ take (k - 1) whole
+        shorter_left =
+            without_last (row_of one l) (k - 1)
+            (omega (arith, ap length left_one, length-take-le k whole (omega (arith, many))))
+            ∙ ap (take (k - 1)) left_one ∙ take-take (k - 1) k whole (omega arith)
 
-      two_is : two ≡ set (set rows l (take (k - 1) whole)) r (drop k whole)
-      two_is = taken ∙ ap (set one l) shorter_left ∙ again (take (k - 1) whole)
+        two_is : two ≡ set (set rows l (take (k - 1) whole)) r (drop k whole)
+        two_is = taken ∙ ap (set one l) shorter_left ∙ again (take (k - 1) whole)
 
-      left_two : row_of two l ≡ take (k - 1) whole
-      left_two =
-          ap (λ zs. row_of zs l) two_is
-          ∙ get_or-set_other (set rows l (take (k - 1) whole)) r l (drop k whole) [] apart
-          ∙ get_or-set_same rows l (take (k - 1) whole) [] l_there
+        left_two : row_of two l ≡ take (k - 1) whole
+        left_two =
+            ap (λ zs. row_of zs l) two_is
+            ∙ get_or-set_other (set rows l (take (k - 1) whole)) r l (drop k whole) [] apart
+            ∙ get_or-set_same rows l (take (k - 1) whole) [] l_there
 
-      right_two : row_of two r ≡ drop k whole
-      right_two =
-          ap (λ zs. row_of zs r) two_is
-          ∙ get_or-set_same (set rows l (take (k - 1) whole)) r (drop k whole) []
-          (omega (arith, r_there, length-set rows l (take (k - 1) whole)))
+        right_two : row_of two r ≡ drop k whole
+        right_two =
+            ap (λ zs. row_of zs r) two_is
+            ∙ get_or-set_same (set rows l (take (k - 1) whole)) r (drop k whole) []
+            (omega (arith, r_there, length-set rows l (take (k - 1) whole)))
 
-      pub divided_low : suc i ≤ k → three ≡ set two l (insert (row_of two l) i x)
-          → three ≡ set (set rows l (take k (insert whole i x))) r (drop (suc k) (insert whole i x))
-      divided_low low put =
-          let within : i ≤ length whole = omega (arith, many) in
-          let next : suc (k - 1) ≡ k = omega arith in
-          put
-          ∙ ap (λ zs. set zs l (insert (row_of two l) i x)) two_is
-          ∙ set_comm (set rows l (take (k - 1) whole)) r l (drop k whole) (insert (row_of two l) i x)
-          (λ same. apart (sym same))
-          ∙ ap (λ zs. set zs r (drop k whole))
-          (set-set rows l (take (k - 1) whole) (insert (row_of two l) i x))
-          ∙ ap (λ ys. set (set rows l (insert ys i x)) r (drop k whole)) left_two
-          ∙ ap (λ ys. set (set rows l ys) r (drop k whole))
-          (left_low whole i x within (k - 1) (omega arith)
-          ∙ ap (λ j. take j (insert whole i x)) next)
-          ∙ ap (set (set rows l (take k (insert whole i x))) r)
-          (right_low whole i x within k (omega arith))
+        pub divided_low : suc i ≤ k → three ≡ set two l (insert (row_of two l) i x)
+            → three ≡ set (set rows l (take k (insert whole i x))) r (drop (suc k) (insert whole i x))
+        divided_low low put =
+            let within : i ≤ length whole = omega (arith, many) in
+            let next : suc (k - 1) ≡ k = omega arith in
+            put
+            ∙ ap (λ zs. set zs l (insert (row_of two l) i x)) two_is
+            ∙ set_comm (set rows l (take (k - 1) whole)) r l (drop k whole) (insert (row_of two l) i x)
+            (λ same. apart (sym same))
+            ∙ ap (λ zs. set zs r (drop k whole))
+            (set-set rows l (take (k - 1) whole) (insert (row_of two l) i x))
+            ∙ ap (λ ys. set (set rows l (insert ys i x)) r (drop k whole)) left_two
+            ∙ ap (λ ys. set (set rows l ys) r (drop k whole))
+            (left_low whole i x within (k - 1) (omega arith)
+            ∙ ap (λ j. take j (insert whole i x)) next)
+            ∙ ap (set (set rows l (take k (insert whole i x))) r)
+            (right_low whole i x within k (omega arith))
 
-      pub divided_high : (j : ℕ) → k ≤ i → i ≤ 11 → j ≡ i - k
-          → three ≡ set two r (insert (row_of two r) j x)
-          → three ≡ set (set rows l (take (k - 1) (insert whole i x))) r
-          (drop k (insert whole i x))
-      divided_high j high fits place put =
-          let within : i ≤ length whole = omega (arith, many) in
-          put
-          ∙ ap (λ zs. set zs r (insert (row_of two r) j x)) two_is
-          ∙ set-set (set rows l (take (k - 1) whole)) r (drop k whole) (insert (row_of two r) j x)
-          ∙ ap (λ ys. set (set rows l (take (k - 1) whole)) r (insert ys j x)) right_two
-          ∙ ap (set (set rows l (take (k - 1) whole)) r)
-          (right_high whole i x within k j high place)
-          ∙ ap (λ ys. set (set rows l ys) r (drop k (insert whole i x)))
-          (left_high whole i x within (k - 1) (omega arith))
+        pub divided_high : (j : ℕ) → k ≤ i → i ≤ 11 → j ≡ i - k
+            → three ≡ set two r (insert (row_of two r) j x)
+            → three ≡ set (set rows l (take (k - 1) (insert whole i x))) r
+            (drop k (insert whole i x))
+        divided_high j high fits place put =
+            let within : i ≤ length whole = omega (arith, many) in
+            put
+            ∙ ap (λ zs. set zs r (insert (row_of two r) j x)) two_is
+            ∙ set-set (set rows l (take (k - 1) whole)) r (drop k whole) (insert (row_of two r) j x)
+            ∙ ap (λ ys. set (set rows l (take (k - 1) whole)) r (insert ys j x)) right_two
+            ∙ ap (set (set rows l (take (k - 1) whole)) r)
+            (right_high whole i x within k j high place)
+            ∙ ap (λ ys. set (set rows l ys) r (drop k (insert whole i x)))
+            (left_high whole i x within (k - 1) (omega arith))
 
 -- a row took an item and all that another had
 pub absorbed : {T : Type 0} (rows now : List (List T)) (l r len : ℕ) (x : T) → l < length rows

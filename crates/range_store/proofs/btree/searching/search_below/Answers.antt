@@ -19,8 +19,11 @@ pub count_passing-index-requires-clause-falls : goal.count_passing-index-require
 count_passing-index-requires-clause-falls g c =
     let p = g.P.Probe.test c.args.probe.now in
     let d = c.down.invariant.0 in
-    rw (c.down.invariant.1, items_held c.cells.result.now (items_of (node_of c.args.nodes.now
-    c.down.at)) c.cells.ensures)
+    rw (
+      c.down.invariant.1,
+      items_held c.cells.result.now (items_of (node_of c.args.nodes.now
+          c.down.at)) c.cells.ensures,
+    )
     (node_falls p 1 CAPACITY c.args.nodes.now c.down.left c.down.at d.lies.shaped d.falls)
 
 pub count_passing-index-requires-clause-held : goal.count_passing-index-requires-clause-held
@@ -37,8 +40,11 @@ count_passing-index-requires-clause-some g c =
 counted : (g : Over) (c : After-count_passing-index g)
     → c.count_passing-index.result ≡ count_by (g.P.Probe.test c.args.probe.now)
     (items_of (node_of c.args.nodes.now c.down.at))
-counted g c = rw (c.down.invariant.1, items_held c.cells.result.now
-    (items_of (node_of c.args.nodes.now c.down.at)) c.cells.ensures)
+counted g c = rw (
+  c.down.invariant.1,
+  items_held c.cells.result.now
+      (items_of (node_of c.args.nodes.now c.down.at)) c.cells.ensures,
+)
     at c.count_passing-index.ensures.count
 
 few : (g : Over) (c : After-count_passing-index g) → c.count_passing-index.result ≤ CAPACITY

@@ -53,21 +53,22 @@ invariant_of-self-in-Ok g c =
       long = c.add_to.ensures.no_less;
       there = there;
       len_is = c.new.ensures.len;
-    } in
-    (rw (c.push_reserved.ensures.items, c.reserve.ensures.items) (added_whole s.slab c.insert.new.self s.rows c.add_to.new.self s.spares.items
-    c.self.invariant.0 c.in-Ok.number c.new.result [] changes c.in-Ok.ensures.was_vacant
-    c.in-Ok.ensures.len refl c.new.ensures.children),
-    omega (
-      arith,
-      c.in-Ok.ensures.len,
-      c.in_ok-reserve.ensures.ok,
-      c.push_reserved.ensures.capacity,
-      c.reserve.ensures.len,
-      counted s.slab s.rows s.spares.items c.self.invariant.0,
-      s.spares.ok.0,
-      c.len.ensures,
-      c.len-2.ensures,
-    ))
+    } in (
+      rw (c.push_reserved.ensures.items, c.reserve.ensures.items) (added_whole s.slab c.insert.new.self s.rows c.add_to.new.self s.spares.items
+          c.self.invariant.0 c.in-Ok.number c.new.result [] changes c.in-Ok.ensures.was_vacant
+          c.in-Ok.ensures.len refl c.new.ensures.children),
+      omega (
+        arith,
+        c.in-Ok.ensures.len,
+        c.in_ok-reserve.ensures.ok,
+        c.push_reserved.ensures.capacity,
+        c.reserve.ensures.len,
+        counted s.slab s.rows s.spares.items c.self.invariant.0,
+        s.spares.ok.0,
+        c.len.ensures,
+        c.len-2.ensures,
+      ),
+    )
 
 pub returns-clause-kept : goal.returns-clause-kept
 returns-clause-kept g c =

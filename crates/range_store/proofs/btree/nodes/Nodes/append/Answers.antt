@@ -127,18 +127,17 @@ invariant_of-self g c =
       ap length left_items,
       ap length right_items,
       length-append (row_of s.rows c.args.left) (c.args.middle ∷ row_of s.rows c.args.right),
-    ) in
-    (
+    ) in (
       rw (c.push_reserved.ensures.items, c.absorb.ensures) (edited_whole slab rows spares whole c.args.left c.index_mut-2.result.now c.absorb-len.new.self
-    c.index_mut-2.ensures.value all many _ c.absorb-len.ensures.children there),
+          c.index_mut-2.ensures.value all many _ c.absorb-len.ensures.children there),
       omega (
         arith,
         c.self.invariant.1,
         c.push_reserved.ensures.capacity,
         edited_len s.slab s.rows s.spares.items c.self.invariant.0 c.args.right c.index_mut.result.now c.replace-upper.new.dest
-    c.index_mut.ensures.value [] none_len [] none_children,
+            c.index_mut.ensures.value [] none_len [] none_children,
         edited_len slab rows spares whole c.args.left c.index_mut-2.result.now c.absorb-len.new.self
-    c.index_mut-2.ensures.value all many _ c.absorb-len.ensures.children,
+            c.index_mut-2.ensures.value all many _ c.absorb-len.ensures.children,
       ),
     )
 
@@ -189,5 +188,5 @@ returns g c =
       between = heap_of slab rows spares;
       right = gone;
       left = rw (left_items, right_items, left_children, right_children) (edited slab rows spares whole c.args.left c.index_mut-2.result.now c.absorb-len.new.self
-    c.index_mut-2.ensures.value all many _ c.absorb-len.ensures.children there);
+          c.index_mut-2.ensures.value all many _ c.absorb-len.ensures.children there);
     })

@@ -33,8 +33,7 @@ pub returns : goal.returns
 returns g c =
     let s = c.self.inside in
     let present = rw (← c.self.view_is) at c.requires.present in
-    let items = items_seen s.slab s.rows s.spares.items c.args.number present in
-    (
+    let items = items_seen s.slab s.rows s.spares.items c.args.number present in (
       (
         refl,
         λ w. rw (← c.self.view_is) (item_written s.slab s.rows s.spares.items c.self.invariant.0 c.args.number c.args.index w

@@ -69,11 +69,16 @@ invariant_of-self g c =
       len,
       ap length items,
       length-insert row c.args.index c.args.item within,
-    ) in
-    (rw c.put.ensures (edited_whole s.slab s.rows s.spares.items c.self.invariant.0 c.args.number c.index_mut.result.now c.add-len.new.self
-    c.index_mut.ensures.value _ longer _ c.add-len.ensures.children present),
-    omega (arith, c.self.invariant.1, edited_len s.slab s.rows s.spares.items c.self.invariant.0 c.args.number c.index_mut.result.now c.add-len.new.self
-    c.index_mut.ensures.value _ longer _ c.add-len.ensures.children))
+    ) in (
+      rw c.put.ensures (edited_whole s.slab s.rows s.spares.items c.self.invariant.0 c.args.number c.index_mut.result.now c.add-len.new.self
+          c.index_mut.ensures.value _ longer _ c.add-len.ensures.children present),
+      omega (
+        arith,
+        c.self.invariant.1,
+        edited_len s.slab s.rows s.spares.items c.self.invariant.0 c.args.number c.index_mut.result.now c.add-len.new.self
+            c.index_mut.ensures.value _ longer _ c.add-len.ensures.children,
+      ),
+    )
 
 pub returns : goal.returns
 returns g c =

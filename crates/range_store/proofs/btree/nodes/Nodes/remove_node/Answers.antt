@@ -33,17 +33,27 @@ pub push_reserved-requires : goal.push_reserved-requires
 push_reserved-requires g c =
     let s = c.self.inside in
     let present = rw (← c.self.view_is) at c.requires in
-    omega (arith, fewer_spares s.slab s.rows s.spares.items c.self.invariant.0 c.args.number present, s.spares.ok.0,
-    c.self.invariant.1)
+    omega (
+      arith,
+      fewer_spares s.slab s.rows s.spares.items c.self.invariant.0 c.args.number present,
+      s.spares.ok.0,
+      c.self.invariant.1,
+    )
 
 pub invariant_of-self : goal.invariant_of-self
 invariant_of-self g c =
     let s = c.self.inside in
-    let present = rw (← c.self.view_is) at c.requires in
-    (rw (c.push_reserved.ensures.items, c.clear.ensures) (emptied_whole s.slab s.rows s.spares.items c.self.invariant.0 c.args.number c.index_mut.result.now c.new.result
-    c.index_mut.ensures.value [] c.new.ensures.len [] c.new.ensures.children present refl refl),
-    omega (arith, c.self.invariant.1, c.push_reserved.ensures.capacity, edited_len s.slab s.rows s.spares.items c.self.invariant.0 c.args.number c.index_mut.result.now c.new.result
-    c.index_mut.ensures.value [] c.new.ensures.len [] c.new.ensures.children))
+    let present = rw (← c.self.view_is) at c.requires in (
+      rw (c.push_reserved.ensures.items, c.clear.ensures) (emptied_whole s.slab s.rows s.spares.items c.self.invariant.0 c.args.number c.index_mut.result.now c.new.result
+          c.index_mut.ensures.value [] c.new.ensures.len [] c.new.ensures.children present refl refl),
+      omega (
+        arith,
+        c.self.invariant.1,
+        c.push_reserved.ensures.capacity,
+        edited_len s.slab s.rows s.spares.items c.self.invariant.0 c.args.number c.index_mut.result.now c.new.result
+            c.index_mut.ensures.value [] c.new.ensures.len [] c.new.ensures.children,
+      ),
+    )
 
 pub returns : goal.returns
 returns g c =

@@ -104,21 +104,20 @@ invariant_of-self g c =
     let whole = edited_whole s.slab s.rows s.spares.items c.self.invariant.0 c.args.number c.index_mut.result.now c.divide-upper.new.self
     c.index_mut.ensures.value (take 6 all) first_len _ c.divide-upper.ensures.left present in
     let second_len : c.divide-upper.result.len ≡ length (drop 7 all) =
-    omega (arith, c.divide-upper.ensures.right_len, length-drop 7 all) in
-    (
+    omega (arith, c.divide-upper.ensures.right_len, length-drop 7 all) in (
       rw c.divide-middle.ensures.rows (filled_whole slab rows s.spares.items whole c.take_last-right.result c.index_mut-2.result.now
-    c.divide-upper.result c.index_mut-2.ensures.value (drop 7 all) second_len _
-    c.divide-upper.ensures.right c.take_last-right.new.self.items parts),
+          c.divide-upper.result c.index_mut-2.ensures.value (drop 7 all) second_len _
+          c.divide-upper.ensures.right c.take_last-right.new.self.items parts),
       omega (
         arith,
         c.self.invariant.1,
         c.take_last-right.ensures.capacity,
         edited_len s.slab s.rows s.spares.items c.self.invariant.0 c.args.number c.index_mut.result.now
-    c.divide-upper.new.self c.index_mut.ensures.value (take 6 all) first_len _
-    c.divide-upper.ensures.left,
+            c.divide-upper.new.self c.index_mut.ensures.value (take 6 all) first_len _
+            c.divide-upper.ensures.left,
         edited_len slab rows s.spares.items whole c.take_last-right.result c.index_mut-2.result.now
-    c.divide-upper.result c.index_mut-2.ensures.value (drop 7 all) second_len _
-    c.divide-upper.ensures.right,
+            c.divide-upper.result c.index_mut-2.ensures.value (drop 7 all) second_len _
+            c.divide-upper.ensures.right,
       ),
     )
 
@@ -151,9 +150,9 @@ returns g c =
       middle_is = c.divide-middle.ensures.middle;
       between = heap_of slab rows s.spares.items;
       first = edited s.slab s.rows s.spares.items c.self.invariant.0 c.args.number c.index_mut.result.now
-    c.divide-upper.new.self c.index_mut.ensures.value (take 6 all) first_len _
-    c.divide-upper.ensures.left present;
+          c.divide-upper.new.self c.index_mut.ensures.value (take 6 all) first_len _
+          c.divide-upper.ensures.left present;
       second = filled slab rows s.spares.items whole c.take_last-right.result c.index_mut-2.result.now
-    c.divide-upper.result c.index_mut-2.ensures.value (drop 7 all) second_len _
-    c.divide-upper.ensures.right c.take_last-right.new.self.items parts;
+          c.divide-upper.result c.index_mut-2.ensures.value (drop 7 all) second_len _
+          c.divide-upper.ensures.right c.take_last-right.new.self.items parts;
     }))

@@ -13,8 +13,11 @@ use Rattle.range_store.proofs.btree.nodes.Nodes.store_above.Goals as goal
 pub take_last-number-requires : goal.take_last-number-requires
 take_last-number-requires g c =
     let s = c.self.inside in
-    omega (arith, spares_left s.slab s.rows s.spares.items c.self.invariant.0 1 (rw (← c.self.view_is) at c.requires),
-    s.spares.ok.0)
+    omega (
+      arith,
+      spares_left s.slab s.rows s.spares.items c.self.invariant.0 1 (rw (← c.self.view_is) at c.requires),
+      s.spares.ok.0,
+    )
 
 pub index_mut-requires : goal.index_mut-requires
 index_mut-requires g c =
@@ -37,15 +40,21 @@ invariant_of-self g c =
     let bare = bare_children s.slab s.rows s.spares.items c.take_last-number.new.self.items c.self.invariant.0
     c.take_last-number.result c.take_last-number.ensures.items c.index_mut.result.now c.index_mut.ensures.value in
     let blank = bare_row s.slab s.rows s.spares.items c.take_last-number.new.self.items c.self.invariant.0
-    c.take_last-number.result c.take_last-number.ensures.items in
-    (rw (set-get_or s.rows c.take_last-number.result []) at (filled_whole s.slab s.rows s.spares.items c.self.invariant.0 c.take_last-number.result c.index_mut.result.now
-    (record c.index_mut.result.now { children = c.push.new.self }) c.index_mut.ensures.value (row_of s.rows c.take_last-number.result)
-    (row_len s.slab s.rows s.spares.items c.self.invariant.0 c.take_last-number.result c.index_mut.result.now c.index_mut.ensures.value) (c.args.child ∷ [])
-    (c.push.ensures.items ∙ ap (λ ks. ks ++ c.args.child ∷ []) bare) c.take_last-number.new.self.items c.take_last-number.ensures.items),
-    omega (arith, c.self.invariant.1, c.take_last-number.ensures.capacity, edited_len s.slab s.rows s.spares.items c.self.invariant.0 c.take_last-number.result c.index_mut.result.now
-    (record c.index_mut.result.now { children = c.push.new.self }) c.index_mut.ensures.value (row_of s.rows c.take_last-number.result)
-    (row_len s.slab s.rows s.spares.items c.self.invariant.0 c.take_last-number.result c.index_mut.result.now c.index_mut.ensures.value) (c.args.child ∷ [])
-    (c.push.ensures.items ∙ ap (λ ks. ks ++ c.args.child ∷ []) bare)))
+    c.take_last-number.result c.take_last-number.ensures.items in (
+      rw (set-get_or s.rows c.take_last-number.result []) at (filled_whole s.slab s.rows s.spares.items c.self.invariant.0 c.take_last-number.result c.index_mut.result.now
+          (record c.index_mut.result.now { children = c.push.new.self }) c.index_mut.ensures.value (row_of s.rows c.take_last-number.result)
+          (row_len s.slab s.rows s.spares.items c.self.invariant.0 c.take_last-number.result c.index_mut.result.now c.index_mut.ensures.value) (c.args.child ∷ [])
+          (c.push.ensures.items ∙ ap (λ ks. ks ++ c.args.child ∷ []) bare) c.take_last-number.new.self.items c.take_last-number.ensures.items),
+      omega (
+        arith,
+        c.self.invariant.1,
+        c.take_last-number.ensures.capacity,
+        edited_len s.slab s.rows s.spares.items c.self.invariant.0 c.take_last-number.result c.index_mut.result.now
+            (record c.index_mut.result.now { children = c.push.new.self }) c.index_mut.ensures.value (row_of s.rows c.take_last-number.result)
+            (row_len s.slab s.rows s.spares.items c.self.invariant.0 c.take_last-number.result c.index_mut.result.now c.index_mut.ensures.value) (c.args.child ∷ [])
+            (c.push.ensures.items ∙ ap (λ ks. ks ++ c.args.child ∷ []) bare),
+      ),
+    )
 
 pub returns : goal.returns
 returns g c =

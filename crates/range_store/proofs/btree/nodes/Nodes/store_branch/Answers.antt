@@ -13,8 +13,11 @@ use Rattle.range_store.proofs.btree.nodes.Nodes.store_branch.Goals as goal
 pub take_last-number-requires : goal.take_last-number-requires
 take_last-number-requires g c =
     let s = c.self.inside in
-    omega (arith, spares_left s.slab s.rows s.spares.items c.self.invariant.0 1 (rw (← c.self.view_is) at c.requires),
-    s.spares.ok.0)
+    omega (
+      arith,
+      spares_left s.slab s.rows s.spares.items c.self.invariant.0 1 (rw (← c.self.view_is) at c.requires),
+      s.spares.ok.0,
+    )
 
 pub index_mut-node-requires : goal.index_mut-node-requires
 index_mut-node-requires g c =
@@ -45,9 +48,15 @@ pub push-requires-2 : goal.push-requires-2
 push-requires-2 g c =
     let s = c.self.inside in
     let bare = bare_children s.slab s.rows s.spares.items c.take_last-number.new.self.items c.self.invariant.0
-    c.take_last-number.result c.take_last-number.ensures.items c.index_mut-node.result.now c.index_mut-node.ensures.value in
-    (omega arith, omega (arith, ap length c.push.ensures.items,
-    length-append c.index_mut-node.result.now.children.items (c.args.left ∷ []), ap length bare))
+    c.take_last-number.result c.take_last-number.ensures.items c.index_mut-node.result.now c.index_mut-node.ensures.value in (
+      omega arith,
+      omega (
+        arith,
+        ap length c.push.ensures.items,
+        length-append c.index_mut-node.result.now.children.items (c.args.left ∷ []),
+        ap length bare,
+      ),
+    )
 
 pub invariant_of-self : goal.invariant_of-self
 invariant_of-self g c =
@@ -55,13 +64,19 @@ invariant_of-self g c =
     let blank = bare_row s.slab s.rows s.spares.items c.take_last-number.new.self.items c.self.invariant.0
     c.take_last-number.result c.take_last-number.ensures.items in
     let bare = bare_children s.slab s.rows s.spares.items c.take_last-number.new.self.items c.self.invariant.0
-    c.take_last-number.result c.take_last-number.ensures.items c.index_mut-node.result.now c.index_mut-node.ensures.value in
-    (rw (c.put.ensures, ap (λ xs. insert xs 0 c.args.middle) blank) (filled_whole s.slab s.rows s.spares.items c.self.invariant.0 c.take_last-number.result c.index_mut-node.result.now (record c.index_mut-node.result.now { len = 1; children = c.push-2.new.self })
-    c.index_mut-node.ensures.value (c.args.middle ∷ []) (refl) (c.args.left ∷ c.args.right ∷ []) (c.push-2.ensures.items ∙ ap (λ ks. ks ++ c.args.right ∷ [])
-    (c.push.ensures.items ∙ ap (λ ks. ks ++ c.args.left ∷ []) bare)) c.take_last-number.new.self.items c.take_last-number.ensures.items),
-    omega (arith, c.self.invariant.1, c.take_last-number.ensures.capacity, edited_len s.slab s.rows s.spares.items c.self.invariant.0 c.take_last-number.result c.index_mut-node.result.now (record c.index_mut-node.result.now { len = 1; children = c.push-2.new.self })
-    c.index_mut-node.ensures.value (c.args.middle ∷ []) (refl) (c.args.left ∷ c.args.right ∷ []) (c.push-2.ensures.items ∙ ap (λ ks. ks ++ c.args.right ∷ [])
-    (c.push.ensures.items ∙ ap (λ ks. ks ++ c.args.left ∷ []) bare))))
+    c.take_last-number.result c.take_last-number.ensures.items c.index_mut-node.result.now c.index_mut-node.ensures.value in (
+      rw (c.put.ensures, ap (λ xs. insert xs 0 c.args.middle) blank) (filled_whole s.slab s.rows s.spares.items c.self.invariant.0 c.take_last-number.result c.index_mut-node.result.now (record c.index_mut-node.result.now { len = 1; children = c.push-2.new.self })
+          c.index_mut-node.ensures.value (c.args.middle ∷ []) (refl) (c.args.left ∷ c.args.right ∷ []) (c.push-2.ensures.items ∙ ap (λ ks. ks ++ c.args.right ∷ [])
+          (c.push.ensures.items ∙ ap (λ ks. ks ++ c.args.left ∷ []) bare)) c.take_last-number.new.self.items c.take_last-number.ensures.items),
+      omega (
+        arith,
+        c.self.invariant.1,
+        c.take_last-number.ensures.capacity,
+        edited_len s.slab s.rows s.spares.items c.self.invariant.0 c.take_last-number.result c.index_mut-node.result.now (record c.index_mut-node.result.now { len = 1; children = c.push-2.new.self })
+            c.index_mut-node.ensures.value (c.args.middle ∷ []) (refl) (c.args.left ∷ c.args.right ∷ []) (c.push-2.ensures.items ∙ ap (λ ks. ks ++ c.args.right ∷ [])
+            (c.push.ensures.items ∙ ap (λ ks. ks ++ c.args.left ∷ []) bare)),
+      ),
+    )
 
 pub returns : goal.returns
 returns g c =

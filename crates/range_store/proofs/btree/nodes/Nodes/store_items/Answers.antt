@@ -13,8 +13,11 @@ use Rattle.range_store.proofs.btree.nodes.Nodes.store_items.Goals as goal
 pub take_last-number-requires : goal.take_last-number-requires
 take_last-number-requires g c =
     let s = c.self.inside in
-    omega (arith, spares_left s.slab s.rows s.spares.items c.self.invariant.0 1 (rw (← c.self.view_is) at c.requires.room),
-    s.spares.ok.0)
+    omega (
+      arith,
+      spares_left s.slab s.rows s.spares.items c.self.invariant.0 1 (rw (← c.self.view_is) at c.requires.room),
+      s.spares.ok.0,
+    )
 
 pub index_mut-requires : goal.index_mut-requires
 index_mut-requires g c =
@@ -40,11 +43,17 @@ invariant_of-self g c =
     let blank = bare_row s.slab s.rows s.spares.items c.take_last-number.new.self.items c.self.invariant.0
     c.take_last-number.result c.take_last-number.ensures.items in
     let bare = bare_children s.slab s.rows s.spares.items c.take_last-number.new.self.items c.self.invariant.0
-    c.take_last-number.result c.take_last-number.ensures.items c.index_mut.result.now c.index_mut.ensures.value in
-    (rw (c.fill.ensures.filled) (filled_whole s.slab s.rows s.spares.items c.self.invariant.0 c.take_last-number.result c.index_mut.result.now (record c.index_mut.result.now { len = c.args.count })
-    c.index_mut.ensures.value (take c.args.count (into_iter_items c.args.items.now)) (sym (length-take-le c.args.count (into_iter_items c.args.items.now) c.requires.enough)) [] (bare) c.take_last-number.new.self.items c.take_last-number.ensures.items),
-    omega (arith, c.self.invariant.1, c.take_last-number.ensures.capacity, edited_len s.slab s.rows s.spares.items c.self.invariant.0 c.take_last-number.result c.index_mut.result.now (record c.index_mut.result.now { len = c.args.count })
-    c.index_mut.ensures.value (take c.args.count (into_iter_items c.args.items.now)) (sym (length-take-le c.args.count (into_iter_items c.args.items.now) c.requires.enough)) [] (bare)))
+    c.take_last-number.result c.take_last-number.ensures.items c.index_mut.result.now c.index_mut.ensures.value in (
+      rw (c.fill.ensures.filled) (filled_whole s.slab s.rows s.spares.items c.self.invariant.0 c.take_last-number.result c.index_mut.result.now (record c.index_mut.result.now { len = c.args.count })
+          c.index_mut.ensures.value (take c.args.count (into_iter_items c.args.items.now)) (sym (length-take-le c.args.count (into_iter_items c.args.items.now) c.requires.enough)) [] (bare) c.take_last-number.new.self.items c.take_last-number.ensures.items),
+      omega (
+        arith,
+        c.self.invariant.1,
+        c.take_last-number.ensures.capacity,
+        edited_len s.slab s.rows s.spares.items c.self.invariant.0 c.take_last-number.result c.index_mut.result.now (record c.index_mut.result.now { len = c.args.count })
+            c.index_mut.ensures.value (take c.args.count (into_iter_items c.args.items.now)) (sym (length-take-le c.args.count (into_iter_items c.args.items.now) c.requires.enough)) [] (bare),
+      ),
+    )
 
 pub returns-clause-stored : goal.returns-clause-stored
 returns-clause-stored g c =

@@ -58,11 +58,16 @@ invariant_of-self g c =
       len,
       ap length items,
       length-remove row c.args.index within,
-    ) in
-    (rw c.take.ensures.rest (edited_whole s.slab s.rows s.spares.items c.self.invariant.0 c.args.number c.index_mut.result.now c.take-child.new.self
-    c.index_mut.ensures.value _ shorter _ c.take-child.ensures.children present),
-    omega (arith, c.self.invariant.1, edited_len s.slab s.rows s.spares.items c.self.invariant.0 c.args.number c.index_mut.result.now c.take-child.new.self
-    c.index_mut.ensures.value _ shorter _ c.take-child.ensures.children))
+    ) in (
+      rw c.take.ensures.rest (edited_whole s.slab s.rows s.spares.items c.self.invariant.0 c.args.number c.index_mut.result.now c.take-child.new.self
+          c.index_mut.ensures.value _ shorter _ c.take-child.ensures.children present),
+      omega (
+        arith,
+        c.self.invariant.1,
+        edited_len s.slab s.rows s.spares.items c.self.invariant.0 c.args.number c.index_mut.result.now c.take-child.new.self
+            c.index_mut.ensures.value _ shorter _ c.take-child.ensures.children,
+      ),
+    )
 
 pub returns : goal.returns
 returns g c =
@@ -85,5 +90,5 @@ returns g c =
       item = c.take.ensures.item ∙ ap (λ xs. get_or xs c.args.index c.take.result) (sym items);
       child = c.take-child.ensures.child ∙ ap (λ ks. slice_get ks c.args.place) (sym children);
       rest = rw (items, children, c.take.ensures.rest) (edited s.slab s.rows s.spares.items c.self.invariant.0 c.args.number c.index_mut.result.now c.take-child.new.self
-    c.index_mut.ensures.value _ shorter _ c.take-child.ensures.children present);
+          c.index_mut.ensures.value _ shorter _ c.take-child.ensures.children present);
     })

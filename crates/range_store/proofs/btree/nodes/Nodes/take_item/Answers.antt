@@ -51,11 +51,16 @@ invariant_of-self g c =
       len,
       ap length items,
       length-remove row c.args.index within,
-    ) in
-    (rw c.take.ensures.rest (edited_whole s.slab s.rows s.spares.items c.self.invariant.0 c.args.number c.index_mut.result.now (record c.index_mut.result.now { len = c.item_count-len.result - 1 })
-    c.index_mut.ensures.value _ shorter c.index_mut.result.now.children.items refl present),
-    omega (arith, c.self.invariant.1, edited_len s.slab s.rows s.spares.items c.self.invariant.0 c.args.number c.index_mut.result.now (record c.index_mut.result.now { len = c.item_count-len.result - 1 })
-    c.index_mut.ensures.value _ shorter c.index_mut.result.now.children.items refl))
+    ) in (
+      rw c.take.ensures.rest (edited_whole s.slab s.rows s.spares.items c.self.invariant.0 c.args.number c.index_mut.result.now (record c.index_mut.result.now { len = c.item_count-len.result - 1 })
+          c.index_mut.ensures.value _ shorter c.index_mut.result.now.children.items refl present),
+      omega (
+        arith,
+        c.self.invariant.1,
+        edited_len s.slab s.rows s.spares.items c.self.invariant.0 c.args.number c.index_mut.result.now (record c.index_mut.result.now { len = c.item_count-len.result - 1 })
+            c.index_mut.ensures.value _ shorter c.index_mut.result.now.children.items refl,
+      ),
+    )
 
 pub returns : goal.returns
 returns g c =
@@ -77,5 +82,5 @@ returns g c =
     rw (← c.self.view_is) (record {
       value = c.take.ensures.item ∙ ap (λ xs. get_or xs c.args.index c.take.result) (sym items);
       rest = rw (items, children, c.take.ensures.rest) (edited s.slab s.rows s.spares.items c.self.invariant.0 c.args.number c.index_mut.result.now (record c.index_mut.result.now { len = c.item_count-len.result - 1 })
-    c.index_mut.ensures.value _ shorter c.index_mut.result.now.children.items refl present);
+          c.index_mut.ensures.value _ shorter c.index_mut.result.now.children.items refl present);
     })
