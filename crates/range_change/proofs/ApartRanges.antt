@@ -1,11 +1,12 @@
 -- A range that lies apart from all stored ones, and the list with it.
-use Rattle.std.proofs.Common.{◌≡◌, ℕ, zero, suc, ◌+◌, ◌<◌, List, [], ◌∷◌, ◌++◌, length, take, drop, get_or, refl, ap, sym, subst, ◌∙◌, arith, Option, Some, None, Bool, true, false, ◌&&◌, IsTrue, ◌⊎◌, inl, inr}
+use Rattle.std.proofs.Common.{◌≡◌, ℕ, zero, suc, ◌+◌, ◌<◌, List, [], ◌∷◌, ◌++◌, length, take, drop, get_or, refl, ap, sym, subst, ◌∙◌, arith, Option, Some, None, Bool, true, false, ◌&&◌, IsTrue, ◌⊎◌, ◌↔◌, inl, inr}
 use Rattle.std.specs.Prelude.{insert, IfSome, MatchOption}
 use Rattle.std.specs.Option.{ForSome}
 use Rattle.std.specs.Cmp.{IsEquivalence, tied_itself}
+use Rattle.std.specs.declared.ops.Bound.{Bound}
 use Rattle.std.proofs.lemmas.List.{drop_more, take_more}
 use Rattle.range_keys.specs.Order.{KeyOrder, IsLawful}
-use Rattle.range_keys.specs.Position.{end_position, position_cmp}
+use Rattle.range_keys.specs.Position.{end_position, position_cmp, start_position}
 use Rattle.range_keys.specs.PositionOrder.{position_total}
 use Rattle.range_keys.specs.declared.inner.position.Position.{Position}
 use Rattle.range_keys.proofs.Orderings.{less_or_not}
@@ -13,13 +14,14 @@ use Rattle.range_change.specs.Chains.{line_of}
 use Rattle.range_change.proofs.Chains.{chain_above, chain_before, chain_right, strictly_leads, strictly_trails}
 use Rattle.range_change.proofs.ChainSides.{left_whole, right_whole}
 use Rattle.range_change.proofs.ChainJoins.{places_between_are_bound, left_apart, right_apart}
-use Rattle.range_algebra.specs.Compared.{starts_at_end}
+use Rattle.range_algebra.specs.Compared.{flipped, starts_at_end}
 use Rattle.range_algebra.specs.Cuts.{lower, upper}
 use Rattle.range_algebra.specs.Intervals.{Every, Le, Lt}
-use Rattle.range_algebra.specs.Orders.{eq_ge, eq_le, le_lt_trans, le_refl, lt_le, lt_le_trans, lt_not_le, lt_trans, not_le}
+use Rattle.range_algebra.specs.Orders.{eq_ge, eq_le, le_lt_trans, le_refl, le_trans, lt_le, lt_le_trans, lt_not_le, lt_trans, not_le}
 use Rattle.range_algebra.specs.Range.{IsEmptyRange, IsKnownRange}
 use Rattle.range_algebra.specs.declared.any.AnyRange.{AnyRange}
 use Rattle.range_algebra.proofs.Lists.{drop_all, list_is_take_and_drop, any_none, any_split, every_append, every_left, every_right, every_weaker}
+use Rattle.range_algebra.proofs.Places.{flipped_bound_is_past}
 use Rattle.range_store.specs.ListPlaces.{IsAt, place_before}
 use Rattle.range_store.specs.declared.storage.Item.{Item}
 use Rattle.range_change.specs.Bindings.{IsBoundAfter}
@@ -28,7 +30,7 @@ use Rattle.range_change.specs.Stored.{item_lower, item_upper, IsStored}
 use Rattle.range_change.specs.Lookups.{IsConnectedTo, IsConnectedToSome, Overlap}
 use Rattle.range_algebra.specs.Relations.{LiesBefore, Touches}
 use Rattle.range_change.specs.Window.{IsFound, IsJustBefore}
-use Rattle.range_change.proofs.Forms.{Chained, Known, before_is, bound_after, chain_stored, nonempty_good, stored_chain, stored_known, touches_is}
+use Rattle.range_change.proofs.Forms.{Chained, Known, before_is, bound_after, chain_stored, nonempty_good, stored_chain, stored_known, touches_by, touches_is}
 use Rattle.range_change.proofs.Overlaps.{any_at}
 use Rattle.range_change.proofs.Comparisons.{touching_same}
 use Rattle.range_change.proofs.Windows.{every_both}
@@ -92,6 +94,32 @@ module _ {K : Type 0} (order : KeyOrder K) (lawful : IsLawful order) where
       ((nonempty_good order lawful s others).0 full) le in
       not_le (position_cmp order.cmp) (position_total order.cmp lawful.total) (upper order r)
       (lower order s) (λ back. h.1 (touch.1 back))
+
+  -- they lie apart where the start that follows the one comes before the other
+  pub apart_by_start : (r s : AnyRange K) (i : Bound K) → flipped r.end ≡ Some i
+      → IsKnownRange order r → IsKnownRange order s
+      → LiesApart order r s ↔ PLt (start_position order i) (lower order s)
+  apart_by_start r s i turns known others =
+      let cmp = position_cmp order.cmp in
+      let total = position_total order.cmp lawful.total in
+      let before = before_is order lawful r.end s.start known.1 others.0 in
+      let same = flipped_bound_is_past order lawful r.end i turns in
+      let touch =
+      λ (le : PLe (upper order r) (lower order s)). touches_by order lawful r.end i s turns le in (
+        λ h. not_le cmp total (start_position order i) (lower order s) (λ back.
+            h.1 (rw turns ((touch (before.0 h.0)).1
+            (le_trans cmp total (lower order s) (start_position order i) (upper order r) back
+            (eq_ge cmp total (upper order r) (start_position order i) same))))),
+        λ l.
+            let lt : PLt (upper order r) (lower order s) =
+            le_lt_trans cmp total (upper order r) (start_position order i) (lower order s)
+            (eq_le cmp total (upper order r) (start_position order i) same) l in
+            let le = lt_le cmp total (upper order r) (lower order s) lt in (
+              before.1 le,
+              λ t. lt_not_le cmp total (upper order r) (lower order s) lt
+                  ((touch le).0 (rw turns at t)),
+            ),
+      )
 
   -- ranges with a place between are not connected
   pub apart_not : (r s : AnyRange K) → IsKnownRange order r → IsKnownRange order s

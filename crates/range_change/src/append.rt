@@ -1,6 +1,9 @@
 //! Ranges that lie apart from stored ones, and those that come before or after all of them.
 ghost use Rattle.std.specs.Prelude.{◌≡◌, ◌↔◌, ◌+◌, ◌≤◌, length, IsTrue, IfSome, IfErr, IsOk, OnOk, OnErr};
 ghost use Rattle.std.specs.Option.{ForSome};
+ghost use Rattle.std.specs.declared.ops.Bound.TheVariants.{Excluded, Included};
+ghost use Rattle.range_keys.specs.Position.{position_cmp, start_position};
+ghost use Rattle.range_algebra.specs.Intervals.{Lt};
 ghost use Rattle.range_algebra.specs.Range.{IsEmptyRange};
 ghost use Rattle.range_change.specs.Stored.{IsStored};
 ghost use Rattle.range_store.specs.ListPlaces.{place_before};
@@ -15,14 +18,40 @@ use range_keys::bound::Directed;
 use range_keys::traits::PartialEnum;
 use range_store::storage::{Item, Storage};
 use std::alloc::AllocFailed;
-use std::ops::RangeBounds;
+use std::ops::{Bound, RangeBounds};
+
+/// Whether the first range ends before the second, with a place between, by the positions of their
+/// bounds.
+fn lies_apart_by_bounds<K: PartialEnum>(first: &AnyRange<K>, second: &AnyRange<K>) -> bool
+    ensures { IsTrue result ↔ LiesApart K.order first.now second.now }
+{
+    let (end, start) = (first.end_bound(), second.start_bound());
+    Directed::End(end) < Directed::Start(start) && !starts_at_end(end, start)
+}
+
+/// Whether a place lies between a range that ends with a key and one that starts with a key.
+fn leaves_place<K: PartialEnum>(end: &K, start: &K) -> bool
+    ensures { IsTrue result
+        ↔ Lt (position_cmp K.order.cmp) (start_position K.order (Excluded end.now))
+        (start_position K.order (Included start.now)) }
+{
+    match end.succ() {
+        Some(next) => next < *start,
+        None => *end < *start,
+    }
+}
 
 /// Whether the first range ends before the second, with a place between.
 fn lies_apart<K: PartialEnum>(first: &AnyRange<K>, second: &AnyRange<K>) -> bool
     ensures { IsTrue result ↔ LiesApart K.order first.now second.now }
 {
-    let (end, start) = (first.end_bound(), second.start_bound());
-    Directed::End(end) < Directed::Start(start) && !starts_at_end(end, start)
+    inner::known(first);
+    inner::known(second);
+    match (&first.end, &second.start) {
+        (Bound::Excluded(end), Bound::Included(start)) => *end < *start,
+        (Bound::Included(end), Bound::Included(start)) => leaves_place(end, start),
+        _ => lies_apart_by_bounds(first, second),
+    }
 }
 
 /// Whether the item before a range, where there is one, lies apart from it.

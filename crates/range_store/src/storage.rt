@@ -172,7 +172,7 @@ pub trait Storage<T>: Drop {
     /// The item at a position, the items after it that lie together, and the position after these.
     /// Allocates nothing.
     ///
-    /// A B-tree gives those that are left in a leaf. The default gives one item.
+    /// The default gives one item, as a B-tree does.
     fn chunk_from(&self, p: Self::Position) -> Chunk<'_, T, Self::Position>
         requires { is_good self.now p }
         ensures first { result.first.now
