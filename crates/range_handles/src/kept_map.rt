@@ -1,6 +1,5 @@
 //! Maps to `u64` values, which a contract sees as lists.
 ghost use Rattle.std.specs.Prelude.{◌≡◌, ◌≢◌, ◌⊎◌, ◌↔◌, [], ◌∷◌, ◌++◌, false, length, nat_eq, IsTrue, IfOk, IfErr};
-ghost use Rattle.btree_range_map.specs.Apart.{IsConnectedError};
 ghost use Rattle.btree_range_map.specs.Bindings.{IsBoundAfter, IsUnboundAfter, IsLeastCount, BindAlike};
 ghost use Rattle.btree_range_map.specs.Holding.{box_items};
 ghost use Rattle.btree_range_map.specs.JsonError.TheVariants.{Memory};

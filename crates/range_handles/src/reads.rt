@@ -1,5 +1,5 @@
 //! What is asked of a map of ranges, and of a set as the map of its keys to nothing.
-ghost use Rattle.std.specs.Prelude.{◌<◌, ◌≤◌, ◌≡◌, ◌≢◌, ◌⊎◌, ◌↔◌, List, [], ◌∷◌, ◌++◌, Some, length, map, take, drop, reverse, IsTrue};
+ghost use Rattle.std.specs.Prelude.{◌<◌, ◌≤◌, ◌≡◌, ◌⊎◌, List, [], ◌∷◌, ◌++◌, Some, length, map, take, drop, reverse};
 ghost use Rattle.btree_range_map.specs.AnyRange.{AnyRange};
 ghost use Rattle.btree_range_map.specs.Bindings.{Binds, IsBound, IsItemFor};
 ghost use Rattle.btree_range_map.specs.Holding.{box_items};
