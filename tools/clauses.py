@@ -88,12 +88,8 @@ def promises(top):
     return lines
 
 
-def main():
+if __name__ == "__main__":
     old, new = (promises(pathlib.Path(it).resolve()) for it in sys.argv[1:])
     changes = [*difflib.unified_diff(old, new, *sys.argv[1:], lineterm="")]
     print(*changes, f"{len(old)} lines before, {len(new)} after", sep="\n")
-    return int(bool(changes))
-
-
-if __name__ == "__main__":
-    sys.exit(main())
+    sys.exit(bool(changes))
