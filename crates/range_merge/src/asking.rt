@@ -1,4 +1,4 @@
-//! What a closure answers to the pieces of two lists, a piece or two at once.
+//! What a closure returns for the pieces of two lists, a piece or two at once.
 ghost use Rattle.std.specs.Prelude.{◌≡◌, ◌∷◌, [], IfOk, OnOk, MatchOption, Option, Some, None, Ok, Err};
 ghost use Rattle.std.specs.Option.{option_copied, option_map};
 ghost use Rattle.range_algebra.specs.References.{range_of};

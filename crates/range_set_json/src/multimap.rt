@@ -20,6 +20,7 @@ use range_algebra::inner;
 use range_json::inner::{element_from_json, elements_of_map, pair_to_json, versioned};
 use range_json::json::{Json, JsonError};
 use range_keys::traits::{Measure, PartialEnum};
+use range_map::map::NotFree;
 use range_sets::inner::insert_set;
 use range_sets::multimap::{MaybeEmpty, RangeMultiMap};
 use range_store::storage::{Item, Storage};
@@ -74,13 +75,12 @@ fn element_with_values<K: Json, V: Json + Ord + Clone>(
 }
 
 /// Gives the keys of the element at `index` its values, where its range meets no stored one.
-fn insert_values<K: Json + Measure + Clone, S: MaybeEmpty, C: Storage<Item<AnyRange<K>, S>>>(
+fn insert_values<K: Measure, S: MaybeEmpty, C: Storage<Item<AnyRange<K>, S>>>(
     multimap: &mut RangeMultiMap<K, S, C>,
     item: Item<AnyRange<K>, S>,
     index: usize,
 ) -> Result<(), JsonError>
-    requires keys { ClonesAreEqual K.is_clone K.eq }
-    requires nonempty { ¬ S.is_void item.value }
+    requires { ¬ S.is_void item.value }
     ensures known { IsKnownRange K.order item.key }
     ensures apart { OnOk result
         (¬ ((¬ IsEmptyRange K.order item.key)
@@ -105,10 +105,10 @@ fn insert_values<K: Json + Measure + Clone, S: MaybeEmpty, C: Storage<Item<AnyRa
 {
     let Item { key, value } = item;
     inner::known(&key);
-    if insert_set(multimap, key, value)? {
-        Ok(())
-    } else {
-        Err(JsonError::Meets(index))
+    match insert_set(multimap, key, value) {
+        Ok(()) => Ok(()),
+        Err(NotFree::Occupied(_, _)) => Err(JsonError::Meets(index)),
+        Err(NotFree::Memory(_, _)) => Err(JsonError::Memory),
     }
 }
 

@@ -177,7 +177,7 @@ impl<T: Drop> Nodes<T> {
         &mut self.slab[number].items[index]
     }
 
-    /// Puts an item in the place of the one at an index, which it returns.
+    /// Replaces the item at an index, and returns it.
     pub fn replace_item(&mut self, number: usize, index: usize, item: T) -> T
         requires present { HasNode self.old number }
         requires within { index < length (items_of (node_of self.old number)) }

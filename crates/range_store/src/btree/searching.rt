@@ -47,8 +47,8 @@ fn count_few<T, P: Probe<T>>(items: &[T], probe: &mut P) -> usize
     low
 }
 
-// How many of the items of a node pass. Of `MIN_LEN` or more, four asks tell whatever they answer:
-// so many items at a time that the next steps reach each of those between.
+// How many of the items of a node pass. Of `MIN_LEN` or more, four asks are enough, whatever they
+// answer: so many items at a time that the next steps reach each of those between.
 #[inline(always)]
 pub fn count_passing<T, P: Probe<T>>(items: &[T], probe: &mut P) -> usize
     requires falls { Falls (P.test probe.old) items.now }
