@@ -1,6 +1,6 @@
 -- What a pass over two maps tells that stops at the first keys of a kind.
 use Rattle.std.proofs.Common.{◌≡◌, inl, refl, List}
-use Rattle.std.specs.Prelude.{◌↔◌, is_ok, IfOk, IsTrue, Bool, Option, None, Some, Result, Ok, Err, ℤ}
+use Rattle.std.specs.Prelude.{◌↔◌, is_ok, IfOk, IsTrue, Bool, false, Option, None, Some, Result, Ok, Err, ℤ}
 use Rattle.std.specs.Ordering.{int_eq}
 use Rattle.btree_range_map.specs.AnyRange.{AnyRange}
 use Rattle.btree_range_map.specs.Bindings.{Binds, IsBound}
@@ -31,6 +31,35 @@ module _ {A E : Type 0} where
   shared_gives_none (Some a) None value found = cc
   shared_gives_none (Some a) (Some b) value found = cc
 
+  alone_fails_there : (a : ℤ) (answer : Option A)
+      → FindsAlone {A = A} {E = E} (Some a) None (Ok answer) → ⊥
+  alone_fails_there a answer found = cc
+
+  alone_fails_nowhere_else : (right : Option ℤ) (e : E)
+      → FindsAlone {A = A} {E = E} None right (Err e) → ⊥
+  alone_fails_nowhere_else None e found = cc
+  alone_fails_nowhere_else (Some b) e found = cc
+
+  alone_fails_not_on_both : (a b : ℤ) (e : E)
+      → FindsAlone {A = A} {E = E} (Some a) (Some b) (Err e) → ⊥
+  alone_fails_not_on_both a b e found = cc
+
+  shared_fails_there : (a b : ℤ) (answer : Option A)
+      → FindsShared {A = A} {E = E} (Some a) (Some b) (Ok answer) → ⊥
+  shared_fails_there a b answer found = cc
+
+  shared_fails_nowhere_else : (right : Option ℤ) (e : E)
+      → FindsShared {A = A} {E = E} None right (Err e) → ⊥
+  shared_fails_nowhere_else None e found = cc
+  shared_fails_nowhere_else (Some b) e found = cc
+
+  shared_fails_not_on_first : (a : ℤ) (e : E)
+      → FindsShared {A = A} {E = E} (Some a) None (Err e) → ⊥
+  shared_fails_not_on_first a e found = cc
+
+is_not_true : (b : Bool) → b ≡ false → IsTrue b → ⊥
+is_not_true b is yes = cc
+
 module _ {K A E : Type 0} (order : KeyOrder K) (lawful : IsLawful order)
     (complete : IsComplete order) (same : A → A → Bool)
     (may : Option ℤ → Option ℤ → Result (Option A) E → Type 0) (items others : Ranges K) where
@@ -49,7 +78,7 @@ module _ {K A E : Type 0} (order : KeyOrder K) (lawful : IsLawful order)
   told view tells (Ok new) b is ended fails gives =
       (λ yes. tells.ends (view new) ended, λ so. is)
   told view tells (Err (Closure e)) b is ended fails gives =
-      (λ yes. absurd (cc), λ so. absurd (tells.stops e (fails e refl) so))
+      (λ yes. absurd (is_not_true b is yes), λ so. absurd (tells.stops e (fails e refl) so))
   told view tells (Err Memory) b is ended fails gives = absurd (tells.goes_on (gives refl))
 
   module _ (finds : (left right : Option ℤ) (found : Result (Option A) E) → may left right found
@@ -58,16 +87,18 @@ module _ {K A E : Type 0} (order : KeyOrder K) (lawful : IsLawful order)
         (Ok answer) → Binds order int_eq items k left → Binds order int_eq others k right
         → IsBound order items k → IsBound order others k
     all_bound k None right answer found first second bound = absurd (first bound)
-    all_bound k (Some a) None answer found first second bound = absurd (cc)
+    all_bound k (Some a) None answer found first second bound =
+        absurd (alone_fails_there {A = A} {E = E} a answer found)
     all_bound k (Some a) (Some b) answer found first second bound = is_bound order others k b second
 
     one_alone : (k : K) (left right : Option ℤ) (e : E) → FindsAlone {A = A} left right (Err e)
         → IsBoundWhere order items k left → IsBoundWhere order others k right
         → (IsBound order items k → IsBound order others k) → ⊥
-    one_alone k None None e found first second all = cc
-    one_alone k None (Some b) e found first second all = cc
+    one_alone k None right e found first second all =
+        alone_fails_nowhere_else {A = A} {E = E} right e found
     one_alone k (Some a) None e found first second all = second (all first)
-    one_alone k (Some a) (Some b) e found first second all = cc
+    one_alone k (Some a) (Some b) e found first second all =
+        alone_fails_not_on_both {A = A} {E = E} a b e found
 
     pub subset_tells : Tells (BindKeysOf order items others)
     subset_tells = record {
@@ -93,14 +124,16 @@ module _ {K A E : Type 0} (order : KeyOrder K) (lawful : IsLawful order)
         → Binds order int_eq others k right → IsBound order items k → IsBound order others k → ⊥
     none_shared k None right answer found first second bound other = first bound
     none_shared k (Some a) None answer found first second bound other = second other
-    none_shared k (Some a) (Some b) answer found first second bound other = cc
+    none_shared k (Some a) (Some b) answer found first second bound other =
+        shared_fails_there {A = A} {E = E} a b answer found
 
     one_shared : (k : K) (left right : Option ℤ) (e : E) → FindsShared {A = A} left right (Err e)
         → IsBoundWhere order items k left → IsBoundWhere order others k right
         → (IsBound order items k → IsBound order others k → ⊥) → ⊥
-    one_shared k None None e found first second none = cc
-    one_shared k None (Some b) e found first second none = cc
-    one_shared k (Some a) None e found first second none = cc
+    one_shared k None right e found first second none =
+        shared_fails_nowhere_else {A = A} {E = E} right e found
+    one_shared k (Some a) None e found first second none =
+        shared_fails_not_on_first {A = A} {E = E} a e found
     one_shared k (Some a) (Some b) e found first second none = none first second
 
     pub apart_tells : Tells (ShareNoKey order items others)
