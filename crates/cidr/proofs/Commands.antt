@@ -1,0 +1,182 @@
+-- Lists put together, one after the other.
+use Rattle.std.proofs.Common.{◌≡◌, ◌≢◌, ℕ, ◌<◌, ◌^◌, ◌↔◌, ◌⊎◌, Bool, List, [], ◌∷◌, ◌++◌, Option, Some, IfSome, inl, inr, refl, sym, subst, append_assoc}
+use Rattle.std.proofs.lemmas.List.{append-nil}
+use Rattle.btree_range_map.specs.Holding.{box_items}
+use Rattle.btree_range_map.specs.KeySets.{HoldsKey}
+use Rattle.address_sets.specs.Addresses.{ipv4_at, ipv4_order, ipv6_at, ipv6_order}
+use Rattle.address_text.specs.Texts.{width}
+use Rattle.address_text.specs.declared.family.Family.{Family}
+use Rattle.address_text.specs.declared.family.Family.TheVariants.{V4, V6}
+use Rattle.address_text.specs.declared.line.Line.{Line}
+use Rattle.address_lists.specs.Lists.{AreSaid, Has, HasJust, IsListed}
+use Rattle.address_lists.specs.declared.addresses.Addresses.{Addresses}
+use Rattle.cidr.specs.Commands.{AreKnown, AreLists, Asked, Combined, IsAnswer, Put}
+use Rattle.cidr.specs.declared.serve.Command.{Command}
+use Rattle.cidr.specs.declared.serve.Command.TheVariants.{Merge, Common, Except, Diff, Invert}
+
+iff_then : {A B C : Type 0} → A ↔ B → B ↔ C → A ↔ C
+iff_then e f = (λ a. f.0 (e.0 a), λ c. e.1 (f.1 c))
+
+module _ (family : Family) (n : ℕ) where
+  combined_same : (command : Command) (P R Q S : Family → ℕ → Type 0) → P family n ↔ R family n
+      → Q family n ↔ S family n → Combined command P Q family n ↔ Combined command R S family n
+  combined_same Merge P R Q S e f = (
+    λ h. elim h [ inl p ↦ inl (e.0 p) | inr q ↦ inr (f.0 q) ],
+    λ h. elim h [ inl p ↦ inl (e.1 p) | inr q ↦ inr (f.1 q) ],
+  )
+  combined_same Common P R Q S e f = (λ h. (e.0 h.0, f.0 h.1), λ h. (e.1 h.0, f.1 h.1))
+  combined_same Except P R Q S e f =
+      (λ h. (e.0 h.0, λ s. h.1 (f.1 s)), λ h. (e.1 h.0, λ q. h.1 (f.0 q)))
+  combined_same Diff P R Q S e f = (
+    λ h. elim h [
+      | inl one ↦ inl (e.0 one.0, λ s. one.1 (f.1 s))
+      | inr two ↦ inr (λ r. two.0 (e.1 r), f.0 two.1)
+    ],
+    λ h. elim h [
+      | inl one ↦ inl (e.1 one.0, λ q. one.1 (f.0 q))
+      | inr two ↦ inr (λ p. two.0 (e.0 p), f.1 two.1)
+    ],
+  )
+  combined_same Invert P R Q S e f = (
+    λ h. elim h [ inl p ↦ inl (e.0 p) | inr q ↦ inr (f.0 q) ],
+    λ h. elim h [ inl p ↦ inl (e.1 p) | inr q ↦ inr (f.1 q) ],
+  )
+
+  put_same : (command : Command) (lists : List (List Line)) (P R : Family → ℕ → Type 0)
+      → P family n ↔ R family n → Put command P lists family n ↔ Put command R lists family n
+  put_same command [] P R e = e
+  put_same command (lines ∷ lists) P R e =
+      put_same command lists (Combined command P (λ f m. IsListed f m lines))
+      (Combined command R (λ f m. IsListed f m lines))
+      (combined_same command P R (λ f m. IsListed f m lines) (λ f m. IsListed f m lines) e
+      (λ h. h, λ h. h))
+
+  put_more : (command : Command) (lists : List (List Line)) (lines : List Line)
+      (P : Family → ℕ → Type 0)
+      → Combined command (Put command P lists) (λ f m. IsListed f m lines) family n
+      ↔ Put command P (lists ++ lines ∷ []) family n
+  put_more command [] lines P = (λ h. h, λ h. h)
+  put_more command (first ∷ lists) lines P =
+      put_more command lists lines (Combined command P (λ f m. IsListed f m first))
+
+-- the lines of one source, where its bytes are known
+abbrev pub IsRead : Bool → Option (List ℕ) → Addresses → Type 0
+IsRead strict input list = IfSome input (λ bytes. (lines : List Line) × AreSaid strict bytes lines []
+    × HasJust list (λ family n. IsListed family n lines))
+
+module _ (strict : Bool) (command : Command) (first : Addresses) (files : List (List ℕ)) where
+  -- the lists of the files before those that are left are put together
+  pub record IsPutTo (left : List (Option (List ℕ))) (list : Addresses) : Type 0 where
+    pub rest : List (List ℕ)
+    pub known : AreKnown left rest
+    pub lists : List (List Line)
+    pub goes_on : (more : List (List Line)) → AreLists strict rest more
+        → AreLists strict files (lists ++ more)
+    pub put : HasJust list (Put command (Has first) lists)
+
+  pub put_none : (inputs : List (Option (List ℕ))) → AreKnown inputs files → IsPutTo inputs first
+  put_none inputs known = record {
+    rest = files;
+    known = known;
+    lists = [];
+    goes_on = λ more said. said;
+    put = λ family n h. (λ has. has, λ has. has);
+  }
+
+  more_put : (input : Option (List ℕ)) (left : List (Option (List ℕ))) (list other next : Addresses)
+      (rest : List (List ℕ)) (lists : List (List Line)) → AreKnown (input ∷ left) rest
+      → ((more : List (List Line)) → AreLists strict rest more
+      → AreLists strict files (lists ++ more))
+      → HasJust list (Put command (Has first) lists) → IsRead strict input other
+      → HasJust next (Combined command (Has list) (Has other)) → IsPutTo left next
+  more_put input left list other next [] lists known goes_on put read combined = absurd known
+  more_put input left list other next (bytes ∷ rest) lists known goes_on put read combined =
+      let (lines, said, listed) = subst (λ o. IsRead strict o other) known.0 read in record {
+        rest = rest;
+        known = known.1;
+        lists = lists ++ lines ∷ [];
+        goes_on =
+            λ more said_more. subst (AreLists strict files)
+            (sym (append_assoc lists (lines ∷ []) more))
+            (goes_on (lines ∷ more) (said, said_more));
+        put =
+            λ family n h. iff_then (combined family n h)
+            (iff_then
+            (combined_same family n command (Has list) (Put command (Has first) lists) (Has other)
+            (λ f m. IsListed f m lines) (put family n h) (listed family n h))
+            (put_more family n command lists lines (Has first)));
+      }
+
+  -- one list more is put together with them
+  pub one_put : (input : Option (List ℕ)) (left : List (Option (List ℕ)))
+      (list other next : Addresses) → IsPutTo (input ∷ left) list → IsRead strict input other
+      → HasJust next (Combined command (Has list) (Has other)) → IsPutTo left next
+  one_put input left list other next put read combined =
+      more_put input left list other next put.rest put.lists put.known put.goes_on put.put read
+      combined
+
+  ended : (list : Addresses) (rest : List (List ℕ)) (lists : List (List Line)) → AreKnown [] rest
+      → ((more : List (List Line)) → AreLists strict rest more
+      → AreLists strict files (lists ++ more))
+      → HasJust list (Put command (Has first) lists)
+      → (lists : List (List Line)) × AreLists strict files lists
+      × HasJust list (Put command (Has first) lists)
+  ended list [] lists known goes_on put =
+      (lists, subst (AreLists strict files) (append-nil lists) (goes_on [] tt), put)
+  ended list (bytes ∷ rest) lists known goes_on put = absurd known
+
+  -- the lists of all files are put together
+  pub all_put : (list : Addresses) → IsPutTo [] list
+      → (lists : List (List Line)) × AreLists strict files lists
+      × HasJust list (Put command (Has first) lists)
+  all_put list put = ended list put.rest put.lists put.known put.goes_on put.put
+
+-- the first list, and those of the others put together with it
+pub asked_of : (strict : Bool) (command : Command) (input : Option (List ℕ))
+    (left : List (Option (List ℕ))) (first new : Addresses) → IsRead strict input first
+    → ((files : List (List ℕ)) → AreKnown left files → (lists : List (List Line))
+    × AreLists strict files lists × HasJust new (Put command (Has first) lists))
+    → (files : List (List ℕ)) → AreKnown (input ∷ left) files
+    → (lists : List (List Line)) × AreLists strict files lists × HasJust new (Asked command lists)
+asked_of strict command input left first new read put [] known = absurd known
+asked_of strict command input left first new read put (bytes ∷ files) known =
+    let (lines, said, listed) = subst (λ o. IsRead strict o first) known.0 read in
+    let (lists, all_said, all) = put files known.1 in (
+      lines ∷ lists,
+      (said, all_said),
+      λ family n h. iff_then (all family n h)
+          (put_same family n command lists (Has first) (λ f m. IsListed f m lines)
+          (listed family n h)),
+    )
+
+has_none : (command : Command) (list : Addresses) → box_items list.v4 ≡ [] → box_items list.v6 ≡ []
+    → HasJust list (Asked command [])
+has_none command list v4 v6 V4 n h =
+    (λ has. subst (λ items. HoldsKey ipv4_order items (ipv4_at n)) v4 has, λ none. absurd none)
+has_none command list v4 v6 V6 n h =
+    (λ has. subst (λ items. HoldsKey ipv6_order items (ipv6_at n)) v6 has, λ none. absurd none)
+
+-- no list has no address
+pub none_asked : (strict : Bool) (command : Command) (list : Addresses) → box_items list.v4 ≡ []
+    → box_items list.v6 ≡ [] → (files : List (List ℕ)) → AreKnown [] files
+    → (lists : List (List Line)) × AreLists strict files lists × HasJust list (Asked command lists)
+none_asked strict command list v4 v6 [] known = ([], tt, has_none command list v4 v6)
+none_asked strict command list v4 v6 (bytes ∷ files) known = absurd known
+
+-- the other addresses are what `invert` says
+pub others_answer : (list others : Addresses) (lists : List (List Line))
+    → HasJust list (Asked Invert lists) → HasJust others (λ family n. ¬ Has list family n)
+    → HasJust others (IsAnswer Invert lists)
+others_answer list others lists asked inverse family n h =
+    let one = asked family n h in
+    let other = inverse family n h in
+    (λ has said. other.0 has (one.1 said), λ none. other.1 (λ has. none (one.0 has)))
+
+-- any other command says the addresses themselves
+pub same_answer : (command : Command) (list : Addresses) (lists : List (List Line))
+    → command ≢ Invert → HasJust list (Asked command lists) → HasJust list (IsAnswer command lists)
+same_answer Merge list lists other asked = asked
+same_answer Common list lists other asked = asked
+same_answer Except list lists other asked = asked
+same_answer Diff list lists other asked = asked
+same_answer Invert list lists other asked = absurd (other refl)
