@@ -74,12 +74,7 @@ fn block_of(number: u128, free: u8) -> (u128, u128)
 }
 
 /// The addresses of a prefix, by the texts before and after its slash.
-fn prefix_span(
-    family: Family,
-    address: &str,
-    digits: &str,
-    strict: bool,
-) -> Option<(u128, u128)>
+fn prefix_span(family: Family, address: &str, digits: &str, strict: bool) -> Option<(u128, u128)>
     ensures cases { MatchOption result ((first last : ℕ)
         → ¬ IsPrefixSpan strict family address.now digits.now first last)
         (λ span. IsPrefixSpan strict family address.now digits.now span.0 span.1) }

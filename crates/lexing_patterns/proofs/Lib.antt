@@ -1,0 +1,12 @@
+pub mod Any
+pub mod Building
+pub mod Drafting
+pub mod Joining
+pub mod Literals
+pub mod Meanings
+pub mod CharacterRanges
+pub mod Pouring
+pub mod Promise
+pub mod Repeating
+pub mod Results
+pub mod Within

@@ -1,0 +1,143 @@
+-- A token of the lexer is a longest match of its patterns.
+use Rattle.std.proofs.Common.{◌≡◌, refl, sym, ap, subst, ◌∙◌, ◌↔◌, ◌⊎◌, inl, inr, ℕ, zero, suc, ◌≤◌, true, List, [], ◌∷◌, ◌++◌, length, take, Some, slice_get, arith, append-nil, length-append}
+use Rattle.std.proofs.Math.Logic.{∥∥₁_elim}
+use Rattle.std.proofs.lemmas.Grind.{not_there}
+use Rattle.std.proofs.lemmas.Bool.{and_parts}
+use Rattle.std.proofs.lemmas.Bool.Decides.{nat_tests}
+use Rattle.std.proofs.lemmas.Str.{encodes-chars, scalars-chars, encodes-append, length-encode, len_utf8_bounds, IsUtf8-take}
+use Rattle.std.specs.Char.{IsScalar, encode_utf8}
+use Rattle.std.specs.Str.{encode_utf8_all, all_scalars, chars, IsUtf8}
+use Rattle.btree_range_map.specs.Characters.{IsCharacter}
+use Rattle.charmoves.specs.Automata.{LeadsTo}
+use Rattle.charmoves.specs.Beginnings.{AcceptsFirst}
+use Rattle.lexing.specs.declared.lexer.Lexer.{Lexer}
+use Rattle.lexing.specs.Lexers.{rules_in, PathOf, IsAcceptedBy}
+use Rattle.lexing.specs.Tokens.{IsToken}
+use Rattle.regex_hir.specs.Re.{Re}
+use Rattle.regex_hir.specs.Matches.{Matches}
+use Rattle.lexing_patterns.specs.declared.draft.Draft.{Draft}
+use Rattle.lexing_patterns.specs.Languages.{IsLanguage}
+use Rattle.lexing_patterns.specs.Parts.{HasEdge, Path}
+use Rattle.lexing_patterns.specs.Drafts.{DraftReads, IsDraft}
+use Rattle.lexing_patterns.specs.Patterns.{MatchesAll, MatchesFirst, IsLongestMatch, IsPoured}
+
+nothing_left : (cs : List ℕ) → length (encode_utf8_all cs) ≡ 0 → cs ≡ []
+nothing_left [] e = refl
+nothing_left (c ∷ cs) e =
+    absurd (omega (
+      arith,
+      e,
+      length-append (encode_utf8 c) (encode_utf8_all cs),
+      length-encode c,
+      len_utf8_bounds c,
+    ))
+
+-- the pattern matches a whole text where the text's characters are in its language
+pub whole_text : (re : Re) (L : List ℕ → Type 0) → IsLanguage re L → (text : List ℕ) → IsUtf8 text
+    → Matches text re 0 (length text) ↔ L (chars text)
+whole_text re L is text utf8 =
+    let cs = chars text in
+    let coded : encode_utf8_all (chars text) ≡ text = encodes-chars text utf8 in
+    let by = is.matches [] cs refl (scalars-chars text utf8) (length text) in (
+      λ h.
+          let (w, more, parts, end, in_it) =
+          by.0 (subst (λ t. Matches t re 0 (length text)) (sym coded) h) in
+          let long = ap (λ x. length (encode_utf8_all x)) parts ∙ ap length (encodes-append w more)
+          ∙ length-append (encode_utf8_all w) (encode_utf8_all more) in
+          let none : more ≡ [] =
+          nothing_left more (omega (arith, long, end, ap length coded)) in
+          subst L (sym (parts ∙ ap (λ x. w ++ x) none ∙ append-nil w)) in_it,
+      λ h.
+          subst (λ t. Matches t re 0 (length text)) coded
+          (by.1 (cs, [], sym (append-nil cs), sym (ap length coded), h)),
+    )
+
+is_character : (c : ℕ) → IsScalar c → IsCharacter c
+is_character c s = grind (arith, nat_tests)
+
+at_or_past : (res : List Re) (rule : ℕ) → ((re : Re) × (slice_get res rule ≡ Some re))
+    ⊎ (length res ≤ rule)
+at_or_past [] rule = inr (omega arith)
+at_or_past (re ∷ res) zero = inl (re, refl)
+at_or_past (re ∷ res) (suc rule) =
+    elim (at_or_past res rule) [ inl at ↦ inl at | inr past ↦ inr (omega (arith, past)) ]
+
+module _ (draft : Draft) (lexer : Lexer) (patterns : List Re) (is : IsDraft draft patterns)
+    (poured : IsPoured draft lexer) where
+  leads : (p : ℕ) (w : List ℕ) (q : ℕ) → all_scalars w ≡ true
+      → LeadsTo (rules_in lexer) p w q ↔ Path (HasEdge draft.edges.items) p w q
+  leads p [] q s = (λ h. h, λ h. h)
+  leads p (c ∷ w) q s =
+      let parts = and_parts _ _ s in
+      let key = is_character c parts.0 in (
+        λ h. (h.0, (poured.edges p c h.0 key).0 h.1, (leads h.0 w q parts.1).0 h.2),
+        λ h. (h.0, (poured.edges p c h.0 key).1 h.1, (leads h.0 w q parts.1).1 h.2),
+      )
+
+  paths : (rule : ℕ) (w : List ℕ) → all_scalars w ≡ true → PathOf lexer rule w
+      ↔ DraftReads draft.edges.items draft.starts.items draft.ends.items rule w
+  paths rule w s = (
+    λ h. (
+      h.0,
+      h.1,
+      (poured.starts h.0).0 h.2,
+      (leads h.0 w h.1 s).0 h.3,
+      (poured.ends is.ends_at_one h.1 rule).0 h.4,
+    ),
+    λ h. (
+      h.0,
+      h.1,
+      (poured.starts h.0).1 h.2,
+      (leads h.0 w h.1 s).1 h.3,
+      (poured.ends is.ends_at_one h.1 rule).1 h.4,
+    ),
+  )
+
+  accepted : (rule : ℕ) (re : Re) → slice_get patterns rule ≡ Some re → (text : List ℕ)
+      → IsUtf8 text → IsAcceptedBy lexer rule (chars text) ↔ MatchesAll re text
+  accepted rule re at text utf8 =
+      let whole = whole_text re _ (is.languages rule re at) text utf8 in
+      let path = paths rule (chars text) (scalars-chars text utf8) in (
+        λ h. ∥∥₁_elim h squash₁ (λ p. ∣ whole.1 (path.0 p) ∣₁),
+        λ h. ∥∥₁_elim h squash₁ (λ m. ∣ path.1 (whole.0 m) ∣₁),
+      )
+
+  never_past : (rule : ℕ) → length patterns ≤ rule → (text : List ℕ) → IsUtf8 text
+      → ¬ IsAcceptedBy lexer rule (chars text)
+  never_past rule past text utf8 h =
+      not_there h
+      (λ p.
+      let path = (paths rule (chars text) (scalars-chars text utf8)).0 p in
+      absurd (omega (arith, past, (is.ends_below path.1 rule path.4).1)))
+
+  module _ (text : List ℕ) (utf8 : IsUtf8 text) where
+    first : (rule n : ℕ) → AcceptsFirst (IsAcceptedBy lexer rule) text n
+        ↔ MatchesFirst patterns text rule n
+    first rule n = (
+      λ h.
+          let front = IsUtf8-take text n utf8 h.0 in
+          elim (at_or_past patterns rule) [
+            | inl at ↦ (h.0, (at.0, at.1, (accepted rule at.0 at.1 (take n text) front).0 h.1))
+            | inr past ↦ absurd (never_past rule past (take n text) front h.1)
+          ],
+      λ h.
+          let front = IsUtf8-take text n utf8 h.0 in
+          (h.0, (accepted rule h.1.0 h.1.1 (take n text) front).1 h.1.2),
+    )
+
+    pub token_is_match : (rule len : ℕ) → IsToken lexer text rule len
+        ↔ IsLongestMatch patterns text rule len
+    token_is_match rule len = (
+      λ token. record {
+        nonempty = token.nonempty;
+        matched = (first rule len).0 token.accepted;
+        longest = λ other n h. token.longest other n ((first other n).1 h);
+        first = λ other h. token.first other ((first other len).1 h);
+      },
+      λ match_of. record {
+        nonempty = match_of.nonempty;
+        accepted = (first rule len).1 match_of.matched;
+        longest = λ other n h. match_of.longest other n ((first other n).0 h);
+        first = λ other h. match_of.first other ((first other len).0 h);
+      },
+    )

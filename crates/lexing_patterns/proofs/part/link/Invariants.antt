@@ -1,0 +1,8 @@
+use Rattle.std.proofs.Common.{ℕ, ◌≡◌, ◌↔◌, ◌⊎◌, take}
+use Rattle.lexing_patterns.specs.Parts.{AnyOf, HasEdge, LeadsBy}
+use Rattle.lexing_patterns.proofs.part.link.Given as goal
+
+abbrev pub invariant-loop-lead : goal.invariant-loop-lead
+invariant-loop-lead l = (p c q : ℕ) → HasEdge l.edges.items p c q
+    ↔ (HasEdge l.initial.edges.items p c q
+    ⊎ AnyOf (λ lead. (p ≡ l.from) × LeadsBy c q lead) (take l.lead-index l.leads))

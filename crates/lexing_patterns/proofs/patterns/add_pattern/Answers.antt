@@ -1,0 +1,18 @@
+use Rattle.std.proofs.Common.{refl, subst, ◌∙◌, map}
+use Rattle.std.specs.Option.{option_map}
+use Rattle.std.specs.String.{string_bytes}
+use Rattle.regex_hir.specs.Meaning.{meaning}
+use Rattle.regex_syntax.specs.Verdict.{Reads}
+use Rattle.lexing_patterns.proofs.Results.{on_ok}
+use Rattle.lexing_patterns.proofs.patterns.add_pattern.Goals as goal
+
+pub returns-in-Ok-parse : goal.returns-in-Ok-parse
+returns-in-Ok-parse c =
+    let hir = c.in-Ok-parse.parsed.hir in
+    let names = map (option_map string_bytes) c.in-Ok-parse.parsed.names.items in
+    let read = subst (λ config. Reads config c.args.pattern.now hir names) c.default.ensures
+    c.in-Ok-parse.ensures.ok in
+    on_ok c.add.result
+    (λ more res number was.
+    (meaning hir, (hir, names, read, refl), more res (c.in-Ok.ensures.1 ∙ number) was))
+    c.add.ensures

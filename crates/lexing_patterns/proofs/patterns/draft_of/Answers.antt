@@ -1,0 +1,43 @@
+use Rattle.std.proofs.Common.{◌≡◌, refl, ap, ◌∙◌, [], ◌∷◌, ◌++◌, List, take, length, length-append, get_or, false, arith}
+use Rattle.std.proofs.lemmas.List.{take_more}
+use Rattle.std.proofs.Math.Seq.{take-length}
+use Rattle.regex_hir.specs.Re.{Re}
+use Rattle.lexing_patterns.specs.declared.patterns.PatternRule.{PatternRule}
+use Rattle.lexing_patterns.specs.Patterns.{IsReadAs, AreReadAs}
+use Rattle.lexing_patterns.proofs.patterns.draft_of.Goals as goal
+
+read_more : (rules : List PatternRule) (res : List Re) (rule : PatternRule) (re : Re)
+    → AreReadAs rules res → IsReadAs rule.pattern.now re
+    → AreReadAs (rules ++ rule ∷ []) (res ++ re ∷ [])
+read_more [] [] rule re h is = (is, tt)
+read_more [] (x ∷ res) rule re h is = absurd h
+read_more (r ∷ rules) [] rule re h is = absurd h
+read_more (r ∷ rules) (x ∷ res) rule re h is = (h.0, read_more rules res rule re h.1 is)
+
+pub loop-i-init : goal.loop-i-init
+loop-i-init c = ([], refl, tt, c.new-draft.ensures)
+
+pub loop-i-preserved : goal.loop-i-preserved
+loop-i-preserved c =
+    let (res, len, read, draft) = c.loop-i.invariant in
+    let (re, is, more) = c.in-Ok.ensures res len draft in
+    let none : PatternRule = record {
+      name = record { ref_ptr = (0, 0); now = [] };
+      pattern = record { ref_ptr = (0, 0); now = [] };
+      skipped = false;
+    } in (
+      res ++ re ∷ [],
+      omega (arith, len, length-append res (re ∷ [])),
+      rw (take_more c.args.rules.now c.loop-i.i none c.loop-i-test.true)
+          (read_more (take c.loop-i.i c.args.rules.now) res (get_or c.args.rules.now c.loop-i.i none)
+          re read is),
+      more,
+    )
+
+pub returns : goal.returns
+returns c =
+    let all : c.loop-i.i ≡ length c.args.rules.now =
+    omega (arith, c.loop-i-test.false, c.loop-i.auto.i-end) in
+    let whole = ap (λ n. take n c.args.rules.now) all ∙ take-length c.args.rules.now in
+    let (res, len, read, draft) = c.loop-i.invariant in
+    (res, rw whole at read, draft)

@@ -1,0 +1,5 @@
+pub mod Built
+pub mod Drafts
+pub mod Languages
+pub mod Parts
+pub mod Patterns

@@ -1,0 +1,123 @@
+//! States, and parts put together within a budget.
+ghost use Rattle.std.specs.Prelude.{ℕ, ◌≤◌, ◌+◌, ◌≡◌, [], Bool, IfOk};
+ghost use Rattle.regex_hir.specs.Re.{Re, cat, alt, plus, empty, byte_in, char_in};
+ghost use Rattle.regex_hir.specs.Meaning.{optional};
+ghost use Rattle.lexing_patterns.specs.Built.{IsBuilt};
+
+use crate::error::PatternError;
+use crate::part::{self, Part};
+use crate::pieces;
+use regex_class::{Class, ClassRange};
+use std::alloc::Global;
+
+const LAST_ASCII: u32 = 0x7F;
+
+/// Makes the states of parts, and puts parts together.
+#[derive(Drop)]
+pub(crate) struct Builder {
+    pub(crate) alloc: Global,
+    /// The number of the next state.
+    pub(crate) next: u32,
+    /// How many steps may still be made: a node of a pattern, a range and an edge are one each.
+    pub(crate) budget: usize,
+}
+
+impl Builder {
+    pub(crate) fn spend(&mut self, steps: usize) -> Result<(), PatternError>
+        ensures { self.new.next ≡ self.old.next }
+    {
+        if self.budget < steps {
+            return Err(PatternError::TooLarge);
+        }
+        self.budget -= steps;
+        Ok(())
+    }
+
+    /// A new state.
+    pub(crate) fn state(&mut self) -> Result<u32, PatternError>
+        ensures new { IfOk result (λ q. (q ≡ self.old.next) × (self.new.next ≡ self.old.next + 1)) }
+        ensures grows { self.old.next ≤ self.new.next }
+    {
+        let state = self.next;
+        let Some(next) = state.checked_add(1) else {
+            return Err(PatternError::TooLarge);
+        };
+        self.next = next;
+        Ok(state)
+    }
+
+    /// Matches the empty text.
+    pub(crate) fn empty(&self) -> Part
+        ensures { (at : ℕ) → IsBuilt empty result at at }
+    {
+        part::or_empty(part::nothing(self.alloc))
+    }
+
+    /// Matches nothing.
+    pub(crate) fn nothing(&self) -> Part
+        ensures { (at : ℕ) → IsBuilt (byte_in []) result at at }
+    {
+        part::nothing(self.alloc)
+    }
+
+    /// Matches one character of the ranges.
+    pub(crate) fn character(&mut self, ranges: &[ClassRange]) -> Result<Part, PatternError>
+        ensures built { IfOk result (λ r. IsBuilt (char_in ranges.now) r self.old.next self.new.next) }
+        ensures grows { self.old.next ≤ self.new.next }
+    {
+        self.spend(ranges.len())?;
+        let state = self.state()?;
+        Ok(pieces::one_of(self.alloc, ranges, state)?)
+    }
+
+    /// Matches one byte of the class, if all its bytes are ASCII.
+    pub(crate) fn byte(&mut self, class: &Class) -> Result<Part, PatternError>
+        ensures built { IfOk result
+            (λ r. IsBuilt (byte_in class.now.ranges.items) r self.old.next self.new.next) }
+        ensures grows { self.old.next ≤ self.new.next }
+    {
+        if !class.is_within(LAST_ASCII) {
+            return Err(PatternError::NotText);
+        }
+        self.character(&class.ranges)
+    }
+
+    /// Matches what the front does, and then what the back does.
+    pub(crate) fn in_turn(&mut self, front: Part, back: Part) -> Result<Part, PatternError>
+        ensures built { IfOk result (λ r. (a b : Re) (low middle high : ℕ) → low ≤ middle
+            → middle ≤ high → IsBuilt a front middle high → IsBuilt b back low middle
+            → IsBuilt (cat a b) r low high) }
+        ensures kept { self.new.next ≡ self.old.next }
+    {
+        self.spend(front.ends.len().saturating_mul(back.leads.len()))?;
+        Ok(part::in_turn(front, back)?)
+    }
+
+    /// Matches what either does.
+    pub(crate) fn either(&mut self, one: Part, other: Part) -> Result<Part, PatternError>
+        ensures built { IfOk result (λ r. (a b : Re) (low middle high : ℕ) → low ≤ middle
+            → middle ≤ high → IsBuilt a one middle high → IsBuilt b other low middle
+            → IsBuilt (alt a b) r low high) }
+        ensures kept { self.new.next ≡ self.old.next }
+    {
+        Ok(part::either(one, other)?)
+    }
+
+    /// Matches what the part does, once or several times.
+    pub(crate) fn repeated(&mut self, once: Part) -> Result<Part, PatternError>
+        ensures built { IfOk result (λ r. (greedy : Bool) (a : Re) (low high : ℕ)
+            → IsBuilt a once low high → IsBuilt (plus greedy a) r low high) }
+        ensures kept { self.new.next ≡ self.old.next }
+    {
+        self.spend(once.ends.len().saturating_mul(once.leads.len()))?;
+        Ok(part::repeated(once)?)
+    }
+
+    /// Matches what the part does, or the empty text.
+    pub(crate) fn optional(&self, once: Part) -> Part
+        ensures { (greedy : Bool) (a : Re) (low high : ℕ) → IsBuilt a once low high
+            → IsBuilt (optional greedy a) result low high }
+    {
+        part::or_empty(once)
+    }
+}

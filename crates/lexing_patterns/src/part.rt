@@ -1,0 +1,185 @@
+//! Automata in parts, and how parts are put together.
+ghost use Rattle.std.specs.Prelude.{ℕ, ◌≤◌, ◌≡◌, ◌↔◌, ◌⊎◌, [], ◌∷◌, List, IsTrue, IfOk, OnOk};
+ghost use Rattle.lexing_patterns.specs.Languages.{InTurn, RoundsOf};
+ghost use Rattle.lexing_patterns.specs.Parts.{Leads, HasEdge, IsAmong, Reads, IsWithin};
+
+use std::alloc::{AllocError, Global};
+
+/// Each character of a range leads to a state.
+#[derive(Clone, Copy)]
+pub(crate) struct Lead {
+    pub(crate) first: char,
+    pub(crate) last: char,
+    pub(crate) to: u32,
+}
+
+/// A state from which characters lead on.
+#[derive(Clone, Copy)]
+pub(crate) struct Edge {
+    pub(crate) from: u32,
+    pub(crate) lead: Lead,
+}
+
+/// An automaton without a start state: `leads` are the ways in, `ends` the states in which a text
+/// may end.
+#[derive(Drop)]
+pub(crate) struct Part {
+    pub(crate) leads: Vec<Lead>,
+    pub(crate) ends: Vec<u32>,
+    pub(crate) edges: Vec<Edge>,
+    /// Whether the empty text is accepted.
+    pub(crate) empty: bool,
+}
+
+/// Accepts no text.
+pub(crate) fn nothing(alloc: Global) -> Part
+    ensures reads { (w : List ℕ) → ¬ Reads result w }
+    ensures within { (low high : ℕ) → IsWithin result low high }
+{
+    Part {
+        leads: Vec::new(alloc),
+        ends: Vec::new(alloc),
+        edges: Vec::new(alloc),
+        empty: false,
+    }
+}
+
+/// Accepts the empty text too.
+pub(crate) fn or_empty(part: Part) -> Part
+    ensures reads { (w : List ℕ) → Reads result w ↔ (Reads part w ⊎ (w ≡ [])) }
+    ensures within { (low high : ℕ) → IsWithin part low high → IsWithin result low high }
+{
+    let Part {
+        leads,
+        ends,
+        edges,
+        empty: _,
+    } = part;
+    Part {
+        leads,
+        ends,
+        edges,
+        empty: true,
+    }
+}
+
+/// Accepts what either part does. The parts share no state.
+pub(crate) fn either(one: Part, other: Part) -> Result<Part, AllocError>
+    ensures reads { IfOk result (λ r. (low middle high : ℕ) → IsWithin other low middle
+        → IsWithin one middle high → (w : List ℕ) → Reads r w ↔ (Reads one w ⊎ Reads other w)) }
+    ensures within { IfOk result (λ r. (low middle high : ℕ) → low ≤ middle → middle ≤ high
+        → IsWithin other low middle → IsWithin one middle high → IsWithin r low high) }
+{
+    let Part {
+        mut leads,
+        mut ends,
+        mut edges,
+        empty,
+    } = other;
+    leads.extend_from_slice(&one.leads)?;
+    ends.extend_from_slice(&one.ends)?;
+    edges.extend_from_slice(&one.edges)?;
+    let empty = empty || one.empty;
+    Ok(Part {
+        leads,
+        ends,
+        edges,
+        empty,
+    })
+}
+
+/// Accepts a text of the front and then one of the back. The parts share no state.
+pub(crate) fn in_turn(front: Part, back: Part) -> Result<Part, AllocError>
+    ensures reads { IfOk result (λ r. (low middle high : ℕ) → IsWithin back low middle
+        → IsWithin front middle high → (w : List ℕ)
+        → Reads r w ↔ InTurn (Reads front) (Reads back) w) }
+    ensures within { IfOk result (λ r. (low middle high : ℕ) → low ≤ middle → middle ≤ high
+        → IsWithin back low middle → IsWithin front middle high → IsWithin r low high) }
+{
+    let Part {
+        leads: leads_of_back,
+        ends,
+        mut edges,
+        empty,
+    } = back;
+    edges.extend_from_slice(&front.edges)?;
+    link_all(&mut edges, &front.ends, &leads_of_back)?;
+    let ends = states_with(ends, &front.ends, empty)?;
+    let leads = leads_with(front.leads, &leads_of_back, front.empty)?;
+    let empty = front.empty && empty;
+    Ok(Part {
+        leads,
+        ends,
+        edges,
+        empty,
+    })
+}
+
+/// Accepts one text of the part or several, one after the other.
+pub(crate) fn repeated(part: Part) -> Result<Part, AllocError>
+    ensures reads { IfOk result (λ r. (w : List ℕ) → Reads r w ↔ RoundsOf (Reads part) w) }
+    ensures within { IfOk result (λ r. (low high : ℕ) → IsWithin part low high
+        → IsWithin r low high) }
+{
+    let Part {
+        leads,
+        ends,
+        mut edges,
+        empty,
+    } = part;
+    link_all(&mut edges, &ends, &leads)?;
+    Ok(Part {
+        leads,
+        ends,
+        edges,
+        empty,
+    })
+}
+
+/// The leads, with others behind them where these are wanted.
+fn leads_with(mut leads: Vec<Lead>, more: &[Lead], wanted: bool) -> Result<Vec<Lead>, AllocError>
+    ensures { IfOk result (λ r. (c q : ℕ) → Leads r.items c q
+        ↔ (Leads leads.items c q ⊎ (IsTrue wanted × Leads more.now c q))) }
+{
+    if wanted {
+        leads.extend_from_slice(more)?;
+    }
+    Ok(leads)
+}
+
+/// The states, with others behind them where these are wanted.
+pub(crate) fn states_with(
+    mut states: Vec<u32>,
+    more: &[u32],
+    wanted: bool,
+) -> Result<Vec<u32>, AllocError>
+    ensures { IfOk result (λ r. (q : ℕ) → IsAmong q r.items
+        ↔ (IsAmong q states.items ⊎ (IsTrue wanted × IsAmong q more.now))) }
+{
+    if wanted {
+        states.extend_from_slice(more)?;
+    }
+    Ok(states)
+}
+
+/// Adds edges that lead on from each of the states by each lead.
+fn link_all(edges: &mut Vec<Edge>, states: &[u32], leads: &[Lead]) -> Result<(), AllocError>
+    ensures { OnOk result ((p c q : ℕ) → HasEdge edges.new.items p c q
+        ↔ (HasEdge edges.old.items p c q ⊎ (IsAmong p states.now × Leads leads.now c q))) }
+{
+    for state in states {
+        link(edges, *state, leads)?;
+    }
+    Ok(())
+}
+
+/// Adds edges that lead on from the state by each lead.
+pub(crate) fn link(edges: &mut Vec<Edge>, from: u32, leads: &[Lead]) -> Result<(), AllocError>
+    ensures { OnOk result ((p c q : ℕ) → HasEdge edges.new.items p c q
+        ↔ (HasEdge edges.old.items p c q ⊎ ((p ≡ from) × Leads leads.now c q))) }
+{
+    for lead in leads {
+        edges.push(Edge { from, lead: *lead })?;
+    }
+    Ok(())
+}

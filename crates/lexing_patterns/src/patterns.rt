@@ -1,0 +1,107 @@
+//! A lexer of several patterns.
+ghost use Rattle.std.specs.Prelude.{ℕ, ◌≡◌, ◌+◌, ◌↔◌, ◌∷◌, [], ◌++◌, List, length, IfOk, OnOk};
+ghost use Rattle.regex_hir.specs.Re.{Re};
+ghost use Rattle.lexing.specs.Lexers.{Accepts, rules_in, rule_count};
+ghost use Rattle.lexing_patterns.specs.Drafts.{IsDraft};
+ghost use Rattle.lexing_patterns.specs.Patterns.{IsReadAs, AreReadAs, IsPoured, IsLexerOf};
+
+use crate::draft::Draft;
+use crate::error::{PatternError, RuleError};
+use crate::pour::{accept_all, rules_of};
+use charmoves::Moves;
+use lexing::Lexer;
+use regex_syntax::{Config, ErrorKind};
+use std::alloc::Global;
+
+/// A rule of a lexer: how it is called, what its tokens match, and whether they are skipped.
+#[derive(Clone, Copy)]
+pub struct PatternRule<'a> {
+    pub name: &'a str,
+    pub pattern: &'a str,
+    pub skipped: bool,
+}
+
+/// The lexer of the rules.
+///
+/// Each token is the longest piece of the text from its place on that one of the patterns matches,
+/// by the first such pattern. The patterns are those of the crate `regex_syntax`, without
+/// assertions. The rules are numbered from 0, as they stand.
+///
+/// Costs a state for each character or class of the patterns, after `{m,n}` is written out.
+/// Allocates.
+pub fn lexer(alloc: Global, rules: &[PatternRule]) -> Result<Lexer, RuleError>
+    ensures count { IfOk result (λ lexer. rule_count lexer ≡ length rules.now) }
+    ensures tokens { IfOk result (IsLexerOf rules.now) }
+{
+    let draft = draft_of(alloc, rules)?;
+    match assembled(alloc, &draft, rules) {
+        Ok(lexer) => Ok(lexer),
+        Err(error) => Err(RuleError {
+            rule: rules.len(),
+            error,
+        }),
+    }
+}
+
+/// The automata of the rules.
+fn draft_of(alloc: Global, rules: &[PatternRule]) -> Result<Draft, RuleError>
+    ensures { IfOk result (λ draft. (res : List Re) × AreReadAs rules.now res × IsDraft draft res) }
+{
+    let mut draft = Draft::new(alloc);
+    for i in 0..rules.len() {
+        match add_pattern(&mut draft, alloc, rules[i].pattern, i) {
+            Ok(()) => {}
+            Err(error) => return Err(RuleError { rule: i, error }),
+        }
+    }
+    Ok(draft)
+}
+
+/// Adds the automaton of the pattern, for the rule of this number.
+fn add_pattern(
+    draft: &mut Draft,
+    alloc: Global,
+    pattern: &str,
+    number: usize,
+) -> Result<(), PatternError>
+    ensures { OnOk result ((res : List Re) → number ≡ length res → IsDraft draft.old res
+        → (re : Re) × IsReadAs pattern.now re × IsDraft draft.new (res ++ re ∷ [])) }
+{
+    let Ok(rule) = u32::try_from(number) else {
+        return Err(PatternError::TooLarge);
+    };
+    match regex_syntax::parse(alloc, pattern, &Config::default()) {
+        Ok(parsed) => draft.add(&parsed.hir, rule),
+        Err(error) => Err(fault(error)),
+    }
+}
+
+fn fault(error: regex_syntax::Error) -> PatternError {
+    match error.kind {
+        ErrorKind::OutOfMemory => PatternError::Memory,
+        _ => PatternError::Syntax(error),
+    }
+}
+
+fn assembled(alloc: Global, draft: &Draft, rules: &[PatternRule]) -> Result<Lexer, PatternError>
+    ensures count { IfOk result (λ lexer. rule_count lexer ≡ length rules.now) }
+    ensures poured { IfOk result (IsPoured draft.now) }
+{
+    let moves = Moves::build(rules_of(alloc, draft)?);
+    let mut lexer = Lexer::new(alloc, moves);
+    accept_all(&mut lexer, &draft.ends)?;
+    name_all(&mut lexer, rules)?;
+    Ok(lexer)
+}
+
+/// Adds the rules to the lexer.
+fn name_all(lexer: &mut Lexer, rules: &[PatternRule]) -> Result<(), PatternError>
+    ensures count { OnOk result (rule_count lexer.new ≡ rule_count lexer.old + length rules.now) }
+    ensures automaton { rules_in lexer.new ≡ rules_in lexer.old }
+    ensures accepting { (q r : ℕ) → Accepts lexer.new q r ↔ Accepts lexer.old q r }
+{
+    for rule in rules {
+        lexer.add_rule(rule.name, rule.skipped)?;
+    }
+    Ok(())
+}
