@@ -1,5 +1,5 @@
 -- Lists put together, one after the other.
-use Rattle.std.proofs.Common.{◌≡◌, ◌≢◌, ℕ, ◌<◌, ◌^◌, ◌↔◌, ◌⊎◌, Bool, List, [], ◌∷◌, ◌++◌, Option, Some, IfSome, inl, inr, refl, sym, subst, append_assoc}
+use Rattle.std.proofs.Common.{◌≡◌, ◌≢◌, ℕ, ◌<◌, ◌^◌, ◌↔◌, ◌⊎◌, Bool, List, [], ◌∷◌, ◌++◌, Option, None, Some, IfSome, Result, Ok, Err, IfErr, IfOk, OnErr, OnOk, ap, inl, inr, refl, sym, subst, append_assoc, arith, length}
 use Rattle.std.proofs.lemmas.List.{append-nil}
 use Rattle.btree_range_map.specs.Holding.{box_items}
 use Rattle.btree_range_map.specs.KeySets.{HoldsKey}
@@ -11,8 +11,17 @@ use Rattle.address_text.specs.declared.line.Line.{Line}
 use Rattle.address_lists.specs.Lists.{AreSaid, Has, HasJust, IsListed}
 use Rattle.address_lists.specs.declared.addresses.Addresses.{Addresses}
 use Rattle.cidr.specs.Commands.{AreKnown, AreLists, Asked, Combined, IsAnswer, Put}
+use Rattle.line_program.specs.Listing.{Writes}
+use Rattle.address_lists.specs.Printed.{IsPrinted}
 use Rattle.cidr.specs.declared.serve.Command.{Command}
 use Rattle.cidr.specs.declared.serve.Command.TheVariants.{Merge, Common, Except, Diff, Invert}
+use Rattle.cidr.specs.declared.serve.Stop.{Stop}
+use Rattle.cidr.specs.declared.serve.Stop.TheVariants.{Unwritable}
+
+-- a list with no element
+pub nothing_left : {X : Type 0} (xs : List X) → length xs ≡ 0 → xs ≡ []
+nothing_left [] none = refl
+nothing_left (x ∷ xs) none = absurd (omega arith)
 
 iff_then : {A B C : Type 0} → A ↔ B → B ↔ C → A ↔ C
 iff_then e f = (λ a. f.0 (e.0 a), λ c. e.1 (f.1 c))
@@ -149,19 +158,51 @@ asked_of strict command input left first new read put (bytes ∷ files) known =
           (listed family n h)),
     )
 
-has_none : (command : Command) (list : Addresses) → box_items list.v4 ≡ [] → box_items list.v6 ≡ []
-    → HasJust list (Asked command [])
-has_none command list v4 v6 V4 n h =
-    (λ has. subst (λ items. HoldsKey ipv4_order items (ipv4_at n)) v4 has, λ none. absurd none)
-has_none command list v4 v6 V6 n h =
-    (λ has. subst (λ items. HoldsKey ipv6_order items (ipv6_at n)) v6 has, λ none. absurd none)
+has_not : (list : Addresses) → box_items list.v4 ≡ [] → box_items list.v6 ≡ [] → (family : Family)
+    (n : ℕ) → ¬ Has list family n
+has_not list v4 v6 V4 n has = subst (λ items. HoldsKey ipv4_order items (ipv4_at n)) v4 has
+has_not list v4 v6 V6 n has = subst (λ items. HoldsKey ipv6_order items (ipv6_at n)) v6 has
+
+-- what is read into no list is what the lines say
+pub read_alone : (strict : Bool) (input : Option (List ℕ)) (none list : Addresses)
+    → box_items none.v4 ≡ [] → box_items none.v6 ≡ []
+    → IfSome input (λ bytes. (lines : List Line) × AreSaid strict bytes lines []
+    × HasJust list (λ family n. Has none family n ⊎ IsListed family n lines))
+    → IsRead strict input list
+read_alone strict None none list v4 v6 read = tt
+read_alone strict (Some bytes) none list v4 v6 (lines, said, read) = (
+  lines,
+  said,
+  λ family n h. iff_then (read family n h) (
+    λ e. elim e [ inl had ↦ absurd (has_not none v4 v6 family n had) | inr listed ↦ listed ],
+    λ listed. inr listed,
+  ),
+)
+
+-- the lists of all inputs, and what is made of them
+abbrev pub AreMade : Bool → List (Option (List ℕ)) → (List (List Line) → Type 0) → Type 0
+AreMade strict inputs IsMade = (files : List (List ℕ)) → AreKnown inputs files
+    → (lists : List (List Line)) × AreLists strict files lists × IsMade lists
+
+pub asked_all : (strict : Bool) (command : Command) (input : Option (List ℕ))
+    (left all : List (Option (List ℕ))) (first : Addresses) (result : Result Addresses Stop)
+    → all ≡ input ∷ left → IsRead strict input first
+    → IfOk result
+    (λ new. AreMade strict left (λ lists. HasJust new (Put command (Has first) lists)))
+    → IfOk result (λ new. AreMade strict all (λ lists. HasJust new (Asked command lists)))
+asked_all strict command input left all first (Ok new) same read put =
+    λ files known. asked_of strict command input left first new read put files
+    (subst (λ inputs. AreKnown inputs files) same known)
+asked_all strict command input left all first (Err stop) same read put = tt
 
 -- no list has no address
-pub none_asked : (strict : Bool) (command : Command) (list : Addresses) → box_items list.v4 ≡ []
-    → box_items list.v6 ≡ [] → (files : List (List ℕ)) → AreKnown [] files
-    → (lists : List (List Line)) × AreLists strict files lists × HasJust list (Asked command lists)
-none_asked strict command list v4 v6 [] known = ([], tt, has_none command list v4 v6)
-none_asked strict command list v4 v6 (bytes ∷ files) known = absurd known
+pub none_asked : (strict : Bool) (command : Command) (list : Addresses)
+    (inputs : List (Option (List ℕ))) → inputs ≡ [] → box_items list.v4 ≡ []
+    → box_items list.v6 ≡ [] → AreMade strict inputs (λ lists. HasJust list (Asked command lists))
+none_asked strict command list [] same v4 v6 [] known =
+    ([], tt, λ family n h. (has_not list v4 v6 family n, λ none. absurd none))
+none_asked strict command list [] same v4 v6 (bytes ∷ files) known = absurd known
+none_asked strict command list (input ∷ inputs) () v4 v6
 
 -- the other addresses are what `invert` says
 pub others_answer : (list others : Addresses) (lists : List (List Line))
@@ -180,3 +221,44 @@ same_answer Common list lists other asked = asked
 same_answer Except list lists other asked = asked
 same_answer Diff list lists other asked = asked
 same_answer Invert list lists other asked = absurd (other refl)
+
+pub invert_answer : (strict : Bool) (command : Command) (inputs : List (Option (List ℕ)))
+    (list others : Addresses) → command ≡ Invert
+    → AreMade strict inputs (λ lists. HasJust list (Asked command lists))
+    → HasJust others (λ family n. ¬ Has list family n)
+    → AreMade strict inputs (λ lists. HasJust others (IsAnswer command lists))
+invert_answer strict Invert inputs list others same asked inverse files known =
+    let (lists, said, all) = asked files known in
+    (lists, said, others_answer list others lists all inverse)
+invert_answer strict Merge inputs list others () asked inverse
+invert_answer strict Common inputs list others () asked inverse
+invert_answer strict Except inputs list others () asked inverse
+invert_answer strict Diff inputs list others () asked inverse
+
+pub other_answer : (strict : Bool) (command : Command) (inputs : List (Option (List ℕ)))
+    (list : Addresses) → command ≢ Invert
+    → AreMade strict inputs (λ lists. HasJust list (Asked command lists))
+    → AreMade strict inputs (λ lists. HasJust list (IsAnswer command lists))
+other_answer strict command inputs list other asked files known =
+    let (lists, said, all) = asked files known in
+    (lists, said, same_answer command list lists other all)
+
+-- what is printed is the answer
+pub answer_printed : {X : Type 0} (strict : Bool) (command : Command) (inputs all : List (Option (List ℕ)))
+    (list : Addresses) (before after : Option (List ℕ)) (result : Result X Stop)
+    → inputs ≡ all → AreMade strict inputs (λ lists. HasJust list (IsAnswer command lists))
+    → OnOk result (Writes before after (IsPrinted list))
+    → OnOk result ((files : List (List ℕ)) → AreKnown all files → (lists : List (List Line))
+    × (list : Addresses) × AreLists strict files lists × HasJust list (IsAnswer command lists)
+    × Writes before after (IsPrinted list))
+answer_printed strict command inputs all list before after (Ok done) same made printed =
+    λ files known.
+    let (lists, said, answer) = made files (subst (λ one. AreKnown one files) (sym same) known) in
+    (lists, list, said, answer, printed)
+answer_printed strict command inputs all list before after (Err stop) same made printed = tt
+
+-- printing fails where nothing can be written, and for no other reason
+pub fails_unwritable : {X P : Type 0} (result : Result X Stop)
+    → IfErr result (λ stop. stop ≡ Unwritable) → result ≢ Err Unwritable → OnErr result P
+fails_unwritable (Ok done) failed other = tt
+fails_unwritable (Err stop) failed other = absurd (other (ap Err failed))

@@ -1,7 +1,7 @@
 //! The commands, over any readers and writer.
 
-ghost use Rattle.std.specs.Prelude.{◌≡◌, ◌≢◌, ℕ, List, [], Err, map, IfOk, IfSome, OnErr, OnOk};
-ghost use Rattle.std.specs.Vec.Iter.{into_iter_items};
+ghost use Rattle.std.specs.Prelude.{◌≡◌, ◌≢◌, ℕ, List, [], Err, length, map, IfErr, IfOk, IfSome, OnErr, OnOk};
+ghost use Rattle.std.specs.Vec.Iter.{into_iter_items, into_iter_len};
 ghost use Rattle.address_text.specs.declared.line.Line.{Line};
 ghost use Rattle.address_lists.specs.Lists.{AreSaid, Has, HasJust, IsListed};
 ghost use Rattle.address_lists.specs.Printed.{IsPrinted};
@@ -55,10 +55,9 @@ fn read_source<R: BufRead + Drop>(
     source: Source<R>,
     strict: bool,
 ) -> Result<Addresses, Stop>
-    ensures read { IfOk result (λ list. IfSome (R.remaining source.reader)
+    ensures { IfOk result (λ list. IfSome (R.remaining source.reader)
         (λ bytes. (lines : List Line) × AreSaid strict bytes lines []
         × HasJust list (λ family n. IsListed family n lines))) }
-    ensures unread { result ≢ Err Unwritable }
 {
     let Source { name, mut reader } = source;
     let mut list = Addresses::new(alloc);
@@ -91,11 +90,11 @@ fn gathered<R: BufRead + Drop>(
     mut sources: IntoIter<Source<R>>,
     strict: bool,
 ) -> Result<Addresses, Stop>
-    ensures gathered { IfOk result (λ new. (files : List (List ℕ))
+    requires { into_iter_len sources ≡ length (into_iter_items sources) }
+    ensures { IfOk result (λ new. (files : List (List ℕ))
         → AreKnown (map (λ s. R.remaining s.reader) (into_iter_items sources)) files
         → (lists : List (List Line)) × AreLists strict files lists
         × HasJust new (Put command (Has list) lists)) }
-    ensures unread { result ≢ Err Unwritable }
 {
     while let Some(source) = sources.next() {
         let other = read_source(alloc, source, strict)?;
@@ -114,11 +113,11 @@ fn asked<R: BufRead + Drop>(
     mut sources: IntoIter<Source<R>>,
     strict: bool,
 ) -> Result<Addresses, Stop>
-    ensures asked { IfOk result (λ new. (files : List (List ℕ))
+    requires { into_iter_len sources ≡ length (into_iter_items sources) }
+    ensures { IfOk result (λ new. (files : List (List ℕ))
         → AreKnown (map (λ s. R.remaining s.reader) (into_iter_items sources)) files
         → (lists : List (List Line)) × AreLists strict files lists
         × HasJust new (Asked command lists)) }
-    ensures unread { result ≢ Err Unwritable }
 {
     match sources.next() {
         Some(source) => {
@@ -136,11 +135,11 @@ fn answered<R: BufRead + Drop>(
     sources: IntoIter<Source<R>>,
     strict: bool,
 ) -> Result<Addresses, Stop>
-    ensures answered { IfOk result (λ new. (files : List (List ℕ))
+    requires { into_iter_len sources ≡ length (into_iter_items sources) }
+    ensures { IfOk result (λ new. (files : List (List ℕ))
         → AreKnown (map (λ s. R.remaining s.reader) (into_iter_items sources)) files
         → (lists : List (List Line)) × AreLists strict files lists
         × HasJust new (IsAnswer command lists)) }
-    ensures unread { result ≢ Err Unwritable }
 {
     let list = asked(alloc, command, sources, strict)?;
     match command {
@@ -153,8 +152,9 @@ fn answered<R: BufRead + Drop>(
 }
 
 fn print<W: Write>(list: &Addresses, out: &mut W) -> Result<(), Stop>
-    ensures { OnOk result (Writes (W.contents out.old) (W.contents out.new)
+    ensures printed { OnOk result (Writes (W.contents out.old) (W.contents out.new)
         (IsPrinted list.now)) }
+    ensures failed { IfErr result (λ stop. stop ≡ Unwritable) }
 {
     match write_prefixes(list, out) {
         Ok(()) => {}
