@@ -18,7 +18,7 @@ RUN += [TOP / "tests" / "example_tests"]
 PAGES = ("README.md", "docs/GUIDE.md")
 KINDS = (".rt", ".rt.txt", ".antt")
 FRAMES = TOP / "tests" / "examples.txt"
-SHOWN = ("range_algebra", "range_map", "range_sets", "range_commands", "range_json")
+SHOWN = ("range_algebra", "range_map", "range_sets", "range_commands", "range_json", "range_set_json")
 # The crate of the examples, and the one whose calls they show.
 CRATE, CRATE_ABOVE = "examples", "btree_range_map"
 

@@ -11,7 +11,7 @@ from tools.mutants import IMPL, heading
 from tools.repository import below, crates
 
 HEAD = re.compile(r"( *)(pub )?(?:const |unsafe )?(fn|struct|enum|trait|type) (\w+)")
-IMPORT = re.compile(r"^(?:ghost )?use Rattle\.(\w+)\.specs\.([\w.]+)\.\{([^}]*)\}", re.M)
+IMPORT = re.compile(r"^ *(?:ghost )?use Rattle\.(\w+)\.specs\.([\w.]+)\.\{([^}]*)\}", re.M)
 DEFINED = re.compile(r"( *)(?:abbrev )?pub (?:record |data )?([\w<≡≤]+)\b(?! use)")
 STYLE = """
 body { font: 16px/1.5 sans-serif; margin: 2rem auto; max-width: 62rem; padding: 0 1rem; }
@@ -53,18 +53,21 @@ def imported(text):
 
 
 def text_from(lines, at, indent):
-    """Returns the lines of an item up to its body, a type's with its fields."""
+    """Returns the lines of an item up to its body, a type's with its public fields."""
     taken, is_type = [], re.match(r" *pub (struct|enum|type)", lines[at])
     for line in lines[at:]:
-        if line == indent + "{":
+        if is_type and is_type[1] == "struct" and re.match(r" +(pub\(|//[^/]|[a-z_]+:|ghost )", line):
+            continue
+        if line in (indent + "{", indent + "{}"):
             break
         taken.append(line[len(indent) :])
-        if line.startswith(indent + "}") or line.endswith(";") and not line.startswith(indent + " "):
+        is_whole = "".join(taken).count("{") == "".join(taken).count("}")
+        if line.startswith(indent + "}") or line.endswith(";") and is_whole:
             break
         if not is_type and line.endswith("{") and not re.search(r"\b(requires|ensures)\b", line):
             taken[-1] = taken[-1].removesuffix("{").rstrip()
             break
-    return "\n".join(taken)
+    return "\n".join(taken).replace("{\n}", "{ .. }")
 
 
 def comment_before(lines, at):
@@ -78,7 +81,8 @@ def comment_before(lines, at):
 
 def exported(every):
     """Returns the names that the root exports, and those of its module `json`."""
-    paths = [*(every["btree_range_map"].folder / "src").rglob("*.rt"), *every["range_json"].folder.glob("src/*.rt")]
+    folders = [every[name].folder for name in ("btree_range_map", "range_json", "range_set_json")]
+    paths = [it for folder in folders for it in (folder / "src").rglob("*.rt") if it.name != "inner.rt"]
     uses = (it for path in paths for it in re.findall(r"^ *pub use ([^;]*);", path.read_text(), re.M))
     return {word for use in uses for word in re.findall(r"\w+", use)} | {"RangeMap", "RangeSet", "RangeMultiMap"}
 
@@ -139,7 +143,7 @@ def linked(text, imports, own, known):
 
 def code(text):
     """Returns a text as HTML, what stands between backticks as code."""
-    return re.sub(r"`([^`]*)`", r"<code>\1</code>", html.escape(text, quote=False))
+    return re.sub(r"\[?`([^`]*)`\]?", r"<code>\1</code>", html.escape(text, quote=False))
 
 
 def prose(lines):

@@ -1,4 +1,4 @@
-/* Maps and sets whose keys are gathered into ranges, proved in Rattle. docs/C.md says what a caller owes.
+/* Maps and sets whose keys are gathered into ranges, proved in Rattle. bindings/README.md says what a caller owes.
  *
  * Each call answers by a status; one that fails has changed nothing, and has written nothing behind its pointers. */
 #ifndef BTREE_RANGE_MAP_H
@@ -8,126 +8,242 @@
 #include <stddef.h>
 #include <stdint.h>
 
+#define BRM_VERSION_MAJOR 0
+#define BRM_VERSION_MINOR 2
+#define BRM_VERSION_PATCH 0
+#define BRM_VERSION "0.2.0"
+
 #ifdef __cplusplus
 extern "C" {
 #endif
 
-/* A map or a set, while it is open. Starts as RANGE_HANDLE_CLOSED; only these calls write it, and it is never copied. */
+/* A map or a set, while it is open. Starts as BRM_HANDLE_CLOSED; only these calls write it, and it is never copied. */
 typedef struct {
     bool is_open;
     void *at;
-} range_handle;
+} brm_handle;
 
-#define RANGE_HANDLE_CLOSED {false, NULL}
+/* A value of its type: to initialise a handle, or to be assigned to one that is closed. All zero bytes are one too. */
+#ifdef __cplusplus
+#define BRM_HANDLE_CLOSED (brm_handle{false, nullptr})
+#else
+#define BRM_HANDLE_CLOSED ((brm_handle){false, NULL})
+#endif
 
 /* What a call answers. */
 typedef enum {
-    RANGE_DONE = 0,       /* done; to a question, yes */
-    RANGE_NO_MEMORY = 1,  /* there was not enough memory */
-    RANGE_CLOSED = 2,     /* the handle is closed */
-    RANGE_NONE = 3,       /* there is none; to a question, no */
-    RANGE_CONNECTED = 4,  /* the range meets or touches a stored one */
-    RANGE_OTHER_KIND = 5, /* the handle is open on another kind of collection */
-    RANGE_OPEN = 6,       /* the handle is open already */
-    RANGE_NO_ROOM = 7,    /* the buffer is too short */
-    RANGE_NOT_JSON = 8,   /* the text is no JSON */
-    RANGE_NOT_READ = 9    /* the JSON is no collection of the kind that the handle holds */
-} range_status;
+    BRM_DONE = 0,       /* done; to a question, yes */
+    BRM_NO_MEMORY = 1,  /* there was not enough memory */
+    BRM_CLOSED = 2,     /* the handle is closed */
+    BRM_NONE = 3,       /* there is none; to a question, no */
+    BRM_CONNECTED = 4,  /* the range meets or touches a stored one */
+    BRM_OTHER_KIND = 5, /* the handle is open on another kind of collection */
+    BRM_OPEN = 6,       /* the handle is open already */
+    BRM_NO_ROOM = 7,    /* the buffer is too short */
+    BRM_NOT_JSON = 8,   /* the text is no JSON */
+    BRM_NOT_READ = 9    /* the JSON is no collection of the kind that the handle holds */
+} brm_status;
+
+/* What a status says, for a message. */
+static inline const char *brm_status_text(brm_status status) {
+    switch (status) {
+    case BRM_DONE: return "done";
+    case BRM_NO_MEMORY: return "out of memory";
+    case BRM_CLOSED: return "the handle is closed";
+    case BRM_NONE: return "there is none";
+    case BRM_CONNECTED: return "the range meets or touches a stored one";
+    case BRM_OTHER_KIND: return "the handle is open on another kind of collection";
+    case BRM_OPEN: return "the handle is open already";
+    case BRM_NO_ROOM: return "the buffer is too short";
+    case BRM_NOT_JSON: return "the text is not JSON";
+    case BRM_NOT_READ: return "the JSON is no collection of this kind";
+    }
+    return "no status";
+}
 
 /* Flags of a range. With none it holds its start and its end; an unbounded one's key is not looked at. */
 enum {
-    RANGE_START_EXCLUDED = 1,
-    RANGE_START_UNBOUNDED = 2,
-    RANGE_END_EXCLUDED = 4,
-    RANGE_END_UNBOUNDED = 8
+    BRM_START_EXCLUDED = 1,
+    BRM_START_UNBOUNDED = 2,
+    BRM_END_EXCLUDED = 4,
+    BRM_END_UNBOUNDED = 8
 };
 
 typedef struct {
     uint64_t start, end;
     uint32_t flags;
-} range_u64;
+} brm_range_u64;
 
 typedef struct {
     int64_t start, end;
     uint32_t flags;
-} range_i64;
+} brm_range_i64;
 
 /* A stored range with its value. */
 typedef struct {
-    range_u64 range;
+    brm_range_u64 range;
     uint64_t value;
-} range_entry_u64;
+} brm_entry_u64;
 
 typedef struct {
-    range_i64 range;
+    brm_range_i64 range;
     uint64_t value;
-} range_entry_i64;
+} brm_entry_i64;
 
 /* A number of keys: high times 2^64, and low. */
 typedef struct {
     uint64_t high, low;
-} range_length;
+} brm_key_count;
 
-/* Any handle: frees what it holds and closes it; takes all ranges away; counts the stored ranges, none where it is closed. */
-void range_handle_destroy(range_handle *handle);
-uint32_t range_handle_clear(range_handle *handle);
-size_t range_handle_count(range_handle *handle);
+/* Any handle: takes all ranges away, and keeps their memory for others; counts the stored ranges, none where it is closed. */
+brm_status brm_clear(brm_handle *handle);
+size_t brm_count(const brm_handle *handle);
 
 /* Any handle: what it holds as JSON text, and the other way round. No zero is written after the text. A buffer that is too
  * short stays as it was, and its size is told as well: ask with a capacity of 0 first. */
-uint32_t range_handle_save(range_handle *handle, uint8_t *buffer, size_t capacity, size_t *size);
-uint32_t range_handle_load(range_handle *handle, const uint8_t *text, size_t size);
+brm_status brm_save(const brm_handle *handle, uint8_t *buffer, size_t capacity, size_t *size);
+brm_status brm_load(brm_handle *handle, const uint8_t *text, size_t size);
 
 /* Maps of uint64_t keys to uint64_t values. */
-uint32_t range_map_u64_create(range_handle *map);
-uint32_t range_map_u64_insert(range_handle *map, const range_u64 *range, uint64_t value);
-uint32_t range_map_u64_insert_disconnected(range_handle *map, const range_u64 *range, uint64_t value);
-uint32_t range_map_u64_remove(range_handle *map, const range_u64 *range);
-uint32_t range_map_u64_get(range_handle *map, uint64_t key, range_entry_u64 *entry);
-uint32_t range_map_u64_contains(range_handle *map, uint64_t key);
-uint32_t range_map_u64_intersects(range_handle *map, const range_u64 *range);
-uint32_t range_map_u64_len(range_handle *map, range_length *length);
-uint32_t range_map_u64_first(range_handle *map, range_entry_u64 *entry);
-uint32_t range_map_u64_last(range_handle *map, range_entry_u64 *entry);
-uint32_t range_map_u64_next(range_handle *map, uint64_t key, range_entry_u64 *entry);
-uint32_t range_map_u64_previous(range_handle *map, uint64_t key, range_entry_u64 *entry);
-uint32_t range_map_u64_pop_first(range_handle *map, range_entry_u64 *entry);
-uint32_t range_map_u64_pop_last(range_handle *map, range_entry_u64 *entry);
+brm_status brm_map_u64_create(brm_handle *map);
+brm_status brm_map_u64_insert(brm_handle *map, const brm_range_u64 *range, uint64_t value);
+brm_status brm_map_u64_insert_disconnected(brm_handle *map, const brm_range_u64 *range, uint64_t value);
+brm_status brm_map_u64_remove(brm_handle *map, const brm_range_u64 *range);
+brm_status brm_map_u64_get(const brm_handle *map, uint64_t key, brm_entry_u64 *entry);
+brm_status brm_map_u64_contains(const brm_handle *map, uint64_t key);
+brm_status brm_map_u64_intersects(const brm_handle *map, const brm_range_u64 *range);
+brm_status brm_map_u64_len(const brm_handle *map, brm_key_count *count);
+brm_status brm_map_u64_first(const brm_handle *map, brm_entry_u64 *entry);
+brm_status brm_map_u64_last(const brm_handle *map, brm_entry_u64 *entry);
+brm_status brm_map_u64_next(const brm_handle *map, uint64_t key, brm_entry_u64 *entry);
+brm_status brm_map_u64_previous(const brm_handle *map, uint64_t key, brm_entry_u64 *entry);
+brm_status brm_map_u64_pop_first(brm_handle *map, brm_entry_u64 *entry);
+brm_status brm_map_u64_pop_last(brm_handle *map, brm_entry_u64 *entry);
+/* Write the stored ranges from the key on in ascending order, or those up to it in descending order, as many as the array
+ * takes. Fewer than that are written where there are no more. */
+brm_status brm_map_u64_read(const brm_handle *map, uint64_t from, brm_entry_u64 *entries, size_t capacity, size_t *count);
+brm_status brm_map_u64_read_back(const brm_handle *map, uint64_t upto, brm_entry_u64 *entries, size_t capacity, size_t *count);
 
 /* Maps of int64_t keys to uint64_t values. */
-uint32_t range_map_i64_create(range_handle *map);
-uint32_t range_map_i64_insert(range_handle *map, const range_i64 *range, uint64_t value);
-uint32_t range_map_i64_insert_disconnected(range_handle *map, const range_i64 *range, uint64_t value);
-uint32_t range_map_i64_remove(range_handle *map, const range_i64 *range);
-uint32_t range_map_i64_get(range_handle *map, int64_t key, range_entry_i64 *entry);
-uint32_t range_map_i64_contains(range_handle *map, int64_t key);
-uint32_t range_map_i64_intersects(range_handle *map, const range_i64 *range);
-uint32_t range_map_i64_len(range_handle *map, range_length *length);
-uint32_t range_map_i64_first(range_handle *map, range_entry_i64 *entry);
-uint32_t range_map_i64_last(range_handle *map, range_entry_i64 *entry);
-uint32_t range_map_i64_next(range_handle *map, int64_t key, range_entry_i64 *entry);
-uint32_t range_map_i64_previous(range_handle *map, int64_t key, range_entry_i64 *entry);
-uint32_t range_map_i64_pop_first(range_handle *map, range_entry_i64 *entry);
-uint32_t range_map_i64_pop_last(range_handle *map, range_entry_i64 *entry);
+brm_status brm_map_i64_create(brm_handle *map);
+brm_status brm_map_i64_insert(brm_handle *map, const brm_range_i64 *range, uint64_t value);
+brm_status brm_map_i64_insert_disconnected(brm_handle *map, const brm_range_i64 *range, uint64_t value);
+brm_status brm_map_i64_remove(brm_handle *map, const brm_range_i64 *range);
+brm_status brm_map_i64_get(const brm_handle *map, int64_t key, brm_entry_i64 *entry);
+brm_status brm_map_i64_contains(const brm_handle *map, int64_t key);
+brm_status brm_map_i64_intersects(const brm_handle *map, const brm_range_i64 *range);
+brm_status brm_map_i64_len(const brm_handle *map, brm_key_count *count);
+brm_status brm_map_i64_first(const brm_handle *map, brm_entry_i64 *entry);
+brm_status brm_map_i64_last(const brm_handle *map, brm_entry_i64 *entry);
+brm_status brm_map_i64_next(const brm_handle *map, int64_t key, brm_entry_i64 *entry);
+brm_status brm_map_i64_previous(const brm_handle *map, int64_t key, brm_entry_i64 *entry);
+brm_status brm_map_i64_pop_first(brm_handle *map, brm_entry_i64 *entry);
+brm_status brm_map_i64_pop_last(brm_handle *map, brm_entry_i64 *entry);
+/* Write the stored ranges from the key on in ascending order, or those up to it in descending order, as many as the array
+ * takes. Fewer than that are written where there are no more. */
+brm_status brm_map_i64_read(const brm_handle *map, int64_t from, brm_entry_i64 *entries, size_t capacity, size_t *count);
+brm_status brm_map_i64_read_back(const brm_handle *map, int64_t upto, brm_entry_i64 *entries, size_t capacity, size_t *count);
 
 /* Sets of uint64_t keys. */
-uint32_t range_set_u64_create(range_handle *set);
-uint32_t range_set_u64_insert(range_handle *set, const range_u64 *range);
-uint32_t range_set_u64_remove(range_handle *set, const range_u64 *range);
-uint32_t range_set_u64_get(range_handle *set, uint64_t key, range_u64 *range);
-uint32_t range_set_u64_contains(range_handle *set, uint64_t key);
-uint32_t range_set_u64_intersects(range_handle *set, const range_u64 *range);
-uint32_t range_set_u64_len(range_handle *set, range_length *length);
-uint32_t range_set_u64_first(range_handle *set, range_u64 *range);
-uint32_t range_set_u64_last(range_handle *set, range_u64 *range);
-uint32_t range_set_u64_next(range_handle *set, uint64_t key, range_u64 *range);
-uint32_t range_set_u64_previous(range_handle *set, uint64_t key, range_u64 *range);
-uint32_t range_set_u64_pop_first(range_handle *set, range_u64 *range);
-uint32_t range_set_u64_pop_last(range_handle *set, range_u64 *range);
+brm_status brm_set_u64_create(brm_handle *set);
+brm_status brm_set_u64_insert(brm_handle *set, const brm_range_u64 *range);
+brm_status brm_set_u64_remove(brm_handle *set, const brm_range_u64 *range);
+brm_status brm_set_u64_get(const brm_handle *set, uint64_t key, brm_range_u64 *range);
+brm_status brm_set_u64_contains(const brm_handle *set, uint64_t key);
+brm_status brm_set_u64_intersects(const brm_handle *set, const brm_range_u64 *range);
+brm_status brm_set_u64_len(const brm_handle *set, brm_key_count *count);
+brm_status brm_set_u64_first(const brm_handle *set, brm_range_u64 *range);
+brm_status brm_set_u64_last(const brm_handle *set, brm_range_u64 *range);
+brm_status brm_set_u64_next(const brm_handle *set, uint64_t key, brm_range_u64 *range);
+brm_status brm_set_u64_previous(const brm_handle *set, uint64_t key, brm_range_u64 *range);
+brm_status brm_set_u64_pop_first(brm_handle *set, brm_range_u64 *range);
+brm_status brm_set_u64_pop_last(brm_handle *set, brm_range_u64 *range);
+/* Write the stored ranges from the key on in ascending order, or those up to it in descending order, as many as the array
+ * takes. Fewer than that are written where there are no more. */
+brm_status brm_set_u64_read(const brm_handle *set, uint64_t from, brm_range_u64 *entries, size_t capacity, size_t *count);
+brm_status brm_set_u64_read_back(const brm_handle *set, uint64_t upto, brm_range_u64 *entries, size_t capacity, size_t *count);
 
-/* Open the closed handle `made` on the keys of either set, or of both. The three handles are three. */
-uint32_t range_set_u64_union(range_handle *set, range_handle *other, range_handle *made);
-uint32_t range_set_u64_intersection(range_handle *set, range_handle *other, range_handle *made);
+/* The calls that the functions below are made of. They owe that no pointer is NULL, and that no handle is given twice. */
+void brm_raw_destroy(brm_handle *handle);
+brm_status brm_raw_clone(const brm_handle *handle, brm_handle *made);
+brm_status brm_raw_equal(const brm_handle *handle, const brm_handle *other);
+brm_status brm_raw_set_u64_union(const brm_handle *set, const brm_handle *other, brm_handle *made);
+brm_status brm_raw_set_u64_intersection(const brm_handle *set, const brm_handle *other, brm_handle *made);
+brm_status brm_raw_set_u64_difference(const brm_handle *set, const brm_handle *other, brm_handle *made);
+brm_status brm_raw_set_u64_symmetric_difference(const brm_handle *set, const brm_handle *other, brm_handle *made);
+brm_status brm_raw_set_u64_complement(const brm_handle *set, brm_handle *made);
+brm_status brm_raw_set_u64_is_subset(const brm_handle *set, const brm_handle *other);
+brm_status brm_raw_set_u64_is_disjoint(const brm_handle *set, const brm_handle *other);
+
+/* Frees what any handle holds and closes it. Does nothing to a closed one, or to NULL. */
+static inline void brm_destroy(brm_handle *handle) {
+    if (handle != NULL) brm_raw_destroy(handle);
+}
+
+/* Any handle: opens the closed handle `made` on a collection of the same kind, with the same ranges and values. */
+static inline brm_status brm_clone(const brm_handle *handle, brm_handle *made) {
+    if (made->is_open) return BRM_OPEN;
+    return handle == made ? BRM_CLOSED : brm_raw_clone(handle, made);
+}
+
+/* Any two handles: whether both bind each key alike; BRM_OTHER_KIND of two kinds. */
+static inline brm_status brm_equal(const brm_handle *handle, const brm_handle *other) {
+    if (handle == other) return handle->is_open ? BRM_DONE : BRM_CLOSED;
+    return brm_raw_equal(handle, other);
+}
+
+/* What is wrong with a set that is given twice, or BRM_DONE. */
+static inline brm_status brm_twice(const brm_handle *set) {
+    brm_status found = brm_set_u64_contains(set, 0);
+    return found == BRM_NONE ? BRM_DONE : found;
+}
+
+/* Open the closed handle `made` on the keys of either set, of both, of the first alone, or of just one of them. The sets
+ * may be one. */
+static inline brm_status brm_set_u64_union(const brm_handle *set, const brm_handle *other, brm_handle *made) {
+    if (made->is_open) return BRM_OPEN;
+    if (made == set || made == other) return BRM_CLOSED;
+    if (set != other) return brm_raw_set_u64_union(set, other, made);
+    brm_status found = brm_twice(set);
+    return found == BRM_DONE ? brm_raw_clone(set, made) : found;
+}
+
+static inline brm_status brm_set_u64_intersection(const brm_handle *set, const brm_handle *other, brm_handle *made) {
+    if (made->is_open) return BRM_OPEN;
+    if (made == set || made == other) return BRM_CLOSED;
+    return set == other ? brm_set_u64_union(set, other, made) : brm_raw_set_u64_intersection(set, other, made);
+}
+
+static inline brm_status brm_set_u64_difference(const brm_handle *set, const brm_handle *other, brm_handle *made) {
+    if (made->is_open) return BRM_OPEN;
+    if (made == set || made == other) return BRM_CLOSED;
+    if (set != other) return brm_raw_set_u64_difference(set, other, made);
+    brm_status found = brm_twice(set);
+    return found == BRM_DONE ? brm_set_u64_create(made) : found;
+}
+
+static inline brm_status brm_set_u64_symmetric_difference(const brm_handle *set, const brm_handle *other, brm_handle *made) {
+    if (made->is_open) return BRM_OPEN;
+    if (made == set || made == other) return BRM_CLOSED;
+    return set == other ? brm_set_u64_difference(set, other, made) : brm_raw_set_u64_symmetric_difference(set, other, made);
+}
+
+/* Opens the closed handle `made` on the keys that the set does not hold. */
+static inline brm_status brm_set_u64_complement(const brm_handle *set, brm_handle *made) {
+    if (made->is_open) return BRM_OPEN;
+    return made == set ? BRM_CLOSED : brm_raw_set_u64_complement(set, made);
+}
+
+/* Whether each key of the set is in the other; whether no key is in both. */
+static inline brm_status brm_set_u64_is_subset(const brm_handle *set, const brm_handle *other) {
+    return set == other ? brm_twice(set) : brm_raw_set_u64_is_subset(set, other);
+}
+
+static inline brm_status brm_set_u64_is_disjoint(const brm_handle *set, const brm_handle *other) {
+    if (set != other) return brm_raw_set_u64_is_disjoint(set, other);
+    brm_status found = brm_twice(set);
+    return found == BRM_DONE && brm_count(set) > 0 ? BRM_NONE : found;
+}
 
 #ifdef __cplusplus
 }

@@ -32,234 +32,373 @@ void *__wrap_realloc(void *block, size_t size) { return is_granted() ? __real_re
         }                                                                   \
     } while (0)
 
-static range_u64 upto(uint64_t start, uint64_t end) { return (range_u64){start, end, RANGE_END_EXCLUDED}; }
+static brm_range_u64 upto(uint64_t start, uint64_t end) { return (brm_range_u64){start, end, BRM_END_EXCLUDED}; }
 
-static range_u64 through(uint64_t start, uint64_t end) { return (range_u64){start, end, 0}; }
+static brm_range_u64 through(uint64_t start, uint64_t end) { return (brm_range_u64){start, end, 0}; }
 
-static uint32_t put(range_handle *map, range_u64 range, uint64_t value) {
-    return range_map_u64_insert(map, &range, value);
+static uint32_t put(brm_handle *map, brm_range_u64 range, uint64_t value) {
+    return brm_map_u64_insert(map, &range, value);
 }
 
-static bool is_entry(range_entry_u64 e, range_u64 r, uint64_t value) {
+static bool is_entry(brm_entry_u64 e, brm_range_u64 r, uint64_t value) {
     return e.range.start == r.start && e.range.end == r.end && e.range.flags == r.flags && e.value == value;
 }
 
 static void maps(void) {
-    range_handle map = RANGE_HANDLE_CLOSED;
-    range_entry_u64 e = {{1, 2, 3}, 4};
-    range_length n = {7, 7};
-    EXPECT(range_map_u64_create(&map) == RANGE_DONE);
-    EXPECT(range_map_u64_create(&map) == RANGE_OPEN);
-    EXPECT(range_handle_count(&map) == 0);
-    EXPECT(range_map_u64_first(&map, &e) == RANGE_NONE && is_entry(e, (range_u64){1, 2, 3}, 4));
-    EXPECT(put(&map, upto(0, 10), 1) == RANGE_DONE);
-    EXPECT(put(&map, through(10, 19), 1) == RANGE_DONE);
-    EXPECT(range_handle_count(&map) == 1);
-    EXPECT(put(&map, through(4, 4), 2) == RANGE_DONE);
-    EXPECT(range_handle_count(&map) == 3);
-    EXPECT(range_map_u64_get(&map, 4, &e) == RANGE_DONE && is_entry(e, through(4, 4), 2));
-    EXPECT(range_map_u64_get(&map, 20, &e) == RANGE_NONE && is_entry(e, through(4, 4), 2));
-    EXPECT(range_map_u64_contains(&map, 19) == RANGE_DONE);
-    EXPECT(range_map_u64_contains(&map, 20) == RANGE_NONE);
-    EXPECT(range_map_u64_len(&map, &n) == RANGE_DONE && n.high == 0 && n.low == 20);
-    range_u64 past = {19, 0, RANGE_START_EXCLUDED | RANGE_END_UNBOUNDED};
-    EXPECT(range_map_u64_intersects(&map, &past) == RANGE_NONE);
+    brm_handle map = BRM_HANDLE_CLOSED;
+    brm_entry_u64 e = {{1, 2, 3}, 4};
+    brm_key_count n = {7, 7};
+    EXPECT(brm_map_u64_create(&map) == BRM_DONE);
+    EXPECT(brm_map_u64_create(&map) == BRM_OPEN);
+    EXPECT(brm_count(&map) == 0);
+    EXPECT(brm_map_u64_first(&map, &e) == BRM_NONE && is_entry(e, (brm_range_u64){1, 2, 3}, 4));
+    EXPECT(put(&map, upto(0, 10), 1) == BRM_DONE);
+    EXPECT(put(&map, through(10, 19), 1) == BRM_DONE);
+    EXPECT(brm_count(&map) == 1);
+    EXPECT(put(&map, through(4, 4), 2) == BRM_DONE);
+    EXPECT(brm_count(&map) == 3);
+    EXPECT(brm_map_u64_get(&map, 4, &e) == BRM_DONE && is_entry(e, through(4, 4), 2));
+    EXPECT(brm_map_u64_get(&map, 20, &e) == BRM_NONE && is_entry(e, through(4, 4), 2));
+    EXPECT(brm_map_u64_contains(&map, 19) == BRM_DONE);
+    EXPECT(brm_map_u64_contains(&map, 20) == BRM_NONE);
+    EXPECT(brm_map_u64_len(&map, &n) == BRM_DONE && n.high == 0 && n.low == 20);
+    brm_range_u64 past = {19, 0, BRM_START_EXCLUDED | BRM_END_UNBOUNDED};
+    EXPECT(brm_map_u64_intersects(&map, &past) == BRM_NONE);
     past.start = 18;
-    EXPECT(range_map_u64_intersects(&map, &past) == RANGE_DONE);
-    range_u64 none = upto(8, 3);
-    EXPECT(put(&map, none, 9) == RANGE_DONE && range_handle_count(&map) == 3);
-    range_u64 touching = upto(20, 30), apart = upto(21, 30);
-    EXPECT(range_map_u64_insert_disconnected(&map, &touching, 3) == RANGE_CONNECTED);
-    EXPECT(range_map_u64_insert_disconnected(&map, &apart, 3) == RANGE_DONE);
-    EXPECT(range_map_u64_last(&map, &e) == RANGE_DONE && is_entry(e, apart, 3));
-    EXPECT(range_map_u64_remove(&map, &apart) == RANGE_DONE && range_handle_count(&map) == 3);
-    EXPECT(range_map_u64_pop_last(&map, &e) == RANGE_DONE && e.value == 1);
-    EXPECT(range_map_u64_pop_first(&map, &e) == RANGE_DONE && e.value == 1 && e.range.start == 0);
-    EXPECT(range_handle_count(&map) == 1);
-    range_u64 all = {5, 5, RANGE_START_UNBOUNDED | RANGE_END_UNBOUNDED};
-    EXPECT(put(&map, all, 6) == RANGE_DONE && range_handle_count(&map) == 1);
-    EXPECT(range_map_u64_len(&map, &n) == RANGE_DONE && n.high == 1 && n.low == 0);
-    EXPECT(range_map_u64_first(&map, &e) == RANGE_DONE && e.value == 6);
-    EXPECT(e.range.flags == (RANGE_START_UNBOUNDED | RANGE_END_UNBOUNDED));
-    EXPECT(range_handle_clear(&map) == RANGE_DONE && range_handle_count(&map) == 0);
-    EXPECT(put(&map, upto(1, 2), 1) == RANGE_DONE);
-    range_handle_destroy(&map);
-    range_handle_destroy(&map);
-    EXPECT(put(&map, upto(1, 2), 1) == RANGE_CLOSED && range_handle_count(&map) == 0);
-    EXPECT(range_handle_clear(&map) == RANGE_CLOSED);
-    EXPECT(range_map_u64_create(&map) == RANGE_DONE);
-    range_handle_destroy(&map);
+    EXPECT(brm_map_u64_intersects(&map, &past) == BRM_DONE);
+    brm_range_u64 none = upto(8, 3);
+    EXPECT(put(&map, none, 9) == BRM_DONE && brm_count(&map) == 3);
+    brm_range_u64 touching = upto(20, 30), apart = upto(21, 30);
+    EXPECT(brm_map_u64_insert_disconnected(&map, &touching, 3) == BRM_CONNECTED);
+    EXPECT(brm_map_u64_insert_disconnected(&map, &apart, 3) == BRM_DONE);
+    EXPECT(brm_map_u64_last(&map, &e) == BRM_DONE && is_entry(e, apart, 3));
+    EXPECT(brm_map_u64_remove(&map, &apart) == BRM_DONE && brm_count(&map) == 3);
+    EXPECT(brm_map_u64_pop_last(&map, &e) == BRM_DONE && e.value == 1);
+    EXPECT(brm_map_u64_pop_first(&map, &e) == BRM_DONE && e.value == 1 && e.range.start == 0);
+    EXPECT(brm_count(&map) == 1);
+    brm_range_u64 all = {5, 5, BRM_START_UNBOUNDED | BRM_END_UNBOUNDED};
+    EXPECT(put(&map, all, 6) == BRM_DONE && brm_count(&map) == 1);
+    EXPECT(brm_map_u64_len(&map, &n) == BRM_DONE && n.high == 1 && n.low == 0);
+    EXPECT(brm_map_u64_first(&map, &e) == BRM_DONE && e.value == 6);
+    EXPECT(e.range.flags == (BRM_START_UNBOUNDED | BRM_END_UNBOUNDED));
+    EXPECT(brm_clear(&map) == BRM_DONE && brm_count(&map) == 0);
+    EXPECT(put(&map, upto(1, 2), 1) == BRM_DONE);
+    brm_destroy(&map);
+    brm_destroy(&map);
+    EXPECT(put(&map, upto(1, 2), 1) == BRM_CLOSED && brm_count(&map) == 0);
+    EXPECT(brm_clear(&map) == BRM_CLOSED);
+    EXPECT(brm_map_u64_create(&map) == BRM_DONE);
+    brm_destroy(&map);
 }
 
 static void many(void) {
-    range_handle map = RANGE_HANDLE_CLOSED;
-    range_entry_u64 e;
+    brm_handle map = BRM_HANDLE_CLOSED;
+    brm_entry_u64 e;
     memset(&e, 0, sizeof e);
-    EXPECT(range_map_u64_create(&map) == RANGE_DONE);
-    for (uint64_t i = 0; i < 5000; i++) EXPECT(put(&map, upto(10 * i, 10 * i + 5), i) == RANGE_DONE);
-    EXPECT(range_handle_count(&map) == 5000);
+    EXPECT(brm_map_u64_create(&map) == BRM_DONE);
+    for (uint64_t i = 0; i < 5000; i++) EXPECT(put(&map, upto(10 * i, 10 * i + 5), i) == BRM_DONE);
+    EXPECT(brm_count(&map) == 5000);
     for (uint64_t i = 0; i < 5000; i += 2) {
-        range_u64 r = upto(10 * i, 10 * i + 5);
-        EXPECT(range_map_u64_remove(&map, &r) == RANGE_DONE);
+        brm_range_u64 r = upto(10 * i, 10 * i + 5);
+        EXPECT(brm_map_u64_remove(&map, &r) == BRM_DONE);
     }
     for (uint64_t i = 0; i < 5000; i++)
-        EXPECT(range_map_u64_get(&map, 10 * i + 4, &e) == (i % 2 ? RANGE_DONE : RANGE_NONE));
-    for (uint64_t key = 0, i = 1; range_map_u64_next(&map, key, &e) == RANGE_DONE; key = e.range.end, i += 2)
+        EXPECT(brm_map_u64_get(&map, 10 * i + 4, &e) == (i % 2 ? BRM_DONE : BRM_NONE));
+    for (uint64_t key = 0, i = 1; brm_map_u64_next(&map, key, &e) == BRM_DONE; key = e.range.end, i += 2)
         EXPECT(is_entry(e, upto(10 * i, 10 * i + 5), i) && i < 5000);
-    EXPECT(range_map_u64_next(&map, 49994, &e) == RANGE_DONE && e.value == 4999);
-    EXPECT(range_map_u64_next(&map, 49995, &e) == RANGE_NONE && e.value == 4999);
+    EXPECT(brm_map_u64_next(&map, 49994, &e) == BRM_DONE && e.value == 4999);
+    EXPECT(brm_map_u64_next(&map, 49995, &e) == BRM_NONE && e.value == 4999);
     uint64_t left = 2500;
-    for (uint64_t key = UINT64_MAX; range_map_u64_previous(&map, key, &e) == RANGE_DONE; key = e.range.start - 1) {
+    for (uint64_t key = UINT64_MAX; brm_map_u64_previous(&map, key, &e) == BRM_DONE; key = e.range.start - 1) {
         left--;
         EXPECT(is_entry(e, upto(10 * (2 * left + 1), 10 * (2 * left + 1) + 5), 2 * left + 1));
     }
     EXPECT(left == 0);
-    EXPECT(range_map_u64_previous(&map, 10, &e) == RANGE_DONE && e.value == 1);
-    EXPECT(range_map_u64_previous(&map, 29, &e) == RANGE_DONE && e.value == 1);
-    EXPECT(range_map_u64_previous(&map, 9, &e) == RANGE_NONE && e.value == 1);
-    for (uint64_t i = 1; range_map_u64_pop_first(&map, &e) == RANGE_DONE; i += 2)
+    EXPECT(brm_map_u64_previous(&map, 10, &e) == BRM_DONE && e.value == 1);
+    EXPECT(brm_map_u64_previous(&map, 29, &e) == BRM_DONE && e.value == 1);
+    EXPECT(brm_map_u64_previous(&map, 9, &e) == BRM_NONE && e.value == 1);
+    for (uint64_t i = 1; brm_map_u64_pop_first(&map, &e) == BRM_DONE; i += 2)
         EXPECT(is_entry(e, upto(10 * i, 10 * i + 5), i));
-    EXPECT(range_handle_count(&map) == 0);
-    range_handle_destroy(&map);
+    EXPECT(brm_count(&map) == 0);
+    brm_destroy(&map);
 }
 
 /* Makes a change with 0, 1, 2 .. allocations until it is done. Before that the map is as it was. */
-static uint64_t refusals(range_handle *map, bool inserts, range_u64 range, uint64_t value) {
-    size_t count = range_handle_count(map);
+static uint64_t refusals(brm_handle *map, bool inserts, brm_range_u64 range, uint64_t value) {
+    size_t count = brm_count(map);
     for (long allocations = 0;; allocations++) {
         granted = allocations;
-        uint32_t status = inserts ? range_map_u64_insert(map, &range, value) : range_map_u64_remove(map, &range);
+        uint32_t status = inserts ? brm_map_u64_insert(map, &range, value) : brm_map_u64_remove(map, &range);
         granted = -1;
-        if (status == RANGE_DONE) return (uint64_t)allocations;
-        EXPECT(status == RANGE_NO_MEMORY && range_handle_count(map) == count);
-        EXPECT(range_map_u64_intersects(map, &range) == (inserts ? RANGE_NONE : RANGE_DONE));
+        if (status == BRM_DONE) return (uint64_t)allocations;
+        EXPECT(status == BRM_NO_MEMORY && brm_count(map) == count);
+        EXPECT(brm_map_u64_intersects(map, &range) == (inserts ? BRM_NONE : BRM_DONE));
     }
 }
 
 static void refused_memory(void) {
-    range_handle map = RANGE_HANDLE_CLOSED;
+    brm_handle map = BRM_HANDLE_CLOSED;
     uint64_t refused = 0;
     granted = 0;
-    EXPECT(range_map_u64_create(&map) == RANGE_NO_MEMORY && range_handle_count(&map) == 0);
+    EXPECT(brm_map_u64_create(&map) == BRM_NO_MEMORY && brm_count(&map) == 0);
     granted = -1;
-    EXPECT(put(&map, upto(1, 2), 1) == RANGE_CLOSED);
-    EXPECT(range_map_u64_create(&map) == RANGE_DONE);
+    EXPECT(put(&map, upto(1, 2), 1) == BRM_CLOSED);
+    EXPECT(brm_map_u64_create(&map) == BRM_DONE);
     for (uint64_t i = 0; i < 500; i++) refused += refusals(&map, true, upto(10 * i, 10 * i + 5), i);
     for (uint64_t i = 0; i < 500; i++) refused += refusals(&map, false, through(10 * i + 2, 10 * i + 2), 0);
-    EXPECT(range_handle_count(&map) == 1000 && refused > 10);
-    range_handle_destroy(&map);
+    EXPECT(brm_count(&map) == 1000 && refused > 10);
+    brm_destroy(&map);
 }
 
 static void signed_maps(void) {
-    range_handle map = RANGE_HANDLE_CLOSED;
-    range_entry_i64 e = {{0, 0, 0}, 0};
-    range_length n = {0, 0};
-    range_i64 r = {-10, 10, RANGE_END_EXCLUDED};
-    EXPECT(range_map_i64_insert(&map, &r, 1) == RANGE_CLOSED);
-    EXPECT(range_map_i64_create(&map) == RANGE_DONE);
-    EXPECT(range_map_i64_insert(&map, &r, 1) == RANGE_DONE);
-    EXPECT(range_map_i64_contains(&map, -10) == RANGE_DONE && range_map_i64_contains(&map, 10) == RANGE_NONE);
-    EXPECT(range_map_i64_len(&map, &n) == RANGE_DONE && n.low == 20);
-    range_i64 low = {0, -5, RANGE_START_UNBOUNDED};
-    EXPECT(range_map_i64_remove(&map, &low) == RANGE_DONE);
-    EXPECT(range_map_i64_first(&map, &e) == RANGE_DONE && e.range.start == -5);
-    EXPECT(e.range.flags == (RANGE_START_EXCLUDED | RANGE_END_EXCLUDED));
-    EXPECT(range_map_i64_get(&map, 9, &e) == RANGE_DONE && e.range.end == 10 && e.value == 1);
-    EXPECT(range_map_i64_intersects(&map, &low) == RANGE_NONE);
-    EXPECT(range_map_i64_next(&map, INT64_MIN, &e) == RANGE_DONE && e.range.start == -5);
-    EXPECT(range_map_i64_next(&map, 10, &e) == RANGE_NONE);
-    EXPECT(range_map_i64_previous(&map, -5, &e) == RANGE_NONE);
-    EXPECT(range_map_i64_previous(&map, INT64_MIN, &e) == RANGE_NONE);
-    EXPECT(range_map_i64_previous(&map, -4, &e) == RANGE_DONE && e.range.start == -5 && e.range.end == 10);
-    EXPECT(range_map_i64_insert_disconnected(&map, &low, 2) == RANGE_CONNECTED);
+    brm_handle map = BRM_HANDLE_CLOSED;
+    brm_entry_i64 e = {{0, 0, 0}, 0};
+    brm_key_count n = {0, 0};
+    brm_range_i64 r = {-10, 10, BRM_END_EXCLUDED};
+    EXPECT(brm_map_i64_insert(&map, &r, 1) == BRM_CLOSED);
+    EXPECT(brm_map_i64_create(&map) == BRM_DONE);
+    EXPECT(brm_map_i64_insert(&map, &r, 1) == BRM_DONE);
+    EXPECT(brm_map_i64_contains(&map, -10) == BRM_DONE && brm_map_i64_contains(&map, 10) == BRM_NONE);
+    EXPECT(brm_map_i64_len(&map, &n) == BRM_DONE && n.low == 20);
+    brm_range_i64 low = {0, -5, BRM_START_UNBOUNDED};
+    EXPECT(brm_map_i64_remove(&map, &low) == BRM_DONE);
+    EXPECT(brm_map_i64_first(&map, &e) == BRM_DONE && e.range.start == -5);
+    EXPECT(e.range.flags == (BRM_START_EXCLUDED | BRM_END_EXCLUDED));
+    EXPECT(brm_map_i64_get(&map, 9, &e) == BRM_DONE && e.range.end == 10 && e.value == 1);
+    EXPECT(brm_map_i64_intersects(&map, &low) == BRM_NONE);
+    EXPECT(brm_map_i64_next(&map, INT64_MIN, &e) == BRM_DONE && e.range.start == -5);
+    EXPECT(brm_map_i64_next(&map, 10, &e) == BRM_NONE);
+    EXPECT(brm_map_i64_previous(&map, -5, &e) == BRM_NONE);
+    EXPECT(brm_map_i64_previous(&map, INT64_MIN, &e) == BRM_NONE);
+    EXPECT(brm_map_i64_previous(&map, -4, &e) == BRM_DONE && e.range.start == -5 && e.range.end == 10);
+    EXPECT(brm_map_i64_insert_disconnected(&map, &low, 2) == BRM_CONNECTED);
     low.end = -6;
-    EXPECT(range_map_i64_insert_disconnected(&map, &low, 2) == RANGE_DONE);
-    EXPECT(range_map_i64_last(&map, &e) == RANGE_DONE && e.value == 1);
-    EXPECT(range_map_i64_pop_last(&map, &e) == RANGE_DONE && range_map_i64_pop_first(&map, &e) == RANGE_DONE);
-    EXPECT(e.value == 2 && range_map_i64_pop_first(&map, &e) == RANGE_NONE);
-    range_handle_destroy(&map);
+    EXPECT(brm_map_i64_insert_disconnected(&map, &low, 2) == BRM_DONE);
+    EXPECT(brm_map_i64_last(&map, &e) == BRM_DONE && e.value == 1);
+    EXPECT(brm_map_i64_pop_last(&map, &e) == BRM_DONE && brm_map_i64_pop_first(&map, &e) == BRM_DONE);
+    EXPECT(e.value == 2 && brm_map_i64_pop_first(&map, &e) == BRM_NONE);
+    brm_destroy(&map);
 }
 
 static void sets(void) {
-    range_handle set = RANGE_HANDLE_CLOSED, map = RANGE_HANDLE_CLOSED;
-    range_u64 r = upto(10, 20), found = {0, 0, 0};
-    range_length n = {0, 0};
-    EXPECT(range_set_u64_insert(&set, &r) == RANGE_CLOSED);
-    EXPECT(range_set_u64_create(&set) == RANGE_DONE);
-    EXPECT(range_set_u64_insert(&set, &r) == RANGE_DONE);
-    EXPECT(range_set_u64_get(&set, 12, &found) == RANGE_DONE && found.start == 10 && found.end == 20);
-    EXPECT(range_set_u64_contains(&set, 20) == RANGE_NONE && range_set_u64_contains(&set, 19) == RANGE_DONE);
-    range_u64 hole = through(12, 13);
-    EXPECT(range_set_u64_remove(&set, &hole) == RANGE_DONE && range_handle_count(&set) == 2);
-    EXPECT(range_set_u64_intersects(&set, &hole) == RANGE_NONE && range_set_u64_intersects(&set, &r) == RANGE_DONE);
-    EXPECT(range_set_u64_len(&set, &n) == RANGE_DONE && n.low == 8 && n.high == 0);
-    EXPECT(range_set_u64_first(&set, &found) == RANGE_DONE && found.end == 12);
-    EXPECT(range_set_u64_last(&set, &found) == RANGE_DONE && found.start == 13);
-    EXPECT(range_set_u64_next(&set, 12, &found) == RANGE_DONE && found.start == 13);
-    EXPECT(range_set_u64_next(&set, 20, &found) == RANGE_NONE);
-    EXPECT(range_set_u64_previous(&set, 13, &found) == RANGE_DONE && found.start == 10 && found.end == 12);
-    EXPECT(range_set_u64_previous(&set, 14, &found) == RANGE_DONE && found.start == 13 && found.end == 20);
-    EXPECT(range_set_u64_previous(&set, 9, &found) == RANGE_NONE && found.start == 13);
-    EXPECT(range_map_u64_create(&map) == RANGE_DONE);
-    EXPECT(range_set_u64_next(&map, 0, &found) == RANGE_OTHER_KIND);
-    EXPECT(range_set_u64_insert(&map, &r) == RANGE_OTHER_KIND && range_handle_count(&map) == 0);
-    EXPECT(put(&set, r, 1) == RANGE_OTHER_KIND && range_handle_count(&set) == 2);
-    EXPECT(range_set_u64_pop_first(&set, &found) == RANGE_DONE && range_set_u64_pop_last(&set, &found) == RANGE_DONE);
-    EXPECT(range_set_u64_pop_last(&set, &found) == RANGE_NONE && found.start == 13);
-    range_handle_destroy(&set);
-    range_handle_destroy(&map);
+    brm_handle set = BRM_HANDLE_CLOSED, map = BRM_HANDLE_CLOSED;
+    brm_range_u64 r = upto(10, 20), found = {0, 0, 0};
+    brm_key_count n = {0, 0};
+    EXPECT(brm_set_u64_insert(&set, &r) == BRM_CLOSED);
+    EXPECT(brm_set_u64_create(&set) == BRM_DONE);
+    EXPECT(brm_set_u64_insert(&set, &r) == BRM_DONE);
+    EXPECT(brm_set_u64_get(&set, 12, &found) == BRM_DONE && found.start == 10 && found.end == 20);
+    EXPECT(brm_set_u64_contains(&set, 20) == BRM_NONE && brm_set_u64_contains(&set, 19) == BRM_DONE);
+    brm_range_u64 hole = through(12, 13);
+    EXPECT(brm_set_u64_remove(&set, &hole) == BRM_DONE && brm_count(&set) == 2);
+    EXPECT(brm_set_u64_intersects(&set, &hole) == BRM_NONE && brm_set_u64_intersects(&set, &r) == BRM_DONE);
+    EXPECT(brm_set_u64_len(&set, &n) == BRM_DONE && n.low == 8 && n.high == 0);
+    EXPECT(brm_set_u64_first(&set, &found) == BRM_DONE && found.end == 12);
+    EXPECT(brm_set_u64_last(&set, &found) == BRM_DONE && found.start == 13);
+    EXPECT(brm_set_u64_next(&set, 12, &found) == BRM_DONE && found.start == 13);
+    EXPECT(brm_set_u64_next(&set, 20, &found) == BRM_NONE);
+    EXPECT(brm_set_u64_previous(&set, 13, &found) == BRM_DONE && found.start == 10 && found.end == 12);
+    EXPECT(brm_set_u64_previous(&set, 14, &found) == BRM_DONE && found.start == 13 && found.end == 20);
+    EXPECT(brm_set_u64_previous(&set, 9, &found) == BRM_NONE && found.start == 13);
+    EXPECT(brm_map_u64_create(&map) == BRM_DONE);
+    EXPECT(brm_set_u64_next(&map, 0, &found) == BRM_OTHER_KIND);
+    EXPECT(brm_set_u64_insert(&map, &r) == BRM_OTHER_KIND && brm_count(&map) == 0);
+    EXPECT(put(&set, r, 1) == BRM_OTHER_KIND && brm_count(&set) == 2);
+    EXPECT(brm_set_u64_pop_first(&set, &found) == BRM_DONE && brm_set_u64_pop_last(&set, &found) == BRM_DONE);
+    EXPECT(brm_set_u64_pop_last(&set, &found) == BRM_NONE && found.start == 13);
+    brm_destroy(&set);
+    brm_destroy(&map);
 }
 
-static range_handle set_of(const range_u64 *ranges, size_t count) {
-    range_handle set = RANGE_HANDLE_CLOSED;
-    EXPECT(range_set_u64_create(&set) == RANGE_DONE);
-    for (size_t i = 0; i < count; i++) EXPECT(range_set_u64_insert(&set, &ranges[i]) == RANGE_DONE);
+static brm_handle set_of(const brm_range_u64 *ranges, size_t count) {
+    brm_handle set = BRM_HANDLE_CLOSED;
+    EXPECT(brm_set_u64_create(&set) == BRM_DONE);
+    for (size_t i = 0; i < count; i++) EXPECT(brm_set_u64_insert(&set, &ranges[i]) == BRM_DONE);
     return set;
 }
 
 static void two_sets(void) {
-    range_u64 some[] = {{0, 10, 0}, {20, 30, 0}, {50, 60, 0}}, more[] = {{5, 25, 0}, {61, 61, 0}}, found = {0, 0, 0};
-    range_handle set = set_of(some, 3), other = set_of(more, 2), map = RANGE_HANDLE_CLOSED;
-    range_handle made = RANGE_HANDLE_CLOSED, closed = RANGE_HANDLE_CLOSED;
-    range_length n = {0, 0};
-    EXPECT(range_map_u64_create(&map) == RANGE_DONE);
-    EXPECT(range_set_u64_union(&set, &closed, &made) == RANGE_CLOSED);
-    EXPECT(range_set_u64_intersection(&closed, &set, &made) == RANGE_CLOSED);
-    EXPECT(range_set_u64_union(&set, &map, &made) == RANGE_OTHER_KIND);
-    EXPECT(range_set_u64_intersection(&map, &set, &made) == RANGE_OTHER_KIND && range_handle_count(&made) == 0);
+    brm_range_u64 some[] = {{0, 10, 0}, {20, 30, 0}, {50, 60, 0}}, more[] = {{5, 25, 0}, {61, 61, 0}}, found = {0, 0, 0};
+    brm_handle set = set_of(some, 3), other = set_of(more, 2), map = BRM_HANDLE_CLOSED;
+    brm_handle made = BRM_HANDLE_CLOSED, closed = BRM_HANDLE_CLOSED;
+    brm_key_count n = {0, 0};
+    EXPECT(brm_map_u64_create(&map) == BRM_DONE);
+    EXPECT(brm_set_u64_union(&set, &closed, &made) == BRM_CLOSED);
+    EXPECT(brm_set_u64_intersection(&closed, &set, &made) == BRM_CLOSED);
+    EXPECT(brm_set_u64_union(&set, &map, &made) == BRM_OTHER_KIND);
+    EXPECT(brm_set_u64_intersection(&map, &set, &made) == BRM_OTHER_KIND && brm_count(&made) == 0);
     for (long allocations = 0;; allocations++) {
         granted = allocations;
-        uint32_t status = range_set_u64_union(&set, &other, &made);
+        uint32_t status = brm_set_u64_union(&set, &other, &made);
         granted = -1;
-        if (status == RANGE_DONE) break;
-        EXPECT(status == RANGE_NO_MEMORY && range_set_u64_contains(&made, 0) == RANGE_CLOSED);
+        if (status == BRM_DONE) break;
+        EXPECT(status == BRM_NO_MEMORY && brm_set_u64_contains(&made, 0) == BRM_CLOSED);
     }
-    EXPECT(range_set_u64_union(&set, &other, &made) == RANGE_OPEN);
-    EXPECT(range_handle_count(&made) == 2 && range_set_u64_len(&made, &n) == RANGE_DONE && n.low == 43);
-    EXPECT(range_set_u64_last(&made, &found) == RANGE_DONE && found.start == 50 && found.end == 61);
-    range_handle_destroy(&made);
-    EXPECT(range_set_u64_intersection(&set, &other, &made) == RANGE_DONE);
-    EXPECT(range_handle_count(&made) == 2 && range_set_u64_len(&made, &n) == RANGE_DONE && n.low == 12);
-    EXPECT(range_set_u64_get(&made, 20, &found) == RANGE_DONE && found.start == 20 && found.end == 25);
-    EXPECT(range_handle_count(&set) == 3 && range_handle_count(&other) == 2);
-    range_handle_destroy(&made);
-    range_handle_destroy(&set);
-    range_handle_destroy(&other);
-    range_handle_destroy(&map);
+    EXPECT(brm_set_u64_union(&set, &other, &made) == BRM_OPEN);
+    EXPECT(brm_count(&made) == 2 && brm_set_u64_len(&made, &n) == BRM_DONE && n.low == 43);
+    EXPECT(brm_set_u64_last(&made, &found) == BRM_DONE && found.start == 50 && found.end == 61);
+    brm_destroy(&made);
+    EXPECT(brm_set_u64_intersection(&set, &other, &made) == BRM_DONE);
+    EXPECT(brm_count(&made) == 2 && brm_set_u64_len(&made, &n) == BRM_DONE && n.low == 12);
+    EXPECT(brm_set_u64_get(&made, 20, &found) == BRM_DONE && found.start == 20 && found.end == 25);
+    EXPECT(brm_count(&set) == 3 && brm_count(&other) == 2);
+    brm_destroy(&made);
+    brm_destroy(&set);
+    brm_destroy(&other);
+    brm_destroy(&map);
 }
 
-static uint32_t load(range_handle *handle, const char *text) {
-    return range_handle_load(handle, (const uint8_t *)text, strlen(text));
+/* A handle that is given twice is answered, and so is no handle at all. */
+static void handles_given_twice(void) {
+    brm_range_u64 some[] = {{0, 10, 0}, {20, 30, 0}};
+    brm_handle set = set_of(some, 2), none = set_of(some, 0), map = BRM_HANDLE_CLOSED, made = BRM_HANDLE_CLOSED;
+    EXPECT(brm_map_u64_create(&map) == BRM_DONE);
+    brm_destroy(NULL);
+    EXPECT(brm_set_u64_union(&set, &set, &made) == BRM_DONE && brm_equal(&set, &made) == BRM_DONE);
+    EXPECT(brm_set_u64_union(&set, &set, &made) == BRM_OPEN);
+    brm_destroy(&made);
+    EXPECT(brm_set_u64_intersection(&set, &set, &made) == BRM_DONE && brm_equal(&made, &set) == BRM_DONE);
+    brm_destroy(&made);
+    EXPECT(brm_set_u64_difference(&set, &set, &made) == BRM_DONE && brm_count(&made) == 0);
+    brm_destroy(&made);
+    EXPECT(brm_set_u64_symmetric_difference(&set, &set, &made) == BRM_DONE && brm_equal(&made, &none) == BRM_DONE);
+    brm_destroy(&made);
+    EXPECT(brm_set_u64_is_subset(&set, &set) == BRM_DONE && brm_set_u64_is_disjoint(&set, &set) == BRM_NONE);
+    EXPECT(brm_set_u64_is_disjoint(&none, &none) == BRM_DONE && brm_equal(&set, &set) == BRM_DONE);
+    EXPECT(brm_set_u64_union(&set, &none, &set) == BRM_OPEN && brm_set_u64_union(&set, &made, &made) == BRM_CLOSED);
+    EXPECT(brm_set_u64_complement(&set, &set) == BRM_OPEN && brm_set_u64_complement(&made, &made) == BRM_CLOSED);
+    EXPECT(brm_clone(&set, &set) == BRM_OPEN && brm_clone(&made, &made) == BRM_CLOSED);
+    EXPECT(brm_set_u64_union(&map, &map, &made) == BRM_OTHER_KIND && brm_set_u64_is_subset(&map, &map) == BRM_OTHER_KIND);
+    EXPECT(brm_set_u64_difference(&made, &made, &made) == BRM_CLOSED && brm_equal(&made, &made) == BRM_CLOSED);
+    EXPECT(brm_count(&set) == 2 && brm_count(&made) == 0);
+    made = BRM_HANDLE_CLOSED;
+    brm_destroy(&set);
+    brm_destroy(&none);
+    brm_destroy(&map);
+}
+
+static void clones(void) {
+    brm_handle map = BRM_HANDLE_CLOSED, copy = BRM_HANDLE_CLOSED, keys = BRM_HANDLE_CLOSED, none = BRM_HANDLE_CLOSED;
+    EXPECT(brm_clone(&map, &copy) == BRM_CLOSED && brm_equal(&map, &copy) == BRM_CLOSED);
+    EXPECT(brm_map_u64_create(&map) == BRM_DONE && brm_map_i64_create(&keys) == BRM_DONE);
+    for (uint64_t i = 0; i < 100; i++) EXPECT(put(&map, upto(10 * i, 10 * i + 5), i) == BRM_DONE);
+    for (long allocations = 0;; allocations++) {
+        granted = allocations;
+        brm_status status = brm_clone(&map, &copy);
+        granted = -1;
+        if (status == BRM_DONE) break;
+        EXPECT(status == BRM_NO_MEMORY && !copy.is_open);
+    }
+    EXPECT(brm_clone(&map, &copy) == BRM_OPEN && brm_equal(&map, &copy) == BRM_DONE && brm_count(&copy) == 100);
+    EXPECT(put(&copy, through(4, 4), 7) == BRM_DONE && brm_equal(&copy, &map) == BRM_NONE && brm_count(&map) == 100);
+    EXPECT(put(&copy, upto(0, 5), 0) == BRM_DONE && brm_equal(&copy, &map) == BRM_DONE);
+    EXPECT(brm_equal(&map, &keys) == BRM_OTHER_KIND && brm_equal(&map, &none) == BRM_CLOSED);
+    EXPECT(brm_clone(&keys, &none) == BRM_DONE && brm_equal(&none, &keys) == BRM_DONE);
+    EXPECT(brm_clear(&copy) == BRM_DONE && brm_equal(&copy, &map) == BRM_NONE);
+    granted = 0;
+    EXPECT(put(&copy, upto(0, 5), 0) == BRM_DONE);
+    granted = -1;
+    brm_destroy(&map);
+    brm_destroy(&copy);
+    brm_destroy(&keys);
+    brm_destroy(&none);
+}
+
+/* Compares each call on two sets with what it makes of each key by itself. */
+static void keys_of_two_sets(void) {
+    brm_range_u64 some[] = {{0, 10, 0}, {20, 30, 0}, {50, 60, 0}}, more[] = {{5, 25, 0}, {61, 61, 0}}, few[] = {{6, 8, 0}};
+    brm_handle set = set_of(some, 3), other = set_of(more, 2), part = set_of(few, 1), closed = BRM_HANDLE_CLOSED;
+    brm_handle made[4] = {BRM_HANDLE_CLOSED, BRM_HANDLE_CLOSED, BRM_HANDLE_CLOSED, BRM_HANDLE_CLOSED};
+    EXPECT(brm_set_u64_difference(&set, &other, &made[0]) == BRM_DONE);
+    EXPECT(brm_set_u64_difference(&other, &set, &made[1]) == BRM_DONE);
+    EXPECT(brm_set_u64_symmetric_difference(&set, &other, &made[2]) == BRM_DONE);
+    EXPECT(brm_set_u64_complement(&set, &made[3]) == BRM_DONE);
+    for (uint64_t key = 0; key < 70; key++) {
+        bool first = brm_set_u64_contains(&set, key) == BRM_DONE, second = brm_set_u64_contains(&other, key) == BRM_DONE;
+        EXPECT((brm_set_u64_contains(&made[0], key) == BRM_DONE) == (first && !second));
+        EXPECT((brm_set_u64_contains(&made[1], key) == BRM_DONE) == (second && !first));
+        EXPECT((brm_set_u64_contains(&made[2], key) == BRM_DONE) == (first != second));
+        EXPECT((brm_set_u64_contains(&made[3], key) == BRM_DONE) == !first);
+    }
+    EXPECT(brm_set_u64_is_subset(&part, &set) == BRM_DONE && brm_set_u64_is_subset(&set, &part) == BRM_NONE);
+    EXPECT(brm_set_u64_is_disjoint(&set, &made[3]) == BRM_DONE && brm_set_u64_is_disjoint(&set, &part) == BRM_NONE);
+    EXPECT(brm_set_u64_is_subset(&set, &closed) == BRM_CLOSED && brm_set_u64_is_disjoint(&closed, &set) == BRM_CLOSED);
+    EXPECT(brm_set_u64_complement(&closed, &made[0]) == BRM_OPEN);
+    for (int i = 0; i < 4; i++) brm_destroy(&made[i]);
+    EXPECT(brm_set_u64_complement(&closed, &made[0]) == BRM_CLOSED);
+    brm_destroy(&set);
+    brm_destroy(&other);
+    brm_destroy(&part);
+}
+
+/* Batches: all ranges in both directions, arrays that are too long, too short and empty, and other handles. */
+static void batches(void) {
+    enum { RANGES = 50, ROOM = 7 };
+    brm_handle map = BRM_HANDLE_CLOSED, keys = BRM_HANDLE_CLOSED, set = BRM_HANDLE_CLOSED;
+    brm_entry_u64 entries[RANGES + 5];
+    brm_entry_i64 signed_entries[ROOM];
+    brm_range_u64 ranges[ROOM];
+    size_t count = 77, shown = 0;
+    memset(entries, 0xaa, sizeof entries);
+    memset(signed_entries, 0, sizeof signed_entries);
+    memset(ranges, 0, sizeof ranges);
+    EXPECT(brm_map_u64_read(&map, 0, entries, ROOM, &count) == BRM_CLOSED && count == 77);
+    EXPECT(brm_map_u64_create(&map) == BRM_DONE && brm_map_i64_create(&keys) == BRM_DONE);
+    EXPECT(brm_set_u64_create(&set) == BRM_DONE);
+    EXPECT(brm_map_u64_read(&map, 0, entries, ROOM, &count) == BRM_DONE && count == 0);
+    for (uint64_t i = 0; i < RANGES; i++) {
+        brm_range_u64 range = upto(10 * i, 10 * i + 5);
+        brm_range_i64 below = {-10 * (int64_t)i - 5, -10 * (int64_t)i, BRM_END_EXCLUDED};
+        EXPECT(put(&map, range, i) == BRM_DONE && brm_set_u64_insert(&set, &range) == BRM_DONE);
+        EXPECT(brm_map_i64_insert(&keys, &below, i) == BRM_DONE);
+    }
+    EXPECT(brm_map_u64_read(&map, 0, entries, RANGES + 5, &count) == BRM_DONE && count == RANGES);
+    for (uint64_t i = 0; i < RANGES; i++) EXPECT(is_entry(entries[i], upto(10 * i, 10 * i + 5), i));
+    EXPECT(entries[RANGES].value == 0xaaaaaaaaaaaaaaaa && entries[RANGES].range.start == 0xaaaaaaaaaaaaaaaa);
+    EXPECT(brm_map_u64_read_back(&map, UINT64_MAX, entries, RANGES + 5, &count) == BRM_DONE && count == RANGES);
+    for (uint64_t i = 0; i < RANGES; i++) EXPECT(entries[i].value == RANGES - 1 - i);
+    for (uint64_t key = 0; shown < RANGES; key = entries[count - 1].range.end) {
+        EXPECT(brm_map_u64_read(&map, key, entries, ROOM, &count) == BRM_DONE && count > 0 && count <= ROOM);
+        for (size_t i = 0; i < count; i++) EXPECT(entries[i].value == shown++);
+        if (count == 0) break;
+    }
+    EXPECT(brm_map_u64_read(&map, 14, entries, 2, &count) == BRM_DONE && count == 2 && entries[0].value == 1);
+    EXPECT(brm_map_u64_read(&map, 15, entries, 2, &count) == BRM_DONE && count == 2 && entries[0].value == 2);
+    EXPECT(brm_map_u64_read_back(&map, 20, entries, 2, &count) == BRM_DONE && count == 2 && entries[0].value == 2);
+    EXPECT(brm_map_u64_read_back(&map, 19, entries, 2, &count) == BRM_DONE && entries[0].value == 1 && entries[1].value == 0);
+    EXPECT(brm_map_u64_read_back(&map, 4, entries, 2, &count) == BRM_DONE && count == 1 && entries[0].value == 0);
+    EXPECT(brm_map_u64_read(&map, 10 * RANGES, entries, 2, &count) == BRM_DONE && count == 0);
+    EXPECT(brm_map_u64_read(&map, 0, entries, 0, &count) == BRM_DONE && count == 0);
+    EXPECT(brm_map_i64_read(&keys, -1, signed_entries, ROOM, &count) == BRM_DONE && count == 1);
+    EXPECT(signed_entries[0].range.start == -5 && signed_entries[0].value == 0);
+    EXPECT(brm_map_i64_read_back(&keys, -1, signed_entries, ROOM, &count) == BRM_DONE && count == ROOM);
+    EXPECT(signed_entries[ROOM - 1].value == ROOM - 1 && signed_entries[ROOM - 1].range.end == -10 * (ROOM - 1));
+    EXPECT(brm_set_u64_read(&set, 21, ranges, ROOM, &count) == BRM_DONE && count == ROOM && ranges[0].start == 20);
+    EXPECT(brm_set_u64_read_back(&set, 21, ranges, ROOM, &count) == BRM_DONE && count == 3 && ranges[2].start == 0);
+    EXPECT(brm_set_u64_read(&map, 0, ranges, ROOM, &count) == BRM_OTHER_KIND && count == 3 && ranges[0].start == 20);
+    EXPECT(brm_map_u64_read_back(&set, 0, entries, ROOM, &count) == BRM_OTHER_KIND && count == 3);
+    brm_destroy(&map);
+    brm_destroy(&keys);
+    brm_destroy(&set);
+}
+
+static void status_texts(void) {
+    for (int i = BRM_DONE; i <= BRM_NOT_READ; i++) EXPECT(strlen(brm_status_text((brm_status)i)) > 3);
+    EXPECT(strcmp(brm_status_text(BRM_NO_ROOM), "the buffer is too short") == 0);
+}
+
+static uint32_t load(brm_handle *handle, const char *text) {
+    return brm_load(handle, (const uint8_t *)text, strlen(text));
 }
 
 /* Saves what is held, first into no bytes and then into as many as it takes, and compares. */
-static void expect_text(range_handle *handle, const char *text) {
+static void expect_text(brm_handle *handle, const char *text) {
     uint8_t buffer[256];
     size_t size = 0;
     memset(buffer, 'x', sizeof buffer);
-    EXPECT(range_handle_save(handle, buffer, 0, &size) == RANGE_NO_ROOM && size == strlen(text) && buffer[0] == 'x');
-    EXPECT(range_handle_save(handle, buffer, size - 1, &size) == RANGE_NO_ROOM && buffer[0] == 'x');
-    EXPECT(range_handle_save(handle, buffer, size + 1, &size) == RANGE_DONE && size == strlen(text));
+    EXPECT(brm_save(handle, buffer, 0, &size) == BRM_NO_ROOM && size == strlen(text) && buffer[0] == 'x');
+    EXPECT(brm_save(handle, buffer, size - 1, &size) == BRM_NO_ROOM && buffer[0] == 'x');
+    EXPECT(brm_save(handle, buffer, size + 1, &size) == BRM_DONE && size == strlen(text));
     EXPECT(memcmp(buffer, text, size) == 0 && buffer[size] == 'x');
 }
 
@@ -268,40 +407,40 @@ static void texts(void) {
                          "[[{\"Included\":7},\"Unbounded\"],2]],\"version\":2}";
     const char *of_signed = "{\"items\":[[[\"Unbounded\",{\"Included\":-3}],18446744073709551615]],\"version\":2}";
     const char *of_set = "[[{\"Included\":1},{\"Included\":18446744073709551615}]]";
-    range_handle map = RANGE_HANDLE_CLOSED, keys = RANGE_HANDLE_CLOSED, set = RANGE_HANDLE_CLOSED;
-    range_entry_u64 e = {{0, 0, 0}, 0};
+    brm_handle map = BRM_HANDLE_CLOSED, keys = BRM_HANDLE_CLOSED, set = BRM_HANDLE_CLOSED;
+    brm_entry_u64 e = {{0, 0, 0}, 0};
     size_t size = 7;
     uint8_t buffer[1] = {'x'};
-    EXPECT(load(&map, of_map) == RANGE_CLOSED);
-    EXPECT(range_handle_save(&map, buffer, 1, &size) == RANGE_CLOSED && size == 7);
-    EXPECT(range_map_u64_create(&map) == RANGE_DONE && range_map_i64_create(&keys) == RANGE_DONE);
-    EXPECT(range_set_u64_create(&set) == RANGE_DONE);
+    EXPECT(load(&map, of_map) == BRM_CLOSED);
+    EXPECT(brm_save(&map, buffer, 1, &size) == BRM_CLOSED && size == 7);
+    EXPECT(brm_map_u64_create(&map) == BRM_DONE && brm_map_i64_create(&keys) == BRM_DONE);
+    EXPECT(brm_set_u64_create(&set) == BRM_DONE);
     expect_text(&set, "[]");
-    EXPECT(load(&map, of_map) == RANGE_DONE && range_handle_count(&map) == 2);
-    EXPECT(range_map_u64_get(&map, 4, &e) == RANGE_DONE && is_entry(e, upto(0, 5), 1));
-    EXPECT(load(&keys, of_signed) == RANGE_DONE && load(&set, of_set) == RANGE_DONE);
+    EXPECT(load(&map, of_map) == BRM_DONE && brm_count(&map) == 2);
+    EXPECT(brm_map_u64_get(&map, 4, &e) == BRM_DONE && is_entry(e, upto(0, 5), 1));
+    EXPECT(load(&keys, of_signed) == BRM_DONE && load(&set, of_set) == BRM_DONE);
     expect_text(&map, of_map);
     expect_text(&keys, of_signed);
     expect_text(&set, of_set);
-    EXPECT(load(&map, "[") == RANGE_NOT_JSON && load(&map, "") == RANGE_NOT_JSON);
-    EXPECT(load(&map, "[\"\xff\"]") == RANGE_NOT_JSON);
-    EXPECT(load(&map, of_signed) == RANGE_NOT_READ && load(&map, of_set) == RANGE_NOT_READ);
-    EXPECT(load(&set, of_map) == RANGE_NOT_READ && load(&keys, "{\"items\":[],\"version\":3}") == RANGE_NOT_READ);
+    EXPECT(load(&map, "[") == BRM_NOT_JSON && load(&map, "") == BRM_NOT_JSON);
+    EXPECT(load(&map, "[\"\xff\"]") == BRM_NOT_JSON);
+    EXPECT(load(&map, of_signed) == BRM_NOT_READ && load(&map, of_set) == BRM_NOT_READ);
+    EXPECT(load(&set, of_map) == BRM_NOT_READ && load(&keys, "{\"items\":[],\"version\":3}") == BRM_NOT_READ);
     for (long allocations = 0;; allocations++) {
         granted = allocations;
         uint32_t status = load(&map, "[[[{\"Included\":9},{\"Included\":9}],3]]");
         granted = -1;
-        if (status == RANGE_DONE) break;
-        EXPECT(status == RANGE_NO_MEMORY);
+        if (status == BRM_DONE) break;
+        EXPECT(status == BRM_NO_MEMORY);
         expect_text(&map, of_map);
     }
-    EXPECT(range_map_u64_contains(&map, 9) == RANGE_DONE && range_handle_count(&map) == 1);
+    EXPECT(brm_map_u64_contains(&map, 9) == BRM_DONE && brm_count(&map) == 1);
     granted = 0;
-    EXPECT(range_handle_save(&map, buffer, 1, &size) == RANGE_NO_MEMORY && size == 7 && buffer[0] == 'x');
+    EXPECT(brm_save(&map, buffer, 1, &size) == BRM_NO_MEMORY && size == 7 && buffer[0] == 'x');
     granted = -1;
-    range_handle_destroy(&map);
-    range_handle_destroy(&keys);
-    range_handle_destroy(&set);
+    brm_destroy(&map);
+    brm_destroy(&keys);
+    brm_destroy(&set);
 }
 
 int main(void) {
@@ -311,6 +450,11 @@ int main(void) {
     signed_maps();
     sets();
     two_sets();
+    handles_given_twice();
+    clones();
+    keys_of_two_sets();
+    batches();
+    status_texts();
     texts();
     printf("C: %s\n", failures ? "FAILED" : "passed");
     return failures != 0;

@@ -1,7 +1,7 @@
 //! What a call costs, beside the same ranges kept over std's `BTreeMap`: nanoseconds a call, best of five.
 //!
 //!     cargo run --release --example bench [RANGES..]
-use btree_range_map_proved::RangeMap;
+use btree_range_map_proved::NumberMap;
 use std::collections::BTreeMap;
 use std::hint::black_box;
 use std::time::Instant;
@@ -70,8 +70,8 @@ fn best(calls: u64, mut run: impl FnMut()) -> u128 {
         .unwrap()
 }
 
-fn proved(order: &[u64]) -> RangeMap<u64> {
-    let mut map = RangeMap::new().unwrap();
+fn proved(order: &[u64]) -> NumberMap<u64> {
+    let mut map = NumberMap::new().unwrap();
     for &i in order {
         map.insert(20 * i..20 * i + 10, i).unwrap();
     }
@@ -103,15 +103,24 @@ fn main() {
     }
     println!("| ranges | call | proved | over `BTreeMap` |\n|---|---|---|---|");
     for n in sizes {
-        let (order, rising) = (mixed(n), (0..n).collect::<Vec<_>>());
+        let (order, ascending) = (mixed(n), (0..n).collect::<Vec<_>>());
         let row = |what, ours, theirs| println!("| {n} | {what} | {ours} | {theirs} |");
         row("insertion, no order", best(n, || drop(proved(&order))), best(n, || drop(reference(&order))));
-        row("insertion, rising", best(n, || drop(proved(&rising))), best(n, || drop(reference(&rising))));
+        row(
+            "insertion, ascending",
+            best(n, || drop(proved(&ascending))),
+            best(n, || drop(reference(&ascending))),
+        );
         let (ours, theirs) = (proved(&order), reference(&order));
         row(
             "look-up",
             best(n, || order.iter().for_each(|i| look(ours.get(20 * i + 5)))),
             best(n, || order.iter().for_each(|i| look(theirs.get(20 * i + 5)))),
+        );
+        row(
+            "iteration, a range",
+            best(n, || ours.iter().for_each(|(_, number)| look(Some(number)))),
+            best(n, || theirs.0.values().for_each(|(_, number)| look(Some(*number)))),
         );
         // what a call takes that looks at nothing but the handle
         row(

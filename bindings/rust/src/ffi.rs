@@ -1,9 +1,6 @@
 //! The functions of `btree_range_map.h`, and a handle that is destroyed once.
-use crate::range::{RawEntry, RawRange};
 use crate::{NoMemory, NotLoaded};
-use std::cell::UnsafeCell;
 use std::ffi::c_void;
-use std::marker::PhantomData;
 
 pub const DONE: u32 = 0;
 pub const CONNECTED: u32 = 4;
@@ -11,10 +8,30 @@ pub const NO_ROOM: u32 = 7;
 pub const NOT_JSON: u32 = 8;
 pub const NOT_READ: u32 = 9;
 
+pub const START_EXCLUDED: u32 = 1;
+pub const START_UNBOUNDED: u32 = 2;
+pub const END_EXCLUDED: u32 = 4;
+pub const END_UNBOUNDED: u32 = 8;
+
 #[repr(C)]
 pub struct RawHandle {
     is_open: bool,
     at: *mut c_void,
+}
+
+#[repr(C)]
+#[derive(Clone, Copy, Default)]
+pub struct RawRange<K> {
+    pub start: K,
+    pub end: K,
+    pub flags: u32,
+}
+
+#[repr(C)]
+#[derive(Clone, Copy, Default)]
+pub struct RawEntry<K> {
+    pub range: RawRange<K>,
+    pub value: u64,
 }
 
 #[repr(C)]
@@ -30,132 +47,219 @@ impl RawLength {
     }
 }
 
-macro_rules! declare_map {
-    ($key:ty, $create:ident, $insert:ident, $insert_disconnected:ident, $remove:ident, $get:ident, $contains:ident,
-     $intersects:ident, $len:ident, $first:ident, $last:ident, $next:ident, $previous:ident, $pop_first:ident, $pop_last:ident) => {
-        unsafe extern "C" {
-            pub fn $create(map: *mut RawHandle) -> u32;
-            pub fn $insert(map: *mut RawHandle, range: &RawRange<$key>, value: u64) -> u32;
-            pub fn $insert_disconnected(map: *mut RawHandle, range: &RawRange<$key>, value: u64) -> u32;
-            pub fn $remove(map: *mut RawHandle, range: &RawRange<$key>) -> u32;
-            pub fn $get(map: *mut RawHandle, key: $key, entry: &mut RawEntry<$key>) -> u32;
-            pub fn $contains(map: *mut RawHandle, key: $key) -> u32;
-            pub fn $intersects(map: *mut RawHandle, range: &RawRange<$key>) -> u32;
-            pub fn $len(map: *mut RawHandle, length: &mut RawLength) -> u32;
-            pub fn $first(map: *mut RawHandle, entry: &mut RawEntry<$key>) -> u32;
-            pub fn $last(map: *mut RawHandle, entry: &mut RawEntry<$key>) -> u32;
-            pub fn $next(map: *mut RawHandle, key: $key, entry: &mut RawEntry<$key>) -> u32;
-            pub fn $previous(map: *mut RawHandle, key: $key, entry: &mut RawEntry<$key>) -> u32;
-            pub fn $pop_first(map: *mut RawHandle, entry: &mut RawEntry<$key>) -> u32;
-            pub fn $pop_last(map: *mut RawHandle, entry: &mut RawEntry<$key>) -> u32;
+/// The calls of one kind of collection: keys `K`, and ranges as `E` with what they are bound to.
+pub struct Calls<K, E> {
+    pub create: unsafe extern "C" fn(*mut RawHandle) -> u32,
+    pub remove: unsafe extern "C" fn(*mut RawHandle, &RawRange<K>) -> u32,
+    pub get: unsafe extern "C" fn(*const RawHandle, K, &mut E) -> u32,
+    pub contains: unsafe extern "C" fn(*const RawHandle, K) -> u32,
+    pub intersects: unsafe extern "C" fn(*const RawHandle, &RawRange<K>) -> u32,
+    pub len: unsafe extern "C" fn(*const RawHandle, &mut RawLength) -> u32,
+    pub first: unsafe extern "C" fn(*const RawHandle, &mut E) -> u32,
+    pub last: unsafe extern "C" fn(*const RawHandle, &mut E) -> u32,
+    pub next: unsafe extern "C" fn(*const RawHandle, K, &mut E) -> u32,
+    pub previous: unsafe extern "C" fn(*const RawHandle, K, &mut E) -> u32,
+    pub pop_first: unsafe extern "C" fn(*mut RawHandle, &mut E) -> u32,
+    pub pop_last: unsafe extern "C" fn(*mut RawHandle, &mut E) -> u32,
+    pub read: unsafe extern "C" fn(*const RawHandle, K, *mut E, usize, &mut usize) -> u32,
+    pub read_back: unsafe extern "C" fn(*const RawHandle, K, *mut E, usize, &mut usize) -> u32,
+}
+
+/// The calls that bind keys to values.
+pub struct Binds<K> {
+    pub insert: unsafe extern "C" fn(*mut RawHandle, &RawRange<K>, u64) -> u32,
+    pub insert_disconnected: unsafe extern "C" fn(*mut RawHandle, &RawRange<K>, u64) -> u32,
+}
+
+macro_rules! calls {
+    ($module:ident, $prefix:literal, $key:ty, $entry:ty) => {
+        pub mod $module {
+            use super::*;
+
+            unsafe extern "C" {
+                #[link_name = concat!($prefix, "create")]
+                fn create(handle: *mut RawHandle) -> u32;
+                #[link_name = concat!($prefix, "remove")]
+                fn remove(handle: *mut RawHandle, range: &RawRange<$key>) -> u32;
+                #[link_name = concat!($prefix, "get")]
+                fn get(handle: *const RawHandle, key: $key, entry: &mut $entry) -> u32;
+                #[link_name = concat!($prefix, "contains")]
+                fn contains(handle: *const RawHandle, key: $key) -> u32;
+                #[link_name = concat!($prefix, "intersects")]
+                fn intersects(handle: *const RawHandle, range: &RawRange<$key>) -> u32;
+                #[link_name = concat!($prefix, "len")]
+                fn len(handle: *const RawHandle, length: &mut RawLength) -> u32;
+                #[link_name = concat!($prefix, "first")]
+                fn first(handle: *const RawHandle, entry: &mut $entry) -> u32;
+                #[link_name = concat!($prefix, "last")]
+                fn last(handle: *const RawHandle, entry: &mut $entry) -> u32;
+                #[link_name = concat!($prefix, "next")]
+                fn next(handle: *const RawHandle, key: $key, entry: &mut $entry) -> u32;
+                #[link_name = concat!($prefix, "previous")]
+                fn previous(handle: *const RawHandle, key: $key, entry: &mut $entry) -> u32;
+                #[link_name = concat!($prefix, "pop_first")]
+                fn pop_first(handle: *mut RawHandle, entry: &mut $entry) -> u32;
+                #[link_name = concat!($prefix, "pop_last")]
+                fn pop_last(handle: *mut RawHandle, entry: &mut $entry) -> u32;
+                #[link_name = concat!($prefix, "read")]
+                fn read(
+                    at: *const RawHandle,
+                    from: $key,
+                    to: *mut $entry,
+                    capacity: usize,
+                    count: &mut usize,
+                ) -> u32;
+                #[link_name = concat!($prefix, "read_back")]
+                fn read_back(
+                    at: *const RawHandle,
+                    upto: $key,
+                    to: *mut $entry,
+                    capacity: usize,
+                    count: &mut usize,
+                ) -> u32;
+            }
+
+            pub static CALLS: Calls<$key, $entry> = Calls {
+                create,
+                remove,
+                get,
+                contains,
+                intersects,
+                len,
+                first,
+                last,
+                next,
+                previous,
+                pop_first,
+                pop_last,
+                read,
+                read_back,
+            };
         }
     };
 }
 
-declare_map!(
-    u64,
-    range_map_u64_create,
-    range_map_u64_insert,
-    range_map_u64_insert_disconnected,
-    range_map_u64_remove,
-    range_map_u64_get,
-    range_map_u64_contains,
-    range_map_u64_intersects,
-    range_map_u64_len,
-    range_map_u64_first,
-    range_map_u64_last,
-    range_map_u64_next,
-    range_map_u64_previous,
-    range_map_u64_pop_first,
-    range_map_u64_pop_last
-);
-declare_map!(
-    i64,
-    range_map_i64_create,
-    range_map_i64_insert,
-    range_map_i64_insert_disconnected,
-    range_map_i64_remove,
-    range_map_i64_get,
-    range_map_i64_contains,
-    range_map_i64_intersects,
-    range_map_i64_len,
-    range_map_i64_first,
-    range_map_i64_last,
-    range_map_i64_next,
-    range_map_i64_previous,
-    range_map_i64_pop_first,
-    range_map_i64_pop_last
-);
+macro_rules! binds {
+    ($module:ident, $prefix:literal, $key:ty) => {
+        pub mod $module {
+            use super::*;
+
+            unsafe extern "C" {
+                #[link_name = concat!($prefix, "insert")]
+                fn insert(map: *mut RawHandle, range: &RawRange<$key>, value: u64) -> u32;
+                #[link_name = concat!($prefix, "insert_disconnected")]
+                fn insert_disconnected(map: *mut RawHandle, range: &RawRange<$key>, value: u64) -> u32;
+            }
+
+            pub static BINDS: Binds<$key> = Binds { insert, insert_disconnected };
+        }
+    };
+}
+
+calls!(unsigned, "brm_map_u64_", u64, RawEntry<u64>);
+calls!(signed, "brm_map_i64_", i64, RawEntry<i64>);
+calls!(set, "brm_set_u64_", u64, RawRange<u64>);
+binds!(unsigned_binds, "brm_map_u64_", u64);
+binds!(signed_binds, "brm_map_i64_", i64);
+
+/// A call that opens the last handle on a set made of the first two.
+pub type TwoSets = unsafe extern "C" fn(*const RawHandle, *const RawHandle, *mut RawHandle) -> u32;
+
+/// A call that answers a question of two handles.
+pub type Asks = unsafe extern "C" fn(*const RawHandle, *const RawHandle) -> u32;
 
 unsafe extern "C" {
-    pub fn range_handle_destroy(handle: *mut RawHandle);
-    pub fn range_handle_clear(handle: *mut RawHandle) -> u32;
-    pub fn range_handle_count(handle: *mut RawHandle) -> usize;
-    pub fn range_handle_save(
-        handle: *mut RawHandle,
-        buffer: *mut u8,
-        capacity: usize,
-        size: &mut usize,
-    ) -> u32;
-    pub fn range_handle_load(handle: *mut RawHandle, text: *const u8, size: usize) -> u32;
-    pub fn range_set_u64_create(set: *mut RawHandle) -> u32;
-    pub fn range_set_u64_insert(set: *mut RawHandle, range: &RawRange<u64>) -> u32;
-    pub fn range_set_u64_remove(set: *mut RawHandle, range: &RawRange<u64>) -> u32;
-    pub fn range_set_u64_get(set: *mut RawHandle, key: u64, range: &mut RawRange<u64>) -> u32;
-    pub fn range_set_u64_contains(set: *mut RawHandle, key: u64) -> u32;
-    pub fn range_set_u64_intersects(set: *mut RawHandle, range: &RawRange<u64>) -> u32;
-    pub fn range_set_u64_len(set: *mut RawHandle, length: &mut RawLength) -> u32;
-    pub fn range_set_u64_first(set: *mut RawHandle, range: &mut RawRange<u64>) -> u32;
-    pub fn range_set_u64_last(set: *mut RawHandle, range: &mut RawRange<u64>) -> u32;
-    pub fn range_set_u64_next(set: *mut RawHandle, key: u64, range: &mut RawRange<u64>) -> u32;
-    pub fn range_set_u64_previous(set: *mut RawHandle, key: u64, range: &mut RawRange<u64>) -> u32;
-    pub fn range_set_u64_pop_first(set: *mut RawHandle, range: &mut RawRange<u64>) -> u32;
-    pub fn range_set_u64_pop_last(set: *mut RawHandle, range: &mut RawRange<u64>) -> u32;
-    pub fn range_set_u64_union(set: *mut RawHandle, other: *mut RawHandle, made: *mut RawHandle) -> u32;
-    pub fn range_set_u64_intersection(
-        set: *mut RawHandle,
-        other: *mut RawHandle,
+    pub fn brm_raw_destroy(handle: *mut RawHandle);
+    pub fn brm_raw_clone(handle: *const RawHandle, made: *mut RawHandle) -> u32;
+    pub fn brm_raw_equal(handle: *const RawHandle, other: *const RawHandle) -> u32;
+    pub fn brm_clear(handle: *mut RawHandle) -> u32;
+    pub fn brm_count(handle: *const RawHandle) -> usize;
+    pub fn brm_save(handle: *const RawHandle, buffer: *mut u8, capacity: usize, size: &mut usize) -> u32;
+    pub fn brm_load(handle: *mut RawHandle, text: *const u8, size: usize) -> u32;
+    pub fn brm_set_u64_insert(set: *mut RawHandle, range: &RawRange<u64>) -> u32;
+    pub fn brm_raw_set_u64_union(set: *const RawHandle, other: *const RawHandle, made: *mut RawHandle)
+    -> u32;
+    pub fn brm_raw_set_u64_intersection(
+        set: *const RawHandle,
+        other: *const RawHandle,
         made: *mut RawHandle,
     ) -> u32;
+    pub fn brm_raw_set_u64_difference(
+        set: *const RawHandle,
+        other: *const RawHandle,
+        made: *mut RawHandle,
+    ) -> u32;
+    pub fn brm_raw_set_u64_symmetric_difference(
+        set: *const RawHandle,
+        other: *const RawHandle,
+        made: *mut RawHandle,
+    ) -> u32;
+    pub fn brm_raw_set_u64_complement(set: *const RawHandle, made: *mut RawHandle) -> u32;
+    pub fn brm_raw_set_u64_is_subset(set: *const RawHandle, other: *const RawHandle) -> u32;
+    pub fn brm_raw_set_u64_is_disjoint(set: *const RawHandle, other: *const RawHandle) -> u32;
 }
 
-/// A handle that no one else has. A call that only looks also writes it, so it lies in an `UnsafeCell`.
-///
-/// It is neither `Send` nor `Sync`: no proof says that a map may change threads.
-pub struct Handle {
-    raw: UnsafeCell<RawHandle>,
-    _stays: PhantomData<*mut ()>,
+/// `Ok` of a status that says that the call is done.
+pub fn done(status: u32) -> Result<(), NoMemory> {
+    if status == DONE { Ok(()) } else { Err(NoMemory) }
 }
 
+/// A handle that no one else has. A call that reads writes nothing to it.
+pub struct Handle(RawHandle);
+
+// SAFETY: what a handle leads to is its own, and the library keeps no state beside it, so it may move to another thread.
+// A call through `&Handle` writes nothing that another such call reads; `bindings/c/threads.c` shows it under helgrind.
+unsafe impl Send for Handle {}
+unsafe impl Sync for Handle {}
+
+// SAFETY, of each call below: the handles are valid, no two of one call are one, and none that is written is in another
+// call, by the references to them; buffers are as many bytes as is said.
 impl Handle {
     pub fn closed() -> Handle {
-        Handle {
-            raw: UnsafeCell::new(RawHandle { is_open: false, at: std::ptr::null_mut() }),
-            _stays: PhantomData,
-        }
+        Handle(RawHandle { is_open: false, at: std::ptr::null_mut() })
     }
 
-    /// The handle for one call. It is valid as long as `self`, and no call calls back.
-    pub fn raw(&self) -> *mut RawHandle {
-        self.raw.get()
+    /// A handle that `open` opens.
+    pub fn opened(open: impl FnOnce(*mut RawHandle) -> u32) -> Result<Handle, NoMemory> {
+        let mut handle = Handle::closed();
+        done(open(&mut handle.0))?;
+        Ok(handle)
+    }
+
+    pub fn get(&self) -> *const RawHandle {
+        &self.0
+    }
+
+    pub fn get_mut(&mut self) -> *mut RawHandle {
+        &mut self.0
     }
 
     pub fn count(&self) -> usize {
-        // SAFETY: the handle is valid and in no other call
-        unsafe { range_handle_count(self.raw()) }
+        unsafe { brm_count(self.get()) }
     }
 
     pub fn clear(&mut self) {
-        // SAFETY: the handle is valid and in no other call
-        unsafe { range_handle_clear(self.raw()) };
+        unsafe { brm_clear(self.get_mut()) };
+    }
+
+    pub fn copied(&self) -> Result<Handle, NoMemory> {
+        Handle::opened(|made| unsafe { brm_raw_clone(self.get(), made) })
+    }
+
+    pub fn equals(&self, other: &Handle) -> bool {
+        self.answers(other, brm_raw_equal, true)
+    }
+
+    /// What a question of this handle and the other is answered, or of it alone where they are one.
+    pub fn answers(&self, other: &Handle, asks: Asks, alone: bool) -> bool {
+        if std::ptr::eq(self, other) { alone } else { unsafe { asks(self.get(), other.get()) == DONE } }
     }
 
     pub fn to_json(&self) -> Result<String, NoMemory> {
         let mut text = Vec::new();
         loop {
             let mut size = 0;
-            // SAFETY: the handle is valid and in no other call; the bytes are the buffer's own
-            match unsafe { range_handle_save(self.raw(), text.as_mut_ptr(), text.len(), &mut size) } {
+            match unsafe { brm_save(self.get(), text.as_mut_ptr(), text.len(), &mut size) } {
                 DONE => return String::from_utf8(text).map_err(|_| unreachable!("JSON text is UTF-8")),
                 NO_ROOM => {
                     text.try_reserve_exact(size - text.len()).map_err(|_| NoMemory)?;
@@ -167,8 +271,7 @@ impl Handle {
     }
 
     pub fn load_json(&mut self, text: &str) -> Result<(), NotLoaded> {
-        // SAFETY: the handle is valid and in no other call; the bytes are the text's own
-        match unsafe { range_handle_load(self.raw(), text.as_ptr(), text.len()) } {
+        match unsafe { brm_load(self.get_mut(), text.as_ptr(), text.len()) } {
             DONE => Ok(()),
             NOT_JSON => Err(NotLoaded::NotJson),
             NOT_READ => Err(NotLoaded::NotRead),
@@ -179,7 +282,6 @@ impl Handle {
 
 impl Drop for Handle {
     fn drop(&mut self) {
-        // SAFETY: the handle is valid and in no other call
-        unsafe { range_handle_destroy(self.raw()) }
+        unsafe { brm_raw_destroy(self.get_mut()) }
     }
 }

@@ -4,23 +4,32 @@
 //! ```
 //! use btree_range_map_proved::RangeMap;
 //!
-//! let mut map: RangeMap<u64> = RangeMap::new()?;
-//! map.insert(0..=9, 1)?;
-//! map.insert(4..6, 2)?;
-//! assert_eq!(map.get(5), Some(2));
-//! assert_eq!(map.range_count(), 3);
-//! # Ok::<(), btree_range_map_proved::NoMemory>(())
+//! let mut ports: RangeMap<u16, &str> = RangeMap::new();
+//! ports.insert(0..1024, "system");
+//! ports.insert(80..=80, "web");
+//! assert_eq!(ports.get(80), Some(&"web"));
+//! assert_eq!(ports.len(), 3);
+//! for (range, owner) in &ports {
+//!     println!("{range:?}: {owner}");
+//! }
 //! ```
+//!
+//! [`RangeMap`] has values of any type that is `Eq` and `Hash`, [`RangeSet`] has keys alone, and [`NumberMap`] is the
+//! proved map as it is, with numbers as values, calls that answer by an error where memory runs out, and JSON.
 #![warn(missing_docs)]
 
+mod batches;
 mod ffi;
 mod map;
+mod numbers;
 mod range;
 mod set;
+mod values;
 
-pub use map::{IntoIter, Iter, RangeMap};
-pub use range::{Entry, Key, Range};
-pub use set::RangeSet;
+pub use map::{Iter as MapIter, RangeMap};
+pub use numbers::{Iter as NumberIter, NumberMap};
+pub use range::{Key, Range};
+pub use set::{Iter as SetIter, RangeSet};
 
 use std::fmt;
 
@@ -41,7 +50,7 @@ impl std::error::Error for NoMemory {}
 pub enum NotLoaded {
     /// The text is no JSON.
     NotJson,
-    /// The JSON is no such map or set.
+    /// The JSON is no such map.
     NotRead,
     /// There was not enough memory.
     NoMemory,
@@ -51,7 +60,7 @@ impl fmt::Display for NotLoaded {
     fn fmt(&self, f: &mut fmt::Formatter<'_>) -> fmt::Result {
         f.write_str(match self {
             NotLoaded::NotJson => "the text is no JSON",
-            NotLoaded::NotRead => "the JSON is no such map or set",
+            NotLoaded::NotRead => "the JSON is no such map",
             NotLoaded::NoMemory => "out of memory",
         })
     }

@@ -1,223 +1,370 @@
-//! Maps from ranges of keys to values.
-use crate::ffi::{self, Handle, RawLength};
-use crate::range::{Entry, Key, RawEntry, RawRange};
-use crate::{NoMemory, NotInserted, NotLoaded};
-use std::marker::PhantomData;
-use std::ops::RangeBounds;
+//! Maps from ranges of keys to values of any type.
+use crate::numbers::{self, NumberMap};
+use crate::range::{Key, Range};
+use crate::set::RangeSet;
+use crate::values::Values;
+use std::fmt;
+use std::hash::{Hash, Hasher};
+use std::iter::FusedIterator;
+use std::ops::{Bound, Index, RangeBounds};
 
 /// A map of keys to values, kept as ranges: ranges that touch and have equal values are one.
-pub struct RangeMap<K: Key> {
-    handle: Handle,
-    _keys: PhantomData<K>,
+///
+/// The proved part is the map of keys to the numbers of the values. The values themselves lie in a table, in which equal
+/// ones have one number; the table is Rust. Calls that allocate panic where memory runs out, as std's collections do;
+/// [`NumberMap`] has the calls that answer by an error.
+///
+/// ```
+/// use btree_range_map_proved::RangeMap;
+///
+/// let mut shifts = RangeMap::new();
+/// shifts.insert(0..24, "closed");
+/// shifts.insert(9..17, "open");
+/// assert_eq!(shifts.get(12), Some(&"open"));
+/// assert_eq!(format!("{shifts:?}"), r#"{0..9: "closed", 9..17: "open", 17..24: "closed"}"#);
+/// # let _: RangeMap<u8, &str> = shifts;
+/// ```
+pub struct RangeMap<K: Key, V> {
+    numbers: NumberMap<K>,
+    values: Values<V>,
 }
 
-fn done(status: u32) -> Result<(), NoMemory> {
-    if status == ffi::DONE { Ok(()) } else { Err(NoMemory) }
+const NO_MEMORY: &str = "out of memory";
+
+/// What is in the range, where it is cut to what another range holds.
+fn common<K: Key>(range: Range<K>, other: &impl RangeBounds<K>) -> Option<(K, K)> {
+    let (first, last) = range.ends()?;
+    let (least, most) =
+        Range { start: other.start_bound().cloned(), end: other.end_bound().cloned() }.ends()?;
+    let (first, last) = (first.max(least), last.min(most));
+    (first <= last).then_some((first, last))
 }
 
-// SAFETY, of each call below: the handle is the map's own, open on a map of `K`, and in no other call, since no call
-// calls back and the map is not `Sync`; what a call writes to is an initialised local.
-impl<K: Key> RangeMap<K> {
+/// The range of the keys from the first to the last.
+fn through<K: Key>((first, last): (K, K)) -> Range<K> {
+    Range { start: Bound::Included(first), end: Bound::Included(last) }
+}
+
+impl<K: Key, V: Eq + Hash> RangeMap<K, V> {
     /// A map that binds no key.
-    pub fn new() -> Result<RangeMap<K>, NoMemory> {
-        let handle = Handle::closed();
-        done(unsafe { K::create(handle.raw()) })?;
-        Ok(RangeMap { handle, _keys: PhantomData })
+    pub fn new() -> RangeMap<K, V> {
+        RangeMap { numbers: NumberMap::new().expect(NO_MEMORY), values: Values::new() }
     }
 
-    /// Binds each key of the range to the value. After an error the map is as it was.
-    pub fn insert(&mut self, range: impl RangeBounds<K>, value: u64) -> Result<(), NoMemory> {
-        done(unsafe { K::insert(self.handle.raw(), &RawRange::of(&range), value) })
-    }
-
-    /// Binds each key of a range that neither meets nor touches a stored one.
-    pub fn insert_disconnected(&mut self, range: impl RangeBounds<K>, value: u64) -> Result<(), NotInserted> {
-        match unsafe { K::insert_disconnected(self.handle.raw(), &RawRange::of(&range), value) } {
-            ffi::DONE => Ok(()),
-            ffi::CONNECTED => Err(NotInserted::Connected),
-            _ => Err(NotInserted::NoMemory),
+    /// Binds each key of the range to the value. An empty range changes nothing.
+    pub fn insert(&mut self, range: impl RangeBounds<K>, value: V) {
+        let number = self.values.number(value);
+        self.numbers.insert(range, number).expect(NO_MEMORY);
+        if self.values.is_due(self.numbers.range_count()) {
+            self.values.keep(self.numbers.iter().map(|(_, number)| number));
         }
     }
 
-    /// Binds no key of the range. After an error the map is as it was.
-    pub fn remove(&mut self, range: impl RangeBounds<K>) -> Result<(), NoMemory> {
-        done(unsafe { K::remove(self.handle.raw(), &RawRange::of(&range)) })
+    /// Binds each key of the range to the value, where none of them is bound; else gives the value back.
+    pub fn try_insert(&mut self, range: impl RangeBounds<K>, value: V) -> Result<(), V> {
+        if self.intersects((range.start_bound().cloned(), range.end_bound().cloned())) {
+            return Err(value);
+        }
+        self.insert(range, value);
+        Ok(())
     }
 
-    /// Takes all ranges away.
+    /// Binds no key of the range.
+    pub fn remove(&mut self, range: impl RangeBounds<K>) {
+        self.numbers.remove(range).expect(NO_MEMORY);
+    }
+
+    /// Takes all ranges and values away.
     pub fn clear(&mut self) {
-        self.handle.clear();
+        self.numbers.clear();
+        self.values = Values::new();
     }
 
     /// The value that the key is bound to.
-    pub fn get(&self, key: K) -> Option<u64> {
-        self.get_entry(key).map(|entry| entry.value)
+    pub fn get(&self, key: K) -> Option<&V> {
+        self.numbers.get(key).map(|number| self.values.get(number))
     }
 
     /// The stored range that holds the key, with its value.
-    pub fn get_entry(&self, key: K) -> Option<Entry<K>> {
-        entry(|it| unsafe { K::get(self.handle.raw(), key, it) })
+    pub fn get_range_value(&self, key: K) -> Option<(Range<K>, &V)> {
+        self.shown(self.numbers.get_range_value(key))
     }
 
     /// Whether the key is bound.
     pub fn contains_key(&self, key: K) -> bool {
-        (unsafe { K::contains(self.handle.raw(), key) }) == ffi::DONE
+        self.numbers.contains_key(key)
     }
 
     /// Whether some key of the range is bound.
     pub fn intersects(&self, range: impl RangeBounds<K>) -> bool {
-        (unsafe { K::intersects(self.handle.raw(), &RawRange::of(&range)) }) == ffi::DONE
+        self.numbers.intersects(range)
     }
 
     /// How many ranges are stored.
-    pub fn range_count(&self) -> usize {
-        self.handle.count()
+    pub fn len(&self) -> usize {
+        self.numbers.range_count()
     }
 
     /// Whether no key is bound.
     pub fn is_empty(&self) -> bool {
-        self.range_count() == 0
+        self.len() == 0
     }
 
     /// How many keys are bound. Goes over all stored ranges.
-    pub fn len(&self) -> u128 {
-        let mut length = RawLength::default();
-        unsafe { K::len(self.handle.raw(), &mut length) };
-        length.number()
+    pub fn key_count(&self) -> u128 {
+        self.numbers.key_count()
     }
 
     /// The first stored range, with its value.
-    pub fn first(&self) -> Option<Entry<K>> {
-        entry(|it| unsafe { K::first(self.handle.raw(), it) })
+    pub fn first_range_value(&self) -> Option<(Range<K>, &V)> {
+        self.shown(self.numbers.first_range_value())
     }
 
     /// The last stored range, with its value.
-    pub fn last(&self) -> Option<Entry<K>> {
-        entry(|it| unsafe { K::last(self.handle.raw(), it) })
+    pub fn last_range_value(&self) -> Option<(Range<K>, &V)> {
+        self.shown(self.numbers.last_range_value())
     }
 
-    /// The first stored range that ends at the key or after it, with its value.
-    pub fn next(&self, key: K) -> Option<Entry<K>> {
-        entry(|it| unsafe { K::next(self.handle.raw(), key, it) })
-    }
-
-    /// The last stored range that starts at the key or before it, with its value.
-    pub fn previous(&self, key: K) -> Option<Entry<K>> {
-        entry(|it| unsafe { K::previous(self.handle.raw(), key, it) })
-    }
-
-    /// The stored ranges with their values, ascending. A step costs one search.
-    pub fn iter(&self) -> Iter<'_, K> {
-        Iter { map: self, from: Some(K::LEAST) }
-    }
-
-    /// Takes the first stored range out.
-    pub fn pop_first(&mut self) -> Option<Entry<K>> {
-        entry(|it| unsafe { K::pop_first(self.handle.raw(), it) })
+    /// Takes the first stored range out. Its value stays in the map where other ranges have it, so it is cloned.
+    pub fn pop_first(&mut self) -> Option<(Range<K>, V)>
+    where
+        V: Clone,
+    {
+        self.numbers.pop_first().map(|(range, number)| (range, self.values.get(number).clone()))
     }
 
     /// Takes the last stored range out.
-    pub fn pop_last(&mut self) -> Option<Entry<K>> {
-        entry(|it| unsafe { K::pop_last(self.handle.raw(), it) })
+    pub fn pop_last(&mut self) -> Option<(Range<K>, V)>
+    where
+        V: Clone,
+    {
+        self.numbers.pop_last().map(|(range, number)| (range, self.values.get(number).clone()))
     }
 
-    /// What is stored as JSON text.
-    pub fn to_json(&self) -> Result<String, NoMemory> {
-        self.handle.to_json()
+    /// The stored ranges with their values, in ascending order, from both ends.
+    pub fn iter(&self) -> Iter<'_, K, V> {
+        Iter { numbers: self.numbers.iter(), values: &self.values }
     }
 
-    /// Becomes what the JSON text is read as. After an error the map is as it was.
-    pub fn load_json(&mut self, text: &str) -> Result<(), NotLoaded> {
-        self.handle.load_json(text)
+    /// The stored ranges that hold a key of the range, whole, with their values, in ascending order.
+    pub fn overlapping<'a>(
+        &'a self,
+        range: impl RangeBounds<K> + 'a,
+    ) -> impl Iterator<Item = (Range<K>, &'a V)> + 'a {
+        let ends = Range { start: range.start_bound().cloned(), end: range.end_bound().cloned() }.ends();
+        let mut from = ends.map(|(first, _)| first);
+        std::iter::from_fn(move || {
+            let (found, number) = self.numbers.next(from?)?;
+            common(found, &range)?;
+            from = found.ends().and_then(|(_, last)| last.successor());
+            Some((found, self.values.get(number)))
+        })
     }
 
-    /// Binds each range of the iterator to its value, up to the first error.
-    pub fn try_extend<R: RangeBounds<K>>(
-        &mut self,
-        ranges: impl IntoIterator<Item = (R, u64)>,
-    ) -> Result<(), NoMemory> {
-        ranges.into_iter().try_for_each(|(range, value)| self.insert(range, value))
+    /// The parts of the range that are bound, each with its value, in ascending order.
+    pub fn pieces<'a>(
+        &'a self,
+        range: impl RangeBounds<K> + Clone + 'a,
+    ) -> impl Iterator<Item = (Range<K>, &'a V)> + 'a {
+        self.overlapping(range.clone())
+            .filter_map(move |(found, value)| Some((through(common(found, &range)?), value)))
+    }
+
+    /// The parts of the range of which no key is bound, in ascending order.
+    pub fn gaps<'a>(
+        &'a self,
+        range: impl RangeBounds<K> + Clone + 'a,
+    ) -> impl Iterator<Item = Range<K>> + 'a {
+        let ends = Range { start: range.start_bound().cloned(), end: range.end_bound().cloned() }.ends();
+        let mut rest = ends;
+        let mut bound = self.pieces(range);
+        std::iter::from_fn(move || {
+            while let Some((first, last)) = rest {
+                let Some((found, _)) = bound.next() else {
+                    rest = None;
+                    return Some(through((first, last)));
+                };
+                let (start, end) = found.ends()?;
+                rest = end.successor().filter(|next| *next <= last).map(|next| (next, last));
+                if first < start {
+                    return Some(through((first, start.predecessor()?)));
+                }
+            }
+            None
+        })
+    }
+
+    /// Keeps of the map what lies before the key, and returns the rest.
+    pub fn split_off(&mut self, key: K) -> RangeMap<K, V>
+    where
+        V: Clone,
+    {
+        let rest = self.pieces(key..).map(|(range, value)| (range, value.clone())).collect();
+        self.remove(key..);
+        rest
+    }
+
+    /// Moves all bindings of the other map into this one, where they replace those of the same keys.
+    pub fn append(&mut self, other: &mut RangeMap<K, V>)
+    where
+        V: Clone,
+    {
+        self.extend(other.iter().map(|(range, value)| (range, value.clone())));
+        other.clear();
+    }
+
+    /// A map that binds each key as the other does, or else as this one does.
+    pub fn overlay(&self, other: &RangeMap<K, V>) -> RangeMap<K, V>
+    where
+        V: Clone,
+    {
+        let mut made = self.clone();
+        made.extend(other.iter().map(|(range, value)| (range, value.clone())));
+        made
+    }
+
+    /// A map of the bindings of keys that the set has.
+    pub fn restrict(&self, keys: &RangeSet<K>) -> RangeMap<K, V>
+    where
+        V: Clone,
+    {
+        keys.iter()
+            .flat_map(|range| {
+                self.pieces(range).map(|(piece, value)| (piece, value.clone())).collect::<Vec<_>>()
+            })
+            .collect()
+    }
+
+    /// A map of the bindings of keys that the set has not.
+    pub fn without(&self, keys: &RangeSet<K>) -> RangeMap<K, V>
+    where
+        V: Clone,
+    {
+        let mut made = self.clone();
+        keys.iter().for_each(|range| made.remove(range));
+        made
+    }
+
+    /// The map of keys to the numbers of the values, which the library keeps.
+    pub fn as_numbers(&self) -> &NumberMap<K> {
+        &self.numbers
+    }
+
+    #[cfg(test)]
+    pub(crate) fn kept_values(&self) -> usize {
+        self.values.kept()
+    }
+
+    fn shown(&self, found: Option<(Range<K>, u64)>) -> Option<(Range<K>, &V)> {
+        found.map(|(range, number)| (range, self.values.get(number)))
     }
 }
 
-fn entry<K: Key>(call: impl FnOnce(&mut RawEntry<K>) -> u32) -> Option<Entry<K>> {
-    let mut found = RawEntry::default();
-    (call(&mut found) == ffi::DONE).then(|| found.entry())
+impl<K: Key, V: Eq + Hash> Default for RangeMap<K, V> {
+    fn default() -> RangeMap<K, V> {
+        RangeMap::new()
+    }
 }
 
-/// Panics where memory runs out, as std's collections do.
-impl<K: Key, R: RangeBounds<K>> FromIterator<(R, u64)> for RangeMap<K> {
-    fn from_iter<I: IntoIterator<Item = (R, u64)>>(ranges: I) -> RangeMap<K> {
-        let mut map = RangeMap::new().expect("out of memory");
+impl<K: Key, V: Eq + Hash + Clone> Clone for RangeMap<K, V> {
+    fn clone(&self) -> RangeMap<K, V> {
+        RangeMap { numbers: self.numbers.try_clone().expect(NO_MEMORY), values: self.values.clone() }
+    }
+}
+
+/// Two maps are equal where they bind each key alike.
+impl<K: Key, V: Eq + Hash> PartialEq for RangeMap<K, V> {
+    fn eq(&self, other: &RangeMap<K, V>) -> bool {
+        self.len() == other.len()
+            && self.iter().zip(other.iter()).all(|((range, value), (second, other_value))| {
+                range.ends() == second.ends() && value == other_value
+            })
+    }
+}
+
+impl<K: Key, V: Eq + Hash> Eq for RangeMap<K, V> {}
+
+impl<K: Key + Hash, V: Eq + Hash> Hash for RangeMap<K, V> {
+    fn hash<H: Hasher>(&self, state: &mut H) {
+        self.len().hash(state);
+        self.iter().for_each(|(range, value)| (range.ends(), value).hash(state));
+    }
+}
+
+impl<K: Key, V: Eq + Hash + fmt::Debug> fmt::Debug for RangeMap<K, V> {
+    fn fmt(&self, f: &mut fmt::Formatter<'_>) -> fmt::Result {
+        f.debug_map().entries(self.iter()).finish()
+    }
+}
+
+/// Panics where the key is not bound.
+impl<K: Key, V: Eq + Hash> Index<K> for RangeMap<K, V> {
+    type Output = V;
+
+    fn index(&self, key: K) -> &V {
+        self.get(key).expect("the key is not bound")
+    }
+}
+
+impl<K: Key, V: Eq + Hash, R: RangeBounds<K>> Extend<(R, V)> for RangeMap<K, V> {
+    fn extend<I: IntoIterator<Item = (R, V)>>(&mut self, ranges: I) {
+        ranges.into_iter().for_each(|(range, value)| self.insert(range, value));
+    }
+}
+
+impl<K: Key, V: Eq + Hash, R: RangeBounds<K>> FromIterator<(R, V)> for RangeMap<K, V> {
+    fn from_iter<I: IntoIterator<Item = (R, V)>>(ranges: I) -> RangeMap<K, V> {
+        let mut map = RangeMap::new();
         map.extend(ranges);
         map
     }
 }
 
-/// Panics where memory runs out, as std's collections do.
-impl<K: Key, R: RangeBounds<K>> Extend<(R, u64)> for RangeMap<K> {
-    fn extend<I: IntoIterator<Item = (R, u64)>>(&mut self, ranges: I) {
-        self.try_extend(ranges).expect("out of memory");
+impl<K: Key, V: Eq + Hash, R: RangeBounds<K>, const N: usize> From<[(R, V); N]> for RangeMap<K, V> {
+    fn from(ranges: [(R, V); N]) -> RangeMap<K, V> {
+        ranges.into_iter().collect()
     }
 }
 
-/// The stored ranges with their values, ascending.
-#[derive(Clone)]
-pub struct Iter<'a, K: Key> {
-    map: &'a RangeMap<K>,
-    from: Option<K>,
+/// The stored ranges of a [`RangeMap`] with their values, in ascending order, from both ends.
+pub struct Iter<'a, K: Key, V> {
+    numbers: numbers::Iter<'a, K>,
+    values: &'a Values<V>,
 }
 
-impl<K: Key> Iterator for Iter<'_, K> {
-    type Item = Entry<K>;
-
-    fn next(&mut self) -> Option<Entry<K>> {
-        let found = self.map.next(self.from?);
-        self.from = found.and_then(|entry| entry.range.past());
-        found
+impl<K: Key, V> Clone for Iter<'_, K, V> {
+    fn clone(&self) -> Self {
+        Iter { numbers: self.numbers.clone(), values: self.values }
     }
 }
 
-impl<'a, K: Key> IntoIterator for &'a RangeMap<K> {
-    type Item = Entry<K>;
-    type IntoIter = Iter<'a, K>;
+impl<'a, K: Key, V: Eq + Hash> Iterator for Iter<'a, K, V> {
+    type Item = (Range<K>, &'a V);
 
-    fn into_iter(self) -> Iter<'a, K> {
-        self.iter()
-    }
-}
-
-/// The stored ranges with their values, ascending, taken out of the map from both ends.
-pub struct IntoIter<K: Key> {
-    map: RangeMap<K>,
-}
-
-impl<K: Key> IntoIterator for RangeMap<K> {
-    type Item = Entry<K>;
-    type IntoIter = IntoIter<K>;
-
-    fn into_iter(self) -> IntoIter<K> {
-        IntoIter { map: self }
-    }
-}
-
-impl<K: Key> Iterator for IntoIter<K> {
-    type Item = Entry<K>;
-
-    fn next(&mut self) -> Option<Entry<K>> {
-        self.map.pop_first()
+    fn next(&mut self) -> Option<(Range<K>, &'a V)> {
+        self.numbers.next().map(|(range, number)| (range, self.values.get(number)))
     }
 
     fn size_hint(&self) -> (usize, Option<usize>) {
-        let left = self.map.range_count();
-        (left, Some(left))
+        self.numbers.size_hint()
     }
 }
 
-impl<K: Key> DoubleEndedIterator for IntoIter<K> {
-    fn next_back(&mut self) -> Option<Entry<K>> {
-        self.map.pop_last()
+impl<K: Key, V: Eq + Hash> DoubleEndedIterator for Iter<'_, K, V> {
+    fn next_back(&mut self) -> Option<Self::Item> {
+        self.numbers.next_back().map(|(range, number)| (range, self.values.get(number)))
     }
 }
 
-impl<K: Key> ExactSizeIterator for IntoIter<K> {}
+impl<K: Key, V: Eq + Hash> ExactSizeIterator for Iter<'_, K, V> {}
+
+impl<K: Key, V: Eq + Hash> FusedIterator for Iter<'_, K, V> {}
+
+impl<'a, K: Key, V: Eq + Hash> IntoIterator for &'a RangeMap<K, V> {
+    type Item = (Range<K>, &'a V);
+    type IntoIter = Iter<'a, K, V>;
+
+    fn into_iter(self) -> Iter<'a, K, V> {
+        self.iter()
+    }
+}

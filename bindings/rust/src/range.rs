@@ -1,28 +1,10 @@
-//! Ranges, as callers write them and as they cross.
-use std::ops::{Bound, RangeBounds};
-
-const START_EXCLUDED: u32 = 1;
-const START_UNBOUNDED: u32 = 2;
-const END_EXCLUDED: u32 = 4;
-const END_UNBOUNDED: u32 = 8;
-
-#[repr(C)]
-#[derive(Clone, Copy, Default)]
-pub struct RawRange<K> {
-    start: K,
-    end: K,
-    flags: u32,
-}
-
-#[repr(C)]
-#[derive(Clone, Copy, Default)]
-pub struct RawEntry<K> {
-    pub range: RawRange<K>,
-    pub value: u64,
-}
+//! Ranges and keys, as callers write them and as they cross.
+use crate::ffi::{self, Binds, Calls, RawEntry, RawRange};
+use std::fmt;
+use std::ops::{self, Bound, RangeBounds};
 
 /// A stored range: its start and its end, each of which it holds, does not hold, or has not.
-#[derive(Clone, Copy, Debug, PartialEq, Eq, Hash)]
+#[derive(Clone, Copy, PartialEq, Eq, Hash)]
 pub struct Range<K> {
     /// Where the keys start.
     pub start: Bound<K>,
@@ -40,201 +22,245 @@ impl<K> RangeBounds<K> for Range<K> {
     }
 }
 
-/// A stored range with its value.
-#[derive(Clone, Copy, Debug, PartialEq, Eq, Hash)]
-pub struct Entry<K> {
-    /// The keys.
-    pub range: Range<K>,
-    /// The value that they are bound to.
-    pub value: u64,
-}
-
-impl<K: Copy + Default> RawRange<K> {
-    pub fn of(range: &impl RangeBounds<K>) -> RawRange<K> {
-        let (start, start_flag) = parts(range.start_bound(), START_EXCLUDED, START_UNBOUNDED);
-        let (end, end_flag) = parts(range.end_bound(), END_EXCLUDED, END_UNBOUNDED);
-        RawRange { start, end, flags: start_flag | end_flag }
-    }
-
-    pub fn range(&self) -> Range<K> {
-        Range {
-            start: bound(self.start, self.flags & START_EXCLUDED != 0, self.flags & START_UNBOUNDED != 0),
-            end: bound(self.end, self.flags & END_EXCLUDED != 0, self.flags & END_UNBOUNDED != 0),
+/// As Rust writes it: `1..5`, `1..=5`, `..5`, and a start that is not held as `1<..5`.
+impl<K: fmt::Debug> fmt::Debug for Range<K> {
+    fn fmt(&self, f: &mut fmt::Formatter<'_>) -> fmt::Result {
+        match &self.start {
+            Bound::Included(key) => write!(f, "{key:?}..")?,
+            Bound::Excluded(key) => write!(f, "{key:?}<..")?,
+            Bound::Unbounded => f.write_str("..")?,
+        }
+        match &self.end {
+            Bound::Included(key) => write!(f, "={key:?}"),
+            Bound::Excluded(key) => write!(f, "{key:?}"),
+            Bound::Unbounded => Ok(()),
         }
     }
 }
 
-impl<K: Copy + Default> RawEntry<K> {
-    pub fn entry(&self) -> Entry<K> {
-        Entry { range: self.range.range(), value: self.value }
+macro_rules! from_range {
+    ($($range:ty),*) => {$(
+        impl<K: Clone> From<$range> for Range<K> {
+            fn from(range: $range) -> Range<K> {
+                Range { start: range.start_bound().cloned(), end: range.end_bound().cloned() }
+            }
+        }
+    )*};
+}
+
+from_range!(
+    ops::Range<K>,
+    ops::RangeInclusive<K>,
+    ops::RangeFrom<K>,
+    ops::RangeTo<K>,
+    ops::RangeToInclusive<K>,
+    (Bound<K>, Bound<K>)
+);
+
+impl<K> From<ops::RangeFull> for Range<K> {
+    fn from(_: ops::RangeFull) -> Range<K> {
+        Range { start: Bound::Unbounded, end: Bound::Unbounded }
     }
 }
 
-fn parts<K: Copy + Default>(bound: Bound<&K>, excluded: u32, unbounded: u32) -> (K, u32) {
-    match bound {
-        Bound::Included(key) => (*key, 0),
-        Bound::Excluded(key) => (*key, excluded),
-        Bound::Unbounded => (K::default(), unbounded),
-    }
-}
-
-fn bound<K>(key: K, excluded: bool, unbounded: bool) -> Bound<K> {
-    match (excluded, unbounded) {
-        (_, true) => Bound::Unbounded,
-        (true, false) => Bound::Excluded(key),
-        (false, false) => Bound::Included(key),
-    }
-}
-
-/// A type of keys that the library has maps for: `u64` and `i64`.
-pub trait Key: Copy + Default + sealed::Calls {
+/// A type of keys: an integer type of up to 64 bits, or `char`. In the library a key is its number, a `u64` or an `i64`;
+/// numbers of keys that follow one another do so too.
+pub trait Key: Copy + Ord + fmt::Debug + sealed::Numbered {
     /// The least key.
     const LEAST: Self;
 
+    /// The greatest key.
+    const GREATEST: Self;
+
     /// The next key, where there is one.
     fn successor(self) -> Option<Self>;
+
+    /// The key before, where there is one.
+    fn predecessor(self) -> Option<Self>;
 }
 
-impl Key for u64 {
-    const LEAST: u64 = 0;
+pub(crate) mod sealed {
+    use super::{Binds, Calls, RawEntry};
 
-    fn successor(self) -> Option<u64> {
-        self.checked_add(1)
+    /// A type of keys that the library has maps for: `u64` and `i64`.
+    pub trait Native: Copy + Default + Ord + 'static {
+        /// The calls on maps of these keys.
+        const CALLS: &'static Calls<Self, RawEntry<Self>>;
+        const BINDS: &'static Binds<Self>;
+    }
+
+    /// How a key crosses to the library.
+    pub trait Numbered: Sized {
+        type Native: Native + super::Key<Native = Self::Native>;
+
+        /// Whether the key type is the native one, whose ends an unbounded range may keep.
+        const IS_NATIVE: bool;
+
+        fn number(self) -> Self::Native;
+
+        /// The key of a number that a key has.
+        fn of_number(number: Self::Native) -> Self;
+
+        /// The key's place among all keys, from 0 on, as a set keeps it.
+        fn place(self) -> u64;
+
+        fn of_place(place: u64) -> Self;
     }
 }
 
-impl Key for i64 {
-    const LEAST: i64 = i64::MIN;
+impl sealed::Native for u64 {
+    const CALLS: &'static Calls<u64, RawEntry<u64>> = &ffi::unsigned::CALLS;
+    const BINDS: &'static Binds<u64> = &ffi::unsigned_binds::BINDS;
+}
 
-    fn successor(self) -> Option<i64> {
-        self.checked_add(1)
+impl sealed::Native for i64 {
+    const CALLS: &'static Calls<i64, RawEntry<i64>> = &ffi::signed::CALLS;
+    const BINDS: &'static Binds<i64> = &ffi::signed_binds::BINDS;
+}
+
+macro_rules! integer_keys {
+    ($native:ty, $is_native:expr, $place:expr, $of_place:expr, $($key:ty),*) => {$(
+        impl Key for $key {
+            const LEAST: $key = <$key>::MIN;
+            const GREATEST: $key = <$key>::MAX;
+
+            fn successor(self) -> Option<$key> {
+                self.checked_add(1)
+            }
+
+            fn predecessor(self) -> Option<$key> {
+                self.checked_sub(1)
+            }
+        }
+
+        impl sealed::Numbered for $key {
+            type Native = $native;
+            const IS_NATIVE: bool = $is_native;
+
+            fn number(self) -> $native {
+                self as $native
+            }
+
+            fn of_number(number: $native) -> $key {
+                number as $key
+            }
+
+            fn place(self) -> u64 {
+                $place(self as $native)
+            }
+
+            fn of_place(place: u64) -> $key {
+                $of_place(place) as $key
+            }
+        }
+    )*};
+}
+
+const SIGN: u64 = 1 << 63;
+
+integer_keys!(u64, true, |key: u64| key, |place: u64| place, u64);
+integer_keys!(u64, false, |key: u64| key, |place: u64| place, u8, u16, u32, usize);
+integer_keys!(i64, true, |key: i64| key as u64 ^ SIGN, |place: u64| (place ^ SIGN) as i64, i64);
+integer_keys!(
+    i64,
+    false,
+    |key: i64| key as u64 ^ SIGN,
+    |place: u64| (place ^ SIGN) as i64,
+    i8,
+    i16,
+    i32,
+    isize
+);
+
+/// How many code points are no characters, and which is the first.
+const SURROGATES: u32 = 0x800;
+const FIRST_SURROGATE: u32 = 0xd800;
+
+impl Key for char {
+    const LEAST: char = '\0';
+    const GREATEST: char = char::MAX;
+
+    fn successor(self) -> Option<char> {
+        (self..).nth(1)
+    }
+
+    fn predecessor(self) -> Option<char> {
+        ('\0'..self).next_back()
+    }
+}
+
+impl sealed::Numbered for char {
+    type Native = u64;
+    const IS_NATIVE: bool = false;
+
+    fn number(self) -> u64 {
+        let code = self as u32;
+        u64::from(if code < FIRST_SURROGATE { code } else { code - SURROGATES })
+    }
+
+    fn of_number(number: u64) -> char {
+        let number = number as u32;
+        let code = if number < FIRST_SURROGATE { number } else { number + SURROGATES };
+        char::from_u32(code).expect("the number of a character")
+    }
+
+    fn place(self) -> u64 {
+        self.number()
+    }
+
+    fn of_place(place: u64) -> char {
+        char::of_number(place)
+    }
+}
+
+/// The range as the library reads it, by what `number` makes of keys. An unbounded end of keys that are not native is
+/// their least or greatest key.
+pub fn raw_range<K: Key, N: Default>(
+    range: &impl RangeBounds<K>,
+    is_native: bool,
+    number: impl Fn(K) -> N,
+) -> RawRange<N> {
+    let (start, start_flag) = match range.start_bound() {
+        Bound::Included(key) => (number(*key), 0),
+        Bound::Excluded(key) => (number(*key), ffi::START_EXCLUDED),
+        Bound::Unbounded if is_native => (N::default(), ffi::START_UNBOUNDED),
+        Bound::Unbounded => (number(K::LEAST), 0),
+    };
+    let (end, end_flag) = match range.end_bound() {
+        Bound::Included(key) => (number(*key), 0),
+        Bound::Excluded(key) => (number(*key), ffi::END_EXCLUDED),
+        Bound::Unbounded if is_native => (N::default(), ffi::END_UNBOUNDED),
+        Bound::Unbounded => (number(K::GREATEST), 0),
+    };
+    RawRange { start, end, flags: start_flag | end_flag }
+}
+
+/// The range that the library wrote, by the key of a number.
+pub fn range_of<K, N: Copy>(raw: &RawRange<N>, key: impl Fn(N) -> K) -> Range<K> {
+    let bound = |number, excluded, unbounded| match (raw.flags & excluded != 0, raw.flags & unbounded != 0) {
+        (_, true) => Bound::Unbounded,
+        (true, false) => Bound::Excluded(key(number)),
+        (false, false) => Bound::Included(key(number)),
+    };
+    Range {
+        start: bound(raw.start, ffi::START_EXCLUDED, ffi::START_UNBOUNDED),
+        end: bound(raw.end, ffi::END_EXCLUDED, ffi::END_UNBOUNDED),
     }
 }
 
 impl<K: Key> Range<K> {
-    /// The key from which a walk goes on past the range.
-    pub(crate) fn past(&self) -> Option<K> {
-        match self.end {
-            Bound::Included(key) => key.successor(),
-            Bound::Excluded(key) => Some(key),
-            Bound::Unbounded => None,
-        }
-    }
-}
-
-pub(crate) mod sealed {
-    use super::{RawEntry, RawRange};
-    use crate::ffi::{self, RawHandle, RawLength};
-
-    /// The library's calls at a type of keys.
-    ///
-    /// # Safety
-    /// A caller passes a valid handle that is in no other call.
-    #[allow(missing_docs)]
-    pub trait Calls: Sized {
-        unsafe fn create(map: *mut RawHandle) -> u32;
-        unsafe fn insert(map: *mut RawHandle, range: &RawRange<Self>, value: u64) -> u32;
-        unsafe fn insert_disconnected(map: *mut RawHandle, range: &RawRange<Self>, value: u64) -> u32;
-        unsafe fn remove(map: *mut RawHandle, range: &RawRange<Self>) -> u32;
-        unsafe fn get(map: *mut RawHandle, key: Self, entry: &mut RawEntry<Self>) -> u32;
-        unsafe fn contains(map: *mut RawHandle, key: Self) -> u32;
-        unsafe fn intersects(map: *mut RawHandle, range: &RawRange<Self>) -> u32;
-        unsafe fn len(map: *mut RawHandle, length: &mut RawLength) -> u32;
-        unsafe fn first(map: *mut RawHandle, entry: &mut RawEntry<Self>) -> u32;
-        unsafe fn last(map: *mut RawHandle, entry: &mut RawEntry<Self>) -> u32;
-        unsafe fn next(map: *mut RawHandle, key: Self, entry: &mut RawEntry<Self>) -> u32;
-        unsafe fn previous(map: *mut RawHandle, key: Self, entry: &mut RawEntry<Self>) -> u32;
-        unsafe fn pop_first(map: *mut RawHandle, entry: &mut RawEntry<Self>) -> u32;
-        unsafe fn pop_last(map: *mut RawHandle, entry: &mut RawEntry<Self>) -> u32;
-    }
-
-    macro_rules! calls {
-        ($key:ty, $create:ident, $insert:ident, $insert_disconnected:ident, $remove:ident, $get:ident,
-         $contains:ident, $intersects:ident, $len:ident, $first:ident, $last:ident, $next:ident, $previous:ident, $pop_first:ident,
-         $pop_last:ident) => {
-            impl Calls for $key {
-                unsafe fn create(map: *mut RawHandle) -> u32 {
-                    unsafe { ffi::$create(map) }
-                }
-                unsafe fn insert(map: *mut RawHandle, range: &RawRange<$key>, value: u64) -> u32 {
-                    unsafe { ffi::$insert(map, range, value) }
-                }
-                unsafe fn insert_disconnected(
-                    map: *mut RawHandle,
-                    range: &RawRange<$key>,
-                    value: u64,
-                ) -> u32 {
-                    unsafe { ffi::$insert_disconnected(map, range, value) }
-                }
-                unsafe fn remove(map: *mut RawHandle, range: &RawRange<$key>) -> u32 {
-                    unsafe { ffi::$remove(map, range) }
-                }
-                unsafe fn get(map: *mut RawHandle, key: $key, entry: &mut RawEntry<$key>) -> u32 {
-                    unsafe { ffi::$get(map, key, entry) }
-                }
-                unsafe fn contains(map: *mut RawHandle, key: $key) -> u32 {
-                    unsafe { ffi::$contains(map, key) }
-                }
-                unsafe fn intersects(map: *mut RawHandle, range: &RawRange<$key>) -> u32 {
-                    unsafe { ffi::$intersects(map, range) }
-                }
-                unsafe fn len(map: *mut RawHandle, length: &mut RawLength) -> u32 {
-                    unsafe { ffi::$len(map, length) }
-                }
-                unsafe fn first(map: *mut RawHandle, entry: &mut RawEntry<$key>) -> u32 {
-                    unsafe { ffi::$first(map, entry) }
-                }
-                unsafe fn last(map: *mut RawHandle, entry: &mut RawEntry<$key>) -> u32 {
-                    unsafe { ffi::$last(map, entry) }
-                }
-                unsafe fn next(map: *mut RawHandle, key: $key, entry: &mut RawEntry<$key>) -> u32 {
-                    unsafe { ffi::$next(map, key, entry) }
-                }
-                unsafe fn previous(map: *mut RawHandle, key: $key, entry: &mut RawEntry<$key>) -> u32 {
-                    unsafe { ffi::$previous(map, key, entry) }
-                }
-                unsafe fn pop_first(map: *mut RawHandle, entry: &mut RawEntry<$key>) -> u32 {
-                    unsafe { ffi::$pop_first(map, entry) }
-                }
-                unsafe fn pop_last(map: *mut RawHandle, entry: &mut RawEntry<$key>) -> u32 {
-                    unsafe { ffi::$pop_last(map, entry) }
-                }
-            }
+    /// The first and the last key, where there is one.
+    pub fn ends(&self) -> Option<(K, K)> {
+        let first = match self.start {
+            Bound::Included(key) => key,
+            Bound::Excluded(key) => key.successor()?,
+            Bound::Unbounded => K::LEAST,
         };
+        let last = match self.end {
+            Bound::Included(key) => key,
+            Bound::Excluded(key) => key.predecessor()?,
+            Bound::Unbounded => K::GREATEST,
+        };
+        (first <= last).then_some((first, last))
     }
-
-    calls!(
-        u64,
-        range_map_u64_create,
-        range_map_u64_insert,
-        range_map_u64_insert_disconnected,
-        range_map_u64_remove,
-        range_map_u64_get,
-        range_map_u64_contains,
-        range_map_u64_intersects,
-        range_map_u64_len,
-        range_map_u64_first,
-        range_map_u64_last,
-        range_map_u64_next,
-        range_map_u64_previous,
-        range_map_u64_pop_first,
-        range_map_u64_pop_last
-    );
-    calls!(
-        i64,
-        range_map_i64_create,
-        range_map_i64_insert,
-        range_map_i64_insert_disconnected,
-        range_map_i64_remove,
-        range_map_i64_get,
-        range_map_i64_contains,
-        range_map_i64_intersects,
-        range_map_i64_len,
-        range_map_i64_first,
-        range_map_i64_last,
-        range_map_i64_next,
-        range_map_i64_previous,
-        range_map_i64_pop_first,
-        range_map_i64_pop_last
-    );
 }

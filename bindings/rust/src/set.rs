@@ -1,158 +1,342 @@
-//! Sets of `u64` keys.
-use crate::ffi::{self, Handle, RawHandle, RawLength};
-use crate::range::{Range, RawRange};
-use crate::{NoMemory, NotLoaded};
-use std::ops::RangeBounds;
+//! Sets of keys.
+use crate::batches::Batches;
+use crate::ffi::{self, Handle, RawLength, RawRange, TwoSets, done};
+use crate::range::{Key, Range, range_of, raw_range};
+use crate::{NoMemory, ffi::set::CALLS};
+use std::fmt;
+use std::hash::{Hash, Hasher};
+use std::iter::FusedIterator;
+use std::marker::PhantomData;
+use std::ops::{BitAnd, BitOr, BitXor, RangeBounds, Sub};
 
-/// A set of `u64` keys, kept as ranges that neither meet nor touch.
-pub struct RangeSet {
+/// A set of keys, kept as ranges that neither meet nor touch.
+///
+/// Calls that allocate panic where memory runs out, as std's collections do; those named `try_` answer by an error.
+///
+/// ```
+/// use btree_range_map_proved::RangeSet;
+///
+/// let letters: RangeSet<char> = ['a'..='z', 'A'..='Z'].into_iter().collect();
+/// let vowels: RangeSet<char> = ["aeiou", "AEIOU"].concat().chars().map(|it| it..=it).collect();
+/// let consonants = &letters - &vowels;
+/// assert_eq!((consonants.key_count(), consonants.contains('b'), consonants.contains('e')), (42, true, false));
+/// assert!(consonants.is_subset(&letters));
+/// ```
+pub struct RangeSet<K: Key> {
     handle: Handle,
+    _keys: PhantomData<K>,
 }
 
-/// A call that opens the third handle on a set made of the first two.
-type TwoSets = unsafe extern "C" fn(*mut RawHandle, *mut RawHandle, *mut RawHandle) -> u32;
+const NO_MEMORY: &str = "out of memory";
 
-fn done(status: u32) -> Result<(), NoMemory> {
-    if status == ffi::DONE { Ok(()) } else { Err(NoMemory) }
+fn raw<K: Key>(range: &impl RangeBounds<K>) -> RawRange<u64> {
+    raw_range(range, K::IS_NATIVE, K::place)
 }
 
-fn found(call: impl FnOnce(&mut RawRange<u64>) -> u32) -> Option<Range<u64>> {
+fn found<K: Key>(call: impl FnOnce(&mut RawRange<u64>) -> u32) -> Option<Range<K>> {
     let mut range = RawRange::default();
-    (call(&mut range) == ffi::DONE).then(|| range.range())
+    (call(&mut range) == ffi::DONE).then(|| range_of(&range, K::of_place))
 }
 
-// SAFETY, of each call below: the handle is the set's own, open on a set, and in no other call; the handles of one call are
-// not one; what a call writes to
-// is an initialised local.
-impl RangeSet {
+// SAFETY, of each call below: the handle is the set's own, open on a set, and written by no other call, by the references
+// to the set; the handles of one call are not one; what a call writes to is an initialised local.
+impl<K: Key> RangeSet<K> {
     /// A set without a key.
-    pub fn new() -> Result<RangeSet, NoMemory> {
-        let handle = Handle::closed();
-        done(unsafe { ffi::range_set_u64_create(handle.raw()) })?;
-        Ok(RangeSet { handle })
+    pub fn new() -> RangeSet<K> {
+        RangeSet::opened(|made| unsafe { (CALLS.create)(made) }).expect(NO_MEMORY)
+    }
+
+    fn opened(open: impl FnOnce(*mut ffi::RawHandle) -> u32) -> Result<RangeSet<K>, NoMemory> {
+        Ok(RangeSet { handle: Handle::opened(open)?, _keys: PhantomData })
+    }
+
+    /// Adds each key of the range.
+    pub fn insert(&mut self, range: impl RangeBounds<K>) {
+        self.try_insert(range).expect(NO_MEMORY);
     }
 
     /// Adds each key of the range. After an error the set is as it was.
-    pub fn insert(&mut self, range: impl RangeBounds<u64>) -> Result<(), NoMemory> {
-        done(unsafe { ffi::range_set_u64_insert(self.handle.raw(), &RawRange::of(&range)) })
+    pub fn try_insert(&mut self, range: impl RangeBounds<K>) -> Result<(), NoMemory> {
+        done(unsafe { ffi::brm_set_u64_insert(self.handle.get_mut(), &raw(&range)) })
+    }
+
+    /// Takes each key of the range away.
+    pub fn remove(&mut self, range: impl RangeBounds<K>) {
+        self.try_remove(range).expect(NO_MEMORY);
     }
 
     /// Takes each key of the range away. After an error the set is as it was.
-    pub fn remove(&mut self, range: impl RangeBounds<u64>) -> Result<(), NoMemory> {
-        done(unsafe { ffi::range_set_u64_remove(self.handle.raw(), &RawRange::of(&range)) })
+    pub fn try_remove(&mut self, range: impl RangeBounds<K>) -> Result<(), NoMemory> {
+        done(unsafe { (CALLS.remove)(self.handle.get_mut(), &raw(&range)) })
     }
 
-    /// Takes all keys away.
+    /// Takes all keys away, and keeps their memory for others.
     pub fn clear(&mut self) {
         self.handle.clear();
     }
 
     /// The stored range that holds the key.
-    pub fn get(&self, key: u64) -> Option<Range<u64>> {
-        found(|it| unsafe { ffi::range_set_u64_get(self.handle.raw(), key, it) })
+    pub fn get(&self, key: K) -> Option<Range<K>> {
+        found(|it| unsafe { (CALLS.get)(self.handle.get(), key.place(), it) })
     }
 
     /// Whether the key is in the set.
-    pub fn contains(&self, key: u64) -> bool {
-        (unsafe { ffi::range_set_u64_contains(self.handle.raw(), key) }) == ffi::DONE
+    pub fn contains(&self, key: K) -> bool {
+        (unsafe { (CALLS.contains)(self.handle.get(), key.place()) }) == ffi::DONE
     }
 
     /// Whether some key of the range is in the set.
-    pub fn intersects(&self, range: impl RangeBounds<u64>) -> bool {
-        (unsafe { ffi::range_set_u64_intersects(self.handle.raw(), &RawRange::of(&range)) }) == ffi::DONE
+    pub fn intersects(&self, range: impl RangeBounds<K>) -> bool {
+        (unsafe { (CALLS.intersects)(self.handle.get(), &raw(&range)) }) == ffi::DONE
     }
 
     /// How many ranges are stored.
-    pub fn range_count(&self) -> usize {
+    pub fn len(&self) -> usize {
         self.handle.count()
     }
 
-    /// Whether no key is in the set.
+    /// Whether there is no key.
     pub fn is_empty(&self) -> bool {
-        self.range_count() == 0
+        self.len() == 0
     }
 
-    /// How many keys are in the set. Goes over all stored ranges.
-    pub fn len(&self) -> u128 {
+    /// How many keys there are. Goes over all stored ranges.
+    pub fn key_count(&self) -> u128 {
         let mut length = RawLength::default();
-        unsafe { ffi::range_set_u64_len(self.handle.raw(), &mut length) };
+        unsafe { (CALLS.len)(self.handle.get(), &mut length) };
         length.number()
     }
 
     /// The first stored range.
-    pub fn first(&self) -> Option<Range<u64>> {
-        found(|it| unsafe { ffi::range_set_u64_first(self.handle.raw(), it) })
+    pub fn first(&self) -> Option<Range<K>> {
+        found(|it| unsafe { (CALLS.first)(self.handle.get(), it) })
     }
 
     /// The last stored range.
-    pub fn last(&self) -> Option<Range<u64>> {
-        found(|it| unsafe { ffi::range_set_u64_last(self.handle.raw(), it) })
+    pub fn last(&self) -> Option<Range<K>> {
+        found(|it| unsafe { (CALLS.last)(self.handle.get(), it) })
     }
 
     /// The first stored range that ends at the key or after it.
-    pub fn next(&self, key: u64) -> Option<Range<u64>> {
-        found(|it| unsafe { ffi::range_set_u64_next(self.handle.raw(), key, it) })
+    pub fn next(&self, key: K) -> Option<Range<K>> {
+        found(|it| unsafe { (CALLS.next)(self.handle.get(), key.place(), it) })
     }
 
     /// The last stored range that starts at the key or before it.
-    pub fn previous(&self, key: u64) -> Option<Range<u64>> {
-        found(|it| unsafe { ffi::range_set_u64_previous(self.handle.raw(), key, it) })
-    }
-
-    /// The stored ranges, ascending. A step costs one search.
-    pub fn iter(&self) -> impl Iterator<Item = Range<u64>> + '_ {
-        std::iter::successors(self.first(), |range| self.next(range.past()?))
+    pub fn previous(&self, key: K) -> Option<Range<K>> {
+        found(|it| unsafe { (CALLS.previous)(self.handle.get(), key.place(), it) })
     }
 
     /// Takes the first stored range out.
-    pub fn pop_first(&mut self) -> Option<Range<u64>> {
-        found(|it| unsafe { ffi::range_set_u64_pop_first(self.handle.raw(), it) })
+    pub fn pop_first(&mut self) -> Option<Range<K>> {
+        found(|it| unsafe { (CALLS.pop_first)(self.handle.get_mut(), it) })
     }
 
     /// Takes the last stored range out.
-    pub fn pop_last(&mut self) -> Option<Range<u64>> {
-        found(|it| unsafe { ffi::range_set_u64_pop_last(self.handle.raw(), it) })
+    pub fn pop_last(&mut self) -> Option<Range<K>> {
+        found(|it| unsafe { (CALLS.pop_last)(self.handle.get_mut(), it) })
     }
 
-    /// A set of the keys that are in this set, in the other, or in both.
-    pub fn union(&self, other: &RangeSet) -> Result<RangeSet, NoMemory> {
-        if std::ptr::eq(self, other) {
-            return self.union(&RangeSet::new()?);
+    /// The stored ranges, in ascending order, from both ends.
+    pub fn iter(&self) -> Iter<'_, K> {
+        Iter {
+            batches: Batches::new(&self.handle, &CALLS, (K::LEAST.place(), K::GREATEST.place())),
+            _keys: PhantomData,
         }
-        self.with(other, ffi::range_set_u64_union)
+    }
+
+    /// A set of the keys that are in either set.
+    pub fn union(&self, other: &RangeSet<K>) -> RangeSet<K> {
+        if std::ptr::eq(self, other) { self.clone() } else { self.with(other, ffi::brm_raw_set_u64_union) }
     }
 
     /// A set of the keys that are in both sets.
-    pub fn intersection(&self, other: &RangeSet) -> Result<RangeSet, NoMemory> {
+    pub fn intersection(&self, other: &RangeSet<K>) -> RangeSet<K> {
         if std::ptr::eq(self, other) {
-            return self.union(&RangeSet::new()?);
+            self.clone()
+        } else {
+            self.with(other, ffi::brm_raw_set_u64_intersection)
         }
-        self.with(other, ffi::range_set_u64_intersection)
     }
 
-    /// What the call makes of this set and another, which is not this one.
-    fn with(&self, other: &RangeSet, call: TwoSets) -> Result<RangeSet, NoMemory> {
-        let handle = Handle::closed();
-        done(unsafe { call(self.handle.raw(), other.handle.raw(), handle.raw()) })?;
-        Ok(RangeSet { handle })
+    /// A set of the keys of this set that are not in the other.
+    pub fn difference(&self, other: &RangeSet<K>) -> RangeSet<K> {
+        if std::ptr::eq(self, other) {
+            RangeSet::new()
+        } else {
+            self.with(other, ffi::brm_raw_set_u64_difference)
+        }
     }
 
-    /// What is stored as JSON text.
-    pub fn to_json(&self) -> Result<String, NoMemory> {
-        self.handle.to_json()
+    /// A set of the keys that are in just one of the sets.
+    pub fn symmetric_difference(&self, other: &RangeSet<K>) -> RangeSet<K> {
+        if std::ptr::eq(self, other) {
+            RangeSet::new()
+        } else {
+            self.with(other, ffi::brm_raw_set_u64_symmetric_difference)
+        }
     }
 
-    /// Becomes what the JSON text is read as. After an error the set is as it was.
-    pub fn load_json(&mut self, text: &str) -> Result<(), NotLoaded> {
-        self.handle.load_json(text)
+    fn with(&self, other: &RangeSet<K>, call: TwoSets) -> RangeSet<K> {
+        RangeSet::opened(|made| unsafe { call(self.handle.get(), other.handle.get(), made) })
+            .expect(NO_MEMORY)
+    }
+
+    /// A set of just the keys that this one does not hold.
+    pub fn complement(&self) -> RangeSet<K> {
+        let mut others: RangeSet<K> =
+            RangeSet::opened(|made| unsafe { ffi::brm_raw_set_u64_complement(self.handle.get(), made) })
+                .expect(NO_MEMORY);
+        if !K::IS_NATIVE {
+            // of keys that are fewer than those of the library
+            let past = RawRange {
+                start: K::GREATEST.place(),
+                end: 0,
+                flags: ffi::START_EXCLUDED | ffi::END_UNBOUNDED,
+            };
+            let before =
+                RawRange { start: 0, end: K::LEAST.place(), flags: ffi::START_UNBOUNDED | ffi::END_EXCLUDED };
+            for range in [past, before] {
+                done(unsafe { (CALLS.remove)(others.handle.get_mut(), &range) }).expect(NO_MEMORY);
+            }
+        }
+        others
+    }
+
+    /// The parts of the range of which no key is in the set, in ascending order.
+    pub fn gaps(&self, range: impl RangeBounds<K>) -> RangeSet<K> {
+        let mut whole = RangeSet::new();
+        whole.insert(range);
+        whole.difference(self)
+    }
+
+    /// Whether each key of this set is in the other.
+    pub fn is_subset(&self, other: &RangeSet<K>) -> bool {
+        self.handle.answers(&other.handle, ffi::brm_raw_set_u64_is_subset, true)
+    }
+
+    /// Whether each key of the other set is in this one.
+    pub fn is_superset(&self, other: &RangeSet<K>) -> bool {
+        other.is_subset(self)
+    }
+
+    /// Whether no key is in both sets.
+    pub fn is_disjoint(&self, other: &RangeSet<K>) -> bool {
+        self.handle.answers(&other.handle, ffi::brm_raw_set_u64_is_disjoint, self.is_empty())
     }
 }
 
-/// Panics where memory runs out, as std's collections do.
-impl<R: RangeBounds<u64>> FromIterator<R> for RangeSet {
-    fn from_iter<I: IntoIterator<Item = R>>(ranges: I) -> RangeSet {
-        let mut set = RangeSet::new().expect("out of memory");
-        ranges.into_iter().for_each(|range| set.insert(range).expect("out of memory"));
+impl<K: Key> Default for RangeSet<K> {
+    fn default() -> RangeSet<K> {
+        RangeSet::new()
+    }
+}
+
+impl<K: Key> Clone for RangeSet<K> {
+    fn clone(&self) -> RangeSet<K> {
+        RangeSet { handle: self.handle.copied().expect(NO_MEMORY), _keys: PhantomData }
+    }
+}
+
+/// Two sets are equal where they have the same keys.
+impl<K: Key> PartialEq for RangeSet<K> {
+    fn eq(&self, other: &RangeSet<K>) -> bool {
+        self.handle.equals(&other.handle)
+    }
+}
+
+impl<K: Key> Eq for RangeSet<K> {}
+
+impl<K: Key + Hash> Hash for RangeSet<K> {
+    fn hash<H: Hasher>(&self, state: &mut H) {
+        self.len().hash(state);
+        self.iter().for_each(|range| range.ends().hash(state));
+    }
+}
+
+impl<K: Key> fmt::Debug for RangeSet<K> {
+    fn fmt(&self, f: &mut fmt::Formatter<'_>) -> fmt::Result {
+        f.debug_set().entries(self.iter()).finish()
+    }
+}
+
+macro_rules! operators {
+    ($($operator:ident $method:ident $call:ident),*) => {$(
+        impl<K: Key> $operator for &RangeSet<K> {
+            type Output = RangeSet<K>;
+
+            fn $method(self, other: &RangeSet<K>) -> RangeSet<K> {
+                self.$call(other)
+            }
+        }
+    )*};
+}
+
+operators!(
+    BitOr bitor union,
+    BitAnd bitand intersection,
+    Sub sub difference,
+    BitXor bitxor symmetric_difference
+);
+
+impl<K: Key, R: RangeBounds<K>> Extend<R> for RangeSet<K> {
+    fn extend<I: IntoIterator<Item = R>>(&mut self, ranges: I) {
+        ranges.into_iter().for_each(|range| self.insert(range));
+    }
+}
+
+impl<K: Key, R: RangeBounds<K>> FromIterator<R> for RangeSet<K> {
+    fn from_iter<I: IntoIterator<Item = R>>(ranges: I) -> RangeSet<K> {
+        let mut set = RangeSet::new();
+        set.extend(ranges);
         set
+    }
+}
+
+impl<K: Key, R: RangeBounds<K>, const N: usize> From<[R; N]> for RangeSet<K> {
+    fn from(ranges: [R; N]) -> RangeSet<K> {
+        ranges.into_iter().collect()
+    }
+}
+
+/// The stored ranges of a [`RangeSet`], in ascending order, from both ends.
+#[derive(Clone)]
+pub struct Iter<'a, K: Key> {
+    batches: Batches<'a, u64, RawRange<u64>>,
+    _keys: PhantomData<K>,
+}
+
+fn shown<K: Key>(raw: RawRange<u64>) -> Range<K> {
+    range_of(&raw, K::of_place)
+}
+
+impl<K: Key> Iterator for Iter<'_, K> {
+    type Item = Range<K>;
+
+    fn next(&mut self) -> Option<Range<K>> {
+        self.batches.next().map(shown)
+    }
+
+    fn size_hint(&self) -> (usize, Option<usize>) {
+        (self.batches.left(), Some(self.batches.left()))
+    }
+}
+
+impl<K: Key> DoubleEndedIterator for Iter<'_, K> {
+    fn next_back(&mut self) -> Option<Range<K>> {
+        self.batches.next_back().map(shown)
+    }
+}
+
+impl<K: Key> ExactSizeIterator for Iter<'_, K> {}
+
+impl<K: Key> FusedIterator for Iter<'_, K> {}
+
+impl<'a, K: Key> IntoIterator for &'a RangeSet<K> {
+    type Item = Range<K>;
+    type IntoIter = Iter<'a, K>;
+
+    fn into_iter(self) -> Iter<'a, K> {
+        self.iter()
     }
 }

@@ -1,5 +1,5 @@
 //! The same random calls on the proved map and on a reference over std's `BTreeMap`.
-use btree_range_map_proved::{Entry, NotInserted, NotLoaded, Range, RangeMap, RangeSet};
+use btree_range_map_proved::{NotInserted, NotLoaded, NumberMap, Range, RangeMap, RangeSet};
 use std::collections::BTreeMap;
 use std::ops::Bound;
 
@@ -78,29 +78,19 @@ impl Random {
 }
 
 fn first_and_last(range: Range<u64>) -> (u64, u64) {
-    let first = match range.start {
-        Bound::Included(key) => key,
-        Bound::Excluded(key) => key + 1,
-        Bound::Unbounded => 0,
-    };
-    let last = match range.end {
-        Bound::Included(key) => key,
-        Bound::Excluded(key) => key - 1,
-        Bound::Unbounded => u64::MAX,
-    };
-    (first, last)
+    range.ends().unwrap()
 }
 
-fn told(entry: Entry<u64>) -> (u64, u64, u64) {
-    let (first, last) = first_and_last(entry.range);
-    (first, last, entry.value)
+fn told((range, number): (Range<u64>, u64)) -> (u64, u64, u64) {
+    let (first, last) = range.ends().unwrap();
+    (first, last, number)
 }
 
 #[test]
 fn random_changes_answer_as_the_reference() {
     for (seed, keys) in [(1, 60), (2, 1_000), (3, 100_000)] {
         let mut random = Random(seed);
-        let mut map: RangeMap<u64> = RangeMap::new().unwrap();
+        let mut map: NumberMap<u64> = NumberMap::new().unwrap();
         let mut reference = Reference::default();
         for _ in 0..20_000 {
             let first = random.below(keys);
@@ -123,7 +113,7 @@ fn random_changes_answer_as_the_reference() {
                     map.remove((Bound::Included(first), Bound::Included(last))).unwrap();
                     reference.remove(first, last);
                 }
-                5 => assert_eq!(map.get_entry(first).map(told), reference.get(first)),
+                5 => assert_eq!(map.get_range_value(first).map(told), reference.get(first)),
                 6 => assert_eq!(map.contains_key(last), reference.get(last).is_some()),
                 7 => assert_eq!(map.previous(first).map(told), reference.previous(first)),
                 8 => assert_eq!(map.next(first).map(told), reference.next(first)),
@@ -136,64 +126,189 @@ fn random_changes_answer_as_the_reference() {
             assert_eq!(map.range_count(), reference.0.len());
         }
         let keys = reference.0.iter().map(|(first, (last, _))| u128::from(last - first) + 1).sum::<u128>();
-        assert_eq!(map.len(), keys);
+        assert_eq!(map.key_count(), keys);
         let of_reference: Vec<_> =
             reference.0.iter().map(|(first, (last, value))| (*first, *last, *value)).collect();
-        assert_eq!(map.first().map(told), of_reference.first().copied());
-        assert_eq!(map.last().map(told), of_reference.last().copied());
-        let mut read: RangeMap<u64> = RangeMap::new().unwrap();
+        assert_eq!(map.first_range_value().map(told), of_reference.first().copied());
+        assert_eq!(map.last_range_value().map(told), of_reference.last().copied());
+        let mut read: NumberMap<u64> = NumberMap::new().unwrap();
         read.load_json(&map.to_json().unwrap()).unwrap();
         assert_eq!(read.iter().map(told).collect::<Vec<_>>(), of_reference);
         let shown: Vec<_> = map.iter().map(told).collect();
         assert_eq!(shown, of_reference);
-        let taken: Vec<_> = map.into_iter().map(told).collect();
+        let backward: Vec<_> = map.iter().rev().map(told).collect();
+        assert!(backward.iter().eq(of_reference.iter().rev()));
+        assert_eq!(map.iter().len(), of_reference.len());
+        let copy = map.try_clone().unwrap();
+        assert!(copy == map && copy.range_count() == of_reference.len());
+        let taken: Vec<_> = std::iter::from_fn(|| map.pop_first()).map(told).collect();
         assert_eq!(taken, of_reference);
+        assert!(map.is_empty() && (copy == map) == of_reference.is_empty());
     }
 }
 
 #[test]
 fn ranges_keep_their_bounds() {
-    let mut map: RangeMap<i64> = RangeMap::new().unwrap();
+    let mut map: NumberMap<i64> = NumberMap::new().unwrap();
     map.insert(.., 7).unwrap();
-    assert_eq!(map.len(), 1 << 64);
-    assert_eq!(
-        map.get_entry(-3),
-        Some(Entry { range: Range { start: Bound::Unbounded, end: Bound::Unbounded }, value: 7 })
-    );
+    assert_eq!(map.key_count(), 1 << 64);
+    assert_eq!(map.get_range_value(-3), Some((Range::from(..), 7)));
     map.remove(-5..5).unwrap();
-    assert_eq!(map.iter().map(|entry| entry.value).collect::<Vec<_>>(), [7, 7]);
-    let low = Entry { range: Range { start: Bound::Unbounded, end: Bound::Excluded(-5) }, value: 7 };
-    let high = Entry { range: Range { start: Bound::Included(5), end: Bound::Unbounded }, value: 7 };
     assert_eq!((map.get(-6), map.get(-5), map.get(4), map.get(5)), (Some(7), None, None, Some(7)));
-    assert_eq!(map.into_iter().rev().collect::<Vec<_>>(), [high, low]);
+    assert_eq!(map.iter().rev().collect::<Vec<_>>(), [(Range::from(5..), 7), (Range::from(..-5), 7)]);
+    assert_eq!(format!("{map:?}"), "{..-5: 7, 5..: 7}");
+}
+
+/// Values by each key of a `u16`, as a map of ranges with strings answers for them.
+#[test]
+fn values_of_any_type_answer_as_a_reference() {
+    let mut random = Random(9);
+    let mut map: RangeMap<u16, String> = RangeMap::new();
+    let mut wanted: BTreeMap<u16, String> = BTreeMap::new();
+    for step in 0..1_000_000 {
+        let first = random.below(200) as u16;
+        let last = first + random.below(20) as u16;
+        // many values that are used for a while alone
+        let value = format!("{}", random.below(4) + step / 300);
+        match random.below(6) {
+            0..3 => {
+                map.insert(first..=last, value.clone());
+                wanted.extend((first..=last).map(|key| (key, value.clone())));
+            }
+            3 => {
+                map.remove(first..=last);
+                wanted.retain(|key, _| !(first..=last).contains(key));
+            }
+            4 => {
+                let is_free = wanted.range(first..=last).next().is_none();
+                assert_eq!(
+                    map.try_insert(first..=last, value.clone()),
+                    if is_free { Ok(()) } else { Err(value.clone()) }
+                );
+                if is_free {
+                    wanted.extend((first..=last).map(|key| (key, value.clone())));
+                }
+            }
+            _ => {
+                let pieces = map.pieces(first..=last).flat_map(|(range, value)| {
+                    let (first, last) = range.ends().unwrap();
+                    (first..=last).map(move |key| (key, value.clone()))
+                });
+                assert!(pieces.eq(wanted.range(first..=last).map(|(key, value)| (*key, value.clone()))));
+                let gaps = map.gaps(first..=last).flat_map(|range| {
+                    let (first, last) = range.ends().unwrap();
+                    first..=last
+                });
+                assert!(gaps.eq((first..=last).filter(|key| !wanted.contains_key(key))));
+            }
+        }
+        assert_eq!(map.get(first), wanted.get(&first));
+        assert_eq!(map.contains_key(last), wanted.contains_key(&last));
+    }
+    assert_eq!(map.key_count(), wanted.len() as u128);
+    let ranges = map.iter().map(|(range, _)| range).collect::<Vec<_>>();
+    assert!(ranges.iter().rev().copied().eq(map.iter().rev().map(|(range, _)| range)));
+    let joins =
+        wanted.iter().filter(|(key, value)| key.checked_sub(1).and_then(|it| wanted.get(&it)) == Some(value));
+    assert_eq!(map.len(), wanted.len() - joins.count());
 }
 
 #[test]
-fn maps_are_collected_and_cleared() {
-    let mut map: RangeMap<u64> = [(0..10, 1), (10..20, 1), (30..40, 2)].into_iter().collect();
-    assert_eq!(map.range_count(), 2);
-    map.extend([(5..35, 3)]);
-    assert_eq!((map.range_count(), map.len()), (3, 40));
-    map.clear();
-    assert!(map.is_empty() && map.first().is_none() && map.pop_last().is_none());
-    map.insert(1..2, 1).unwrap();
-    assert_eq!(map.get(1), Some(1));
+fn maps_do_what_collections_do() {
+    let map: RangeMap<u64, &str> = [(0..10, "a"), (10..20, "a"), (30..40, "b")].into();
+    assert_eq!((map.len(), map.key_count(), map[15], map.is_empty()), (2, 30, "a", false));
+    let same: RangeMap<u64, &str> = [(30..=39, "b"), (0..=19, "a")].into_iter().collect();
+    let hashed = |map: &RangeMap<u64, &str>| {
+        use std::hash::{BuildHasher, BuildHasherDefault, DefaultHasher};
+        BuildHasherDefault::<DefaultHasher>::default().hash_one(map)
+    };
+    assert!(
+        map == same
+            && hashed(&map) == hashed(&same)
+            && map.clone() == map
+            && RangeMap::<u8, u8>::default().is_empty()
+    );
+    let mut other = map.clone();
+    other.extend([(5..35, "c")]);
+    assert!(other != map && other.len() == 3 && map.len() == 2);
+    assert_eq!(format!("{other:?}"), r#"{0..5: "a", 5..35: "c", 35..40: "b"}"#);
+    assert_eq!(
+        other.overlapping(4..6).map(|(range, _)| range).collect::<Vec<_>>(),
+        [(0..5).into(), (5..35).into()]
+    );
+    let rest = other.split_off(35);
+    assert_eq!(
+        (other.last_range_value(), rest.first_range_value()),
+        (Some(((5..35).into(), &"c")), Some(((35..=39).into(), &"b")))
+    );
+    let over = map.overlay(&other);
+    assert_eq!((over.get(4), over.get(7), over.get(36)), (Some(&"a"), Some(&"c"), Some(&"b")));
+    let keys: RangeSet<u64> = [8..12, 38..50].into();
+    assert_eq!((map.restrict(&keys).key_count(), map.without(&keys).key_count()), (6, 24));
+    other.append(&mut map.clone());
+    assert_eq!(other.get(7), Some(&"a"));
+    assert_eq!(other.pop_first().map(|(_, value)| value), Some("a"));
+    assert_eq!(other.pop_last().map(|(_, value)| value), Some("b"));
+}
+
+/// Keys of each type, their ends among them.
+#[test]
+fn keys_of_each_type() {
+    fn whole<K: btree_range_map_proved::Key + std::hash::Hash>(count: u128) {
+        let mut map: RangeMap<K, u8> = RangeMap::new();
+        map.insert(.., 1);
+        assert_eq!((map.key_count(), map.len(), map[K::LEAST], map[K::GREATEST]), (count, 1, 1, 1));
+        map.remove(K::LEAST..=K::LEAST);
+        assert_eq!((map.get(K::LEAST), map.key_count()), (None, count - 1));
+        let set: RangeSet<K> = [K::LEAST..=K::LEAST].into();
+        let others = set.complement();
+        assert_eq!(
+            (others.key_count(), others.contains(K::GREATEST), set.union(&others).key_count()),
+            (count - 1, true, count)
+        );
+        assert_eq!(
+            others.iter().next_back().and_then(|range| range.ends()),
+            Some((K::LEAST.successor().unwrap(), K::GREATEST))
+        );
+        assert!(set.union(&others).len() == 1 && others.complement() == set && set.is_disjoint(&others));
+    }
+    whole::<u8>(1 << 8);
+    whole::<u16>(1 << 16);
+    whole::<u32>(1 << 32);
+    whole::<u64>(1 << 64);
+    whole::<usize>(1 << 64);
+    whole::<i8>(1 << 8);
+    whole::<i16>(1 << 16);
+    whole::<i32>(1 << 32);
+    whole::<i64>(1 << 64);
+    whole::<isize>(1 << 64);
+    whole::<char>(0x11_0000 - 0x800);
+    // characters on both sides of the code points that are none touch
+    let set: RangeSet<char> = ['a'..='\u{d7ff}', '\u{e000}'..='\u{e010}'].into();
+    assert_eq!(set.iter().collect::<Vec<_>>(), [('a'..='\u{e010}').into()]);
+    let signed: RangeSet<i8> = std::iter::once(-3..4).collect();
+    assert_eq!(
+        (signed.first(), signed.contains(-3), signed.contains(4)),
+        (Some((-3..4).into()), true, false)
+    );
 }
 
 #[test]
 fn sets_add_and_take_keys() {
-    let mut set: RangeSet = [0..10, 20..30, 10..15].into_iter().collect();
-    assert_eq!((set.range_count(), set.len()), (2, 25));
+    let mut set: RangeSet<u64> = [0..10, 20..30, 10..15].into_iter().collect();
+    assert_eq!((set.len(), set.key_count()), (2, 25));
     assert_eq!(set.iter().map(first_and_last).collect::<Vec<_>>(), [(0, 14), (20, 29)]);
-    set.remove(3..=3).unwrap();
+    set.remove(3..=3);
     assert!(!set.contains(3) && set.contains(4) && set.intersects(3..5) && !set.intersects(15..20));
-    assert_eq!(set.get(25).map(first_and_last), Some((20, 29)));
+    assert_eq!(set.get(25), Some((20..30).into()));
+    assert_eq!(set.gaps(2..25).iter().map(first_and_last).collect::<Vec<_>>(), [(3, 3), (15, 19)]);
+    assert_eq!(format!("{set:?}"), "{0..3, 3<..15, 20..30}");
     assert_eq!(set.first().map(first_and_last), Some((0, 2)));
     assert_eq!(set.pop_last().map(first_and_last), Some((20, 29)));
     assert_eq!(set.pop_first().map(first_and_last), Some((0, 2)));
     assert_eq!(set.last().map(first_and_last), Some((4, 14)));
     set.clear();
-    assert!(set.is_empty());
+    assert!(set.is_empty() && set == RangeSet::default());
 }
 
 #[test]
@@ -204,28 +319,62 @@ fn two_sets_make_a_third() {
             (0..random.below(8)).map(|_| (random.below(100), random.below(20))).collect()
         };
         let (some, more) = (drawn(), drawn());
-        let set_of = |ranges: &[(u64, u64)]| ranges.iter().map(|(at, n)| *at..at + n).collect::<RangeSet>();
+        let set_of =
+            |ranges: &[(u64, u64)]| ranges.iter().map(|(at, n)| *at..at + n).collect::<RangeSet<u64>>();
         let holds =
             |ranges: &[(u64, u64)], key: u64| ranges.iter().any(|(at, n)| (*at..at + n).contains(&key));
         let (set, other) = (set_of(&some), set_of(&more));
-        let (either, both) = (set.union(&other).unwrap(), set.intersection(&other).unwrap());
+        let made = [&set | &other, &set & &other, &set - &other, &set ^ &other, set.complement()];
         for key in 0..130 {
-            assert_eq!(either.contains(key), holds(&some, key) || holds(&more, key));
-            assert_eq!(both.contains(key), holds(&some, key) && holds(&more, key));
+            let (first, second) = (holds(&some, key), holds(&more, key));
+            let wanted = [first || second, first && second, first && !second, first != second, !first];
+            assert_eq!(made.each_ref().map(|it| it.contains(key)), wanted);
             let before = (0..=key).rev().find(|it| holds(&some, *it));
             assert_eq!(
                 set.previous(key).map(|it| first_and_last(it).1 >= before.unwrap()),
                 before.map(|_| true)
             );
         }
-        let same = |made: RangeSet| made.iter().eq(set.iter());
-        assert!(same(set.union(&set).unwrap()) && same(set.intersection(&set).unwrap()));
+        assert!(
+            (&set | &set) == set
+                && (&set & &set) == set
+                && (&set - &set).is_empty()
+                && (&set ^ &set).is_empty()
+        );
+        assert!(made[1].is_subset(&set) && made[0].is_superset(&other) && made[2].is_disjoint(&other));
+        assert_eq!(set.is_disjoint(&set), set.is_empty());
+        assert_eq!(set == other, made[3].is_empty());
     }
 }
 
 #[test]
+fn collections_move_to_threads_and_are_read_by_several() {
+    let map: RangeMap<u64, String> = (0..1000).map(|i| (10 * i..10 * i + 5, i.to_string())).collect();
+    let set: RangeSet<u64> = map.iter().map(|(range, _)| range).collect();
+    std::thread::scope(|scope| {
+        for _ in 0..4 {
+            scope.spawn(|| {
+                for i in 0..1000 {
+                    assert_eq!(map.get(10 * i + 4), Some(&i.to_string()));
+                    assert!(set.contains(10 * i) && !set.contains(10 * i + 5));
+                }
+                assert!(map.iter().count() == 1000 && set.iter().rev().count() == 1000);
+            });
+        }
+    });
+    let moved = std::thread::spawn(move || {
+        let mut map = map;
+        map.remove(..5000);
+        map
+    });
+    assert_eq!(moved.join().unwrap().len(), 500);
+}
+
+#[test]
 fn texts_are_read_back() {
-    let mut map: RangeMap<i64> = [(-5..5, 1), (7..9, 2)].into_iter().collect();
+    let mut map: NumberMap<i64> = NumberMap::new().unwrap();
+    map.insert(-5..5, 1).unwrap();
+    map.insert(7..9, 2).unwrap();
     let text =
         r#"{"items":[[[{"Included":-5},{"Excluded":5}],1],[[{"Included":7},{"Excluded":9}],2]],"version":2}"#;
     assert_eq!(map.to_json().as_deref(), Ok(text));
@@ -234,9 +383,4 @@ fn texts_are_read_back() {
     assert_eq!(map.to_json().as_deref(), Ok(text));
     map.load_json("[]").unwrap();
     assert!(map.is_empty());
-    let mut set: RangeSet = [0..4].into_iter().collect();
-    assert_eq!(set.to_json().as_deref(), Ok(r#"[[{"Included":0},{"Excluded":4}]]"#));
-    set.load_json(r#"["", 1]"#).unwrap_err();
-    set.load_json(r#"[["Unbounded", {"Included": 9}]]"#).unwrap();
-    assert_eq!((set.len(), set.range_count()), (10, 1));
 }

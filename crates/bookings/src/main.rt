@@ -1,10 +1,10 @@
 //! Reads lines about the minutes of two calendars, and prints the replies.
 //!
-//! `book 540..600 NAME` books these minutes, or replies what is in the way; `cancel 540..600` frees
-//! them; `free 540..1020 30` replies the first 30 free minutes among these; `who 540..600` lists
-//! the bookings that have some of them. With `other` in front, as in `other book 540..600 NAME`, a
-//! line speaks of the other calendar. `common 540..1020 30` replies the first 30 minutes among
-//! these that are free in both.
+//! `book 540..600 NAME` books these minutes, or replies what is in the way, and `cancel 540..600`
+//! frees them. `free 540..1020 30` replies the first 30 free minutes among these. `who 540..600`
+//! lists the bookings that have some of them. With `other` in front, as in `other book 540..600
+//! NAME`, a line speaks of the other calendar. `common 540..1020 30` replies the first 30 minutes
+//! among these that are free in both.
 //!
 //! Where to find what:
 //!

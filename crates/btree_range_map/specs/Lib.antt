@@ -84,13 +84,13 @@ pub use Rattle.range_sets.specs.SetOrder
 pub use Rattle.range_sets.specs.SetTexts
 pub use Rattle.range_sets.specs.TwoSets
 pub use Rattle.range_commands.specs.Tagged
-pub use Rattle.range_json.specs.Faults
+pub use Rattle.range_set_json.specs.Faults
 pub use Rattle.range_json.specs.Keys
-pub use Rattle.range_json.specs.Laws
+pub use Rattle.range_set_json.specs.Laws
 pub use Rattle.range_json.specs.MapFaults
 pub use Rattle.range_json.specs.Meetings
 pub use Rattle.range_json.specs.Overwriting
-pub use Rattle.range_json.specs.MultimapFaults
+pub use Rattle.range_set_json.specs.MultimapFaults
 pub use Rattle.range_json.specs.Shapes
 pub use Rattle.range_json.specs.Values
 pub use Rattle.range_json.specs.ValueSets

@@ -28,7 +28,7 @@ pub use range::{
     AsRange, Difference, IntoRange, Product, ProductArg, RangeFromExcluded, RangeFromExcludedTo,
     RangeFromExcludedToIncluded, RelativePosition,
 };
-pub use range_json::json;
+pub use range_set_json::json;
 use storage::Item;
 
 /// The container of a map that names none: a B-tree.

@@ -1,7 +1,7 @@
 //! Automata over characters, whose rules have ranges of characters, as those of a lexer.
 //!
-//! [`Rules`] gathers rules, start states and accepting states; [`Moves`] follows them, from a set
-//! of states by one character, along a whole text, or along the longest beginning of one that is
+//! [`Rules`] gathers rules, start states and accepting states. [`Moves`] follows them from a set of
+//! states: by one character, along a whole text, or along the longest beginning of one that is
 //! accepted. A state may have several rules for a character: all of them are followed.
 //!
 //! ```

@@ -52,8 +52,8 @@ impl Rules {
     ///
     /// Costs one look-up of the state, and one search among its ranges with a step for each range
     /// that it meets or touches. The set of the states to which a range leads is copied for each
-    /// range that it meets: rules from one state by one range to `n` others, added one by one, copy
-    /// `n * n / 2` states in all. Allocates. After an error the rules are as they were.
+    /// range that it meets. So `n` rules from one state by one range, added one by one, copy `n * n
+    /// / 2` states in all. Allocates. After an error the rules are as they were.
     pub fn add<R: IntoRange<Item = char>>(
         &mut self,
         from: u32,

@@ -7,7 +7,7 @@ use std::process::Abort;
 
 /// A row of a table, with its answer.
 pub trait Row {
-    /// Whether the answer is the one that the row tells.
+    /// Whether the answer is the one that the row says.
     fn holds(&self) -> Result<bool, AllocError>;
 }
 
@@ -21,17 +21,17 @@ pub fn first_wrong<R: Row>(rows: &[R]) -> Result<Option<usize>, AllocError> {
     Ok(None)
 }
 
-/// An answer is the one that was told.
+/// An answer is the one that was expected.
 pub fn expect_answer(rt: &impl Abort, place: &str, answer: bool, told: bool) {
     assert!(rt; answer == told, "{place}");
 }
 
-/// A length is the one that was told.
+/// A length is the one that was expected.
 pub fn expect_length(rt: &impl Abort, place: &str, length: u128, told: u128) {
     assert!(rt; length == told, "{place} has {length}");
 }
 
-/// A range is the one that was told.
+/// A range is the one that was expected.
 pub fn expect_range(rt: &impl Abort, place: &str, range: AnyRange<i32>, told: AnyRange<i32>) {
     assert!(rt; range == told, "{place} is {range:?}");
 }

@@ -11,6 +11,7 @@ use Rattle.std.proofs.lemmas.Bool.{cases_lt}
 use Rattle.std.proofs.lemmas.List.{take-append-drop, length-take-le}
 use Rattle.std.proofs.lemmas.Str.{encodes-chars, chars-nil, IsUtf8-take}
 use Rattle.charmoves.specs.Beginnings.{AcceptsFirst}
+use Rattle.charmoves.specs.Automata.{HasRule}
 use Rattle.charmoves.proofs.Leading.{AreAfter, path_in_parts}
 use Rattle.charmoves.proofs.Fronts.{bytes_of, IsAcceptedFront, IsLongestFront, front_stays, whole_front, longest_grows, longest_stays, longest_when_stuck, front_of_bytes, bytes_of_chars}
 use Rattle.lexing.specs.declared.lexer.Lexer.{Lexer}
@@ -168,3 +169,16 @@ module _ (lexer : Lexer) where
       let (s, along, rest) =
       (path_in_parts (rules_in lexer) front more path.0 path.1).0 path.3 in
       none s ((after s).1 (path.0, path.2, along)))
+
+  -- where nothing leads on by the next character, nothing that goes on with it is accepted
+  pub never_through : (read : List ℕ) (c : ℕ) (states : BTreeSet ℕ)
+      → AreAfter (rules_in lexer) read states
+      → ((p q : ℕ) → IsTrue (contains nat_cmp states p) → ¬ HasRule (rules_in lexer) p c q)
+      → (more : List ℕ) (rule : ℕ) → ¬ IsAcceptedBy lexer rule ((read ++ c ∷ []) ++ more)
+  never_through read c states after none more rule h =
+      not_there h
+      (λ path.
+      let rules = rules_in lexer in
+      let (s, along, later) = (path_in_parts rules (read ++ c ∷ []) more path.0 path.1).0 path.3 in
+      let (p, before, last) = (path_in_parts rules read (c ∷ []) path.0 s).0 along in
+      none p last.0 ((after p).1 (path.0, path.2, before)) last.1)

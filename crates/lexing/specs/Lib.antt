@@ -1,3 +1,7 @@
+pub mod Budgets
+pub mod Building
 pub mod Lexers
+pub mod Machines
+pub mod MachineSteps
 pub mod Runs
 pub mod Tokens

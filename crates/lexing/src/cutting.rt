@@ -7,10 +7,10 @@ use crate::token::{LexError, Token};
 use crate::tokens::token_at;
 use std::alloc::Global;
 
-/// All tokens of the text, one after the other, those that are skipped among them: each begins
-/// where the one before it ends, the first at the beginning, and the last ends at the end.
+/// All tokens of the text, one after the other, those that are skipped among them. The first begins
+/// where the text does, each other where the one before it ends, and the last ends with the text.
 ///
-/// Where no token begins, the error tells the place. Allocates.
+/// Where no token begins, the error names the place. Allocates.
 pub fn cut<S: Scanner>(alloc: Global, scanner: &S, text: &str) -> Result<Vec<Token>, LexError>
     ensures tokens { IfOk result
         (λ tokens. AreTokens (S.lexer scanner.now) text.now 0 tokens.items (length text.now)) }

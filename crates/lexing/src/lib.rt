@@ -2,7 +2,8 @@
 //!
 //! A [`Lexer`] is an automaton over characters whose accepting states belong to rules.
 //! [`Scanner::tokens`] goes over the tokens of a text: each is the longest piece that some rule
-//! accepts from its place on, by the first such rule.
+//! accepts from its place on, by the first such rule. A [`Machine`] made from the lexer finds the
+//! same tokens faster, and allocates nothing.
 //!
 //! ```
 //! let mut rules = Rules::new(alloc);
@@ -26,17 +27,27 @@
 //! - what the rules of a lexer accept, the token that a text begins with:
 //!   `src/{lexer,scanner}.rt`, `specs/{Lexers,Tokens}.antt`, `proofs/{Best,Firsts}.antt`
 //! - the tokens of a text, one after the other: `src/{tokens,cutting}.rt`, `specs/Runs.antt`,
-//!   `proofs/Cutting.antt`
+//!   `proofs/{Lists,TokenLists}.antt`
+//! - the machine of a lexer, which finds the same tokens: `src/machine.rt`,
+//!   `specs/{Machines,MachineSteps}.antt`, `proofs/Running.antt`
+//! - how it is built, within a budget of states: `src/{build,states,error}.rt`,
+//!   `specs/{Building,Budgets}.antt`, `proofs/{Rows,Growing,Meeting}.antt`
 #![tactic(auto)]
 
+mod build;
 mod cutting;
+mod error;
 mod lexer;
+mod machine;
 mod scanner;
+mod states;
 mod token;
 mod tokens;
 
 pub use cutting::cut;
+pub use error::BuildError;
 pub use lexer::Lexer;
+pub use machine::Machine;
 pub use scanner::Scanner;
 pub use token::{LexError, Match, Token};
 pub use tokens::Tokens;

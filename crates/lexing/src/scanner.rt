@@ -32,7 +32,8 @@ pub trait Scanner {
     ///
     /// Each token is the longest piece of the text from its place on that some rule accepts, by the
     /// first such rule. A text of `n` characters costs at most `n * n` steps, where a long piece is
-    /// looked at for each short token; where no rule looks far beyond its tokens, about `n`.
+    /// looked at for each short token. It costs about `n` where no rule looks far beyond its
+    /// tokens.
     final fn tokens<'a>(&'a self, text: &'a str) -> Tokens<'a, Self>
     where
         Self: Sized,

@@ -1,6 +1,6 @@
 //! Lexers from patterns.
 //!
-//! [`lexer`] makes one of names and patterns, such as `[0-9]+`: each token is the longest piece of
+//! [`lexer`] makes one of names and patterns, such as `[0-9]+`. Each token is the longest piece of
 //! the text from its place on that one of the patterns matches, by the first such pattern.
 //!
 //! ```

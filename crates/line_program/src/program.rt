@@ -54,7 +54,7 @@ fn answer_line<P: LineProgram<W>, W: Write>(
     }
 }
 
-// Answers the next line and tells whether there was one, through the buffer.
+// Answers the next line and returns whether there was one, through the buffer.
 fn answer_gathered<P: LineProgram<W>, R: BufRead, W: Write>(
     program: &mut P,
     line: &mut Vec<u8>,
@@ -83,7 +83,7 @@ fn answer_gathered<P: LineProgram<W>, R: BufRead, W: Write>(
     Ok(true)
 }
 
-// Answers the next line and tells whether there was one: where it lies in the reader's buffer, or
+// Answers the next line and returns whether there was one: where it lies in the reader's buffer, or
 // through a buffer of its own where it reaches beyond that.
 fn answer_next<P: LineProgram<W>, R: BufRead, W: Write>(
     program: &mut P,
@@ -122,7 +122,7 @@ fn answer_next<P: LineProgram<W>, R: BufRead, W: Write>(
 /// Answers each line that is left, in order, and each before the next is read.
 ///
 /// A line ends at `\n` or `\r\n`, or with the input. It is answered where it lies in the reader's
-/// buffer; only one that reaches beyond it is copied, into one buffer for all such lines, so this
+/// buffer. Only one that reaches beyond it is copied, into one buffer for all such lines. So this
 /// allocates only where such a line is longer than each before it. An error says why no further
 /// line is answered.
 pub fn answer_lines<P: LineProgram<W>, R: BufRead, W: Write>(

@@ -5,4 +5,5 @@ pub mod Halves
 pub mod Onlys
 pub mod Promises
 pub mod RightSets
+pub mod Rings
 pub mod Singles

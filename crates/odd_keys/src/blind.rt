@@ -1,4 +1,4 @@
-//! Keys that tell no neighbour and no end.
+//! Keys whose neighbours and ends are not known.
 
 ghost use Rattle.std.specs.Prelude.{refl};
 ghost use Rattle.btree_range_map.specs.Untold.{untold_order, untold_lawful, untold_measured};

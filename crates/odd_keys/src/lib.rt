@@ -1,10 +1,12 @@
-//! Keys, values and sets of values that are lawful and unlike those of std.
+//! Keys, values, sets of values and a container that are lawful and unlike those of std and of the
+//! library.
 //!
 //! Where to find what:
 //!
 //! - keys of which several are equal: by their indices `specs/Classes.antt`, `src/half.rt`; by
 //!   cross products `specs/Fractions.antt`
 //! - keys that cannot be cloned: `src/single.rt`, `specs/Singles.antt`
+//! - a container over a ring buffer, as a user writes one: `src/ring.rt`, `specs/Rings.antt`
 //! - the two promises of a map, over every lawful and every complete key, and at each key type:
 //!   `src/promises/{bindings,lists}.rt`, `specs/Promises.antt`
 #![tactic(auto)]
@@ -16,4 +18,5 @@ pub mod loose;
 pub mod only;
 pub mod promises;
 pub mod rights;
+pub mod ring;
 pub mod single;

@@ -30,9 +30,9 @@ use std::ops::{Bound, RangeBounds};
 ///
 /// A range holds the keys that both its bounds hold. One whose start lies past its end, as from 8
 /// to 3, is empty, and so is the one from excluded 255 on over `u8`. Ranges are compared by the
-/// positions of their bounds: where the key type tells a neighbour or an end, it takes the place of
-/// an excluded or an unbounded bound, so that over `u8` the full range equals that from 0 to 255,
-/// both included. The order is by the start, then by the end.
+/// positions of their bounds. A neighbour or an end that the key type has takes the place of an
+/// excluded or an unbounded bound. So over `u8` the full range equals that from 0 to 255, both
+/// included. The order is by the start, then by the end.
 ///
 /// ```text
 /// let range: AnyRange<i32> = (0..10).into();
@@ -125,7 +125,8 @@ impl<T: PartialEnum + Bounded + Clone> AnyRange<T> {
     /// The least key of the range, or `None` where the range is empty or its start names no key.
     ///
     /// An included start is cloned, so the call allocates what a clone of a key does, and fails
-    /// only where the clone fails: never at an excluded or unbounded start, nor of an empty range.
+    /// only where the clone fails. It never fails at an excluded or unbounded start, nor of an
+    /// empty range.
     pub fn first(&self) -> Result<Option<T>, AllocError>
         requires clones { ClonesAreEqual T.is_clone T.eq }
         ensures empty { IsEmptyRange T.order self.now → result ≡ Ok None }
@@ -145,8 +146,9 @@ impl<T: PartialEnum + Bounded + Clone> AnyRange<T> {
 
     /// The greatest key of the range, or `None` where the range is empty or its end names no key.
     ///
-    /// An included end is cloned, so the call allocates what a clone of a key does, and fails
-    /// only where the clone fails: never at an excluded or unbounded end, nor of an empty range.
+    /// An included end is cloned, so the call allocates what a clone of a key does, and fails only
+    /// where the clone fails. It never fails at an excluded or unbounded end, nor of an empty
+    /// range.
     pub fn last(&self) -> Result<Option<T>, AllocError>
         requires clones { ClonesAreEqual T.is_clone T.eq }
         ensures empty { IsEmptyRange T.order self.now → result ≡ Ok None }
@@ -213,7 +215,7 @@ impl<T: PartialEnum + Bounded + Clone> AnyRange<T> {
     }
 }
 
-/// The least key that the start bound names, where it is told.
+/// The least key that the start bound names, where it is known.
 fn key_of_start<T: PartialEnum + Bounded + Clone>(start: &Bound<T>) -> Result<Option<T>, AllocError>
     requires { ClonesAreEqual T.is_clone T.eq }
     ensures named { IfOk result (SameAnswer T.order (start_key T.order start.now)) }
@@ -226,7 +228,7 @@ fn key_of_start<T: PartialEnum + Bounded + Clone>(start: &Bound<T>) -> Result<Op
     })
 }
 
-/// The greatest key that the end bound names, where it is told.
+/// The greatest key that the end bound names, where it is known.
 fn key_of_end<T: PartialEnum + Bounded + Clone>(end: &Bound<T>) -> Result<Option<T>, AllocError>
     requires { ClonesAreEqual T.is_clone T.eq }
     ensures named { IfOk result (SameAnswer T.order (end_key T.order end.now)) }

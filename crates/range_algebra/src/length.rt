@@ -20,10 +20,10 @@ impl<T: Measure + Bounded> AnyRange<T> {
     /// of keys that it holds.
     ///
     /// Over keys of other lengths it is the distance from the start's key to the end's, in the unit
-    /// of `Measure::len`, less the length of an excluded start, plus that of an included end. An
-    /// unbounded bound stands for the least or the greatest key of the type, included. An empty
-    /// range, as `8..3`, measures 0. The call allocates nothing, and the same few steps for any
-    /// range.
+    /// of `Measure::len`. The length of an excluded start is taken off, and that of an included end
+    /// added. An unbounded bound stands for the least or the greatest key of the type, included. An
+    /// empty range, as `8..3`, measures 0. The call allocates nothing, and the same few steps for
+    /// any range.
     ///
     /// ```
     /// assert!(rt; AnyRange::new(Bound::Included(10u8), Bound::Unbounded).len() == 246);
@@ -40,7 +40,7 @@ impl<T: Measure + Bounded> AnyRange<T> {
 
 impl<T: Measure> AnyRange<T> {
     /// How much the range measures, as `len` says, or `None` where it is unbounded towards an end
-    /// that the key type does not tell.
+    /// that is not known.
     ///
     /// An empty range is not unbounded towards such an end, so it measures `Some(0)`. The call
     /// allocates nothing.
@@ -66,7 +66,7 @@ impl<T: Measure> AnyRange<T> {
     }
 }
 
-/// The bound, or the told end in the place of none.
+/// The bound, or the known end in place of none.
 fn with_told<T: PartialEnum>(bound: Bound<&T>, told: Option<T>) -> Bound<KeyRef<'_, T>>
     ensures { bound_map key_value result ≡ told_bound told (bound_of bound.entry) }
 {

@@ -69,7 +69,7 @@ pub trait RangePartialOrd<T: Measure> {
     // The range by its bounds.
     ghost compared: { Self → AnyRange T };
 
-    /// Where this range lies to the other, which is always told.
+    /// Where this range lies to the other, which is always known.
     fn range_partial_cmp<R: AsRange<Item = T>>(&self, other: &R) -> Option<RangeOrdering>
         ensures { result ≡ Some (range_ordering T.order (compared self.now) (R.range other.now)) };
 }

@@ -1,11 +1,12 @@
 -- A range that lies apart from all stored ones, and the list with it.
-use Rattle.std.proofs.Common.{◌≡◌, ℕ, zero, suc, ◌+◌, ◌<◌, List, [], ◌∷◌, ◌++◌, length, take, drop, get_or, refl, ap, sym, subst, ◌∙◌, arith, Option, Some, None, Bool, true, false, ◌&&◌, IsTrue, ◌⊎◌, inl, inr}
+use Rattle.std.proofs.Common.{◌≡◌, ℕ, zero, suc, ◌+◌, ◌<◌, List, [], ◌∷◌, ◌++◌, length, take, drop, get_or, refl, ap, sym, subst, ◌∙◌, arith, Option, Some, None, Bool, true, false, ◌&&◌, IsTrue, ◌⊎◌, ◌↔◌, inl, inr}
 use Rattle.std.specs.Prelude.{insert, IfSome, MatchOption}
+use Rattle.std.specs.Option.{ForSome}
 use Rattle.std.specs.Cmp.{IsEquivalence, tied_itself}
+use Rattle.std.specs.declared.ops.Bound.{Bound}
 use Rattle.std.proofs.lemmas.List.{drop_more, take_more}
-use Rattle.std.proofs.Math.Seq.{take-length}
 use Rattle.range_keys.specs.Order.{KeyOrder, IsLawful}
-use Rattle.range_keys.specs.Position.{end_position, position_cmp}
+use Rattle.range_keys.specs.Position.{end_position, position_cmp, start_position}
 use Rattle.range_keys.specs.PositionOrder.{position_total}
 use Rattle.range_keys.specs.declared.inner.position.Position.{Position}
 use Rattle.range_keys.proofs.Orderings.{less_or_not}
@@ -13,41 +14,39 @@ use Rattle.range_change.specs.Chains.{line_of}
 use Rattle.range_change.proofs.Chains.{chain_above, chain_before, chain_right, strictly_leads, strictly_trails}
 use Rattle.range_change.proofs.ChainSides.{left_whole, right_whole}
 use Rattle.range_change.proofs.ChainJoins.{places_between_are_bound, left_apart, right_apart}
-use Rattle.range_algebra.specs.Compared.{starts_at_end}
+use Rattle.range_algebra.specs.Compared.{flipped, starts_at_end}
 use Rattle.range_algebra.specs.Cuts.{lower, upper}
 use Rattle.range_algebra.specs.Intervals.{Every, Le, Lt}
-use Rattle.range_algebra.specs.Orders.{eq_ge, eq_le, le_lt_trans, le_refl, lt_le, lt_le_trans, lt_not_le, lt_trans, not_le}
+use Rattle.range_algebra.specs.Orders.{eq_ge, eq_le, le_lt_trans, le_refl, le_trans, lt_le, lt_le_trans, lt_not_le, lt_trans, not_le}
 use Rattle.range_algebra.specs.Range.{IsEmptyRange, IsKnownRange}
 use Rattle.range_algebra.specs.declared.any.AnyRange.{AnyRange}
 use Rattle.range_algebra.proofs.Lists.{drop_all, list_is_take_and_drop, any_none, any_split, every_append, every_left, every_right, every_weaker}
-use Rattle.range_store.proofs.ListPlaces.{kept_at, place_at}
+use Rattle.range_algebra.proofs.Places.{flipped_bound_is_past}
 use Rattle.range_store.specs.ListPlaces.{IsAt, place_before}
 use Rattle.range_store.specs.declared.storage.Item.{Item}
 use Rattle.range_change.specs.Bindings.{IsBoundAfter}
-use Rattle.range_change.specs.Apart.{IsAnswerAt, IsGap, LiesApart}
+use Rattle.range_change.specs.Apart.{LiesApartAt, IsAnswerAt, IsGap, LiesApart}
 use Rattle.range_change.specs.Stored.{item_lower, item_upper, IsStored}
 use Rattle.range_change.specs.Lookups.{IsConnectedTo, IsConnectedToSome, Overlap}
 use Rattle.range_algebra.specs.Relations.{LiesBefore, Touches}
 use Rattle.range_change.specs.Window.{IsFound, IsJustBefore}
-use Rattle.range_change.proofs.Forms.{Chained, Known, before_is, bound_after, chain_stored, nonempty_good, stored_chain, stored_known, touches_is}
+use Rattle.range_change.proofs.Forms.{Chained, Known, before_is, bound_after, chain_stored, nonempty_good, stored_chain, stored_known, touches_by, touches_is}
 use Rattle.range_change.proofs.Overlaps.{any_at}
 use Rattle.range_change.proofs.Comparisons.{touching_same}
 use Rattle.range_change.proofs.Windows.{every_both}
 
 -- where an item was put once capacity was reserved, by the list from before
 pub put_at : {T P : Type 0} (is_good good_after : P → Type 0) (rank rank_after : P → ℕ)
-    (items ready new : List T) (from : Option P) (x : T)
-    → IsAt is_good rank (length items) from (place_before rank (length items) from) → ready ≡ items
+    (items ready new : List T) (from : Option P) (x : T) → ForSome from is_good → ready ≡ items
     → ((p : P) → is_good p → good_after p × (rank_after p ≡ rank p))
     → new ≡ insert ready (place_before rank_after (length ready) from) x
     → new ≡ insert items (place_before rank (length items) from) x
-put_at is_good good_after rank rank_after items ready new from x at same kept done =
-    let place = place_before rank (length items) from in
-    let here : place_before rank_after (length ready) from ≡ place =
-    ap (λ n. place_before rank_after n from) (ap length same)
-    ∙ place_at good_after rank_after (length items) from place
-    (kept_at is_good good_after rank rank_after (length items) from place kept at) in
-    done ∙ (ap (λ n. insert ready n x) here ∙ ap (λ xs. insert xs place x) same)
+put_at is_good good_after rank rank_after items ready new None x good same kept done =
+    done ∙ ap (λ xs. insert xs (length xs) x) same
+put_at is_good good_after rank rank_after items ready new (Some p) x good same kept done =
+    done
+    ∙ (ap (λ n. insert ready n x) (kept p (good p refl)).1
+    ∙ ap (λ xs. insert xs (rank p) x) same)
 
 last_place : {X P : Type 0} (is_good : P → Type 0) (rank : P → ℕ) (items : List X) (last : Option P)
     → MatchOption last (items ≡ []) (λ p. is_good p × (rank p + 1 ≡ length items))
@@ -95,6 +94,32 @@ module _ {K : Type 0} (order : KeyOrder K) (lawful : IsLawful order) where
       ((nonempty_good order lawful s others).0 full) le in
       not_le (position_cmp order.cmp) (position_total order.cmp lawful.total) (upper order r)
       (lower order s) (λ back. h.1 (touch.1 back))
+
+  -- they lie apart where the start that follows the one comes before the other
+  pub apart_by_start : (r s : AnyRange K) (i : Bound K) → flipped r.end ≡ Some i
+      → IsKnownRange order r → IsKnownRange order s
+      → LiesApart order r s ↔ PLt (start_position order i) (lower order s)
+  apart_by_start r s i turns known others =
+      let cmp = position_cmp order.cmp in
+      let total = position_total order.cmp lawful.total in
+      let before = before_is order lawful r.end s.start known.1 others.0 in
+      let same = flipped_bound_is_past order lawful r.end i turns in
+      let touch =
+      λ (le : PLe (upper order r) (lower order s)). touches_by order lawful r.end i s turns le in (
+        λ h. not_le cmp total (start_position order i) (lower order s) (λ back.
+            h.1 (rw turns ((touch (before.0 h.0)).1
+            (le_trans cmp total (lower order s) (start_position order i) (upper order r) back
+            (eq_ge cmp total (upper order r) (start_position order i) same))))),
+        λ l.
+            let lt : PLt (upper order r) (lower order s) =
+            le_lt_trans cmp total (upper order r) (start_position order i) (lower order s)
+            (eq_le cmp total (upper order r) (start_position order i) same) l in
+            let le = lt_le cmp total (upper order r) (lower order s) lt in (
+              before.1 le,
+              λ t. lt_not_le cmp total (upper order r) (lower order s) lt
+                  ((touch le).0 (rw turns at t)),
+            ),
+      )
 
   -- ranges with a place between are not connected
   pub apart_not : (r s : AnyRange K) → IsKnownRange order r → IsKnownRange order s
@@ -225,28 +250,36 @@ module _ {K : Type 0} (order : KeyOrder K) (lawful : IsLawful order) where
           let found = item_at items (rank q) within in
           rw (← at.1) (clear_back (rank q) found.0 within found.1 ((answer found.0 found.1).0 h))
 
-      -- where the last of all lies apart, each ends before the range
+      -- where the last of all lies apart, the range can follow it
       pub all_before : {P : Type 0} (is_good : P → Type 0) (rank : P → ℕ)
           (good_in_range : (p : P) → is_good p → rank p < length items) (last : Option P) (b : Bool)
           → MatchOption last (items ≡ []) (λ p. is_good p × (rank p + 1 ≡ length items))
           → IsAnswerAt order (λ i. LiesApart order i.key r) rank items last b → IsTrue b
-          → Every (Before r) items
+          → LiesApartAt order items r (length items)
       all_before is_good rank good_in_range last b at answer h =
-          rw (take-length items) at
-          (clear_before is_good rank good_in_range last (length items) b
-          (last_place is_good rank items last at) answer h)
+          record {
+            in_range = omega arith;
+            before =
+                clear_before is_good rank good_in_range last (length items) b
+                (last_place is_good rank items last at) answer h;
+            behind = rw (drop_all items (length items) refl) tt;
+          }
 
-      -- where the first of all lies apart, each starts after the range
+      -- where the first of all lies apart, the range can stand before it
       pub all_behind : {P : Type 0} (is_good : P → Type 0) (rank : P → ℕ)
           (good_in_range : (p : P) → is_good p → rank p < length items) (first : Option P)
           (b : Bool) → IsAt is_good rank (length items) first 0
           → IsAnswerAt order (λ i. LiesApart order r i.key) rank items first b → IsTrue b
-          → IfSome first (λ p. is_good p × (rank p ≡ 0) × Every (Behind r) items)
+          → IfSome first (λ p. is_good p × LiesApartAt order items r (rank p))
       all_behind is_good rank good_in_range None b at answer h = tt
       all_behind is_good rank good_in_range (Some p) b at answer h = (
         at.0,
-        at.1,
-        clear_after is_good rank good_in_range (Some p) 0 b at answer h,
+        record {
+          in_range = omega (arith, at.1);
+          before = rw at.1 tt;
+          behind =
+              clear_after is_good rank good_in_range (Some p) (rank p) b (at.0, refl) answer h;
+        },
       )
 
       refused_previous_is_connected : {P : Type 0} (is_good : P → Type 0) (rank : P → ℕ)
@@ -346,13 +379,16 @@ module _ {K : Type 0} (order : KeyOrder K) (lawful : IsLawful order) where
           let place = place_before rank (length items) from in
           record {
             position = found.position;
-            in_range = found.in_range;
-            before =
-                λ h. clear_before is_good rank good_in_range before place a found.previous first
-                (both_hold free a b both h).0;
-            behind =
-                λ h. clear_after is_good rank good_in_range from place b found.position second
-                (both_hold free a b both h).1;
+            apart =
+                λ h. let both_are = both_hold free a b both h in record {
+                  in_range = found.in_range;
+                  before =
+                      clear_before is_good rank good_in_range before place a found.previous first
+                      both_are.0;
+                  behind =
+                      clear_after is_good rank good_in_range from place b found.position second
+                      both_are.1;
+                };
             taken =
                 λ f.
                 taken_by is_good rank good_in_range before from place free a b found.previous

@@ -1,5 +1,5 @@
 -- What is asked of the items that a range meets, one after the other, and after all of them.
-use Rattle.std.proofs.Common.{◌≡◌, ℕ, ◌+◌, ◌<◌, ◌≤◌, List, ◌∷◌, ◌++◌, length, take, drop, get_or, arith, Option, Some, None, Bool, Result}
+use Rattle.std.proofs.Common.{◌≡◌, ℕ, ◌+◌, ◌<◌, ◌≤◌, List, ◌∷◌, ◌++◌, length, take, drop, get_or, arith, Option, None, Bool, Result}
 use Rattle.std.specs.Fn.{Shared}
 use Rattle.std.specs.Option.{ForSome}
 use denote.Ref.{Bor}

@@ -55,7 +55,7 @@ module _ {K : Type 0} (order : KeyOrder K) (lawful : IsLawful order) where
             (past order (end_position order e)) (reach.0 k) h),
       )
 
-  touches_by : (e i : Bound K) (s : AnyRange K) → flipped e ≡ Some i
+  pub touches_by : (e i : Bound K) (s : AnyRange K) → flipped e ≡ Some i
       → Le places (past order (end_position order e)) (lower order s)
       → IsTrue (start_is_at order (Some i) (lower order s))
       ↔ Le places (lower order s) (past order (end_position order e))

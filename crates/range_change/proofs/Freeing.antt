@@ -1,17 +1,14 @@
 -- Where a range meets no stored one, no item is cut beside it, and what is made of the list is in
 -- its
 -- form.
-use Rattle.std.proofs.Common.{◌≡◌, ℕ, refl, Bool, List, Option, Some, None, Result, Ok, Err, OnOk, OnErr}
+use Rattle.std.proofs.Common.{◌≡◌, refl, Bool, List, Option, Some, None, Result, Ok, Err, OnOk, OnErr}
 use Rattle.std.specs.declared.ops.Bound.{Bound}
-use Rattle.std.specs.Cmp.{IsEquivalence}
-use Rattle.range_keys.specs.Order.{KeyOrder, IsLawful}
+use Rattle.range_keys.specs.Order.{KeyOrder}
 use Rattle.range_algebra.specs.declared.any.AnyRange.{AnyRange}
 use Rattle.range_store.specs.declared.storage.Item.{Item}
 use Rattle.range_change.specs.Changes.{IsInserted}
 use Rattle.range_change.specs.Borders.{seam_border}
 use Rattle.range_change.specs.Stored.{IsStored}
-use Rattle.range_change.specs.Plans.{IsLeftPlan, IsRightPlan}
-use Rattle.range_change.specs.declared.borders.Border.{Border}
 
 -- so it is the same where it would be cut
 pub seam_alike : {K P : Type 0} (found : Option P) (b c : Bound K)
@@ -26,21 +23,3 @@ module _ {K : Type 0} (order : KeyOrder K) {V : Type 0} (same : V → V → Bool
       → OnErr answer (new ≡ items) → IsStored order same items → IsStored order same new
   form_after (Ok a) items new r v done refused form = done.stored
   form_after (Err e) items new r v done refused form = rw refused form
-
-module _ {K : Type 0} {order : KeyOrder K} {V : Type 0} {same : V → V → Bool}
-    {lawful : IsLawful order} {equal : IsEquivalence same} {P : Type 0} {is_good : P → Type 0}
-    {rank : P → ℕ} {items : List (Item (AnyRange K) V)} {r : AnyRange K} {v : V}
-    {place count : ℕ} {reaching : Option P} (found : Option P) (b : Bound K) (border : Border K P)
-    (none : reaching ≡ None) (is : border ≡ seam_border found None b) where
-  -- the plan of a side where no item reaches out, of an border that is so made
-  pub left_alone : {from : Option P}
-      → IsLeftPlan order same lawful equal is_good rank items r v place count reaching
-      (seam_border found reaching b) from
-      → IsLeftPlan order same lawful equal is_good rank items r v place count None border from
-  left_alone plan = rw is (rw none at plan)
-
-  pub right_alone :
-      IsRightPlan order same lawful equal is_good rank items r v place count reaching
-      (seam_border found reaching b)
-      → IsRightPlan order same lawful equal is_good rank items r v place count None border
-  right_alone plan = rw is (rw none at plan)

@@ -2,21 +2,18 @@
 use Rattle.std.proofs.Common.{◌≡◌, ℕ, ◌≤◌, ◌+◌, ◌++◌, ◌∷◌, ◌∙◌, List, [], length, take, drop, refl, sym, ap, append_assoc, Bool, inl, arith}
 use Rattle.std.specs.Prelude.{insert}
 use Rattle.std.specs.Cmp.{IsEquivalence}
-use Rattle.std.proofs.Math.Seq.{take-length}
 use Rattle.std.proofs.lemmas.List.{append-nil}
 use Rattle.std.proofs.lemmas.List.Edits.{length-insert}
 use Rattle.range_keys.specs.Order.{KeyOrder, IsLawful}
-use Rattle.range_change.proofs.RangePieces.{any_over}
 use Rattle.range_algebra.specs.Range.{IsEmptyRange, IsKnownRange}
 use Rattle.range_algebra.specs.declared.any.AnyRange.{AnyRange}
-use Rattle.range_algebra.proofs.Lists.{drop_all, list_is_take_and_drop}
+use Rattle.range_algebra.proofs.Lists.{list_is_take_and_drop}
 use Rattle.range_store.specs.declared.storage.Item.{Item}
 use Rattle.range_change.specs.Changes.{IsInserted}
-use Rattle.range_change.specs.Apart.{AllEndBefore, AllStartAfter}
-use Rattle.range_change.specs.Lookups.{MeetsSome}
+use Rattle.range_change.specs.Apart.{LiesApartAt}
 use Rattle.range_change.specs.Stored.{IsStored}
 use Rattle.range_change.proofs.CoveredPlaces.{meets_put}
-use Rattle.range_change.proofs.ApartRanges.{free_not, put_in}
+use Rattle.range_change.proofs.ApartRanges.{put_in}
 
 pub one_longer : {X : Type 0} (items new : List X) (place : ℕ) (x : X) → place ≤ length items
     → new ≡ insert items place x → length new ≤ length items + 1
@@ -28,15 +25,15 @@ module _ {K : Type 0} (order : KeyOrder K) (lawful : IsLawful order) {V : Type 0
     (r : AnyRange K) (stored : IsStored order same items) (known : IsKnownRange order r)
     (full : IsEmptyRange order r → ⊥) where
   -- it is put where it lies apart from the items on both sides
-  pub inserted_apart : (place : ℕ) → AllEndBefore order (take place items) r
-      → AllStartAfter order (drop place items) r → (new : List (Item (AnyRange K) V)) (v : V)
+  pub inserted_apart : (place : ℕ) → LiesApartAt order items r place
+      → (new : List (Item (AnyRange K) V)) (v : V)
       → new ≡ insert items place (record { key = r; value = v })
       → IsInserted order same items new r v
-  inserted_apart place before behind new v done =
+  inserted_apart place apart new v done =
       let x : Item (AnyRange K) V = record { key = r; value = v } in
       let front = take place items in
       let put =
-      put_in order lawful same equal items r stored known full place before behind v in
+      put_in order lawful same equal items r stored known full place apart.before apart.behind v in
       record {
         stored = rw done put.0;
         bound = rw done put.1;
@@ -59,23 +56,3 @@ module _ {K : Type 0} (order : KeyOrder K) (lawful : IsLawful order) {V : Type 0
         };
         meets = rw done (meets_put order lawful items place x);
       }
-
-  module _ (last : AllEndBefore order items r) where
-    whole_front_ends_before : AllEndBefore order (take (length items) items) r
-    whole_front_ends_before = rw (take-length items) last
-
-    none_starts_after : AllStartAfter order (drop (length items) items) r
-    none_starts_after = rw (drop_all items (length items) refl) tt
-
-    -- it meets none of them
-    pub last_unmet : MeetsSome order items r → ⊥
-    last_unmet meets =
-        free_not order lawful same equal items r stored known full
-        (length items) whole_front_ends_before none_starts_after
-        (any_over _ _ items (λ i h. inl h) meets)
-
-    -- it stands at the end then
-    pub last_inserted : (new : List (Item (AnyRange K) V)) (v : V)
-        → new ≡ insert items (length items) (record { key = r; value = v })
-        → IsInserted order same items new r v
-    last_inserted = inserted_apart (length items) whole_front_ends_before none_starts_after

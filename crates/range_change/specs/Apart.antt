@@ -41,6 +41,13 @@ module _ {K : Type 0} (order : KeyOrder K) where
     AllStartAfter items r =
         Every (λ i. Lt (position_cmp order.cmp) (upper order r) (item_lower order i)) items
 
+    -- the range lies apart from the items before the place, and from those from it on
+    pub record LiesApartAt (items : List (Item (AnyRange K) V)) (r : AnyRange K)
+        (place : ℕ) : Type 0 where
+      pub in_range : place ≤ length items
+      pub before : AllEndBefore (take place items) r
+      pub behind : AllStartAfter (drop place items) r
+
     -- the item, where there is one, passes the test exactly where the answer is true
     abbrev pub IsAnswerAt : {P : Type 0} → (Item (AnyRange K) V → Type 0) → (P → ℕ)
         → List (Item (AnyRange K) V) → Option P → Bool → Type 0
@@ -53,11 +60,5 @@ module _ {K : Type 0} (order : KeyOrder K) where
         (items : List (Item (AnyRange K) V)) (r : AnyRange K) (gap : Gap P)
         (place : ℕ) : Type 0 where
       pub position : IsAt is_good rank (length items) gap.from place
-      pub in_range : place ≤ length items
-      pub before : IsTrue gap.is_free
-          → Every (λ i. Lt (position_cmp order.cmp) (item_upper order i) (lower order r))
-          (take place items)
-      pub behind : IsTrue gap.is_free
-          → Every (λ i. Lt (position_cmp order.cmp) (upper order r) (item_lower order i))
-          (drop place items)
+      pub apart : IsTrue gap.is_free → LiesApartAt items r place
       pub taken : gap.is_free ≡ false → IsConnectedToSome order items r

@@ -3,11 +3,11 @@ ghost use Rattle.std.specs.Prelude.{◌≡◌, ◌↔◌, length, IsErrAnd, IfEr
 ghost use Rattle.range_store.specs.ListPlaces.{place_before};
 ghost use Rattle.range_algebra.specs.Range.{IsEmptyRange};
 ghost use Rattle.range_change.specs.Stored.{IsStored};
-ghost use Rattle.range_change.specs.Bindings.{IsBoundAfter};
-ghost use Rattle.range_change.specs.Lookups.{IsConnectedToSome, IsPutInto, MeetAlso};
+ghost use Rattle.range_change.specs.Changes.{IsInserted};
+ghost use Rattle.range_change.specs.Lookups.{IsConnectedToSome, IsPutInto};
 ghost use Rattle.range_change.specs.Apart.{IsGap, IsConnectedError, handed_back};
 
-use crate::append::{is_clear_after, is_clear_before};
+use crate::append::{is_clear_after, is_clear_before, put_apart};
 use crate::error::NotInserted;
 use crate::window::find;
 use range_algebra::any::AnyRange;
@@ -63,10 +63,8 @@ pub fn bind_apart<K: PartialEnum, V: Eq + Drop, C: Storage<Item<AnyRange<K>, V>>
     ensures put { OnOk result
         (IsPutInto (C.items stored.old) (C.items stored.new)
         (record { key = range; value = value })) }
-    ensures bound { OnOk result
-        (IsBoundAfter K.order V.eq (C.items stored.old) (C.items stored.new) range value) }
-    ensures meets { OnOk result (MeetAlso K.order (C.items stored.old) (C.items stored.new) range) }
-    ensures form { IsStored K.order V.eq (C.items stored.new) }
+    ensures ok { OnOk result
+        (IsInserted K.order V.eq (C.items stored.old) (C.items stored.new) range value) }
     ensures refused { OnErr result (C.items stored.new ≡ C.items stored.old) }
 {
     inner::known(&range);
@@ -74,11 +72,11 @@ pub fn bind_apart<K: PartialEnum, V: Eq + Drop, C: Storage<Item<AnyRange<K>, V>>
     if !gap.is_free {
         return Err(NotInserted::Connected(range, value));
     }
-    match stored.reserve(1) {
-        Ok(()) => {
-            let _position = stored.insert_at(gap.from, Item { key: range, value });
-            Ok(())
+    match put_apart::<K, V, C>(stored, gap.from, Item { key: range, value }) {
+        Ok(()) => Ok(()),
+        Err(refused) => {
+            let Item { key, value } = refused.value;
+            Err(NotInserted::Memory(key, value))
         }
-        Err(_) => Err(NotInserted::Memory(range, value)),
     }
 }

@@ -1,26 +1,57 @@
 //! Ranges that lie apart from stored ones, and those that come before or after all of them.
-ghost use Rattle.std.specs.Prelude.{◌≡◌, ◌↔◌, ◌+◌, ◌≤◌, length, IsTrue, IfSome, IsOk, OnOk, OnErr};
+ghost use Rattle.std.specs.Prelude.{◌≡◌, ◌↔◌, ◌+◌, ◌≤◌, length, IsTrue, IfSome, IfErr, IsOk, OnOk, OnErr};
 ghost use Rattle.std.specs.Option.{ForSome};
+ghost use Rattle.std.specs.declared.ops.Bound.TheVariants.{Excluded, Included};
+ghost use Rattle.range_keys.specs.Position.{position_cmp, start_position};
+ghost use Rattle.range_algebra.specs.Intervals.{Lt};
 ghost use Rattle.range_algebra.specs.Range.{IsEmptyRange};
 ghost use Rattle.range_change.specs.Stored.{IsStored};
-ghost use Rattle.range_change.specs.Apart.{IsAnswerAt, LiesApart, AllEndBefore, AllStartAfter};
-ghost use Rattle.range_change.specs.Lookups.{MeetsSome};
+ghost use Rattle.range_store.specs.ListPlaces.{place_before};
+ghost use Rattle.range_change.specs.Apart.{IsAnswerAt, LiesApart, LiesApartAt};
+ghost use Rattle.range_change.specs.Lookups.{IsConnectedToSome, IsPutInto};
 ghost use Rattle.range_change.specs.Changes.{IsInserted};
 
+use crate::free::put;
 use range_algebra::any::AnyRange;
 use range_algebra::inner::{self, starts_at_end};
 use range_keys::bound::Directed;
 use range_keys::traits::PartialEnum;
 use range_store::storage::{Item, Storage};
-use std::alloc::AllocError;
-use std::ops::RangeBounds;
+use std::alloc::AllocFailed;
+use std::ops::{Bound, RangeBounds};
+
+/// Whether the first range ends before the second, with a place between, by the positions of their
+/// bounds.
+fn lies_apart_by_bounds<K: PartialEnum>(first: &AnyRange<K>, second: &AnyRange<K>) -> bool
+    ensures { IsTrue result ↔ LiesApart K.order first.now second.now }
+{
+    let (end, start) = (first.end_bound(), second.start_bound());
+    Directed::End(end) < Directed::Start(start) && !starts_at_end(end, start)
+}
+
+/// Whether a place lies between a range that ends with a key and one that starts with a key.
+fn leaves_place<K: PartialEnum>(end: &K, start: &K) -> bool
+    ensures { IsTrue result
+        ↔ Lt (position_cmp K.order.cmp) (start_position K.order (Excluded end.now))
+        (start_position K.order (Included start.now)) }
+{
+    match end.succ() {
+        Some(next) => next < *start,
+        None => *end < *start,
+    }
+}
 
 /// Whether the first range ends before the second, with a place between.
 fn lies_apart<K: PartialEnum>(first: &AnyRange<K>, second: &AnyRange<K>) -> bool
     ensures { IsTrue result ↔ LiesApart K.order first.now second.now }
 {
-    let (end, start) = (first.end_bound(), second.start_bound());
-    Directed::End(end) < Directed::Start(start) && !starts_at_end(end, start)
+    inner::known(first);
+    inner::known(second);
+    match (&first.end, &second.start) {
+        (Bound::Excluded(end), Bound::Included(start)) => *end < *start,
+        (Bound::Included(end), Bound::Included(start)) => leaves_place(end, start),
+        _ => lies_apart_by_bounds(first, second),
+    }
 }
 
 /// Whether the item before a range, where there is one, lies apart from it.
@@ -62,7 +93,8 @@ pub fn comes_last<K: PartialEnum, V: Eq + Drop, C: Storage<Item<AnyRange<K>, V>>
 ) -> bool
     requires stored { IsStored K.order V.eq (C.items stored.now) }
     requires nonempty { ¬ IsEmptyRange K.order range.now }
-    ensures { IsTrue result → AllEndBefore K.order (C.items stored.now) range.now }
+    ensures { IsTrue result
+        → LiesApartAt K.order (C.items stored.now) range.now (length (C.items stored.now)) }
 {
     inner::known(range);
     let last = stored.last();
@@ -78,8 +110,8 @@ pub fn comes_first<K: PartialEnum, V: Eq + Drop, C: Storage<Item<AnyRange<K>, V>
     requires stored { IsStored K.order V.eq (C.items stored.now) }
     requires nonempty { ¬ IsEmptyRange K.order range.now }
     ensures { IfSome result
-        (λ p. C.is_good stored.now p × (C.rank stored.now p ≡ 0)
-        × AllStartAfter K.order (C.items stored.now) range.now) }
+        (λ p. C.is_good stored.now p
+        × LiesApartAt K.order (C.items stored.now) range.now (C.rank stored.now p)) }
 {
     inner::known(range);
     let first = stored.first();
@@ -90,48 +122,27 @@ pub fn comes_first<K: PartialEnum, V: Eq + Drop, C: Storage<Item<AnyRange<K>, V>
     }
 }
 
-/// Stores a nonempty range that comes after all stored ones, with no search.
-pub fn bind_last<K: PartialEnum, V: Eq + Drop, C: Storage<Item<AnyRange<K>, V>>>(
+/// Stores a nonempty range before the item at a position, or after all others, where it touches and
+/// meets none. Hands the item back where there is no memory.
+pub fn put_apart<K: PartialEnum, V: Eq + Drop, C: Storage<Item<AnyRange<K>, V>>>(
     stored: &mut C,
-    range: AnyRange<K>,
-    value: V,
-) -> Result<(), AllocError>
+    from: Option<C::Position>,
+    item: Item<AnyRange<K>, V>,
+) -> Result<(), AllocFailed<Item<AnyRange<K>, V>>>
     requires stored { IsStored K.order V.eq (C.items stored.old) }
-    requires nonempty { ¬ IsEmptyRange K.order range }
-    requires last { AllEndBefore K.order (C.items stored.old) range }
+    requires nonempty { ¬ IsEmptyRange K.order item.key }
+    requires good { ForSome from (C.is_good stored.old) }
+    requires apart { LiesApartAt K.order (C.items stored.old) item.key
+        (place_before (C.rank stored.old) (length (C.items stored.old)) from) }
     ensures ok { OnOk result
-        (IsInserted K.order V.eq (C.items stored.old) (C.items stored.new) range value) }
+        (IsInserted K.order V.eq (C.items stored.old) (C.items stored.new) item.key item.value) }
+    ensures put { OnOk result (IsPutInto (C.items stored.old) (C.items stored.new) item) }
     ensures few { OnOk result (length (C.items stored.new) ≤ length (C.items stored.old) + 1) }
-    ensures apart { ¬ MeetsSome K.order (C.items stored.old) range }
+    ensures unconnected { ¬ IsConnectedToSome K.order (C.items stored.old) item.key }
+    ensures given { IfErr result (λ e. e.value ≡ item) }
     ensures refused { OnErr result (C.items stored.new ≡ C.items stored.old) }
     ensures succeeds { 1 ≤ C.room stored.old → IsOk result }
 {
-    inner::known(&range);
-    stored.reserve(1)?;
-    let _position = stored.insert_at(None, Item { key: range, value });
-    Ok(())
-}
-
-/// Stores a nonempty range that comes before all stored ones, the first of which is at the
-/// position, with no search.
-pub fn bind_first<K: PartialEnum, V: Eq + Drop, C: Storage<Item<AnyRange<K>, V>>>(
-    stored: &mut C,
-    first: C::Position,
-    range: AnyRange<K>,
-    value: V,
-) -> Result<(), AllocError>
-    requires stored { IsStored K.order V.eq (C.items stored.old) }
-    requires nonempty { ¬ IsEmptyRange K.order range }
-    requires position { C.is_good stored.old first × (C.rank stored.old first ≡ 0) }
-    requires before { AllStartAfter K.order (C.items stored.old) range }
-    ensures ok { OnOk result
-        (IsInserted K.order V.eq (C.items stored.old) (C.items stored.new) range value) }
-    ensures few { OnOk result (length (C.items stored.new) ≤ length (C.items stored.old) + 1) }
-    ensures refused { OnErr result (C.items stored.new ≡ C.items stored.old) }
-    ensures succeeds { 1 ≤ C.room stored.old → IsOk result }
-{
-    inner::known(&range);
-    stored.reserve(1)?;
-    let _position = stored.insert_at(Some(first), Item { key: range, value });
-    Ok(())
+    inner::known(&item.key);
+    put::<Item<AnyRange<K>, V>, C>(stored, from, item)
 }

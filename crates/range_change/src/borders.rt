@@ -112,8 +112,8 @@ pub fn joined_after<K: PartialEnum, V: Eq + Drop, C: Storage<Item<AnyRange<K>, V
     }
 }
 
-/// The item that becomes one with a range where it starts, if the range is bound to the value: the
-/// one that reaches out of it there, or else the one that it touches.
+/// The item that becomes one with a range where it starts, if the range is bound to the value. It
+/// is the one that reaches out of it there, or else the one that it touches.
 pub fn joins_before<K: PartialEnum, V: Eq + Drop, C: Storage<Item<AnyRange<K>, V>>>(
     stored: &C,
     reach: &Reach<C::Position>,

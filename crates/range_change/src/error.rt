@@ -85,7 +85,7 @@ pub enum UpdateError<E> {
     /// There was not enough memory.
     #[error("out of memory")]
     Memory,
-    /// The closure answered this error for a piece.
+    /// The closure returned this error for a piece.
     #[error("the closure failed")]
     Closure(E),
 }

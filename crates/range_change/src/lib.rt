@@ -1,5 +1,6 @@
-//! One change to the ranges that a container stores: what a range meets, the borders of the change,
-//! the memory and the clones that it wants, and then the change itself, which cannot fail any more.
+//! One change to the ranges that a container stores. First come what a range meets, the borders of
+//! the change, and the memory and the clones that it wants. The change itself then cannot fail any
+//! more.
 //!
 //! Where to find what:
 //!
@@ -12,10 +13,10 @@
 //!   in `proofs/Planned.antt`
 //! - the one way of changing a map: `src/`: `bind.rt`, `unbind.rt` and `replace.rt` plan,
 //!   `splice.rt` commits
-//! - ranges that come before or after all stored ones, put in with no search: `src/append.rt`,
-//!   `proofs/OuterRange.antt`
-//! - a range put between two others, neither of which it joins: `bind_isolated` in `src/bind.rt`,
-//!   `proofs/Between.antt`
+//! - one item stored, or handed back where there is no memory: `src/free.rt`; between two others,
+//!   neither of which it joins: `proofs/Between.antt`
+//! - ranges that lie apart from all stored ones: `put_apart` in `src/append.rt`, `src/apart.rt`,
+//!   `proofs/{ApartRanges,OuterRange}.antt`; before or after all of them, with no search
 //! - whole ranges taken out: `unbind_whole` in `src/unbind.rt`
 //! - chains that come to stand between two places of another: `proofs/Splices.antt`
 //! - what a closure is asked of a range, and what it returns, as one list: `src/pieces.rt`,

@@ -1,4 +1,4 @@
-//! What a closure answers for each piece of a range.
+//! What a closure returns for each piece of a range.
 ghost use Rattle.std.specs.Prelude.{◌≡◌, ◌<◌, ◌-◌, ◌⊎◌, IsTrue, IfOk, OnOk, Option, Some, None, Ok, Err, false, length};
 ghost use Rattle.std.specs.Option.{option_copied, option_map, ForSome};
 ghost use Rattle.range_keys.specs.Position.{bound_of};
@@ -204,8 +204,8 @@ fn ask_gap<
     }
 }
 
-/// Asks the closure for the gap before an item, and for what the item has in common with the range,
-/// which keeps a bound of the item that lies where the range's does.
+/// Asks the closure for the gap before an item, and for what the item has in common with the range.
+/// This part keeps a bound of the item that lies where the range's does.
 fn ask_item<
     'a,
     K: Measure + Clone,

@@ -18,7 +18,7 @@ use range_store::storage::{Item, Storage};
 use std::mem;
 use std::ops::Bound;
 
-/// Gives the item at a position another start, and answers the one that it had.
+/// Gives the item at a position another start, and returns the one that it had.
 pub fn replace_start<K: Drop, V: Drop, C: Storage<Item<AnyRange<K>, V>>>(
     stored: &mut C,
     p: C::Position,
@@ -36,7 +36,7 @@ pub fn replace_start<K: Drop, V: Drop, C: Storage<Item<AnyRange<K>, V>>>(
     mem::replace(&mut stored.get_mut(p).key.start, start)
 }
 
-/// Gives the item at a position another end, and answers the one that it had.
+/// Gives the item at a position another end, and returns the one that it had.
 pub fn replace_end<K: Drop, V: Drop, C: Storage<Item<AnyRange<K>, V>>>(
     stored: &mut C,
     p: C::Position,

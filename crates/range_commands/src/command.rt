@@ -30,7 +30,7 @@ pub enum Command<K, V, T> {
     InsertDisconnected(AnyRange<K>, V),
     /// Binds no key of the range.
     Remove(AnyRange<K>),
-    /// Binds each piece of the range as the closure answers with the tag.
+    /// Binds each piece of the range to what the closure returns for it and the tag.
     Update(AnyRange<K>, T),
     /// Asks for a clone of the value at a key.
     Get(K),
@@ -42,7 +42,7 @@ pub enum Command<K, V, T> {
     Count,
 }
 
-/// What a call answered.
+/// What a call returned.
 #[derive(Debug, Drop)]
 #[derive_where(PartialEq, Eq; K: PartialEnum, V, E)]
 pub enum Reply<K, V, E> {
@@ -53,7 +53,7 @@ pub enum Reply<K, V, E> {
     /// The range that was to be inserted meets or touches a stored one, and nothing was changed.
     /// The range and the value are handed back.
     Connected(AnyRange<K>, V),
-    /// The closure answered this error for a piece, and nothing was changed.
+    /// The closure returned this error for a piece, and nothing was changed.
     Closure(E),
     /// What the key is bound to.
     Value(Option<V>),

@@ -1,8 +1,11 @@
 -- The seal and its parts own what a box at the same types owns.
 use mir.Syntax.{impl, tnil, dnil}
+use mathlib.Core.Path.{◌≡◌, refl}
 use mathlib.Core.List.{[]}
 use mir.Val.{Val, vstruct, vcons, vnil}
 use denote.Signature.{Slot, plain}
+use Rattle.std.specs.Prelude.{Option, Some, None, IsSome}
+use Rattle.std.proofs.lemmas.Bool.{false≢true}
 use Rattle.std_alloc.proofs.BoxSteps.Form.{Bx}
 use Rattle.std_heap.specs.contracts.Global as Heap
 use Rattle.std_heap.specs.contracts.GlobalAllocator.TheImpl.{ghosts, dict}
@@ -33,3 +36,7 @@ FromSeal = plain (λ _. Sealed.the_row)
 
 abbrev pub both : Val → Val → Val
 both v w = vstruct (vcons v (vcons w vnil))
+
+pub some_value : {A : Type 0} (o : Option A) → IsSome o → (x : A) × (o ≡ Some x)
+some_value (Some x) h = (x, refl)
+some_value None h = absurd (false≢true h)

@@ -41,7 +41,7 @@ module _ {K : Type 0} (shape : K → Data)
       (range_has_no_float i.key) refl)
       (pairs_have_no_float items)
 
-  map_has_no_float : (items : List (Item (AnyRange K) ℕ))
+  pub map_has_no_float : (items : List (Item (AnyRange K) ℕ))
       → has_float (map_shape shape unsigned_shape items) ≡ false
   map_has_no_float items = neither_true _ false (pairs_have_no_float items) refl
 
@@ -52,21 +52,9 @@ module _ {K : Type 0} (shape : K → Data)
       neither_true (has_float (range_shape shape i.key)) _ (range_has_no_float i.key)
       (set_has_no_float items)
 
-signed_has_no_float : (z : ℤ) → has_float (signed_shape z) ≡ false
+pub signed_has_no_float : (z : ℤ) → has_float (signed_shape z) ≡ false
 signed_has_no_float (pos n) = refl
 signed_has_no_float (negsuc n) = refl
-
-pub unsigned_map_has_no_float : (items : List (Item (AnyRange ℕ) ℕ))
-    → has_float (map_shape unsigned_shape unsigned_shape items) ≡ false
-unsigned_map_has_no_float items = map_has_no_float unsigned_shape (λ n. refl) items
-
-pub signed_map_has_no_float : (items : List (Item (AnyRange ℤ) ℕ))
-    → has_float (map_shape signed_shape unsigned_shape items) ≡ false
-signed_map_has_no_float items = map_has_no_float signed_shape signed_has_no_float items
-
-pub unsigned_set_has_no_float : (items : List (Item (AnyRange ℕ) (Unit {0})))
-    → has_float (set_shape unsigned_shape items) ≡ false
-unsigned_set_has_no_float items = set_has_no_float unsigned_shape (λ n. refl) items
 
 pub if_ok_as : {A E : Type 0} (r : Result A E) (P Q : A → Type 0) → ((x : A) → P x → Q x) → IfOk r P
     → IfOk r Q

@@ -1,4 +1,4 @@
 mod AsBox
-mod Completeness
+mod Fills
+mod Flags
 mod Floats
-mod Upto

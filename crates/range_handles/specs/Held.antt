@@ -1,9 +1,5 @@
 -- What an open handle holds.
-use Rattle.std.specs.Prelude.{◌≡◌, ℕ, [], length, Option, Some, None, ⊤}
-use Rattle.btree_range_map.specs.AnyRange.{AnyRange}
-use Rattle.btree_range_map.specs.Intervals.{Any}
-use Rattle.btree_range_map.specs.Order.{KeyOrder}
-use Rattle.btree_range_map.specs.Range.{Holds}
+use Rattle.std.specs.Prelude.{ℕ, [], length, Option, Some, None, ⊤}
 use Rattle.range_handles.specs.Lists.{Ranges, SignedRanges, KeyRanges}
 use Rattle.range_handles.specs.declared.collection.Collection.{Collection}
 use Rattle.range_handles.specs.declared.collection.Collection.TheVariants.{Unsigned, Signed, Set}
@@ -47,10 +43,6 @@ set_items (Some (Unsigned items)) = []
 set_items (Some (Signed items)) = []
 set_items (Some (Set items)) = items
 set_items None = []
-
--- the range is stored, and holds the key
-abbrev pub IsRangeFor : KeyOrder ℕ → KeyRanges → ℕ → AnyRange ℕ → Type 0
-IsRangeFor order items key r = Holds order r key × Any (λ i. i.key ≡ r) items
 
 -- how many ranges are stored
 abbrev pub range_count : Option Collection → ℕ

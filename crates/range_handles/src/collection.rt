@@ -4,24 +4,24 @@ ghost use Rattle.serde_json.specs.Read.{read as read_text};
 ghost use Rattle.serde_json.specs.View.{view};
 ghost use Rattle.serde_json.specs.Written.{compact_text};
 ghost use Rattle.btree_range_map.specs.JsonError.TheVariants.{Memory};
+ghost use Rattle.range_handles.specs.Alike.{AreAlike, IsCopy};
 ghost use Rattle.range_handles.specs.Fewest.{IsLeastRangeCount};
 ghost use Rattle.range_handles.specs.Held.{range_count, emptied};
 ghost use Rattle.range_handles.specs.Texts.{data_of, IsDataFault, IsDataRead, IsFaultyText, IsTextRead};
 
-use crate::signed_map::SignedMap;
-use crate::unsigned_map::UnsignedMap;
-use crate::unsigned_set::UnsignedSet;
+use crate::kept_map::KeptMap;
+use crate::kept_set::KeptSet;
+use crate::status::{DONE, NO_MEMORY, NONE, NOT_JSON, NOT_READ, OTHER_KIND, answer};
 use btree_range_map::json::JsonError;
-use range_c_types::status::{DONE, NO_MEMORY, NOT_JSON, NOT_READ};
 use serde_json::Value;
 use std::alloc::{AllocError, Global};
 
 /// A map or a set, which a contract sees as its ranges.
 #[derive(Drop)]
 pub enum Collection {
-    Unsigned(UnsignedMap),
-    Signed(SignedMap),
-    Set(UnsignedSet),
+    Unsigned(KeptMap<u64>),
+    Signed(KeptMap<i64>),
+    Set(KeptSet<u64>),
 }
 
 impl Collection {
@@ -37,14 +37,42 @@ impl Collection {
         }
     }
 
-    /// The same kind of collection, with no range.
-    pub fn emptied(&self, alloc: Global) -> Collection
-        ensures { Some result ≡ emptied (Some self.now) }
+    /// Takes all ranges away, and keeps their memory for others.
+    pub fn clear(&mut self)
+        ensures { Some self.new ≡ emptied (Some self.old) }
     {
         match self {
-            Collection::Unsigned(_) => Collection::Unsigned(UnsignedMap::new(alloc)),
-            Collection::Signed(_) => Collection::Signed(SignedMap::new(alloc)),
-            Collection::Set(_) => Collection::Set(UnsignedSet::new(alloc)),
+            Collection::Unsigned(map) => map.clear(),
+            Collection::Signed(map) => map.clear(),
+            Collection::Set(set) => set.clear(),
+        }
+    }
+
+    /// A collection of the same kind, with equal ranges and equal values.
+    pub fn copied(&self) -> Result<Collection, AllocError>
+        ensures { IfOk result (λ copy. IsCopy (Some copy) (Some self.now)) }
+    {
+        match self {
+            Collection::Unsigned(map) => Ok(Collection::Unsigned(map.copied()?)),
+            Collection::Signed(map) => Ok(Collection::Signed(map.copied()?)),
+            Collection::Set(set) => Ok(Collection::Set(set.copied()?)),
+        }
+    }
+
+    /// Whether the other is of this kind, and binds each key as this one does.
+    pub fn equals(&self, other: &Collection) -> u32
+        ensures yes { result ≡ DONE → AreAlike (Some self.now) (Some other.now) }
+        ensures no { result ≡ NONE → ¬ AreAlike (Some self.now) (Some other.now) }
+        ensures answer { emptied (Some self.now) ≡ emptied (Some other.now)
+            → (result ≡ DONE) ⊎ (result ≡ NONE) }
+        ensures other { (¬ emptied (Some self.now) ≡ emptied (Some other.now))
+            → result ≡ OTHER_KIND }
+    {
+        match (self, other) {
+            (Collection::Unsigned(map), Collection::Unsigned(second)) => answer(map.equals(second)),
+            (Collection::Signed(map), Collection::Signed(second)) => answer(map.equals(second)),
+            (Collection::Set(set), Collection::Set(second)) => answer(set.equals(second)),
+            (_, _) => OTHER_KIND,
         }
     }
 
@@ -67,9 +95,9 @@ impl Collection {
             (λ e. (e ≡ Memory) ⊎ IsDataFault self.now (view value.now) e) }
     {
         match self {
-            Collection::Unsigned(_) => Ok(Collection::Unsigned(UnsignedMap::read(alloc, value)?)),
-            Collection::Signed(_) => Ok(Collection::Signed(SignedMap::read(alloc, value)?)),
-            Collection::Set(_) => Ok(Collection::Set(UnsignedSet::read(alloc, value)?)),
+            Collection::Unsigned(_) => Ok(Collection::Unsigned(KeptMap::read(alloc, value)?)),
+            Collection::Signed(_) => Ok(Collection::Signed(KeptMap::read(alloc, value)?)),
+            Collection::Set(_) => Ok(Collection::Set(KeptSet::read(alloc, value)?)),
         }
     }
 

@@ -2,22 +2,31 @@
 //!
 //! A handle is a struct of the caller's own: closed, or open on a collection whose type the caller
 //! does not see. A call on a collection that may be of another kind answers by a status of
-//! [`range_c_types::status`].
+//! [`status`]; ranges cross as keys and flags, those of [`bounds`].
 //!
 //! Where to find what:
 //!
 //! - the handle of a caller in C: a box of a map or a set whose type C does not see, or nothing:
-//!   `src/{handle,seal,parts}.rt`, `specs/Seals.antt`; what it holds in `specs/Held.antt`, that no
-//!   fewer ranges would do in `specs/Fewest.antt`
+//!   `src/{handle,seal,parts}.rt`, `specs/Seals.antt`; how a call reaches it where it lies:
+//!   `src/seal/lend.rt`, `specs/Lending.antt`; what it holds in `specs/Held.antt`, that no fewer
+//!   ranges would do in `specs/Fewest.antt`
+//! - what is done to a map or a set of any kind of keys, each call said once:
+//!   `src/{kept_map,kept_set,reads}.rt`; what two sets are asked in `src/kept_set/algebra.rt`
+//! - ranges as two keys and flags, and what a call returns: `src/{bounds,status}.rt`,
+//!   `specs/Flags.antt`; many at once in `src/batch.rt`, `proofs/Fills.antt`
 //! - what a handle of any kind is saved as and loaded from: `src/collection.rt`,
 //!   `specs/Texts.antt`, `btree_range_map_c/src/exports/any.rt`; that such a text has no float in
 //!   `proofs/Floats.antt`
 #![tactic(auto)]
 
+pub mod batch;
+pub mod bounds;
 pub mod collection;
 pub mod handle;
+pub mod kept_map;
+pub mod kept_set;
+pub mod key;
 pub mod parts;
+pub mod reads;
 pub mod seal;
-pub mod signed_map;
-pub mod unsigned_map;
-pub mod unsigned_set;
+pub mod status;

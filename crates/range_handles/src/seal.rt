@@ -3,6 +3,8 @@ ghost use Rattle.std.specs.Prelude.{◌≡◌, Option, Some, None, IsSome};
 ghost use Rattle.range_handles.specs.declared.collection.Collection.{Collection};
 ghost use Rattle.range_handles.specs.Seals.{held_coded, seal_owns};
 
+mod lend;
+
 use crate::collection::Collection;
 use crate::parts::Parts;
 use std::alloc::Global;

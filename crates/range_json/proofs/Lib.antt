@@ -2,7 +2,6 @@ pub mod Exact
 pub mod Keeping
 pub mod MapReading
 pub mod Meetings
-pub mod Multimaps
 pub mod OverwritingLoop
 pub mod Reading
 pub mod ReadingBack

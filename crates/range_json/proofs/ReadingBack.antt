@@ -1,8 +1,8 @@
--- What is written is read back as an equal range, set or map.
-use Rattle.std.proofs.Common.{◌≡◌, refl, sym, ap, subst, ◌∙◌, ◌&&◌, ◌++◌, inl, inr, length, ℕ, suc, List, [], ◌∷◌, map, Bool, true, IsTrue, Some, None, Ok, Result}
+-- What is written is read back as an equal range or map.
+use Rattle.std.proofs.Common.{◌≡◌, refl, sym, ap, subst, ◌∙◌, ◌&&◌, ◌++◌, inl, inr, length, ℕ, List, [], ◌∷◌, map, Bool, true, IsTrue, None, Ok, Result}
 use Rattle.std.proofs.lemmas.List.Elements.{All-from_recursion}
 use Rattle.std.specs.Cmp.{IsEquivalence}
-use Rattle.std.specs.List.{AllByRecursion, AllZip}
+use Rattle.std.specs.List.{AllZip}
 use Rattle.std.specs.Ordering.{is_eq}
 use Rattle.std.specs.declared.cmp.Ordering.TheVariants.{Equal}
 use Rattle.std.specs.declared.ops.Bound.{Bound}
@@ -15,22 +15,17 @@ use Rattle.range_algebra.specs.Clones.{IsBoundClone}
 use Rattle.range_algebra.specs.Range.{IsKnownRange}
 use Rattle.range_algebra.specs.RangeOrder.{range_cmp}
 use Rattle.range_store.specs.declared.storage.Item.{Item}
-use Rattle.range_map.specs.FreeRanges.{item_ranges}
 use Rattle.range_map.specs.ListOrder.{same_list}
 use Rattle.range_change.specs.Stored.{IsStored}
 use Rattle.range_map.proofs.CloneLists.{equal_items_are_copy, copy_stored, item_clone}
-use Rattle.range_sets.proofs.Likeness.{same_sets}
-use Rattle.range_sets.specs.KeySets.{IsStoredSet}
-use Rattle.range_sets.specs.SetOrder.{same_ranges}
-use Rattle.range_json.specs.Shapes.{bound_shape, range_shape, pair_shape, set_shape, map_shape}
-use Rattle.range_json.specs.Faults.{key_fault, bound_fault, range_fault, first_fault, set_fault, range_items, IsBoundRead, IsRangeRead, IsSetRead}
+use Rattle.range_json.specs.Shapes.{bound_shape, range_shape, pair_shape, map_shape}
+use Rattle.range_json.specs.Faults.{key_fault, bound_fault, range_fault, IsBoundRead, IsRangeRead}
 use Rattle.range_json.specs.declared.error.JsonError.{JsonError}
 use Rattle.range_json.specs.MapFaults.{element_fault, IsElementRead, IsMapRead, IsFirstFault, MeetNonempty}
-use Rattle.range_json.specs.Values.{IsBoundValue, IsRangeValue, AreRangeValues, AreItemValues}
+use Rattle.range_json.specs.Values.{IsBoundValue, IsRangeValue, AreItemValues}
 use Rattle.range_json.proofs.Keeping.{apart_from_last, stored_front, one_between}
 use Rattle.range_algebra.proofs.Lists.{any_none, all_more}
 use Rattle.range_change.specs.Frames.{JoinsOrMeets}
-use Rattle.range_sets.proofs.Filling.{all_equal}
 use Rattle.range_json.specs.SetReadBack.{list_back}
 
 zip_last : {X : Type 0} (R : X → X → Type 0) (xs ys : List X) (x y : X) → AllZip R xs ys → R x y
@@ -91,17 +86,17 @@ module _ {K : Type 0} (order : KeyOrder K) (shape : K → Data) (reads : Data �
 
     module _ (lawful : IsLawful order) {V : Type 0} (same : V → V → Bool)
         (equal : IsEquivalence same) where
-      abbrev Copied : Item (AnyRange K) V → Item (AnyRange K) V → Type 0
+      abbrev pub Copied : Item (AnyRange K) V → Item (AnyRange K) V → Type 0
       Copied x y = (is_eq (range_cmp order y.key x.key) && same y.value x.value) ≡ true
 
-      item_back : (x y : Item (AnyRange K) V) → IsRangeValue is_value x.key
+      pub item_back : (x y : Item (AnyRange K) V) → IsRangeValue is_value x.key
           → IsRangeRead is_read (range_shape shape x.key) y.key → IsTrue (same x.value y.value)
           → Copied x y
       item_back x y v read values =
           item_clone lawful equal Alike (λ a b h. h) (λ a b. IsTrue (same a b))
           (λ a b h. h) x y (bounds_back x.key y.key v read) values
 
-      same_copies : (items copy : List (Item (AnyRange K) V)) → AllZip Copied items copy
+      pub same_copies : (items copy : List (Item (AnyRange K) V)) → AllZip Copied items copy
           → IsTrue (same_list order same copy items)
       same_copies [] [] h = refl
       same_copies [] (y ∷ ys) h = absurd h
@@ -258,67 +253,3 @@ module _ {K V : Type 0} (order : KeyOrder K) (shape : K → Data) (reads : Data 
               (apart_from_last order lawful same equal first.earlier y form)
               (λ i out meets. out (inl meets.2)) met.0.1.3
         ]
-
-module _ {K : Type 0} (order : KeyOrder K) (shape : K → Data) (reads : Data → Bool)
-    (is_value : K → Type 0) (is_read : Data → K → Type 0) where
-  ranges_sound : (written : (x : K) → is_value x → IsTrue (reads (shape x))) (i : ℕ)
-      (items : List (Item (AnyRange K) (Unit {0}))) → AreRangeValues is_value items
-      → first_fault (range_fault reads) i (map (range_shape shape) (item_ranges items)) ≡ None
-  ranges_sound written i [] v = refl
-  ranges_sound written i (x ∷ xs) v =
-      rw (range_sound order shape reads is_value is_read written i x.key v.0)
-      (ranges_sound written (suc i) xs v.1)
-
-  -- a written set has no fault
-  pub set_sound : (written : (x : K) → is_value x → IsTrue (reads (shape x)))
-      (items : List (Item (AnyRange K) (Unit {0}))) → AreRangeValues is_value items
-      → set_fault reads (set_shape shape items) ≡ None
-  set_sound written items v =
-      ap (λ ds. first_fault (range_fault reads) 0 ds)
-      (list_back (map (range_shape shape) (item_ranges items))) ∙ ranges_sound written 0 items v
-
-  module _ (back : (x y : K) → is_value x → is_read (shape x) y → order.cmp x y ≡ Equal)
-      (lawful : IsLawful order) where
-    abbrev Same : Item (AnyRange K) (Unit {0}) → Item (AnyRange K) (Unit {0}) → Type 0
-    Same = Copied order shape reads is_value is_read back lawful (λ _ _. true) all_equal
-
-    sets_back : (items : List (Item (AnyRange K) (Unit {0}))) (ranges : List (AnyRange K))
-        → AreRangeValues is_value items
-        → AllZip (IsRangeRead is_read) (map (range_shape shape) (item_ranges items)) ranges
-        → AllZip Same items (range_items ranges)
-    sets_back [] [] v h = tt
-    sets_back [] (r ∷ rs) v h = absurd h
-    sets_back (x ∷ xs) [] v h = absurd h
-    sets_back (x ∷ xs) (r ∷ rs) v h = (
-      item_back order shape reads is_value is_read back lawful (λ _ _. true) all_equal x
-          (record { key = r; value = tt }) v.0 h.0 refl,
-      sets_back xs rs v.1 h.1,
-    )
-
-    known_items : (ranges : List (AnyRange K)) → AllByRecursion (λ r. IsKnownRange order r) ranges
-        → AllByRecursion (λ i. IsKnownRange order i.key) (range_items ranges)
-    known_items [] h = tt
-    known_items (r ∷ rs) h = (h.0, known_items rs h.1)
-
-    -- a written set is read back as an equal one
-    pub set_back : (items others : List (Item (AnyRange K) (Unit {0})))
-        → AreRangeValues is_value items → IsStoredSet order items
-        → IsSetRead is_read order (set_shape shape items) others
-        → IsTrue (same_ranges order others items)
-    set_back items others v stored h =
-        let ranges = map (range_shape shape) (item_ranges items) in
-        let listed : ranges ≡ h.ds =
-        same_Some ranges h.ds (ap Some (sym (list_back ranges)) ∙ h.whole) in
-        let copies =
-        sets_back items h.ranges v
-        (subst (λ ds. AllZip (IsRangeRead is_read) ds h.ranges) (sym listed) h.read) in
-        let form =
-        copy_stored lawful all_equal (range_items h.ranges) items
-        (equal_items_are_copy lawful all_equal items
-        (range_items h.ranges) copies)
-        (All-from_recursion (λ i. IsKnownRange order i.key) (range_items h.ranges)
-        (known_items h.ranges h.known)) stored in
-        subst (λ is. IsTrue (same_ranges order is items)) (sym (h.kept form))
-        (subst IsTrue (same_sets order (range_items h.ranges) items)
-        (same_copies order shape reads is_value is_read back lawful
-        (λ _ _. true) all_equal items (range_items h.ranges) copies))

@@ -1,17 +1,12 @@
--- The first fault of a JSON value that is read as a range or a set, and what is read there.
-use Rattle.std.specs.Prelude.{◌≡◌, ℕ, suc, List, [], ◌∷◌, map, Option, Some, None, Bool, if◌then◌else◌}
-use Rattle.std.specs.List.{AllByRecursion, AllZip}
+-- The first fault of a JSON value that is read as a range, and what is read there.
+use Rattle.std.specs.Prelude.{◌≡◌, ℕ, suc, List, [], ◌∷◌, Option, Some, None, Bool, if◌then◌else◌}
 use Rattle.std.specs.declared.ops.Bound.{Bound}
 use Rattle.std.specs.declared.ops.Bound.TheVariants.{Included, Excluded, Unbounded}
 use Rattle.serde_json.specs.Data.{Data}
-use Rattle.range_keys.specs.Order.{KeyOrder}
 use Rattle.range_algebra.specs.declared.any.AnyRange.{AnyRange}
-use Rattle.range_algebra.specs.Range.{IsKnownRange}
-use Rattle.range_sets.specs.KeySets.{HoldsAllOf, IsStoredSet}
-use Rattle.range_store.specs.declared.storage.Item.{Item}
 use Rattle.range_json.specs.declared.error.JsonError.{JsonError}
 use Rattle.range_json.specs.declared.error.JsonError.TheVariants.{NotArray, NotRange, NotBound, Key}
-use Rattle.range_json.specs.Shapes.{pair_of, bound_of, elements_of}
+use Rattle.range_json.specs.Shapes.{pair_of, bound_of}
 
 -- the first of two faults
 abbrev pub before : Option JsonError → Option JsonError → Option JsonError
@@ -48,14 +43,6 @@ abbrev pub array_fault : (ℕ → Data → Option JsonError) → Option (List Da
 array_fault fault None = Some NotArray
 array_fault fault (Some ds) = first_fault fault 0 ds
 
--- the first fault of a set
-abbrev pub set_fault : (Data → Bool) → Data → Option JsonError
-set_fault key_reads d = array_fault (range_fault key_reads) (elements_of d)
-
--- the items of a set of these ranges
-abbrev pub range_items : {K : Type 0} → List (AnyRange K) → List (Item (AnyRange K) (Unit {0}))
-range_items ranges = map (λ r. record { key = r; value = tt }) ranges
-
 module _ {K : Type 0} (key_is_read : Data → K → Type 0) where
   -- the parts are of the same kind, and the key is read
   abbrev pub ArePartsRead : Option (Bound Data) → Bound K → Type 0
@@ -77,15 +64,3 @@ module _ {K : Type 0} (key_is_read : Data → K → Type 0) where
   abbrev pub IsRangeRead : Data → AnyRange K → Type 0
   IsRangeRead d r =
       (ds : Data × Data) × (pair_of d ≡ Some ds) × IsBoundRead ds.0 r.start × IsBoundRead ds.1 r.end
-
-  -- each is read as the range beside it, whose bounds are keys; the list holds just the keys of
-  -- these ranges, and ranges in the form of a set are kept one by one
-  pub record IsSetRead (order : KeyOrder K) (d : Data)
-      (items : List (Item (AnyRange K) (Unit {0}))) : Type 0 where
-    pub ds : List Data
-    pub ranges : List (AnyRange K)
-    pub whole : elements_of d ≡ Some ds
-    pub read : AllZip IsRangeRead ds ranges
-    pub known : AllByRecursion (λ r. IsKnownRange order r) ranges
-    pub held : HoldsAllOf order items ranges
-    pub kept : IsStoredSet order (range_items ranges) → items ≡ range_items ranges

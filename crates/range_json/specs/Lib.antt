@@ -4,7 +4,6 @@ pub mod Values
 pub mod ValueSets
 pub mod Faults
 pub mod MapFaults
-pub mod MultimapFaults
 pub mod Meetings
 pub mod Overwriting
 pub mod ReadBack

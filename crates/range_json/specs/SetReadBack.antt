@@ -10,7 +10,7 @@ use Rattle.std.proofs.lemmas.Bool.{and_from}
 use Rattle.std.proofs.lemmas.Option.{same_Some}
 use Rattle.serde_json.specs.Data.{Data}
 use Rattle.serde_json.specs.View.{items_of}
-use Rattle.range_sets.specs.ListedMembers.{tree_same_equal}
+use Rattle.range_map.specs.OrderedSets.{tree_same_equal}
 use Rattle.range_json.specs.Shapes.{elements_of, list_of}
 use Rattle.range_json.specs.ValueSets.{reads_values, reads_some, values_shape, IsValueSet, AreValuesRead}
 

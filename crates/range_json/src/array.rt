@@ -8,7 +8,7 @@ use crate::error::JsonError;
 use serde_json::Value;
 
 /// The elements of an array.
-pub(crate) fn elements_of_array(value: &Value) -> Result<&[Value], JsonError>
+pub fn elements_of_array(value: &Value) -> Result<&[Value], JsonError>
     ensures found { IfOk result (λ vs. elements_of (view value.now) ≡ Some (map view vs.now)) }
     ensures fault { IfErr result
         (λ e. (e ≡ NotArray) × (elements_of (view value.now) ≡ None)) }

@@ -1,7 +1,7 @@
 //! The elements of a map.
 ghost use Rattle.std.specs.Prelude.{◌≡◌, ◌⊎◌, Some, None, IfOk, OnOk, IfErr};
 ghost use Rattle.serde_json.specs.View.{view};
-ghost use Rattle.range_algebra.specs.Range.{ClonesAreEqual, IsEmptyRange, IsKnownRange};
+ghost use Rattle.range_algebra.specs.Range.{IsEmptyRange, IsKnownRange};
 ghost use Rattle.range_change.specs.Bindings.{IsBoundAfter};
 ghost use Rattle.range_change.specs.Frames.{IsInsertionFrame};
 ghost use Rattle.range_change.specs.Lookups.{MeetsSome, MeetAlso};
@@ -15,8 +15,7 @@ use crate::range::{element_range, pair};
 use range_algebra::any::AnyRange;
 use range_algebra::inner;
 use range_keys::traits::Measure;
-use range_map::inner::disjoint::insert_disjoint;
-use range_map::map::RangeMap;
+use range_map::map::{NotFree, RangeMap};
 use range_store::storage::{Item, Storage};
 use serde_json::Value;
 use std::alloc::Global;
@@ -36,7 +35,7 @@ fn value_from_json<V: Json>(alloc: Global, value: &Value, index: usize) -> Resul
 }
 
 /// The range and the value of the element at `index`.
-pub(crate) fn element_from_json<K: Json, V: Json>(
+pub fn element_from_json<K: Json, V: Json>(
     alloc: Global,
     value: &Value,
     index: usize,
@@ -57,12 +56,11 @@ pub(crate) fn element_from_json<K: Json, V: Json>(
 }
 
 /// Binds the keys of the element at `index`, where its range meets no stored one.
-pub(crate) fn insert_element<
-    K: Json + Measure + Clone,
-    V: Eq + Clone,
-    C: Storage<Item<AnyRange<K>, V>>,
->(map: &mut RangeMap<K, V, C>, item: Item<AnyRange<K>, V>, index: usize) -> Result<(), JsonError>
-    requires { ClonesAreEqual K.is_clone K.eq }
+pub(crate) fn insert_element<K: Measure, V: Eq + Drop, C: Storage<Item<AnyRange<K>, V>>>(
+    map: &mut RangeMap<K, V, C>,
+    item: Item<AnyRange<K>, V>,
+    index: usize,
+) -> Result<(), JsonError>
     ensures known { IsKnownRange K.order item.key }
     ensures apart { OnOk result
         (¬ ((¬ IsEmptyRange K.order item.key)
@@ -85,9 +83,9 @@ pub(crate) fn insert_element<
 {
     let Item { key, value } = item;
     inner::known(&key);
-    if insert_disjoint(map, key, value)? {
-        Ok(())
-    } else {
-        Err(JsonError::Meets(index))
+    match map.try_insert(key, value) {
+        Ok(()) => Ok(()),
+        Err(NotFree::Occupied(_, _)) => Err(JsonError::Meets(index)),
+        Err(NotFree::Memory(_, _)) => Err(JsonError::Memory),
     }
 }

@@ -1,4 +1,4 @@
-//! Ranges, sets and maps as JSON values.
+//! Ranges and maps as JSON values.
 ghost use Rattle.std.specs.Prelude.{◌≡◌, Bool, true, false, IsTrue, IfOk, OnOk, IsErrOf};
 ghost use Rattle.serde_json.specs.Data.{Data};
 ghost use Rattle.serde_json.specs.View.{view};
@@ -6,15 +6,10 @@ ghost use Rattle.range_json.specs.declared.error.ReadError.TheVariants.{Refused}
 
 pub use crate::error::{JsonError, ReadError};
 pub use crate::explanation::Explanation;
-pub use crate::laws::{
-    maps_are_read_back, multimaps_are_read_back, ranges_are_read_back, read_maps_have_no_fault,
-    read_multimaps_have_no_fault, sets_are_read_back,
-};
+pub use crate::laws::{maps_are_read_back, ranges_are_read_back, read_maps_have_no_fault};
 pub use crate::map::{map_from_json, map_to_json};
-pub use crate::multimap::{multimap_from_json, multimap_to_json};
 pub use crate::overwriting::map_from_json_overwriting;
 pub use crate::range::{range_from_json, range_to_json};
-pub use crate::set::{set_from_json, set_to_json};
 use serde_json::Value;
 use std::alloc::{AllocError, Global};
 

@@ -1,9 +1,7 @@
-//! Laws of what is written and read. Their bodies do nothing.
+//! Laws of what is written and read of ranges and maps. Their bodies do nothing.
 ghost use Rattle.range_json.specs.Laws.{WrittenRangesHaveNoFault, WrittenRangesAreReadEqual};
-ghost use Rattle.range_json.specs.Laws.{WrittenSetsHaveNoFault, WrittenSetsAreReadEqual};
 ghost use Rattle.range_json.specs.Laws.{WrittenMapsHaveNoFault, WrittenMapsAreReadEqual};
-ghost use Rattle.range_json.specs.Laws.{WrittenMultimapsHaveNoFault, WrittenMultimapsAreReadEqual};
-ghost use Rattle.range_json.specs.Laws.{ReadMapsHaveNoFault, ReadMultimapsHaveNoFault};
+ghost use Rattle.range_json.specs.Laws.{ReadMapsHaveNoFault};
 
 use crate::json::{Json, ReadsBack};
 use range_keys::traits::PartialEnum;
@@ -14,12 +12,6 @@ pub fn ranges_are_read_back<K: ReadsBack + PartialEnum>()
     ensures equal { WrittenRangesAreReadEqual K.shape K.is_value K.order K.is_read }
 {}
 
-/// A written set has no fault, and what is read there equals it, as `==` compares sets.
-pub fn sets_are_read_back<K: ReadsBack + PartialEnum>()
-    ensures sound { WrittenSetsHaveNoFault K.shape K.is_value K.reads }
-    ensures equal { WrittenSetsAreReadEqual K.shape K.is_value K.order K.is_read }
-{}
-
 /// A written map has no fault, and what is read there equals it, as `==` compares maps.
 pub fn maps_are_read_back<K: ReadsBack + PartialEnum, V: ReadsBack>()
     ensures sound { WrittenMapsHaveNoFault K.order V.eq K.reads V.reads K.is_read V.is_read
@@ -28,20 +20,7 @@ pub fn maps_are_read_back<K: ReadsBack + PartialEnum, V: ReadsBack>()
         K.shape V.shape K.is_value V.is_value }
 {}
 
-/// A written multimap has no fault, and what is read there equals it, as `==` compares multimaps.
-pub fn multimaps_are_read_back<K: ReadsBack + PartialEnum, V: ReadsBack + Ord>()
-    ensures sound { WrittenMultimapsHaveNoFault K.order V.cmp V.eq K.reads V.reads K.is_read
-        V.is_read K.shape V.shape K.is_value V.is_value }
-    ensures equal { WrittenMultimapsAreReadEqual K.order V.cmp V.eq K.reads V.reads K.is_read
-        V.is_read K.shape V.shape K.is_value V.is_value }
-{}
-
 /// A JSON value that is read as a map has no fault.
 pub fn read_maps_have_no_fault<K: ReadsBack + PartialEnum, V: Json + Eq>()
     ensures { ReadMapsHaveNoFault K.order V.eq K.reads V.reads K.is_read V.is_read }
-{}
-
-/// A JSON value that is read as a multimap has no fault.
-pub fn read_multimaps_have_no_fault<K: ReadsBack + PartialEnum, V: Json + Ord>()
-    ensures { ReadMultimapsHaveNoFault K.order V.cmp V.eq K.reads V.reads K.is_read V.is_read }
 {}

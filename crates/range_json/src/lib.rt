@@ -1,11 +1,11 @@
-//! Ranges, sets and maps as JSON values, and what JSON values are read as.
+//! Ranges and maps as JSON values, and what JSON values are read as.
 //!
 //! Where to find what:
 //!
 //! - what a key or a plain value is written as: `src/{unsigned,signed,characters,plain}.rt`,
 //!   `specs/Keys.antt`, read back by `specs/ReadBack.antt`
-//! - bounds, ranges and sets as JSON values: `src/{bound,range,set}.rt`, `specs/Shapes.antt`;
-//!   their faults in `specs/Faults.antt`
+//! - bounds and ranges as JSON values: `src/{bound,range}.rt`, `specs/Shapes.antt`; their faults in
+//!   `specs/Faults.antt`
 //! - a map in either shape, its elements and its faults: `src/{map,version,element}.rt`,
 //!   `specs/MapFaults.antt`, the loop in `proofs/MapReading.antt`
 //! - what an error of JSON found, in the value that it is given again:
@@ -14,8 +14,8 @@
 //!   `specs/Meetings.antt`, `proofs/Meetings.antt`
 //! - a map of which the last element counts: `src/overwriting.rt`, `specs/Overwriting.antt`,
 //!   `proofs/OverwritingLoop.antt`
-//! - a set of values as an array, a multimap as a map of arrays: `src/{value_set,multimap}.rt`,
-//!   `specs/{ValueSets,MultimapFaults,SetReadBack}.antt`, `proofs/{ValueSets,Multimaps}.antt`
+//! - std's `BTreeSet` as an array of its values: `src/value_set.rt`,
+//!   `specs/{ValueSets,SetReadBack}.antt`, `proofs/ValueSets.antt`
 //! - what is written is read back: laws for users: `src/laws.rt`, `specs/{Laws,Values}.antt`,
 //!   `proofs/{Keeping,ReadingBack,Exact}.antt`
 #![tactic(auto)]
@@ -27,15 +27,14 @@ mod element;
 mod error;
 mod explanation;
 mod found;
+pub mod inner;
 pub mod json;
 mod laws;
 mod map;
 mod meeting;
-mod multimap;
 mod overwriting;
 mod plain;
 mod range;
-mod set;
 mod signed;
 mod unsigned;
 mod value_set;

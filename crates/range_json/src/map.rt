@@ -21,7 +21,7 @@ use serde_json::Value;
 use std::alloc::{AllocError, Global};
 
 /// A range and its value, as an array of two.
-pub(crate) fn pair_to_json<K: Json, V: Json>(
+pub fn pair_to_json<K: Json, V: Json>(
     alloc: Global,
     range: &AnyRange<K>,
     value: &V,
@@ -66,10 +66,10 @@ pub fn map_to_json<K: Json + PartialEnum, V: Json + Eq, C: Storage<Item<AnyRange
 ///
 /// # Errors
 ///
-/// The fault of the first faulty element, with its index, from 0: an element that is no pair, a
-/// range that is none, a bound or a key that is none, a value that is none, or a nonempty range
-/// that meets that of an earlier element. `NotArray` and
-/// `Version` where the whole has neither shape. `Memory` where an allocation fails.
+/// The fault of the first faulty element, with its index, from 0. Its fault is that it is no pair,
+/// that its range, a bound, a key or its value is none, or that its range meets that of an earlier
+/// element. An empty range meets none. `NotArray` and `Version` where the whole has neither shape.
+/// `Memory` where an allocation fails.
 pub fn map_from_json<
     K: Json + Measure + Clone,
     V: Json + Eq + Clone,

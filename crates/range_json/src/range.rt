@@ -37,7 +37,7 @@ pub(crate) fn pair(value: &Value) -> Option<(&Value, &Value)>
 }
 
 /// The range of the element at `index`.
-pub(crate) fn element_range<K: Json>(
+pub fn element_range<K: Json>(
     alloc: Global,
     value: &Value,
     index: usize,

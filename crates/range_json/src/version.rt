@@ -10,7 +10,7 @@ use serde_json::{Map, Value};
 use std::alloc::{AllocError, Global};
 
 /// The elements, with the number of the version.
-pub(crate) fn versioned(alloc: Global, elements: Vec<Value>) -> Result<Value, AllocError>
+pub fn versioned(alloc: Global, elements: Vec<Value>) -> Result<Value, AllocError>
     ensures { IfOk result (λ v. view v ≡ versioned_shape (map view elements.items)) }
 {
     let mut members = Map::new(alloc);
@@ -33,7 +33,7 @@ fn has_known_members(members: &Map<String, Value>) -> bool
 }
 
 /// The elements of a map in either shape.
-pub(crate) fn elements_of_map(value: &Value) -> Result<&[Value], JsonError>
+pub fn elements_of_map(value: &Value) -> Result<&[Value], JsonError>
     ensures found { IfOk result (λ vs. map_elements (view value.now) ≡ Ok (map view vs.now)) }
     ensures fault { IfErr result (λ e. map_elements (view value.now) ≡ Err e) }
 {

@@ -57,7 +57,7 @@ impl<'a, T> AsBound for Bound<&'a T> {
 /// A bound as the start or as the end of a range.
 ///
 /// `Directed<Bound<&T>>` is compared and hashed by where the bound lies in the order of the keys,
-/// starts and ends together: over `u32` the start `Excluded(0)`, the start `Included(1)` and the
+/// starts and ends together. Over `u32` the start `Excluded(0)`, the start `Included(1)` and the
 /// end `Included(1)` are equal, and `Start(Unbounded)` is `Start(Included(0))`.
 #[derive(Clone, Copy, Drop, Debug)]
 pub enum Directed<T> {
@@ -90,8 +90,7 @@ impl<T> Directed<T> {
 }
 
 impl<T> Directed<Bound<T>> {
-    /// The same bound over a reference to its key. It can be compared, where keys tell their
-    /// neighbours.
+    /// The same bound over a reference to its key. It can be compared where `T` is a `PartialEnum`.
     pub fn as_ref(&self) -> Directed<Bound<&T>>
         ensures { directed_map bound_of result ≡ self.now }
     {
@@ -109,9 +108,9 @@ impl<T> Directed<Bound<T>> {
 /// as `Included(false)`; to `Start(Included(2))` it lies as `Excluded(false)`.
 #[derive(Clone, Copy, PartialEq, Eq, Debug)]
 pub enum BoundOrdering {
-    /// On the other's inner side, or at it, which the flag tells.
+    /// On the other's inner side, or at it: the flag says which.
     Included(bool),
-    /// On the other's outer side. The flag tells whether no bound of the key type can lie between.
+    /// On the other's outer side. The flag says whether no bound of the key type can lie between.
     Excluded(bool),
 }
 
@@ -128,14 +127,14 @@ pub enum Dist {
     More,
 }
 
-/// Bounds that compare with the bounds of keys `T`, with an answer that may be missing.
+/// Bounds that compare with the bounds of keys `T`, with a result that may be missing.
 ///
 /// It never is, since keys are totally ordered.
 pub trait BoundPartialOrd<T: PartialEnum> {
     // The bound that is meant.
     ghost directed: { Self → Directed (Bound T) };
 
-    /// `Some` of what [`BoundOrd::bound_cmp`] answers, always. Allocates nothing.
+    /// `Some` of what [`BoundOrd::bound_cmp`] returns, always. Allocates nothing.
     fn bound_partial_cmp<B: AsBound<Item = T>>(&self, other: &Directed<B>) -> Option<BoundOrdering>
         ensures { result
             ≡ Some (bound_ordering T.order (directed self.now) (directed_map B.bound other.now)) };

@@ -7,6 +7,7 @@ pub mod Freeing
 pub mod Iteration
 pub mod ListOrder
 pub mod MappedValues
+pub mod OrderedSets
 pub mod Overlapping
 pub mod Overlays
 pub mod PartWay

@@ -2,6 +2,5 @@
 
 pub mod append;
 pub mod build;
-pub mod disjoint;
 pub mod relate;
 pub mod scan;

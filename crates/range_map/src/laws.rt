@@ -27,8 +27,8 @@ pub fn coarse_lists_are_shortest<K: PartialEnum, V: Eq>()
         → AreDisjoint K.order items }
 {}
 
-/// Over complete keys a list in the form of a map is canonical, a canonical list of ranges of keys
-/// has that form, and two such lists are equal exactly where they bind every key alike.
+/// Over complete keys a list in the form of a map is canonical, and a canonical list of ranges of
+/// keys has that form. Two such lists are equal exactly where they bind every key alike.
 pub fn stored_lists_are_coarse<K: PartialEnum, V: Eq>()
     ensures coarse { IsComplete K.order → (items : List (Item (AnyRange K) V))
         → IsStored K.order V.eq items → IsCoarse K.order V.eq items }

@@ -65,8 +65,8 @@ pub use try_insert::NotFree;
 /// A map that binds the keys of ranges to values.
 ///
 /// It stores nonempty ranges in order, none of which meets another, and which touch only where
-/// their values differ; over keys that tell their neighbours no shorter list binds the same keys. A
-/// contract sees the container, and its items as `C.items`.
+/// their values differ. Over complete keys no shorter list binds the same keys. A contract sees the
+/// container, and its items as `C.items`.
 ///
 /// ```
 /// let mut map: RangeMap<i32, i64> = RangeMap::new(rt.alloc());
@@ -117,8 +117,7 @@ impl<K: PartialEnum, V: Eq + Drop, C: Storage<Item<AnyRange<K>, V>>> RangeMap<K,
 
     /// How many ranges are stored. Allocates nothing.
     ///
-    /// Over keys that tell their neighbours and ends no list of ranges that binds the same has
-    /// fewer.
+    /// Over complete keys no list of ranges that binds the same has fewer.
     ///
     /// ```
     /// map.insert(..=3, 1)?;
@@ -175,7 +174,8 @@ impl<K: PartialEnum, V: Eq + Drop, C: Storage<Item<AnyRange<K>, V>>> RangeMap<K,
         self.get_counted(key, &mut steps)
     }
 
-    /// The value to which the key is bound, or none, as `get` answers; adds the steps it takes.
+    /// The value to which the key is bound, or none, as `get` returns it; adds the steps that it
+    /// takes.
     ///
     /// A step is one range that the search asks, or one comparison of the key with a stored range.
     /// The empty map takes none. Allocates nothing.

@@ -1,7 +1,8 @@
 -- What two ranges leave after their first piece, and what a closure may be asked of that.
 use Rattle.std.proofs.Common.{◌≡◌, refl, sym, inl, inr, arith, ◌+◌, ◌<◌, ◌⊎◌, length, Bool, List, [], ◌++◌, Result, Ok, Option, Some, None}
 use Rattle.range_merge.proofs.Common.{IsEquivalence, IsLawful, Position, position_cmp, Equal, Bound, IsBoundClone, SameBound, lower, Every, Shared, Bor, KeyOrder, AnyRange, Item, option_copied, option_map}
-use Rattle.range_merge.specs.Combining.{IsValueOf, MayBeAskedBoth, MayBeAskedOfBoth, MayAnswerOnBoth, MaySucceedOnBoth}
+use Rattle.range_merge.specs.Combining.{IsValueOf, MayBeAskedBoth, MayBeAskedOfBoth, MayAnswerOnBoth, MayGiveValueOnBoth}
+use Rattle.range_change.specs.Questions.{IsPut}
 use Rattle.range_change.specs.Window.{option_items}
 use Rattle.range_change.proofs.RangePieces.{any_over, any_use}
 use Rattle.range_merge.proofs.Combination.{IsCombinedUpTo, combined_more, answered_piece}
@@ -138,6 +139,15 @@ module _ {K : Type 0} (order : KeyOrder K) where
           asked = asked_within calls f can.asked (rw is at took.2) (rw is_other at took_other.2);
         }
 
+-- where an answer that was put after the others leaves some, it is a value, or there were some
+-- before
+last_value : {K X : Type 0} (order : KeyOrder K) (same : X → X → Bool) (is_clone : K → K → Type 0)
+    (P : Option X → Type 0) (r : AnyRange K) (old new : List (Item (AnyRange K) X))
+    (answer : Option X) → IsPut order same is_clone old new r answer → P answer → 0 < length new
+    → (0 < length old) ⊎ ((value : X) × P (Some value))
+last_value order same is_clone P r old new None put is some = inl (rw put at some)
+last_value order same is_clone P r old new (Some value) put is some = inr (value, is)
+
 -- a merged pass, and the pieces that it asks of at once
 module _ {K : Type 0} {order : KeyOrder K} {lawful : IsLawful order} {V W X : Type 0}
     {same : X → X → Bool} {equal : IsEquivalence same} {E : Type 0}
@@ -197,13 +207,30 @@ module _ {K : Type 0} {order : KeyOrder K} {lawful : IsLawful order} {V W X : Ty
         (combined_more lawful equal may items others was none none_other first two.3.0 _ clones
         two.3.2 two.3.1) (λ e. absurd (on.0 e)) (λ e. absurd (on.1 e)) two.2.first answer two.4
 
-    -- one of the pieces that were asked of was answered without an error
-    pub some_answered : (new : List (Item (AnyRange K) X)) (rests : Rests K V W)
+    abbrev IsAnsweredFirst : Option X → Type 0
+    IsAnsweredFirst answer = MayAnswerOnFirst order same is_clone may left right old (Ok answer)
+
+    value_so_far : (0 < length old → MayGiveValueOnBoth order may items others)
+        → (0 < length old) ⊎ ((value : X) × IsAnsweredFirst (Some value))
+        → MayGiveValueOnBoth order may items others
+    value_so_far so_far (inl some) = so_far some
+    value_so_far so_far (inr (value, is)) = (value, answered_asked (Ok (Some value)) is)
+
+    -- where there are answers, one of the pieces so far was answered by a value
+    pub value_answered : (new : List (Item (AnyRange K) X)) (rests : Rests K V W)
         → AreFirstAsked order same is_clone may left right old new rests
-        → MaySucceedOnBoth order may items others
-    some_answered new rests (piece, first, (inl one, ends)) =
-        (one.0.0, answered_asked (Ok one.0.0) (piece, first, inl one.0.1))
-    some_answered new rests (piece, first, (inr two, ends)) = (
-      two.4.0.0,
-      answered_asked (Ok two.4.0.0) (piece, first, inr (two.0, two.1, two.2, two.3, two.4.0.1)),
-    )
+        → (0 < length old → MayGiveValueOnBoth order may items others) → 0 < length new
+        → MayGiveValueOnBoth order may items others
+    value_answered new rests (piece, first, (inl one, ends)) so_far some =
+        value_so_far so_far
+        (last_value order same is_clone IsAnsweredFirst _ old new one.0.0 one.0.2
+        (piece, first, inl one.0.1) some)
+    value_answered new rests (piece, first, (inr two, ends)) so_far some =
+        elim (last_value order same is_clone IsAnsweredFirst _ two.1 new two.4.0.0 two.4.0.2
+        (piece, first, inr (two.0, two.1, two.2, two.3, two.4.0.1)) some) [
+          | inl before ↦
+              value_so_far so_far
+              (last_value order same is_clone IsAnsweredFirst _ old two.1 two.3.0 two.3.2
+              (piece, first, inl two.3.1) before)
+          | inr given ↦ value_so_far so_far (inr given)
+        ]

@@ -151,6 +151,6 @@ module _ {K : Type 0} (order : KeyOrder K) where
       abbrev pub MayFailOnBoth : E → Type 0
       MayFailOnBoth e = MayAnswerOnBoth (Err e)
 
-      -- the closure may answer to what a piece is bound to without an error
-      abbrev pub MaySucceedOnBoth : Type 0
-      MaySucceedOnBoth = (answer : Option X) × MayAnswerOnBoth (Ok answer)
+      -- the closure may answer a value to what a piece is bound to
+      abbrev pub MayGiveValueOnBoth : Type 0
+      MayGiveValueOnBoth = (value : X) × MayAnswerOnBoth (Ok (Some value))

@@ -1,4 +1,4 @@
-//! What a closure answers to the pieces of two lists, a piece or two at once.
+//! What a closure returns for the pieces of two lists, a piece or two at once.
 ghost use Rattle.std.specs.Prelude.{◌≡◌, ◌∷◌, [], IfOk, OnOk, MatchOption, Option, Some, None, Ok, Err};
 ghost use Rattle.std.specs.Option.{option_copied, option_map};
 ghost use Rattle.range_algebra.specs.References.{range_of};
@@ -47,8 +47,8 @@ fn ask_both<
         → MayAnswerBoth F.Fn f.now (option_copied value.entry) (option_copied other_value.entry)
         (Err e) }
     ensures memory { result ≡ Err MemoryError
-        → (answer : Option X) × MayAnswerBoth F.Fn f.now (option_copied value.entry)
-        (option_copied other_value.entry) (Ok answer) }
+        → (answer : X) × MayAnswerBoth F.Fn f.now (option_copied value.entry)
+        (option_copied other_value.entry) (Ok (Some answer)) }
 {
     match f(value, other_value) {
         Ok(Some(answer)) => {
@@ -84,8 +84,8 @@ fn ask_pieces<
         → MayAnswerOnOne K.order X.eq K.is_clone (MayAnswerBoth F.Fn f.now) piece.entry
         answers.old.items (Err e) }
     ensures memory { result ≡ Err MemoryError
-        → (answer : Option X) × MayAnswerOnOne K.order X.eq K.is_clone (MayAnswerBoth F.Fn f.now)
-        piece.entry answers.old.items (Ok answer) }
+        → (answer : X) × MayAnswerOnOne K.order X.eq K.is_clone (MayAnswerBoth F.Fn f.now)
+        piece.entry answers.old.items (Ok (Some answer)) }
 {
     ask_both(answers, piece.range, piece.value, piece.other_value, f)?;
     match (piece.left, piece.right) {
@@ -129,9 +129,9 @@ fn ask_two<
         → MayAnswerOnFirst K.order X.eq K.is_clone (MayAnswerBoth F.Fn f.now)
         (Some (part_item part.entry)) (Some (part_item other.entry)) answers.old.items (Err e) }
     ensures memory { result ≡ Err MemoryError
-        → (answer : Option X) × MayAnswerOnFirst K.order X.eq K.is_clone
-        (MayAnswerBoth F.Fn f.now) (Some (part_item part.entry)) (Some (part_item other.entry))
-        answers.old.items (Ok answer) }
+        → (answer : X) × MayAnswerOnFirst K.order X.eq K.is_clone (MayAnswerBoth F.Fn f.now)
+        (Some (part_item part.entry)) (Some (part_item other.entry)) answers.old.items
+        (Ok (Some answer)) }
 {
     match compare_bounds(Directed::Start(part.start), Directed::Start(other.start)) {
         Ordering::Less => ask_pieces(answers, first_alone(part, other), f),
@@ -172,9 +172,9 @@ pub fn ask_first<
         (option_map part_item left.entry) (option_map part_item right.entry) answers.old.items
         (Err e) }
     ensures memory { result ≡ Err MemoryError
-        → (answer : Option X) × MayAnswerOnFirst K.order X.eq K.is_clone
-        (MayAnswerBoth F.Fn f.now) (option_map part_item left.entry)
-        (option_map part_item right.entry) answers.old.items (Ok answer) }
+        → (answer : X) × MayAnswerOnFirst K.order X.eq K.is_clone (MayAnswerBoth F.Fn f.now)
+        (option_map part_item left.entry) (option_map part_item right.entry) answers.old.items
+        (Ok (Some answer)) }
 {
     match (left, right) {
         (None, None) => Ok(None),

@@ -1,5 +1,5 @@
 -- No stored set is empty after a nonempty one was put in.
-use Rattle.std.proofs.Common.{◌≡◌, inl, inr, subst, sym, Bool, IsTrue, List, ◌++◌, Result, Ok, Err, true, false, OnErr, refl}
+use Rattle.std.proofs.Common.{◌≡◌, inl, inr, subst, sym, Bool, IsTrue, List, ◌++◌, Result, Ok, Err, OnOk, OnErr}
 use Rattle.range_keys.specs.Order.{KeyOrder}
 use Rattle.range_keys.specs.Position.{start_position, end_position, position_cmp}
 use Rattle.range_algebra.proofs.Lists.{any_none, every_append, every_left, every_right, every_weaker}
@@ -44,20 +44,17 @@ module _ {K : Type 0} (order : KeyOrder K) {S : Type 0} (same : S → S → Bool
       (every_append IsFull (way.front ++ way.others) way.behind front
       (every_right IsFull (way.front ++ way.run) way.behind all))
 
-  -- whatever a disjoint insertion of a nonempty set answers, no stored set is empty
-  pub inserted_full : {E : Type 0} (items next : List (Item (AnyRange K) S)) (r : AnyRange K)
-      (s : S) (result : Result Bool E) → ¬ is_void s → HasNoEmptySet is_void items
-      → (result ≡ Ok false → next ≡ items)
-      → (result ≡ Ok true → ¬ IsEmptyRange order r → IsInsertionFrame order same items next r s)
+  -- whatever the insertion of a nonempty set answers, no stored set is empty
+  pub inserted_full : {A E : Type 0} (items next : List (Item (AnyRange K) S)) (r : AnyRange K)
+      (s : S) (result : Result A E) → ¬ is_void s → HasNoEmptySet is_void items
+      → OnOk result (¬ IsEmptyRange order r → IsInsertionFrame order same items next r s)
       → OnErr result (next ≡ items) → (IsEmptyRange order r → next ≡ items)
       → HasNoEmptySet is_void next
-  inserted_full items next r s (Err e) full before met way refused empty =
+  inserted_full items next r s (Err e) full before way refused empty =
       subst (HasNoEmptySet is_void) (sym refused) before
-  inserted_full items next r s (Ok false) full before met way refused empty =
-      subst (HasNoEmptySet is_void) (sym (met refl)) before
-  inserted_full items next r s (Ok true) full before met way refused empty =
+  inserted_full items next r s (Ok a) full before way refused empty =
       elim (greater_or_not (position_cmp order.cmp (start_position order r.start)
       (end_position order r.end))) [
         | inl none ↦ subst (HasNoEmptySet is_void) (sym (empty none)) before
-        | inr some ↦ given_way_full items next r s full before (way refl some)
+        | inr some ↦ given_way_full items next r s full before (way some)
       ]

@@ -1,42 +1,28 @@
 -- Sets that are kept as lists: when a list has a value, and when two lists have the same ones.
-use Rattle.std.proofs.Common.{◌≡◌, ◌↔◌, refl, sym, ap, ◌∙◌, subst, Bool, true, false, ◌||◌, IsTrue, List, [], ◌∷◌}
+use Rattle.std.proofs.Common.{◌≡◌, ◌↔◌, refl, sym, ap, ◌∙◌, subst, Bool, false, ◌||◌, IsTrue, List, [], ◌∷◌}
 use Rattle.std.specs.declared.cmp.Ordering.{Ordering}
-use Rattle.std.specs.declared.cmp.Ordering.TheVariants.{Less, Equal, Greater}
-use Rattle.std.specs.Ordering.{eq_by_cmp, is_eq, ordering_reverse}
-use Rattle.std.specs.Cmp.{IsEquivalence, IsTotalOrder, tied_itself, eq_by_cmp_equiv}
+use Rattle.std.specs.Ordering.{eq_by_cmp}
+use Rattle.std.specs.Cmp.{IsEquivalence, IsTotalOrder, eq_by_cmp_equiv}
 use Rattle.std.specs.Cmp.Lexicographic.{pointwise}
-use Rattle.std.specs.List.{AllByRecursion, AllZip, list_any}
-use Rattle.std.specs.List.Sorted.{IsStrictlySortedBy}
-use Rattle.std.specs.BTreeSet.{BTreeSet, IsOrdered}
+use Rattle.std.specs.List.{AllZip}
+use Rattle.std.specs.BTreeSet.{BTreeSet}
 use Rattle.std.specs.BTreeSet as tree
 use Rattle.std.specs.HashSet.{HashSet, hash_set_eq}
 use Rattle.std.specs.HashSet as table
-use Rattle.std.proofs.lemmas.Map.Keys.{sorted_head, sorted_tail}
 use Rattle.std.proofs.lemmas.Map.Lookups.{hash_set_eq_decides}
 use Rattle.std.proofs.lemmas.Bool.{and_from, and_parts, or_left}
 use Rattle.range_algebra.specs.Range.{ClonesAreEqual}
+use Rattle.range_map.specs.OrderedSets.{has_value, equal_value, to_equal}
 use Rattle.range_sets.specs.Members.{HasNone, HaveSame, HasEither, HasFirstAlone}
 
--- whether some element equals the value
-abbrev has_value : {V : Type 0} → (V → V → Bool) → List V → V → Bool
-has_value eq xs v = list_any (eq v) xs
-
 module _ {V : Type 0} (eq : V → V → Bool) (laws : IsEquivalence eq) where
-  pub equal_value : (xs : List V) (v w : V) → IsTrue (eq v w)
-      → has_value eq xs v ≡ has_value eq xs w
-  equal_value [] v w e = refl
-  equal_value (x ∷ xs) v w e = λ i. laws.congr v w x e i || equal_value xs v w e i
-
-  to_equal : (v x y : V) → IsTrue (eq x y) → eq v x ≡ eq v y
-  to_equal v x y e = laws.symm v x ∙ laws.congr x y v e ∙ laws.symm y v
-
   pointwise_same : (xs ys : List V) → IsTrue (pointwise eq xs ys) → (v : V)
       → has_value eq xs v ≡ has_value eq ys v
   pointwise_same [] [] h v = refl
   pointwise_same [] (y ∷ ys) h v = absurd cc
   pointwise_same (x ∷ xs) [] h v = absurd cc
   pointwise_same (x ∷ xs) (y ∷ ys) h v = let both =
-      and_parts (eq x y) (pointwise eq xs ys) h in λ i. to_equal v x y both.0 i
+      and_parts (eq x y) (pointwise eq xs ys) h in λ i. to_equal eq laws v x y both.0 i
       || pointwise_same xs ys both.1 v i
 
   none_is_empty : (xs : List V) → ((v : V) → has_value eq xs v ≡ false) → xs ≡ []
@@ -57,60 +43,6 @@ module _ {V : Type 0} (cmp : V → V → Ordering) (total : IsTotalOrder cmp) wh
   abbrev tied : V → V → Bool
   tied = eq_by_cmp cmp
 
-  below_all : (v x : V) (xs : List V) → cmp v x ≡ Less → AllByRecursion (λ y. cmp x y ≡ Less) xs
-      → AllByRecursion (λ y. cmp v y ≡ Less) xs
-  below_all v x [] e h = tt
-  below_all v x (y ∷ ys) e h = (total.trans v x y e h.0, below_all v x ys e h.1)
-
-  below_has_not : (v : V) (xs : List V) → AllByRecursion (λ y. cmp v y ≡ Less) xs
-      → has_value tied xs v ≡ false
-  below_has_not v [] h = refl
-  below_has_not v (x ∷ xs) h = rw h.0 (below_has_not v xs h.1)
-
-  before_has_not : (v x : V) (xs : List V) → IsStrictlySortedBy cmp (x ∷ xs) → cmp v x ≡ Less
-      → has_value tied (x ∷ xs) v ≡ false
-  before_has_not v x xs sorted e =
-      below_has_not v (x ∷ xs) (e, below_all v x xs e (sorted_head cmp x xs sorted))
-
-  has_first : (x : V) (xs : List V) → has_value tied (x ∷ xs) x ≡ true
-  has_first x xs = or_left (tied x x) (has_value tied xs x) (ap is_eq (tied_itself total x))
-
-  module _ (x y : V) (xs ys : List V) (sorted : IsStrictlySortedBy cmp (x ∷ xs))
-      (other_sorted : IsStrictlySortedBy cmp (y ∷ ys))
-      (same : (v : V) → has_value tied (x ∷ xs) v ≡ has_value tied (y ∷ ys) v) where
-    first_by : (r : Ordering) → cmp x y ≡ r → cmp x y ≡ Equal
-    first_by Less e = let out =
-        sym (has_first x xs) ∙ same x ∙ before_has_not x y ys other_sorted e in absurd cc
-    first_by Equal e = e
-    first_by Greater e = let out =
-        sym (has_first y ys) ∙ sym (same y)
-        ∙ before_has_not y x xs sorted (total.antisymm y x ∙ ap ordering_reverse e) in absurd cc
-
-    first : cmp x y ≡ Equal
-    first = first_by (cmp x y) refl
-
-    by_first : (v : V) (b : Bool) → tied v x ≡ b → has_value tied xs v ≡ has_value tied ys v
-    by_first v true e =
-        let laws = eq_by_cmp_equiv total in
-        let at_other = sym (to_equal tied laws v x y (ap is_eq first)) ∙ e in
-        equal_value tied laws xs v x e ∙ below_has_not x xs (sorted_head cmp x xs sorted)
-        ∙ sym (equal_value tied laws ys v y at_other
-        ∙ below_has_not y ys (sorted_head cmp y ys other_sorted))
-    by_first v false e =
-        let at_other = sym (to_equal tied (eq_by_cmp_equiv total) v x y (ap is_eq first)) ∙ e in
-        ap (λ b. b || has_value tied xs v) (sym e) ∙ same v
-        ∙ ap (λ b. b || has_value tied ys v) at_other
-
-  sorted_pointwise : (xs ys : List V) → IsStrictlySortedBy cmp xs → IsStrictlySortedBy cmp ys
-      → ((v : V) → has_value tied xs v ≡ has_value tied ys v) → IsTrue (pointwise tied xs ys)
-  sorted_pointwise [] [] s t same = refl
-  sorted_pointwise [] (y ∷ ys) s t same = let out = same y ∙ has_first y ys in absurd cc
-  sorted_pointwise (x ∷ xs) [] s t same = let out = sym (has_first x xs) ∙ same x in absurd cc
-  sorted_pointwise (x ∷ xs) (y ∷ ys) s t same =
-      and_from (tied x y) (pointwise tied xs ys) (ap is_eq (first x y xs ys s t same))
-      (sorted_pointwise xs ys (sorted_tail cmp x xs s) (sorted_tail cmp y ys t)
-      (λ v. by_first x y xs ys s t same v (tied v x) refl))
-
   -- what a sorted set promises, by its order
   module _ (eq : V → V → Bool) (ties : (x y : V) → eq x y ≡ eq_by_cmp cmp x y) where
     abbrev alike : eq ≡ tied
@@ -126,12 +58,6 @@ module _ {V : Type 0} (cmp : V → V → Ordering) (total : IsTotalOrder cmp) wh
     tree_equal_same s t h =
         pointwise_same tied (eq_by_cmp_equiv total) s.keys t.keys
         (subst (λ e. IsTrue (pointwise e s.keys t.keys)) alike h)
-
-    pub tree_same_equal : (s t : BTreeSet V) → IsOrdered cmp s → IsOrdered cmp t
-        → HaveSame (tree.contains cmp) s t → IsTrue (pointwise eq s.keys t.keys)
-    tree_same_equal s t a b same =
-        subst (λ e. IsTrue (pointwise e s.keys t.keys)) (sym alike)
-        (sorted_pointwise s.keys t.keys a b same)
 
     module _ (is_clone : V → V → Type 0) (equal : ClonesAreEqual is_clone eq)
         (s t new : BTreeSet V) where

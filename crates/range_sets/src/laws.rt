@@ -12,8 +12,8 @@ use range_keys::traits::PartialEnum;
 
 /// The complement of the complement of a set equals the set, over every lawful key.
 ///
-/// Where the ranges of a second list equal, one by one, the gaps of a set's list, and those of a
-/// third the gaps of the second, the third list equals the set's, as `==` compares sets.
+/// Let the ranges of a second list equal, one by one, the gaps of a set's list, and those of a
+/// third the gaps of the second. Then the third list equals the set's, as `==` compares sets.
 pub fn complementing_twice_restores<T: PartialEnum>()
     ensures { (items others thirds : List (Item (AnyRange T) (Unit {0})))
         → IsStoredSet T.order items → EqualGapsOf T.order items others

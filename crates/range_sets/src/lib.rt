@@ -2,7 +2,7 @@
 //!
 //! Where to find what:
 //!
-//! - clones of strings, tuples, vectors and sets equal their source: for those who keep such
+//! - clones of strings, tuples, vectors and sets equal their source, for those who keep such
 //!   values: `specs/EqualClones.antt`, used for sets as values by `tour/src/set_values.rt`
 //! - which keys a set holds, before and after a call: `specs/KeySets.antt`
 //! - a set's `try_insert` and `retain`: `src/set/{try_insert,retain}.rt`, `specs/Adding.antt`,
@@ -24,9 +24,9 @@
 //!   `range_map/src/inner/append.rt`
 //! - which values a multimap's sets have: std's sets as lists: `src/members/`, laws in
 //!   `specs/ListedMembers.antt`
-//! - what a type of sets must be for a multimap to keep its values in it, and std's two that are:
-//!   `src/members.rt` and `members/`, `specs/{Members,ListedMembers}.antt`; one outside the library
-//!   in `odd_keys/src/rights.rt`
+//! - what a multimap asks of a type of sets, and std's two that have it: `src/members.rt` and
+//!   `members/`, `specs/{Members,ListedMembers}.antt`; a type outside the library:
+//!   `odd_keys/src/rights.rt`
 //! - a multimap: one `update` of a map of sets for each change, on the map's public contract
 //!   alone: `src/multimap.rt` and `multimap/`, `specs/Pairs.antt`, `proofs/{Pairing,Keeping}.antt`
 //! - the last unrefused call on a pair says whether it is there: a law for users:

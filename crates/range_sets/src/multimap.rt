@@ -31,9 +31,9 @@ pub type Iter<'a, K, S, C> = map::Iter<'a, K, S, C>;
 /// A relation between keys and values: each key has a set of values.
 ///
 /// It stores nonempty ranges in order, each with the set of the values that all its keys have; no
-/// set is empty, and ranges that touch have sets that differ. Over keys that tell their neighbours
-/// and ends no shorter list says the same. `S` is the type of sets, as std's `BTreeSet<V>` or
-/// `HashSet<V>`. A contract sees the container, and its items as `C.items`.
+/// set is empty, and ranges that touch have sets that differ. Over complete keys no shorter list
+/// says the same. `S` is the type of sets, as std's `BTreeSet<V>` or `HashSet<V>`. A contract sees
+/// the container, and its items as `C.items`.
 ///
 /// ```
 /// // of a multimap that has no key
@@ -98,8 +98,7 @@ impl<K: PartialEnum, S: MaybeEmpty, C: Storage<Item<AnyRange<K>, S>>> RangeMulti
 
     /// How many ranges are stored. Allocates nothing.
     ///
-    /// Over keys that tell their neighbours and ends no list of ranges with sets that says the same
-    /// has fewer.
+    /// Over complete keys no list of ranges with sets that says the same has fewer.
     ///
     /// ```
     /// classes.remove('0'..='z', &1)?;

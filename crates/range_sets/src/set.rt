@@ -107,8 +107,7 @@ impl<T: PartialEnum, C: Storage<Item<AnyRange<T>, ()>>> RangeSet<T, C> {
 
     /// How many ranges are stored. Allocates nothing.
     ///
-    /// Over keys that tell their neighbours and ends no list of ranges that holds the same keys has
-    /// fewer.
+    /// Over complete keys no list of ranges that holds the same keys has fewer.
     ///
     /// ```
     /// // of a set of the keys 0..=5
@@ -148,7 +147,7 @@ impl<T: PartialEnum, C: Storage<Item<AnyRange<T>, ()>>> RangeSet<T, C> {
         self.contains_counted(key, &mut steps)
     }
 
-    /// Whether the key is in the set, as `contains` answers; adds the steps that it takes.
+    /// Whether the key is in the set, as `contains` returns it; adds the steps that it takes.
     ///
     /// A step is one range that the search asks, or one comparison of the key with a stored range.
     /// The empty set takes none. Allocates nothing.

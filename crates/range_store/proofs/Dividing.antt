@@ -1,32 +1,10 @@
--- The first of a full list, with one taken or one more, as parts of the list with one item more.
-use Rattle.std.proofs.Common.{◌≡◌, ℕ, suc, ◌+◌, ◌-◌, ◌<◌, ◌≤◌, List, [], ◌∷◌, ◌++◌, length, get_or, take, drop, sym, ap, ◌∙◌, arith, length-append}
+-- The first and the last of a list, as parts of the list with one item more.
+use Rattle.std.proofs.Common.{◌≡◌, ℕ, suc, ◌+◌, ◌-◌, ◌<◌, ◌≤◌, List, length, get_or, take, drop, sym, ap, ◌∙◌}
 use Rattle.std.specs.List.{insert}
-use Rattle.std.proofs.lemmas.List.{get_or-take, length-take, take_all, take-append-le, take-take}
 use Rattle.std.proofs.lemmas.List.Edits.{get_or-insert_above, get_or-insert_below}
-use Rattle.range_store.specs.Written.{item_behind}
 use Rattle.range_store.proofs.Halves.{take_insert_before, take_insert_after, drop_insert_after, drop_insert_before}
 
 module _ {T : Type 0} (xs : List T) where
-  -- what is left of the first, once the last of them was taken
-  module _ (k : ℕ) (ys : List T) (last : T) (within : k < length xs)
-      (parts : take (suc k) xs ≡ ys ++ last ∷ []) where
-    many : length ys ≡ k
-    many = omega (arith, ap length parts, length-append ys (last ∷ []), length-take (suc k) xs)
-
-    pub shorter : ys ≡ take k xs
-    shorter =
-        sym (take-append-le (length ys) ys (last ∷ []) (omega arith) ∙ take_all (length ys) ys (omega arith))
-        ∙ ap (λ j. take j (ys ++ last ∷ [])) many
-        ∙ ap (take k) (sym parts)
-        ∙ take-take k (suc k) xs (omega arith)
-
-    pub last_item : last ≡ get_or xs k last
-    last_item =
-        sym (item_behind ys last [] last)
-        ∙ ap (λ j. get_or (ys ++ last ∷ []) j last) many
-        ∙ ap (λ zs. get_or zs k last) (sym parts)
-        ∙ get_or-take (suc k) xs k last (omega arith)
-
   module _ (i : ℕ) (x : T) (within : i ≤ length xs) where
     pub left_low : (k : ℕ) → i ≤ k → insert (take k xs) i x ≡ take (suc k) (insert xs i x)
     left_low k low = sym (take_insert_after xs i k x low within)

@@ -1,16 +1,15 @@
 -- What is left of a list of slots, and of a slab of nodes, but for its spares.
-use Rattle.std.proofs.Common.{◌≡◌, ◌≢◌, ℕ, zero, suc, ◌+◌, ◌<◌, ◌≤◌, List, [], ◌∷◌, ◌++◌, length, get_or, map, cond, Option, Some, None, is_some, IsSome, count_by, refl, sym, ap, ◌∙◌, inl, inr, arith, length-append}
-use Rattle.std.specs.Prelude.{vec_capacity}
+use Rattle.std.proofs.Common.{◌≡◌, ◌≢◌, ℕ, zero, suc, ◌+◌, ◌<◌, ◌≤◌, List, [], ◌∷◌, ◌++◌, length, get_or, cond, Option, Some, None, is_some, IsSome, count_by, refl, sym, ap, ◌∙◌, inl, inr, arith, length-append}
 use Rattle.std.proofs.Math.ListN.{set, length-set}
 use Rattle.std.proofs.lemmas.Bool.{cases_eq, cases_lt, false≢true}
-use Rattle.std.proofs.lemmas.List.{get_or-set_other, get_or-set_same, get_or_past, map-set, set_comm}
+use Rattle.std.proofs.lemmas.List.{get_or-set_other, get_or-set_same, get_or_past, set_comm}
 use Rattle.std.proofs.lemmas.List.Sums.{sum_by-cons}
 use Rattle.slab.specs.Slab.{Slab, get, slab_len, with_value, Updates}
 use Rattle.range_store.specs.declared.btree.node.Node.{Node}
-use Rattle.range_store.specs.declared.btree.nodes.TheConstants.{CAPACITY}
-use Rattle.range_store.specs.Heap.{Heap, Content, node_of, HasNode, HasRoomFor, SameNodes, items_of, children_of, node_count, with_item, Writes, Stores, Removes}
+use Rattle.range_store.specs.Heap.{Heap, Content, node_of, HasNode, HasRoomFor, SameNodes, items_of, children_of, node_count, with_item, FitsChild, Writes, Stores, Removes}
 use Rattle.range_store.specs.Occurrences.{occurrences, occurrences-append, occurrences-cons, occurrences-nil, occurrences_here, occurrences_itself, occurrences_other}
-use Rattle.range_store.specs.Spares.{without, content_of, nothing, heap_of, IsRewritten, IsWhole}
+use Rattle.range_store.specs.Rows.{row_of}
+use Rattle.range_store.specs.Spares.{without, len_of, content_of, contents, nothing, heap_of, FitsCount, IsWhole}
 use Rattle.range_store.proofs.Slots.{slot_count, slot_read}
 
 listed : (n : ℕ) (ns : List ℕ) (k : ℕ) → k ≡ n → occurrences k (n ∷ ns) ≡ 0 → ⊥
@@ -75,13 +74,6 @@ module _ {X : Type 0} where
       ∙ set_comm (without ns slots) k n slot None
       (λ same. absurd (listed n ns k same none))
 
-module _ {X Y : Type 0} (f : Option X → Option Y) (absent : f None ≡ None) where
-  pub map_read : (slots : List (Option X)) (k : ℕ)
-      → get_or (map f slots) k None ≡ f (get_or slots k None)
-  map_read [] k = sym absent
-  map_read (x ∷ xs) zero = refl
-  map_read (x ∷ xs) (suc k) = map_read xs k
-
 module _ {X : Type 0} where
   module _ (s : Slab X) (n : ℕ) (present : IsSome (get s n)) (new : X) where
     pub value_updates : Updates s (with_value s n new) n (Some new)
@@ -94,38 +86,75 @@ module _ {X : Type 0} where
     value_len = omega (arith, slot_count s.slots n present (Some new))
 
 module _ {T : Type 0} where
-  -- the node under a number has these items and children
-  pub content_here : (slot : Option (Node T)) (node : Node T) → slot ≡ Some node
-      → content_of slot ≡ Some (record { items = node.items.items; children = node.children.items })
-  content_here slot node is = ap content_of is
+  content_some : (xs : List T) (slot : Option Node) → IsSome (content_of xs slot) → IsSome slot
+  content_some xs None present = absurd (cc)
+  content_some xs (Some node) present = refl
 
-  content_some : (slot : Option (Node T)) → IsSome (content_of slot) → IsSome slot
-  content_some None present = absurd (cc)
-  content_some (Some node) present = refl
+  content_items : (xs : List T) (slot : Option Node) → IsSome (content_of xs slot)
+      → items_of (content_of xs slot) ≡ xs
+  content_items xs None present = absurd (cc)
+  content_items xs (Some node) present = refl
 
-  count_contents : (slots : List (Option (Node T)))
-      → count_by is_some (map content_of slots) ≡ count_by is_some slots
-  count_contents [] = refl
-  count_contents (None ∷ slots) = count_contents slots
-  count_contents (Some node ∷ slots) =
+  contents_read : (rows : List (List T)) (slots : List (Option Node)) (k : ℕ)
+      → get_or (contents rows slots) k None ≡ content_of (row_of rows k) (get_or slots k None)
+  unfolding contents
+  contents_read rows [] k = refl
+  contents_read [] (slot ∷ slots) zero = refl
+  contents_read [] (slot ∷ slots) (suc k) = contents_read [] slots k
+  contents_read (xs ∷ rows) (slot ∷ slots) zero = refl
+  contents_read (xs ∷ rows) (slot ∷ slots) (suc k) = contents_read rows slots k
+
+  content_bit : (xs : List T) (slot : Option Node)
+      → is_some (content_of xs slot) ≡ is_some slot
+  content_bit xs None = refl
+  content_bit xs (Some node) = refl
+
+  count_contents : (rows : List (List T)) (slots : List (Option Node))
+      → count_by is_some (contents rows slots) ≡ count_by is_some slots
+  unfolding contents
+  count_contents rows [] = refl
+  count_contents [] (slot ∷ slots) =
       omega (
         arith,
-        sum_by-cons (λ o. cond (is_some o) 1 0) (content_of (Some node)) (map content_of slots),
-        sum_by-cons (λ o. cond (is_some o) 1 0) (Some node) slots,
-        count_contents slots,
+        sum_by-cons (λ (o : Option (Content T)). cond (is_some o) 1 0) (content_of [] slot)
+            (contents [] slots),
+        sum_by-cons (λ (o : Option Node). cond (is_some o) 1 0) slot slots,
+        ap {B = ℕ} (λ b. cond b 1 0) (content_bit [] slot),
+        count_contents [] slots,
+      )
+  count_contents (xs ∷ rows) (slot ∷ slots) =
+      omega (
+        arith,
+        sum_by-cons (λ (o : Option (Content T)). cond (is_some o) 1 0) (content_of xs slot)
+            (contents rows slots),
+        sum_by-cons (λ (o : Option Node). cond (is_some o) 1 0) slot slots,
+        ap {B = ℕ} (λ b. cond b 1 0) (content_bit xs slot),
+        count_contents rows slots,
       )
 
-module _ {T : Type 0} (slab : Slab (Node T)) (spares : List ℕ) where
+  contents_set : (rows : List (List T)) (slots : List (Option Node)) (n : ℕ) (xs : List T)
+      → n < length rows
+      → contents (set rows n xs) slots
+      ≡ set (contents rows slots) n (content_of xs (get_or slots n None))
+  unfolding contents
+  contents_set [] slots n xs within = absurd (omega arith)
+  contents_set (ys ∷ rows) [] zero xs within = refl
+  contents_set (ys ∷ rows) [] (suc n) xs within = refl
+  contents_set (ys ∷ rows) (slot ∷ slots) zero xs within = refl
+  contents_set (ys ∷ rows) (slot ∷ slots) (suc n) xs within =
+      ap (λ zs. content_of ys slot ∷ zs) (contents_set rows slots n xs (omega arith))
+
+module _ {T : Type 0} (slab : Slab Node) (rows : List (List T)) (spares : List ℕ) where
   abbrev heap : Heap T
-  heap = heap_of slab spares
+  heap = heap_of slab rows spares
 
   pub spare_read : (k : ℕ) → 0 < occurrences k spares → node_of heap k ≡ None
-  spare_read k among = without_here spares (map content_of slab.slots) k among
+  spare_read k among = without_here spares (contents rows slab.slots) k among
 
-  pub slot_seen : (k : ℕ) → occurrences k spares ≡ 0 → node_of heap k ≡ content_of (get slab k)
+  pub slot_seen : (k : ℕ) → occurrences k spares ≡ 0
+      → node_of heap k ≡ content_of (row_of rows k) (get slab k)
   slot_seen k none =
-      without_other spares (map content_of slab.slots) k none
-      ∙ map_read content_of refl slab.slots k
+      without_other spares (contents rows slab.slots) k none ∙ contents_read rows slab.slots k
 
   -- a node that is seen is no spare
   pub in_use : (k : ℕ) → HasNode heap k → occurrences k spares ≡ 0
@@ -138,28 +167,38 @@ module _ {T : Type 0} (slab : Slab (Node T)) (spares : List ℕ) where
 
   pub found : (k : ℕ) → HasNode heap k → IsSome (get slab k)
   found k present =
-      content_some (get slab k) (rw (slot_seen k (in_use k present)) at present)
+      content_some (row_of rows k) (get slab k) (rw (slot_seen k (in_use k present)) at present)
 
   -- what it has
-  pub seen : (k : ℕ) (node : Node T) → HasNode heap k → get slab k ≡ Some node
-      → node_of heap k
-      ≡ Some (record { items = node.items.items; children = node.children.items })
-  seen k node present is = slot_seen k (in_use k present) ∙ content_here (get slab k) node is
+  pub items_seen : (k : ℕ) → HasNode heap k → items_of (node_of heap k) ≡ row_of rows k
+  items_seen k present =
+      let read = slot_seen k (in_use k present) in
+      ap items_of read ∙ content_items (row_of rows k) (get slab k) (rw read at present)
 
-  pub items_seen : (k : ℕ) (node : Node T) → HasNode heap k → get slab k ≡ Some node
-      → items_of (node_of heap k) ≡ node.items.items
-  items_seen k node present is = ap items_of (seen k node present is)
-
-  pub children_seen : (k : ℕ) (node : Node T) → HasNode heap k → get slab k ≡ Some node
+  pub children_seen : (k : ℕ) (node : Node) → HasNode heap k → get slab k ≡ Some node
       → children_of (node_of heap k) ≡ node.children.items
-  children_seen k node present is = ap children_of (seen k node present is)
+  children_seen k node present is =
+      ap children_of (slot_seen k (in_use k present) ∙ ap (content_of (row_of rows k)) is)
 
-  module _ (whole : IsWhole slab spares) where
+  module _ (whole : IsWhole slab rows spares) where
+    pub row_there : (k : ℕ) → HasNode heap k → k < length rows
+    row_there k present = whole.there k (found k present)
+
+    -- how many items it has
+    pub len_seen : (k : ℕ) (node : Node) → HasNode heap k → get slab k ≡ Some node
+        → node.len ≡ length (items_of (node_of heap k))
+    len_seen k node present is =
+        sym (ap length (items_seen k present) ∙ whole.lens k ∙ ap len_of is)
+
+    pub row_len : (k : ℕ) (node : Node) → get slab k ≡ Some node
+        → node.len ≡ length (row_of rows k)
+    row_len k node is = sym (whole.lens k ∙ ap len_of is)
+
     pub counted : node_count heap + length spares ≡ slab_len slab
     counted =
-        without_count spares (map content_of slab.slots) whole.once
-        (λ k among. rw (map_read content_of refl slab.slots k, whole.empty k among) refl)
-        ∙ count_contents slab.slots
+        without_count spares (contents rows slab.slots) whole.once
+        (λ k among. rw (contents_read rows slab.slots k, whole.empty k among) refl)
+        ∙ count_contents rows slab.slots
 
     pub spares_left : (more : ℕ) → HasRoomFor heap more → more ≤ length spares
     spares_left more room = omega (arith, room, counted)
@@ -168,63 +207,91 @@ module _ {T : Type 0} (slab : Slab (Node T)) (spares : List ℕ) where
     pub fewer_spares : (k : ℕ) → HasNode heap k → length spares + 1 ≤ slab_len slab
     fewer_spares k present = omega (arith, counted, slot_count heap.slots k present None)
 
--- slabs that differ at one number
-module _ {T : Type 0} (old new : Slab (Node T)) (spares : List ℕ) (whole : IsWhole old spares)
-    (n : ℕ) (node : Node T) (updates : Updates old new n (Some node))
-    (room : CAPACITY ≤ vec_capacity node.items) where
-  changed_roomy : (k : ℕ) (other : Node T) → get new k ≡ Some other
-      → CAPACITY ≤ vec_capacity other.items
-  changed_roomy k other is =
+-- the number n has this node and these items, and each other number what it had
+pub record Changes {T : Type 0} (old new : Slab Node) (was now : List (List T)) (n : ℕ)
+    (node : Node) (items : List T) : Type 0 where
+  pub updates : Updates old new n (Some node)
+  pub here : row_of now n ≡ items
+  pub others : (k : ℕ) → k ≢ n → row_of now k ≡ row_of was k
+  pub long : length was ≤ length now
+  pub there : n < length now
+  pub len_is : node.len ≡ length items
+
+module _ {T : Type 0} (old new : Slab Node) (was now : List (List T)) (spares : List ℕ)
+    (whole : IsWhole old was spares) (n : ℕ) (node : Node) (items : List T)
+    (changes : Changes old new was now n node items) where
+  changed_there : (k : ℕ) → IsSome (get new k) → k < length now
+  changed_there k some =
+      elim (cases_eq k n) [
+        | inl same ↦ rw same changes.there
+        | inr differs ↦
+            omega (
+              arith,
+              changes.long,
+              whole.there k (rw (changes.updates.others k differs) at some),
+            )
+      ]
+
+  changed_lens : (k : ℕ) → length (row_of now k) ≡ len_of (get new k)
+  changed_lens k =
       elim (cases_eq k n) [
         | inl same ↦
-            let at : Some node ≡ Some other = sym updates.changed ∙ (rw same at is) in
-            rw (← same_node node other at) room
-        | inr differs ↦ whole.roomy k other (sym (updates.others k differs) ∙ is)
+            rw same (ap length changes.here ∙ sym changes.len_is
+            ∙ ap len_of (sym changes.updates.changed))
+        | inr differs ↦
+            ap length (changes.others k differs) ∙ whole.lens k
+            ∙ ap len_of (sym (changes.updates.others k differs))
       ]
-    where
-      node_or : Option (Node T) → Node T → Node T
-      node_or None a = a
-      node_or (Some b) a = b
 
-      same_node : (a b : Node T) → Some a ≡ Some b → a ≡ b
-      same_node a b same = ap (λ o. node_or o a) same
+  unchanged : (k : ℕ) → k ≢ n
+      → content_of (row_of now k) (get new k) ≡ content_of (row_of was k) (get old k)
+  unchanged k differs =
+      ap (λ xs. content_of xs (get new k)) (changes.others k differs)
+      ∙ ap (content_of (row_of was k)) (changes.updates.others k differs)
 
-  pub changed_whole : (left : List ℕ) → ((k : ℕ) → occurrences k left ≤ occurrences k spares)
-      → occurrences n left ≡ 0 → IsWhole new left
+  changed : content_of (row_of now n) (get new n)
+      ≡ Some (record { items = items; children = node.children.items })
+  changed =
+      ap (λ xs. content_of xs (get new n)) changes.here
+      ∙ ap (content_of items) changes.updates.changed
+
+  changed_whole : (left : List ℕ) → ((k : ℕ) → occurrences k left ≤ occurrences k spares)
+      → occurrences n left ≡ 0 → IsWhole new now left
   changed_whole left fewer apart = record {
-    roomy = changed_roomy;
+    there = changed_there;
+    lens = changed_lens;
     empty = λ k among.
-        ap content_of (updates.others k (λ same. omega (arith, apart, ap (λ m. occurrences m left) same, among)))
+        unchanged k (λ same. omega (arith, apart, ap (λ m. occurrences m left) same, among))
         ∙ whole.empty k (omega (arith, among, fewer k));
     once = λ k. omega (arith, fewer k, whole.once k);
   }
 
   module _ (len : slab_len new ≡ slab_len old) where
     -- a node was written
-    pub written_whole : occurrences n spares ≡ 0 → IsWhole new spares
+    pub written_whole : occurrences n spares ≡ 0 → IsWhole new now spares
     written_whole apart = changed_whole spares (λ k. omega arith) apart
 
-    here : (left : List ℕ) → occurrences n left ≡ 0 → node_of (heap_of new left) n
-        ≡ Some (record { items = node.items.items; children = node.children.items })
-    here left apart = slot_seen new left n apart ∙ ap content_of updates.changed
+    here : (left : List ℕ) → occurrences n left ≡ 0 → node_of (heap_of new now left) n
+        ≡ Some (record { items = items; children = node.children.items })
+    here left apart = slot_seen new now left n apart ∙ changed
 
     elsewhere : (left : List ℕ) → ((k : ℕ) → k ≢ n → occurrences k left ≡ occurrences k spares)
-        → (k : ℕ) → k ≢ n → node_of (heap_of new left) k ≡ node_of (heap_of old spares) k
+        → (k : ℕ) → k ≢ n → node_of (heap_of new now left) k ≡ node_of (heap_of old was spares) k
     elsewhere left alike k differs =
         elim (cases_eq (occurrences k spares) 0) [
           | inl none ↦
-              slot_seen new left k (alike k differs ∙ none)
-              ∙ ap content_of (updates.others k differs)
-              ∙ sym (slot_seen old spares k none)
+              slot_seen new now left k (alike k differs ∙ none)
+              ∙ unchanged k differs
+              ∙ sym (slot_seen old was spares k none)
           | inr some ↦
-              spare_read new left k (omega (arith, alike k differs, some))
-              ∙ sym (spare_read old spares k (omega (arith, some)))
+              spare_read new now left k (omega (arith, alike k differs, some))
+              ∙ sym (spare_read old was spares k (omega (arith, some)))
         ]
 
-    pub written : HasNode (heap_of old spares) n
-        → Writes (heap_of old spares) (heap_of new spares) n node.items.items node.children.items
+    pub written : HasNode (heap_of old was spares) n
+        → Writes (heap_of old was spares) (heap_of new now spares) n items node.children.items
     written present =
-        let apart = in_use old spares n present in
+        let apart = in_use old was spares n present in
         let read = here spares apart in
         record {
           was = present;
@@ -233,7 +300,12 @@ module _ {T : Type 0} (old new : Slab (Node T)) (spares : List ℕ) (whole : IsW
           children_are = ap children_of read;
           others = elsewhere spares (λ k differs. refl);
           len =
-              omega (arith, counted old spares whole, counted new spares (written_whole apart), len);
+              omega (
+                arith,
+                counted old was spares whole,
+                counted new now spares (written_whole apart),
+                len,
+              );
           capacity = len;
         }
 
@@ -245,15 +317,15 @@ module _ {T : Type 0} (old new : Slab (Node T)) (spares : List ℕ) (whole : IsW
       spare_apart : occurrences n left ≡ 0
       spare_apart = omega (arith, told n, occurrences_itself n, whole.once n)
 
-      pub stored_whole : IsWhole new left
+      pub stored_whole : IsWhole new now left
       stored_whole = changed_whole left (λ k. omega (arith, told k)) spare_apart
 
-      pub stored : Stores (heap_of old spares) (heap_of new left) n node.items.items
+      pub stored : Stores (heap_of old was spares) (heap_of new now left) n items
           node.children.items
       stored =
           let read = here left spare_apart in
           record {
-            fresh = spare_read old spares n (omega (arith, told n, occurrences_itself n));
+            fresh = spare_read old was spares n (omega (arith, told n, occurrences_itself n));
             present = rw read refl;
             items_are = ap items_of read;
             children_are = ap children_of read;
@@ -261,8 +333,8 @@ module _ {T : Type 0} (old new : Slab (Node T)) (spares : List ℕ) (whole : IsW
                 (λ k differs. omega (arith, told k, occurrences_other k n (λ e. differs (sym e))));
             len = omega (
               arith,
-              counted old spares whole,
-              counted new left stored_whole,
+              counted old was spares whole,
+              counted new now left stored_whole,
               len,
               ap length parts,
               length-append left (n ∷ []),
@@ -271,28 +343,29 @@ module _ {T : Type 0} (old new : Slab (Node T)) (spares : List ℕ) (whole : IsW
           }
 
     -- a node became a spare
-    module _ (present : HasNode (heap_of old spares) n) (no_items : node.items.items ≡ [])
+    module _ (present : HasNode (heap_of old was spares) n) (no_items : items ≡ [])
         (no_children : node.children.items ≡ []) where
       longer : (k : ℕ)
           → occurrences k (spares ++ n ∷ []) ≡ occurrences k spares + occurrences k (n ∷ [])
       longer k = occurrences-append k spares (n ∷ [])
 
       apart : occurrences n spares ≡ 0
-      apart = in_use old spares n present
+      apart = in_use old was spares n present
 
-      bare : content_of (get new n) ≡ Some nothing
-      bare = ap content_of updates.changed
+      bare : content_of (row_of now n) (get new n) ≡ Some nothing
+      bare = changed
           ∙ ap (λ xs. Some (record { items = xs; children = node.children.items })) no_items
           ∙ ap (λ ks. Some (record { items = []; children = ks })) no_children
 
-      pub freed_whole : IsWhole new (spares ++ n ∷ [])
+      pub freed_whole : IsWhole new now (spares ++ n ∷ [])
       freed_whole = record {
-        roomy = changed_roomy;
+        there = changed_there;
+        lens = changed_lens;
         empty = λ k among.
             elim (cases_eq k n) [
               | inl same ↦ rw same bare
               | inr differs ↦
-                  ap content_of (updates.others k differs)
+                  unchanged k differs
                   ∙ whole.empty k (omega (
                     arith,
                     among,
@@ -312,17 +385,17 @@ module _ {T : Type 0} (old new : Slab (Node T)) (spares : List ℕ) (whole : IsW
             ];
       }
 
-      pub removed : Removes (heap_of old spares) (heap_of new (spares ++ n ∷ [])) n
+      pub removed : Removes (heap_of old was spares) (heap_of new now (spares ++ n ∷ [])) n
       removed = record {
         was = present;
-        gone = spare_read new (spares ++ n ∷ []) n
+        gone = spare_read new now (spares ++ n ∷ []) n
             (omega (arith, longer n, occurrences_itself n));
         others = elsewhere (spares ++ n ∷ [])
             (λ k differs. omega (arith, longer k, occurrences_other k n (λ e. differs (sym e))));
         len = omega (
           arith,
-          counted old spares whole,
-          counted new (spares ++ n ∷ []) freed_whole,
+          counted old was spares whole,
+          counted new now (spares ++ n ∷ []) freed_whole,
           len,
           length-append spares (n ∷ []),
         );
@@ -331,31 +404,33 @@ module _ {T : Type 0} (old new : Slab (Node T)) (spares : List ℕ) (whole : IsW
 
   -- a spare was added
   module _ (fresh : get old n ≡ None) (len : slab_len new ≡ slab_len old + 1)
-      (no_items : node.items.items ≡ []) (no_children : node.children.items ≡ []) where
+      (no_items : items ≡ []) (no_children : node.children.items ≡ []) where
     absent : occurrences n spares ≡ 0
     absent =
         elim (cases_eq (occurrences n spares) 0) [
           | inl none ↦ none
           | inr some ↦
               absurd (false≢true (ap is_some
-              (ap content_of (sym fresh) ∙ whole.empty n (omega (arith, some)))))
+              (ap (content_of (row_of was n)) (sym fresh)
+              ∙ whole.empty n (omega (arith, some)))))
         ]
 
     more : (k : ℕ)
         → occurrences k (spares ++ n ∷ []) ≡ occurrences k spares + occurrences k (n ∷ [])
     more k = occurrences-append k spares (n ∷ [])
 
-    pub added_whole : IsWhole new (spares ++ n ∷ [])
+    pub added_whole : IsWhole new now (spares ++ n ∷ [])
     added_whole = record {
-      roomy = changed_roomy;
+      there = changed_there;
+      lens = changed_lens;
       empty = λ k among.
           elim (cases_eq k n) [
             | inl same ↦
-                rw same (ap content_of updates.changed
+                rw same (changed
                 ∙ ap (λ xs. Some (record { items = xs; children = node.children.items })) no_items
                 ∙ ap (λ ks. Some (record { items = []; children = ks })) no_children)
             | inr differs ↦
-                ap content_of (updates.others k differs)
+                unchanged k differs
                 ∙ whole.empty k (omega (
                   arith,
                   among,
@@ -375,96 +450,133 @@ module _ {T : Type 0} (old new : Slab (Node T)) (spares : List ℕ) (whole : IsW
           ];
     }
 
-    pub added : SameNodes (heap_of old spares) (heap_of new (spares ++ n ∷ []))
+    pub added : SameNodes (heap_of old was spares) (heap_of new now (spares ++ n ∷ []))
     added = record {
       nodes = λ k.
           elim (cases_eq k n) [
             | inl same ↦
-                rw same (spare_read new (spares ++ n ∷ []) n
+                rw same (spare_read new now (spares ++ n ∷ []) n
                 (omega (arith, more n, occurrences_itself n))
-                ∙ sym (slot_seen old spares n absent ∙ ap content_of fresh))
+                ∙ sym (slot_seen old was spares n absent
+                ∙ ap (content_of (row_of was n)) fresh))
             | inr differs ↦
                 elim (cases_eq (occurrences k spares) 0) [
                   | inl none ↦
-                      slot_seen new (spares ++ n ∷ []) k
+                      slot_seen new now (spares ++ n ∷ []) k
                       (omega (arith, more k, none, occurrences_other k n (λ e. differs (sym e))))
-                      ∙ ap content_of (updates.others k differs)
-                      ∙ sym (slot_seen old spares k none)
+                      ∙ unchanged k differs
+                      ∙ sym (slot_seen old was spares k none)
                   | inr some ↦
-                      spare_read new (spares ++ n ∷ []) k (omega (arith, more k, some))
-                      ∙ sym (spare_read old spares k (omega (arith, some)))
+                      spare_read new now (spares ++ n ∷ []) k (omega (arith, more k, some))
+                      ∙ sym (spare_read old was spares k (omega (arith, some)))
                 ]
           ];
       len = omega (
         arith,
-        counted old spares whole,
-        counted new (spares ++ n ∷ []) added_whole,
+        counted old was spares whole,
+        counted new now (spares ++ n ∷ []) added_whole,
         len,
         length-append spares (n ∷ []),
       );
     }
 
--- a slab that another value was written to, where it is the whole of the new one
-module _ {T : Type 0} (slab : Slab (Node T)) (spares : List ℕ) (whole : IsWhole slab spares)
-    (n : ℕ) (was node : Node T) (at : get slab n ≡ Some was) (xs : List T) (ks : List ℕ)
-    (rewritten : IsRewritten was node xs ks) where
+-- rows that grew, but have what they had
+pub grown_whole : {T : Type 0} (slab : Slab Node) (was now : List (List T)) (spares : List ℕ)
+    → IsWhole slab was spares → length was ≤ length now
+    → ((k : ℕ) → row_of now k ≡ row_of was k) → IsWhole slab now spares
+grown_whole slab was now spares whole long kept = record {
+  there = λ k some. omega (arith, long, whole.there k some);
+  lens = λ k. ap length (kept k) ∙ whole.lens k;
+  empty = λ k among.
+      ap (λ xs. content_of xs (get slab k)) (kept k) ∙ whole.empty k among;
+  once = whole.once;
+}
+
+pub grown : {T : Type 0} (slab : Slab Node) (was now : List (List T)) (spares : List ℕ)
+    → IsWhole slab was spares → length was ≤ length now
+    → ((k : ℕ) → row_of now k ≡ row_of was k)
+    → SameNodes (heap_of slab was spares) (heap_of slab now spares)
+grown slab was now spares whole long kept = record {
+  nodes = λ k.
+      elim (cases_eq (occurrences k spares) 0) [
+        | inl none ↦
+            slot_seen slab now spares k none
+            ∙ ap (λ xs. content_of xs (get slab k)) (kept k)
+            ∙ sym (slot_seen slab was spares k none)
+        | inr some ↦
+            spare_read slab now spares k (omega (arith, some))
+            ∙ sym (spare_read slab was spares k (omega (arith, some)))
+      ];
+  len = omega (
+    arith,
+    counted slab was spares whole,
+    counted slab now spares (grown_whole slab was now spares whole long kept),
+  );
+}
+
+-- a node and its row that were written
+module _ {T : Type 0} (slab : Slab Node) (rows : List (List T)) (spares : List ℕ)
+    (whole : IsWhole slab rows spares) (n : ℕ) (was node : Node) (at : get slab n ≡ Some was)
+    (items : List T) (len_is : node.len ≡ length items) (ks : List ℕ)
+    (children_are : node.children.items ≡ ks) where
   there : IsSome (get slab n)
   there = rw at refl
 
-  edit : Updates slab (with_value slab n node) n (Some node)
-  edit = value_updates slab n there node
+  edit : Changes slab (with_value slab n node) rows (set rows n items) n node items
+  edit = record {
+    updates = value_updates slab n there node;
+    here = get_or-set_same rows n items [] (whole.there n there);
+    others = λ k differs. get_or-set_other rows n k items [] differs;
+    long = omega (arith, length-set rows n items);
+    there = omega (arith, length-set rows n items, whole.there n there);
+    len_is = len_is;
+  }
 
   pub edited_len : slab_len (with_value slab n node) ≡ slab_len slab
   edited_len = value_len slab n there node
 
-  edited_room : CAPACITY ≤ vec_capacity node.items
-  edited_room = omega (arith, rewritten.room, whole.roomy n was at)
-
-  pub edited_whole : HasNode (heap_of slab spares) n → IsWhole (with_value slab n node) spares
-  edited_whole present = written_whole slab (with_value slab n node) spares whole n node edit
-      edited_room edited_len (in_use slab spares n present)
+  pub edited_whole : HasNode (heap_of slab rows spares) n
+      → IsWhole (with_value slab n node) (set rows n items) spares
+  edited_whole present = written_whole slab (with_value slab n node) rows (set rows n items) spares
+      whole n node items edit edited_len (in_use slab rows spares n present)
 
   -- a node was written
-  pub edited : HasNode (heap_of slab spares) n
-      → Writes (heap_of slab spares) (heap_of (with_value slab n node) spares) n xs ks
+  pub edited : HasNode (heap_of slab rows spares) n
+      → Writes (heap_of slab rows spares)
+      (heap_of (with_value slab n node) (set rows n items) spares) n items ks
   edited present =
-      rw (← rewritten.items_are, ← rewritten.children_are)
-      (written slab (with_value slab n node) spares whole n node edit edited_room edited_len present)
+      rw (← children_are) (written slab (with_value slab n node) rows (set rows n items) spares whole
+      n node items edit edited_len present)
 
   -- a spare got what a new node has
   module _ (left : List ℕ) (parts : spares ≡ left ++ n ∷ []) where
-    pub filled_whole : IsWhole (with_value slab n node) left
-    filled_whole = stored_whole slab (with_value slab n node) spares whole n node edit edited_room
-        edited_len left parts
+    pub filled_whole : IsWhole (with_value slab n node) (set rows n items) left
+    filled_whole = stored_whole slab (with_value slab n node) rows (set rows n items) spares whole n
+        node items edit edited_len left parts
 
-    pub filled : Stores (heap_of slab spares) (heap_of (with_value slab n node) left) n xs ks
-    filled =
-        rw (← rewritten.items_are, ← rewritten.children_are)
-        (stored slab (with_value slab n node) spares whole n node edit edited_room edited_len left
-        parts)
+    pub filled : Stores (heap_of slab rows spares)
+        (heap_of (with_value slab n node) (set rows n items) left) n items ks
+    filled = rw (← children_are) (stored slab (with_value slab n node) rows (set rows n items) spares
+        whole n node items edit edited_len left parts)
 
--- a node became a spare
-module _ {T : Type 0} (slab : Slab (Node T)) (spares : List ℕ) (whole : IsWhole slab spares)
-    (n : ℕ) (was node : Node T) (at : get slab n ≡ Some was)
-    (rewritten : IsRewritten was node [] []) (present : HasNode (heap_of slab spares) n) where
-  pub emptied_whole : IsWhole (with_value slab n node) (spares ++ n ∷ [])
-  emptied_whole = freed_whole slab (with_value slab n node) spares whole n node
-      (edit slab spares whole n was node at [] [] rewritten)
-      (edited_room slab spares whole n was node at [] [] rewritten)
-      (edited_len slab spares whole n was node at [] [] rewritten) present rewritten.items_are
-      rewritten.children_are
+  -- a node became a spare
+  module _ (present : HasNode (heap_of slab rows spares) n) (no_items : items ≡ [])
+      (none : ks ≡ []) where
+    no_children : node.children.items ≡ []
+    no_children = children_are ∙ none
 
-  pub emptied : Removes (heap_of slab spares) (heap_of (with_value slab n node) (spares ++ n ∷ []))
-      n
-  emptied = removed slab (with_value slab n node) spares whole n node
-      (edit slab spares whole n was node at [] [] rewritten)
-      (edited_room slab spares whole n was node at [] [] rewritten)
-      (edited_len slab spares whole n was node at [] [] rewritten) present rewritten.items_are
-      rewritten.children_are
+    pub emptied_whole : IsWhole (with_value slab n node) (set rows n items) (spares ++ n ∷ [])
+    emptied_whole = freed_whole slab (with_value slab n node) rows (set rows n items) spares whole n
+        node items edit edited_len present no_items no_children
+
+    pub emptied : Removes (heap_of slab rows spares)
+        (heap_of (with_value slab n node) (set rows n items) (spares ++ n ∷ [])) n
+    emptied = removed slab (with_value slab n node) rows (set rows n items) spares whole n node
+        items edit edited_len present no_items no_children
 
 -- a spare has nothing
-module _ {T : Type 0} (slab : Slab (Node T)) (spares left : List ℕ) (whole : IsWhole slab spares)
-    (n : ℕ) (parts : spares ≡ left ++ n ∷ []) where
+module _ {T : Type 0} (slab : Slab Node) (rows : List (List T)) (spares left : List ℕ)
+    (whole : IsWhole slab rows spares) (n : ℕ) (parts : spares ≡ left ++ n ∷ []) where
   among : 0 < occurrences n spares
   among = omega (
     arith,
@@ -474,79 +586,115 @@ module _ {T : Type 0} (slab : Slab (Node T)) (spares left : List ℕ) (whole : I
   )
 
   pub spare_found : IsSome (get slab n)
-  spare_found = content_some (get slab n) (rw (whole.empty n among) refl)
+  spare_found = content_some (row_of rows n) (get slab n) (rw (whole.empty n among) refl)
 
-  module _ (was : Node T) (at : get slab n ≡ Some was) where
-    bare_content : ◌≡◌ {A = Option (Content T)}
-        (Some (record { items = was.items.items; children = was.children.items })) (Some nothing)
-    bare_content = sym (content_here (get slab n) was at) ∙ whole.empty n among
+  pub spare_there : n < length rows
+  spare_there = whole.there n spare_found
 
-    pub bare_items : was.items.items ≡ []
-    bare_items = ap items_of bare_content
+  pub bare_row : row_of rows n ≡ []
+  bare_row =
+      sym (content_items (row_of rows n) (get slab n) (rw (whole.empty n among) refl))
+      ∙ ap items_of (whole.empty n among)
 
-    pub bare_children : was.children.items ≡ []
-    bare_children = ap children_of bare_content
+  pub bare_children : (was : Node) → get slab n ≡ Some was → was.children.items ≡ []
+  bare_children was at =
+      ap children_of (sym (ap (content_of (row_of rows n)) at) ∙ whole.empty n among)
 
 -- no node at all
-pub none_whole : {T : Type 0} (slab : Slab (Node T)) (spares : List ℕ) → slab.slots ≡ []
-    → spares ≡ [] → IsWhole slab spares
-none_whole slab spares no_slots no_spares = record {
-  roomy = λ k node is. absurd (false≢true (ap is_some (sym (ap (λ slots. get_or slots k None) no_slots) ∙ is)));
-  empty = λ k among. absurd (omega (arith, among, ap (occurrences k) no_spares, occurrences-nil k));
-  once = λ k. omega (arith, ap (occurrences k) no_spares, occurrences-nil k);
-}
+pub none_whole : {T : Type 0} (slab : Slab Node) (rows : List (List T)) (spares : List ℕ)
+    → slab.slots ≡ [] → rows ≡ [] → spares ≡ [] → IsWhole slab rows spares
+none_whole slab rows spares no_slots no_rows no_spares =
+    let absent : (k : ℕ) → get slab k ≡ None = λ k. ap (λ slots. get_or slots k None) no_slots in
+    record {
+      there = λ k some. absurd (false≢true (rw (absent k) at some));
+      lens = λ k. ap (λ zs. length (row_of zs k)) no_rows ∙ ap len_of (sym (absent k));
+      empty = λ k among.
+          absurd (omega (arith, among, ap (occurrences k) no_spares, occurrences-nil k));
+      once = λ k. omega (arith, ap (occurrences k) no_spares, occurrences-nil k);
+    }
 
 -- another item was written in the place of one
-pub item_written : {T : Type 0} (slab : Slab (Node T)) (spares : List ℕ) (n i : ℕ) (x : T)
-    (was node : Node T) → get slab n ≡ Some was → HasNode (heap_of slab spares) n
-    → node.items.items ≡ set was.items.items i x → node.children.items ≡ was.children.items
-    → heap_of (with_value slab n node) spares ≡ with_item (heap_of slab spares) n i x
-item_written {T} slab spares n i x was node at present items children =
-    let there : IsSome (get slab n) = rw at refl in
-    let slots : without spares (map content_of (set slab.slots n (Some node)))
-    ≡ set (heap_of slab spares).slots n (content_of (Some node)) =
-    ap (without spares) (map-set content_of slab.slots n (Some node))
-    ∙ without_set spares (map content_of slab.slots) n (content_of (Some node))
-    (in_use slab spares n present) in
-    let read = seen slab spares n was present at in
-    let fresh : content_of (Some node)
-    ≡ Some (record {
-      items = set (items_of (node_of (heap_of slab spares) n)) i x;
-      children = children_of (node_of (heap_of slab spares) n);
-    }) = rw (read, items, children) refl in
-    ap (λ zs. record { slots = zs; capacity = slab_len (with_value slab n node) })
-    (slots ∙ ap (set (heap_of slab spares).slots n) fresh)
-    ∙ ap (λ m. record {
-      slots = (with_item (heap_of slab spares) n i x).slots;
-      capacity = m;
-    }) (value_len slab n there node)
+module _ {T : Type 0} (slab : Slab Node) (rows : List (List T)) (spares : List ℕ)
+    (whole : IsWhole slab rows spares) (n i : ℕ) (x : T)
+    (present : HasNode (heap_of slab rows spares) n) where
+  pub item_whole : IsWhole slab (set rows n (set (row_of rows n) i x)) spares
+  item_whole =
+      let xs = set (row_of rows n) i x in
+      let within = row_there slab rows spares whole n present in
+      record {
+        there = λ k some. omega (arith, length-set rows n xs, whole.there k some);
+        lens = λ k.
+            elim (cases_eq k n) [
+              | inl same ↦
+                  rw same (ap length (get_or-set_same rows n xs [] within)
+                  ∙ length-set (row_of rows n) i x ∙ whole.lens n)
+              | inr differs ↦
+                  ap length (get_or-set_other rows n k xs [] differs) ∙ whole.lens k
+            ];
+        empty = λ k among.
+            ap (λ ys. content_of ys (get slab k)) (get_or-set_other rows n k xs []
+            (λ same. omega (
+              arith,
+              among,
+              ap (λ m. occurrences m spares) same,
+              in_use slab rows spares n present,
+            )))
+            ∙ whole.empty k among;
+        once = whole.once;
+      }
 
-pub item_whole : {T : Type 0} (slab : Slab (Node T)) (spares : List ℕ) → IsWhole slab spares
-    → (n : ℕ) (was node : Node T) → get slab n ≡ Some was → HasNode (heap_of slab spares) n
-    → (most : ℕ) → slab_len slab ≤ most → node.children.items ≡ was.children.items
-    → vec_capacity node.items ≡ vec_capacity was.items
-    → IsWhole (with_value slab n node) spares × (slab_len (with_value slab n node) ≤ most)
-item_whole slab spares whole n was node at present most fits children capacity =
-    let rewritten : IsRewritten was node node.items.items node.children.items =
-    record { items_are = refl; children_are = refl; room = omega (arith, capacity) } in (
-      edited_whole slab spares whole n was node at node.items.items node.children.items rewritten
-          present,
-      omega (
-        arith,
-        fits,
-        edited_len slab spares whole n was node at node.items.items node.children.items rewritten,
-      ),
-    )
+  pub item_written : heap_of slab (set rows n (set (row_of rows n) i x)) spares
+      ≡ with_item (heap_of slab rows spares) n i x
+  item_written =
+      let xs = set (row_of rows n) i x in
+      let apart = in_use slab rows spares n present in
+      let slots : without spares (contents (set rows n xs) slab.slots)
+      ≡ set (heap_of slab rows spares).slots n (content_of xs (get slab n)) =
+      ap (without spares)
+      (contents_set rows slab.slots n xs (row_there slab rows spares whole n present))
+      ∙ without_set spares (contents rows slab.slots) n (content_of xs (get slab n)) apart in
+      ap (λ zs. record { slots = zs; capacity = slab_len slab })
+      (slots ∙ ap (set (heap_of slab rows spares).slots n)
+      (content_is (get slab n) (found slab rows spares n present)
+      (slot_seen slab rows spares n apart)))
+    where
+      content_is : (slot : Option Node) → IsSome slot
+          → node_of (heap_of slab rows spares) n ≡ content_of (row_of rows n) slot
+          → content_of (set (row_of rows n) i x) slot
+          ≡ Some (record {
+            items = set (items_of (node_of (heap_of slab rows spares) n)) i x;
+            children = children_of (node_of (heap_of slab rows spares) n);
+          })
+      content_is None some read = absurd (cc)
+      content_is (Some node) some read = rw read refl
 
 -- a node in use is no spare
-pub apart_from_spare : {T : Type 0} (slab : Slab (Node T)) (spares left : List ℕ) (spare : ℕ)
-    → spares ≡ left ++ spare ∷ [] → (n : ℕ) → HasNode (heap_of slab spares) n → n ≢ spare
-apart_from_spare slab spares left spare parts n present same =
+pub apart_from_spare : {T : Type 0} (slab : Slab Node) (rows : List (List T))
+    (spares left : List ℕ) (spare : ℕ) → spares ≡ left ++ spare ∷ [] → (n : ℕ)
+    → HasNode (heap_of slab rows spares) n → n ≢ spare
+apart_from_spare slab rows spares left spare parts n present same =
     omega (
       arith,
-      in_use slab spares n present,
+      in_use slab rows spares n present,
       ap (occurrences n) parts,
       occurrences-append n left (spare ∷ []),
       ap (λ m. occurrences m (spare ∷ [])) same,
       occurrences_itself spare,
     )
+
+-- what fits a node fits its numbers
+pub fits_count : {T : Type 0} (child : Option ℕ) (xs : List T) (ks : List ℕ) (many : ℕ)
+    → many ≡ length xs → FitsChild child xs ks → FitsCount child many ks
+fits_count None xs ks many is fits = fits
+fits_count (Some k) xs ks many is fits = omega arith
+
+module _ {T : Type 0} where
+  none_left : (xs : List T) → length xs ≡ 0 → xs ≡ []
+  none_left [] none = refl
+  none_left (x ∷ xs) none = absurd (omega arith)
+
+  -- a number with no node has no items
+  pub vacant_row : (slab : Slab Node) (rows : List (List T)) (spares : List ℕ)
+      → IsWhole slab rows spares → (n : ℕ) → get slab n ≡ None → row_of rows n ≡ []
+  vacant_row slab rows spares whole n vacant =
+      none_left (row_of rows n) (whole.lens n ∙ ap len_of vacant)

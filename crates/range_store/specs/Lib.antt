@@ -11,6 +11,7 @@ pub mod ListPlaces
 pub mod Nodes
 pub mod Occurrences
 pub mod Rewriting
+pub mod Rows
 pub mod Spares
 pub mod Weave
 pub mod Written

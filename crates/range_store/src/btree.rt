@@ -10,6 +10,7 @@ mod node;
 mod nodes;
 mod path;
 mod removal;
+mod rows;
 mod searching;
 mod tree;
 
@@ -18,7 +19,7 @@ pub use crate::btree::nodes::{CAPACITY, MAX_LEN, MIN_LEN};
 pub use crate::btree::path::Edge;
 use crate::btree::path::stands_first;
 use crate::btree::searching::MAX_ASKS;
-use crate::storage::{Chunk, Probe, Storage};
+use crate::storage::{Probe, Storage};
 use std::alloc::{AllocError, Global};
 
 /// Items in a B-tree: insertion, removal and search take steps in the logarithm of their number.
@@ -125,22 +126,6 @@ impl<T: Drop> Storage<T> for BoxStorage<T> {
     fn get(&self, p: Edge) -> &T {
         let home = self.home(p);
         self.nodes.item_at(home.node, home.index)
-    }
-
-    #[inline(never)]
-    fn chunk_from(&self, p: Edge) -> Chunk<'_, T, Edge> {
-        let home = self.home(p);
-        let items = self.nodes.items(p.leaf);
-        let end = Edge {
-            leaf: p.leaf,
-            path: p.path,
-            index: items.len(),
-        };
-        Chunk {
-            first: self.nodes.item_at(home.node, home.index),
-            rest: &items[p.index..],
-            after: self.following(end),
-        }
     }
 
     fn get_mut(&mut self, p: Edge) -> &mut T {

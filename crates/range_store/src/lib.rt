@@ -5,18 +5,18 @@
 //! - the container's contract: `src/storage.rt`
 //! - a run of items that others replace: `src/inner/cursor.rt`
 //! - the B-tree, whose nodes hold the items: `src/btree.rt` and `btree/`
-//! - one node, with its items and the numbers of its children: how a full one is divided, and how
-//!   two are made one: `src/btree/node.rt`, `proofs/Dividing.antt`
+//! - what the slab keeps of a node: how many items it has, and the numbers of its children:
+//!   `src/btree/node.rt`
+//! - the items of all nodes, in a row of cells for each number: how one is put, taken and moved:
+//!   `src/btree/rows.rt`, `specs/Rows.antt`, `proofs/{Cells,Rows,RowMoves,Dividing}.antt`
 //! - the nodes by their numbers in a slab, with spares that an insertion takes, and how items
-//!   move between nodes: `src/btree/nodes.rt`, `specs/{Heap,Spares}.antt`,
-//!   `proofs/{Spares,TwoNodes}.antt`
+//!   move between nodes: `src/btree/nodes.rt`, `specs/{Heap,Spares}.antt`, `proofs/Spares.antt`
 //! - the shape of a tree of nodes, and the list that it is: `specs/Nodes.antt`
 //! - an edge between two items, as std's B-tree calls it, with the path to it, the steps along
 //!   the list, and where the item before it stands: `src/btree/path.rt`, `specs/Edges.antt`,
 //!   `proofs/Behind.antt`
-//! - the items after a position that lie together in a leaf: `chunk_from` in `src/btree.rt`,
-//!   `proofs/LeafItems.antt`; the iterator itself `range_map/src/map/iter.rt`,
-//!   `specs/Iteration.antt`, `proofs/Chunks.antt`
+//! - the items after a position that lie together: `chunk_from` in `src/storage.rt`; the iterator
+//!   itself `range_map/src/map/iter.rt`, `specs/Iteration.antt`, `proofs/Chunks.antt`
 //! - how a search goes down: `src/btree/searching.rt`, `proofs/{Ways,Descending}.antt`
 //! - what a node is to hold before it is written or cut: `src/btree/insertion.rt`,
 //!   `specs/Contents.antt`

@@ -93,13 +93,13 @@ pub struct Chunk<'a, T, P: Copy> {
 
 /// A question to the items of a container, which counts how often it is asked.
 pub trait Probe<T> {
-    /// What it answers of each item.
+    /// What it returns for each item.
     ghost test: { Self → T → Bool };
 
     /// How many steps were counted.
     ghost steps_taken: { Self → ℕ };
 
-    /// What the probe answers of the item. Counts one step.
+    /// What the probe returns for the item. Counts one step.
     fn ask(&mut self, item: &T) -> bool
         ensures answer { result ≡ test self.old item.now }
         ensures test_kept { (x : T) → test self.new x ≡ test self.old x }
@@ -172,7 +172,7 @@ pub trait Storage<T>: Drop {
     /// The item at a position, the items after it that lie together, and the position after these.
     /// Allocates nothing.
     ///
-    /// A B-tree gives those that are left in a leaf. The default gives one item.
+    /// The default gives one item, as a B-tree does.
     fn chunk_from(&self, p: Self::Position) -> Chunk<'_, T, Self::Position>
         requires { is_good self.now p }
         ensures first { result.first.now
@@ -205,7 +205,7 @@ pub trait Storage<T>: Drop {
         ensures positions { (q : Self.Position) → is_good self.old q
             → is_good self.new q × (rank self.new q ≡ rank self.old q) };
 
-    /// The position of the last item that the probe answers true for, or none.
+    /// The position of the last item for which the probe returns true, or none.
     ///
     /// The items for which it does have to stand before all others. Allocates nothing. How many
     /// items a vector and a B-tree ask grows as the logarithm of their number.
@@ -221,7 +221,7 @@ pub trait Storage<T>: Drop {
     /// Makes capacity for so many further items.
     ///
     /// Fails where an allocation does, or where the container cannot have so many items, and never
-    /// where there is room for them; the items are as they were in any case.
+    /// where there is room for them. The items are as they were in any case.
     fn reserve(&mut self, n: usize) -> Result<(), AllocError>
         ensures list { items self.new ≡ items self.old }
         ensures ok { OnOk result (n ≤ room self.new) }

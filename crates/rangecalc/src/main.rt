@@ -34,7 +34,7 @@ fn words(rt: &HostRuntime) -> io::Result<Vec<String>> {
     }
 }
 
-/// Whether standard input is a regular file. Where the file system does not tell, it is taken for
+/// Whether standard input is a regular file. Where the file system does not say, it is taken for
 /// none.
 fn reads_file(rt: &HostRuntime) -> bool {
     match fs::metadata(rt, "/dev/stdin") {
@@ -43,9 +43,8 @@ fn reads_file(rt: &HostRuntime) -> bool {
     }
 }
 
-/// Serves the standard streams. A file is answered in large writes; a person or a program gets each
-/// line of a reply as it is written, so that it can read the reply before it sends the next
-/// command.
+/// Serves the standard streams. A file is answered in large writes. A person or a program gets each
+/// line of a reply as it is written, and so can read it before the next command.
 fn run(rt: &HostRuntime) -> io::Result<u8> {
     let alloc = rt.alloc();
     let words = words(rt)?;

@@ -153,8 +153,8 @@ fn answer<K: NumberKey, W: Write>(
 
 /// Does what a line says and writes its reply: one line, or one for each range that is listed.
 ///
-/// A line of no known form is answered by `bad line`, one that fails to allocate by `memory`, and
-/// then the maps are as before, but for `a += b` and `a -= b`: these have changed the keys of the
+/// A line of no known form is answered by `bad line`, and one that fails to allocate by `memory`.
+/// Then the maps are as before, but for `a += b` and `a -= b`. These have changed the keys of the
 /// ranges of `b` before one of them, and no others.
 pub fn answer_line<K: NumberKey, W: Write>(
     alloc: Global,

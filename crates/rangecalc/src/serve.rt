@@ -53,12 +53,12 @@ fn serve_keys<K: NumberKey, R: BufRead + Drop, W: Write, E: Write>(
     line_program::program::serve(alloc, &mut program, &mut input, out, err)
 }
 
-/// Serves lines over the keys that the words name, and answers the exit status.
+/// Serves lines over the keys that the words name, and returns the exit status.
 ///
 /// `words` are the arguments without the program's name. One reply for each line goes to `out`,
 /// which is flushed before the call ends; the usage line and `read error` go to `err`. The status
-/// is 0 at the end of the input, 1 where a line cannot be read or a reply cannot be written, and 2
-/// where the words name no keys. A line that is no text in UTF-8 cannot be read.
+/// is 0 at the end of the input, and 1 where a line cannot be read or a reply cannot be written. It
+/// is 2 where the words name no keys. A line that is no text in UTF-8 cannot be read.
 pub fn serve<R: BufRead + Drop, W: Write, E: Write>(
     alloc: Global,
     words: &[String],

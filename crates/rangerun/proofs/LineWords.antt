@@ -1,6 +1,6 @@
 -- Which word a command line begins with, and what its fields say then.
 use Rattle.std.proofs.Common.{◌≡◌, ◌≢◌, ℕ, ℤ, List, [], ◌∷◌, inl, inr, refl, sym, ap, ◌∙◌, subst}
-use Rattle.std.specs.Prelude.{Bool, true, false, ◌==◌, if◌then◌else◌, Option, None, Some, IfNone, codes}
+use Rattle.std.specs.Prelude.{Bool, true, false, ◌==◌, if◌then◌else◌, Option, None, Some, codes}
 use Rattle.btree_range_map.specs.AnyRange.{AnyRange}
 use Rattle.btree_range_map.specs.Command.TheVariants.{Insert, InsertDisconnected, Remove, Update, Get, Contains, Intersects, Count}
 use Rattle.rangerun.specs.declared.tag.Tag.{Tag}
@@ -8,6 +8,7 @@ use Rattle.rangerun.specs.declared.command_line.CommandLine.{CommandLine}
 use Rattle.rangerun.specs.declared.command_line.CommandLine.TheVariants.{Run, Show, Gaps, Len, Levels, Save}
 use Rattle.rangerun.specs.Grammar.{SpellsKey, SpellsRange, SpellsBinding, SpellsUpdate, SpellsFields, SpellsLine, StandsAlone, word_text}
 use Rattle.line_program.specs.Lines.{Lacks, IsSplitAt}
+use Rattle.rangerun.specs.Saving.{load_line}
 use Rattle.rangerun.proofs.Spelled.{lacks_nil, lacks_more, has_byte, split_unique}
 
 abbrev pub has_no_space : List ℕ → Bool
@@ -174,6 +175,12 @@ module _ {K : Type 0} (IsKey : K → Type 0) (as_number : K → ℤ) where
   none_by_word text lacks none known (inr (fields, spelled, e)) =
       has_byte 32 text (word_text known) fields e lacks
 
-pub if_none_as : {A : Type 0} (o : Option A) (P Q : Type 0) → (P → Q) → IfNone o P → IfNone o Q
-if_none_as None P Q follows p = follows p
-if_none_as (Some x) P Q follows p = tt
+-- a line with another word, or with none, loads no text
+pub loads_no_text : (line word fields : List ℕ) → IsSplitAt 32 line word fields
+    → word ≢ codes "load" → (json : List ℕ) → line ≢ load_line json
+loads_no_text line word fields cut other json e =
+    other (split_unique 32 word (codes "load") fields json cut.1
+    (lacks_space (codes "load") refl) (sym cut.0 ∙ e)).0
+
+pub word_loads_no_text : (line : List ℕ) → Lacks 32 line → (json : List ℕ) → line ≢ load_line json
+word_loads_no_text line lacks json e = has_byte 32 line (codes "load") json e lacks

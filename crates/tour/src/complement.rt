@@ -19,7 +19,7 @@ fn complemented_twice<T: Measure + Clone, C: Storage<Item<AnyRange<T>, ()>>>(
         (λ again. IsTrue (same_ranges T.order (C.items again) (C.items set.now))) }
 {
     complementing_twice_restores::<T>();
-    let _ranges = set.iter(); // whose contract tells the form in which they are stored
+    let _ranges = set.iter(); // whose contract says the form in which they are stored
     let others = set.complement()?;
     let again = others.complement()?;
     Ok(again)

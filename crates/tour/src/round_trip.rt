@@ -26,7 +26,7 @@ fn read_back<
     ensures fails { IfErr result (λ e. e ≡ Memory) }
 {
     maps_are_read_back::<K, V>();
-    let _items = map.iter(); // whose contract tells the form in which they are stored
+    let _items = map.iter(); // whose contract says the form in which they are stored
     let written = map_to_json(alloc, map)?;
     map_from_json(alloc, &written)
 }

@@ -1,18 +1,21 @@
 //! The calls on a handle of any kind.
 ghost use Rattle.std.specs.Prelude.{◌≡◌, ◌≢◌, ◌⊎◌, ◌++◌, ◌<◌, ℕ, List, length, drop, Some, None, true, false, IsUtf8};
 ghost use Rattle.serde_json.specs.Read.{read};
+ghost use Rattle.range_handles.specs.Alike.{AreAlike, IsCopy};
 ghost use Rattle.range_handles.specs.Fewest.{IsLeastRangeCount};
 ghost use Rattle.range_handles.specs.Held.{range_count, emptied};
 ghost use Rattle.range_handles.specs.Texts.{IsTextOf, IsTextRead, IsFaultyText};
 
-use range_c_types::status::{CLOSED, DONE, NO_MEMORY, NO_ROOM, NOT_JSON, NOT_READ};
 use range_handles::handle::Handle;
+use range_handles::status::{
+    CLOSED, DONE, NO_MEMORY, NO_ROOM, NONE, NOT_JSON, NOT_READ, OPEN, OTHER_KIND,
+};
 use std::alloc::Global;
 use std::mem;
 
 /// Closes a handle, and frees the memory of its collection. A closed handle stays closed.
 #[unsafe(no_mangle)]
-pub extern "C" fn range_handle_destroy(alloc: Global, handle: &mut Handle)
+pub extern "C" fn brm_raw_destroy(alloc: Global, handle: &mut Handle)
     ensures closed { (handle.new.is_open ≡ false) × (handle.new.seal.held ≡ None) }
 {
     let old = mem::replace(handle, Handle::closed(alloc));
@@ -21,9 +24,9 @@ pub extern "C" fn range_handle_destroy(alloc: Global, handle: &mut Handle)
     }
 }
 
-/// Takes all ranges away. Allocates nothing.
+/// Takes all ranges away, and keeps their memory for others. Allocates nothing.
 #[unsafe(no_mangle)]
-pub extern "C" fn range_handle_clear(alloc: Global, handle: &mut Handle) -> u32
+pub extern "C" fn brm_clear(handle: &mut Handle) -> u32
     ensures emptied { handle.new.seal.held ≡ emptied handle.old.seal.held }
     ensures closed { handle.old.is_open ≡ false → result ≡ CLOSED }
     ensures answer { handle.old.is_open ≡ true → result ≡ DONE }
@@ -31,16 +34,13 @@ pub extern "C" fn range_handle_clear(alloc: Global, handle: &mut Handle) -> u32
     if !handle.is_open {
         return CLOSED;
     }
-    let mut collection = handle.take(alloc);
-    let empty = collection.as_ref().emptied(alloc);
-    *collection.as_mut() = empty;
-    *handle = Handle::open(collection);
+    handle.seal.as_mut().clear();
     DONE
 }
 
 /// How many ranges are stored, none of a closed handle. No fewer ranges would do.
 #[unsafe(no_mangle)]
-pub extern "C" fn range_handle_count(alloc: Global, handle: &mut Handle) -> usize
+pub extern "C" fn brm_count(handle: &mut Handle) -> usize
     ensures unchanged { handle.new.seal.held ≡ handle.old.seal.held }
     ensures value { result ≡ range_count handle.old.seal.held }
     ensures least { IsLeastRangeCount handle.old.seal.held result }
@@ -48,10 +48,57 @@ pub extern "C" fn range_handle_count(alloc: Global, handle: &mut Handle) -> usiz
     if !handle.is_open {
         return 0;
     }
-    let collection = handle.take(alloc);
-    let count = collection.as_ref().range_count();
-    *handle = Handle::open(collection);
-    count
+    handle.seal.as_mut().range_count()
+}
+
+/// Opens a closed handle on a collection of the same kind, with equal ranges and values.
+///
+/// Allocates its ranges, and one block more. Goes once over what is held.
+#[unsafe(no_mangle)]
+pub extern "C" fn brm_raw_clone(alloc: Global, handle: &mut Handle, made: &mut Handle) -> u32
+    ensures unchanged { handle.new.seal.held ≡ handle.old.seal.held }
+    ensures made { result ≡ DONE → IsCopy made.new.seal.held handle.old.seal.held }
+    ensures refused { result ≢ DONE → made.new.seal.held ≡ made.old.seal.held }
+    ensures open { made.old.is_open ≡ true → result ≡ OPEN }
+    ensures closed { made.old.is_open ≡ false → handle.old.is_open ≡ false → result ≡ CLOSED }
+    ensures answer { made.old.is_open ≡ false → handle.old.is_open ≡ true
+        → (result ≡ DONE) ⊎ (result ≡ NO_MEMORY) }
+{
+    if made.is_open {
+        return OPEN;
+    }
+    if !handle.is_open {
+        return CLOSED;
+    }
+    match handle.seal.as_mut().copied() {
+        Ok(copy) => made.fill(alloc, copy),
+        Err(_) => NO_MEMORY,
+    }
+}
+
+/// Whether both hold the same: `DONE` where each key is bound alike, or in both or in neither,
+/// `NONE` where one is not, `OTHER_KIND` of collections of two kinds.
+///
+/// Goes once over both.
+#[unsafe(no_mangle)]
+pub extern "C" fn brm_raw_equal(handle: &mut Handle, other: &mut Handle) -> u32
+    ensures unchanged { (handle.new.seal.held ≡ handle.old.seal.held)
+        × (other.new.seal.held ≡ other.old.seal.held) }
+    ensures yes { result ≡ DONE → AreAlike handle.old.seal.held other.old.seal.held }
+    ensures no { result ≡ NONE → ¬ AreAlike handle.old.seal.held other.old.seal.held }
+    ensures closed { (handle.old.is_open ≡ false) ⊎ (other.old.is_open ≡ false)
+        → result ≡ CLOSED }
+    ensures answer { handle.old.is_open ≡ true → other.old.is_open ≡ true
+        → emptied handle.old.seal.held ≡ emptied other.old.seal.held
+        → (result ≡ DONE) ⊎ (result ≡ NONE) }
+    ensures other { handle.old.is_open ≡ true → other.old.is_open ≡ true
+        → (¬ emptied handle.old.seal.held ≡ emptied other.old.seal.held)
+        → result ≡ OTHER_KIND }
+{
+    if !handle.is_open || !other.is_open {
+        return CLOSED;
+    }
+    handle.seal.as_mut().equals(other.seal.as_mut())
 }
 
 /// Copies the text to the front of the buffer, and tells its length. One that is too short for it
@@ -78,7 +125,7 @@ fn copy_text(text: &[u8], buffer: &mut [u8], size: &mut usize) -> u32
 /// A buffer that is too short stays as it was, and the length is told as well: ask with one of no
 /// bytes first. Allocates the text, and its parts before; these are freed again.
 #[unsafe(no_mangle)]
-pub extern "C" fn range_handle_save(
+pub extern "C" fn brm_save(
     alloc: Global,
     handle: &mut Handle,
     buffer: &mut [u8],
@@ -98,10 +145,7 @@ pub extern "C" fn range_handle_save(
     if !handle.is_open {
         return CLOSED;
     }
-    let collection = handle.take(alloc);
-    let text = collection.as_ref().text(alloc);
-    *handle = Handle::open(collection);
-    match text {
+    match handle.seal.as_mut().text(alloc) {
         Ok(text) => copy_text(text.as_slice(), buffer, size),
         Err(_) => NO_MEMORY,
     }
@@ -109,9 +153,9 @@ pub extern "C" fn range_handle_save(
 
 /// Holds what the JSON text is read as, in place of what it held: a collection of the same kind.
 ///
-/// Reads what `range_handle_save` writes, and what the library's readers read else. Allocates.
+/// Reads what `brm_save` writes, and what the library's readers read else. Allocates.
 #[unsafe(no_mangle)]
-pub extern "C" fn range_handle_load(alloc: Global, handle: &mut Handle, text: &[u8]) -> u32
+pub extern "C" fn brm_load(alloc: Global, handle: &mut Handle, text: &[u8]) -> u32
     ensures kind { emptied handle.new.seal.held ≡ emptied handle.old.seal.held }
     ensures loaded { result ≡ DONE → IsTextRead text.now handle.new.seal.held }
     ensures refused { result ≢ DONE → handle.new.seal.held ≡ handle.old.seal.held }
@@ -124,8 +168,5 @@ pub extern "C" fn range_handle_load(alloc: Global, handle: &mut Handle, text: &[
     if !handle.is_open {
         return CLOSED;
     }
-    let mut collection = handle.take(alloc);
-    let status = collection.as_mut().load(alloc, text);
-    *handle = Handle::open(collection);
-    status
+    handle.seal.as_mut().load(alloc, text)
 }

@@ -1,24 +1,25 @@
 //! The calls on maps of `i64` keys to `u64` values.
-ghost use Rattle.std.specs.Prelude.{◌≡◌, ◌≢◌, ◌⊎◌, ◌↔◌, [], ◌∷◌, ◌++◌, IsSome, Some, None, true, false, nat_eq};
+ghost use Rattle.std.specs.Prelude.{◌<◌, ◌≤◌, map, take, drop, reverse, length, ◌≡◌, ◌≢◌, ◌⊎◌, ◌↔◌, [], ◌∷◌, ◌++◌, IsSome, Some, None, true, false, nat_eq};
 ghost use Rattle.btree_range_map.specs.Bindings.{Binds, IsBound, IsItemFor, IsBoundAfter, IsUnboundAfter};
 ghost use Rattle.btree_range_map.specs.Lookups.{BindsKeyOf, IsConnectedToSome};
 ghost use Rattle.btree_range_map.specs.Numbers.{IsNumberOfKeys};
 ghost use Rattle.btree_range_map.specs.Range.{IsEmptyRange};
 ghost use Rattle.btree_range_map.specs.Overlapping.{AreOverlapping};
-ghost use Rattle.range_c_types.specs.Flags.{signed_range_of, signed_entry_item, number_of, from_key, upto_key};
+ghost use Rattle.range_handles.specs.Flags.{signed_range_of, signed_entry_item, number_of, from_key, upto_key};
 ghost use Rattle.range_handles.specs.Held.{HoldsSignedMap, signed_items};
 ghost use Rattle.range_handles.specs.Lists.{signed_keys, SignedRanges};
 
-use range_c_types::bounds::{Length, SignedBounds, SignedEntry};
-use range_c_types::status::{CLOSED, CONNECTED, DONE, NO_MEMORY, NONE, OPEN, OTHER_KIND};
+use range_handles::bounds::{Length, SignedBounds, SignedEntry};
 use range_handles::collection::Collection;
 use range_handles::handle::Handle;
-use range_handles::signed_map::{self, SignedMap};
+use range_handles::kept_map::KeptMap;
+use range_handles::reads;
+use range_handles::status::{CLOSED, CONNECTED, DONE, NO_MEMORY, NONE, OPEN, OTHER_KIND};
 use std::alloc::Global;
 
 /// Opens a closed handle, on an empty map. Allocates one block.
 #[unsafe(no_mangle)]
-pub extern "C" fn range_map_i64_create(alloc: Global, handle: &mut Handle) -> u32
+pub extern "C" fn brm_map_i64_create(alloc: Global, handle: &mut Handle) -> u32
     ensures created { result ≡ DONE → (HoldsSignedMap handle.new.seal.held)
         × (signed_items handle.new.seal.held ≡ []) }
     ensures refused { result ≢ DONE → handle.new.seal.held ≡ handle.old.seal.held }
@@ -28,17 +29,12 @@ pub extern "C" fn range_map_i64_create(alloc: Global, handle: &mut Handle) -> u3
     if handle.is_open {
         return OPEN;
     }
-    handle.fill(alloc, Collection::Signed(SignedMap::new(alloc)))
+    handle.fill(alloc, Collection::Signed(KeptMap::new(alloc)))
 }
 
 /// Binds each key of the range to the value. An empty range changes nothing.
 #[unsafe(no_mangle)]
-pub extern "C" fn range_map_i64_insert(
-    alloc: Global,
-    handle: &mut Handle,
-    range: &SignedBounds,
-    value: u64,
-) -> u32
+pub extern "C" fn brm_map_i64_insert(handle: &mut Handle, range: &SignedBounds, value: u64) -> u32
     ensures bound { result ≡ DONE
         → IsBoundAfter signed_keys nat_eq (signed_items handle.old.seal.held)
         (signed_items handle.new.seal.held) (signed_range_of range.now) value }
@@ -56,16 +52,15 @@ pub extern "C" fn range_map_i64_insert(
     if !handle.is_open {
         return CLOSED;
     }
-    let mut collection = handle.take(alloc);
-    let status = signed_map::insert(collection.as_mut(), range, value);
-    *handle = Handle::open(collection);
-    status
+    match handle.seal.as_mut() {
+        Collection::Signed(kept) => kept.insert(range.range(), value),
+        _ => OTHER_KIND,
+    }
 }
 
 /// Binds each key of a range that neither meets nor touches a stored one.
 #[unsafe(no_mangle)]
-pub extern "C" fn range_map_i64_insert_disconnected(
-    alloc: Global,
+pub extern "C" fn brm_map_i64_insert_disconnected(
     handle: &mut Handle,
     range: &SignedBounds,
     value: u64,
@@ -92,19 +87,15 @@ pub extern "C" fn range_map_i64_insert_disconnected(
     if !handle.is_open {
         return CLOSED;
     }
-    let mut collection = handle.take(alloc);
-    let status = signed_map::insert_disconnected(collection.as_mut(), range, value);
-    *handle = Handle::open(collection);
-    status
+    match handle.seal.as_mut() {
+        Collection::Signed(kept) => kept.insert_disconnected(range.range(), value),
+        _ => OTHER_KIND,
+    }
 }
 
 /// Binds no key of the range. An empty range changes nothing.
 #[unsafe(no_mangle)]
-pub extern "C" fn range_map_i64_remove(
-    alloc: Global,
-    handle: &mut Handle,
-    range: &SignedBounds,
-) -> u32
+pub extern "C" fn brm_map_i64_remove(handle: &mut Handle, range: &SignedBounds) -> u32
     ensures unbound { result ≡ DONE
         → IsUnboundAfter signed_keys nat_eq (signed_items handle.old.seal.held)
         (signed_items handle.new.seal.held) (signed_range_of range.now) }
@@ -122,20 +113,15 @@ pub extern "C" fn range_map_i64_remove(
     if !handle.is_open {
         return CLOSED;
     }
-    let mut collection = handle.take(alloc);
-    let status = signed_map::remove(collection.as_mut(), range);
-    *handle = Handle::open(collection);
-    status
+    match handle.seal.as_mut() {
+        Collection::Signed(kept) => kept.remove(range.range()),
+        _ => OTHER_KIND,
+    }
 }
 
 /// Writes the stored range that holds the key, with its value.
 #[unsafe(no_mangle)]
-pub extern "C" fn range_map_i64_get(
-    alloc: Global,
-    handle: &mut Handle,
-    key: i64,
-    entry: &mut SignedEntry,
-) -> u32
+pub extern "C" fn brm_map_i64_get(handle: &mut Handle, key: i64, entry: &mut SignedEntry) -> u32
     ensures unchanged { handle.new.seal.held ≡ handle.old.seal.held }
     ensures found { result ≡ DONE
         → IsItemFor signed_keys (signed_items handle.old.seal.held) key
@@ -153,15 +139,15 @@ pub extern "C" fn range_map_i64_get(
     if !handle.is_open {
         return CLOSED;
     }
-    let collection = handle.take(alloc);
-    let status = signed_map::get(collection.as_ref(), key, entry);
-    *handle = Handle::open(collection);
-    status
+    match handle.seal.as_mut() {
+        Collection::Signed(kept) => reads::get(kept.as_map(), key, entry),
+        _ => OTHER_KIND,
+    }
 }
 
 /// Whether the key is bound: `DONE` where it is, `NONE` where it is not.
 #[unsafe(no_mangle)]
-pub extern "C" fn range_map_i64_contains(alloc: Global, handle: &mut Handle, key: i64) -> u32
+pub extern "C" fn brm_map_i64_contains(handle: &mut Handle, key: i64) -> u32
     ensures unchanged { handle.new.seal.held ≡ handle.old.seal.held }
     ensures yes { result ≡ DONE → IsBound signed_keys (signed_items handle.old.seal.held) key }
     ensures no { result ≡ NONE → ¬ IsBound signed_keys (signed_items handle.old.seal.held) key }
@@ -173,19 +159,15 @@ pub extern "C" fn range_map_i64_contains(alloc: Global, handle: &mut Handle, key
     if !handle.is_open {
         return CLOSED;
     }
-    let collection = handle.take(alloc);
-    let status = signed_map::contains(collection.as_ref(), key);
-    *handle = Handle::open(collection);
-    status
+    match handle.seal.as_mut() {
+        Collection::Signed(kept) => reads::contains(kept.as_map(), key),
+        _ => OTHER_KIND,
+    }
 }
 
 /// Whether some key of the range is bound: `DONE` where one is, `NONE` where none is.
 #[unsafe(no_mangle)]
-pub extern "C" fn range_map_i64_intersects(
-    alloc: Global,
-    handle: &mut Handle,
-    range: &SignedBounds,
-) -> u32
+pub extern "C" fn brm_map_i64_intersects(handle: &mut Handle, range: &SignedBounds) -> u32
     ensures unchanged { handle.new.seal.held ≡ handle.old.seal.held }
     ensures yes { result ≡ DONE
         → BindsKeyOf signed_keys (signed_items handle.old.seal.held) (signed_range_of range.now) }
@@ -199,15 +181,15 @@ pub extern "C" fn range_map_i64_intersects(
     if !handle.is_open {
         return CLOSED;
     }
-    let collection = handle.take(alloc);
-    let status = signed_map::intersects(collection.as_ref(), range);
-    *handle = Handle::open(collection);
-    status
+    match handle.seal.as_mut() {
+        Collection::Signed(kept) => reads::intersects(kept.as_map(), range.range()),
+        _ => OTHER_KIND,
+    }
 }
 
 /// Writes how many keys are bound.
 #[unsafe(no_mangle)]
-pub extern "C" fn range_map_i64_len(alloc: Global, handle: &mut Handle, length: &mut Length) -> u32
+pub extern "C" fn brm_map_i64_len(handle: &mut Handle, length: &mut Length) -> u32
     ensures unchanged { handle.new.seal.held ≡ handle.old.seal.held }
     ensures counted { result ≡ DONE → IsNumberOfKeys signed_keys
         (IsBound signed_keys (signed_items handle.old.seal.held)) (number_of length.new) }
@@ -220,19 +202,15 @@ pub extern "C" fn range_map_i64_len(alloc: Global, handle: &mut Handle, length: 
     if !handle.is_open {
         return CLOSED;
     }
-    let collection = handle.take(alloc);
-    let status = signed_map::len(collection.as_ref(), length);
-    *handle = Handle::open(collection);
-    status
+    match handle.seal.as_mut() {
+        Collection::Signed(kept) => reads::len(kept.as_map(), length),
+        _ => OTHER_KIND,
+    }
 }
 
 /// Writes the first stored range, with its value.
 #[unsafe(no_mangle)]
-pub extern "C" fn range_map_i64_first(
-    alloc: Global,
-    handle: &mut Handle,
-    entry: &mut SignedEntry,
-) -> u32
+pub extern "C" fn brm_map_i64_first(handle: &mut Handle, entry: &mut SignedEntry) -> u32
     ensures unchanged { handle.new.seal.held ≡ handle.old.seal.held }
     ensures first { result ≡ DONE → (rest : SignedRanges)
         × (signed_items handle.old.seal.held ≡ signed_entry_item entry.new ∷ rest) }
@@ -246,19 +224,15 @@ pub extern "C" fn range_map_i64_first(
     if !handle.is_open {
         return CLOSED;
     }
-    let collection = handle.take(alloc);
-    let status = signed_map::first(collection.as_ref(), entry);
-    *handle = Handle::open(collection);
-    status
+    match handle.seal.as_mut() {
+        Collection::Signed(kept) => reads::first(kept.as_map(), entry),
+        _ => OTHER_KIND,
+    }
 }
 
 /// Writes the last stored range, with its value.
 #[unsafe(no_mangle)]
-pub extern "C" fn range_map_i64_last(
-    alloc: Global,
-    handle: &mut Handle,
-    entry: &mut SignedEntry,
-) -> u32
+pub extern "C" fn brm_map_i64_last(handle: &mut Handle, entry: &mut SignedEntry) -> u32
     ensures unchanged { handle.new.seal.held ≡ handle.old.seal.held }
     ensures last { result ≡ DONE → (front : SignedRanges)
         × (signed_items handle.old.seal.held ≡ front ++ signed_entry_item entry.new ∷ []) }
@@ -272,10 +246,10 @@ pub extern "C" fn range_map_i64_last(
     if !handle.is_open {
         return CLOSED;
     }
-    let collection = handle.take(alloc);
-    let status = signed_map::last(collection.as_ref(), entry);
-    *handle = Handle::open(collection);
-    status
+    match handle.seal.as_mut() {
+        Collection::Signed(kept) => reads::last(kept.as_map(), entry),
+        _ => OTHER_KIND,
+    }
 }
 
 /// Writes the first stored range that ends at the key or after it, with its value.
@@ -283,12 +257,7 @@ pub extern "C" fn range_map_i64_last(
 /// It is the first of those that meet the keys from this one on; all before it end below the key.
 /// Costs one search.
 #[unsafe(no_mangle)]
-pub extern "C" fn range_map_i64_next(
-    alloc: Global,
-    handle: &mut Handle,
-    key: i64,
-    entry: &mut SignedEntry,
-) -> u32
+pub extern "C" fn brm_map_i64_next(handle: &mut Handle, key: i64, entry: &mut SignedEntry) -> u32
     ensures unchanged { handle.new.seal.held ≡ handle.old.seal.held }
     ensures next { result ≡ DONE → (rest : SignedRanges)
         × AreOverlapping signed_keys (signed_items handle.old.seal.held) (from_key key)
@@ -304,10 +273,10 @@ pub extern "C" fn range_map_i64_next(
     if !handle.is_open {
         return CLOSED;
     }
-    let collection = handle.take(alloc);
-    let status = signed_map::next(collection.as_ref(), key, entry);
-    *handle = Handle::open(collection);
-    status
+    match handle.seal.as_mut() {
+        Collection::Signed(kept) => reads::next(kept.as_map(), key, entry),
+        _ => OTHER_KIND,
+    }
 }
 
 /// Writes the last stored range that starts at the key or before it, with its value.
@@ -315,8 +284,7 @@ pub extern "C" fn range_map_i64_next(
 /// It is the last of those that meet the keys up to this one; all after it start past the key.
 /// Costs two searches.
 #[unsafe(no_mangle)]
-pub extern "C" fn range_map_i64_previous(
-    alloc: Global,
+pub extern "C" fn brm_map_i64_previous(
     handle: &mut Handle,
     key: i64,
     entry: &mut SignedEntry,
@@ -336,19 +304,15 @@ pub extern "C" fn range_map_i64_previous(
     if !handle.is_open {
         return CLOSED;
     }
-    let collection = handle.take(alloc);
-    let status = signed_map::previous(collection.as_ref(), key, entry);
-    *handle = Handle::open(collection);
-    status
+    match handle.seal.as_mut() {
+        Collection::Signed(kept) => reads::previous(kept.as_map(), key, entry),
+        _ => OTHER_KIND,
+    }
 }
 
 /// Takes the first stored range out, and writes it with its value. Allocates nothing.
 #[unsafe(no_mangle)]
-pub extern "C" fn range_map_i64_pop_first(
-    alloc: Global,
-    handle: &mut Handle,
-    entry: &mut SignedEntry,
-) -> u32
+pub extern "C" fn brm_map_i64_pop_first(handle: &mut Handle, entry: &mut SignedEntry) -> u32
     ensures first { result ≡ DONE → signed_items handle.old.seal.held
         ≡ signed_entry_item entry.new ∷ signed_items handle.new.seal.held }
     ensures none { result ≢ DONE → signed_items handle.old.seal.held ≡ [] }
@@ -363,19 +327,15 @@ pub extern "C" fn range_map_i64_pop_first(
     if !handle.is_open {
         return CLOSED;
     }
-    let mut collection = handle.take(alloc);
-    let status = signed_map::pop_first(collection.as_mut(), entry);
-    *handle = Handle::open(collection);
-    status
+    match handle.seal.as_mut() {
+        Collection::Signed(kept) => kept.pop_first(entry),
+        _ => OTHER_KIND,
+    }
 }
 
 /// Takes the last stored range out, and writes it with its value. Allocates nothing.
 #[unsafe(no_mangle)]
-pub extern "C" fn range_map_i64_pop_last(
-    alloc: Global,
-    handle: &mut Handle,
-    entry: &mut SignedEntry,
-) -> u32
+pub extern "C" fn brm_map_i64_pop_last(handle: &mut Handle, entry: &mut SignedEntry) -> u32
     ensures last { result ≡ DONE → signed_items handle.old.seal.held
         ≡ signed_items handle.new.seal.held ++ signed_entry_item entry.new ∷ [] }
     ensures none { result ≢ DONE → signed_items handle.old.seal.held ≡ [] }
@@ -390,8 +350,78 @@ pub extern "C" fn range_map_i64_pop_last(
     if !handle.is_open {
         return CLOSED;
     }
-    let mut collection = handle.take(alloc);
-    let status = signed_map::pop_last(collection.as_mut(), entry);
-    *handle = Handle::open(collection);
-    status
+    match handle.seal.as_mut() {
+        Collection::Signed(kept) => kept.pop_last(entry),
+        _ => OTHER_KIND,
+    }
+}
+
+/// Writes the stored ranges from the first that ends at the key or after it on, in ascending
+/// order, as many as the array takes, and how many.
+///
+/// Fewer than the array takes are written where there are no more. What lies behind them in the
+/// array stays as it was. Costs one search, and a step for each range.
+#[unsafe(no_mangle)]
+pub extern "C" fn brm_map_i64_read(
+    handle: &mut Handle,
+    key: i64,
+    entries: &mut [SignedEntry],
+    count: &mut usize,
+) -> u32
+    ensures unchanged { handle.new.seal.held ≡ handle.old.seal.held }
+    ensures read { result ≡ DONE → (rest : SignedRanges)
+        × AreOverlapping signed_keys (signed_items handle.old.seal.held) (from_key key)
+        (map signed_entry_item (take count.new entries.new) ++ rest)
+        × (count.new < length entries.old → rest ≡ []) }
+    ensures within { result ≡ DONE → count.new ≤ length entries.old }
+    ensures behind { result ≡ DONE → drop count.new entries.new ≡ drop count.new entries.old }
+    ensures unwritten { result ≢ DONE
+        → (entries.new ≡ entries.old) × (count.new ≡ count.old) }
+    ensures answer { HoldsSignedMap handle.old.seal.held → result ≡ DONE }
+    ensures closed { handle.old.is_open ≡ false → result ≡ CLOSED }
+    ensures other { handle.old.is_open ≡ true → (¬ HoldsSignedMap handle.old.seal.held)
+        → result ≡ OTHER_KIND }
+{
+    if !handle.is_open {
+        return CLOSED;
+    }
+    match handle.seal.as_mut() {
+        Collection::Signed(kept) => reads::read(kept.as_map(), key, entries, count),
+        _ => OTHER_KIND,
+    }
+}
+
+/// Writes the stored ranges from the last that starts at the key or before it on, in descending
+/// order, as many as the array takes, and how many.
+///
+/// Fewer than the array takes are written where there are no more. What lies behind them in the
+/// array stays as it was. Costs two searches, and a step for each range.
+#[unsafe(no_mangle)]
+pub extern "C" fn brm_map_i64_read_back(
+    handle: &mut Handle,
+    key: i64,
+    entries: &mut [SignedEntry],
+    count: &mut usize,
+) -> u32
+    ensures unchanged { handle.new.seal.held ≡ handle.old.seal.held }
+    ensures read { result ≡ DONE → (rest : SignedRanges)
+        × AreOverlapping signed_keys (signed_items handle.old.seal.held) (upto_key key)
+        (rest ++ reverse (map signed_entry_item (take count.new entries.new)))
+        × (count.new < length entries.old → rest ≡ []) }
+    ensures within { result ≡ DONE → count.new ≤ length entries.old }
+    ensures behind { result ≡ DONE → drop count.new entries.new ≡ drop count.new entries.old }
+    ensures unwritten { result ≢ DONE
+        → (entries.new ≡ entries.old) × (count.new ≡ count.old) }
+    ensures answer { HoldsSignedMap handle.old.seal.held → result ≡ DONE }
+    ensures closed { handle.old.is_open ≡ false → result ≡ CLOSED }
+    ensures other { handle.old.is_open ≡ true → (¬ HoldsSignedMap handle.old.seal.held)
+        → result ≡ OTHER_KIND }
+{
+    if !handle.is_open {
+        return CLOSED;
+    }
+    match handle.seal.as_mut() {
+        Collection::Signed(kept) => reads::read_back(kept.as_map(), key, entries, count),
+        _ => OTHER_KIND,
+    }
 }

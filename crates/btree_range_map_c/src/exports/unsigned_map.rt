@@ -1,24 +1,25 @@
 //! The calls on maps of `u64` keys to `u64` values.
-ghost use Rattle.std.specs.Prelude.{◌≡◌, ◌≢◌, ◌⊎◌, ◌↔◌, [], ◌∷◌, ◌++◌, IsSome, Some, None, true, false, nat_eq};
+ghost use Rattle.std.specs.Prelude.{◌<◌, ◌≤◌, map, take, drop, reverse, length, ◌≡◌, ◌≢◌, ◌⊎◌, ◌↔◌, [], ◌∷◌, ◌++◌, IsSome, Some, None, true, false, nat_eq};
 ghost use Rattle.btree_range_map.specs.Bindings.{Binds, IsBound, IsItemFor, IsBoundAfter, IsUnboundAfter};
 ghost use Rattle.btree_range_map.specs.Lookups.{BindsKeyOf, IsConnectedToSome};
 ghost use Rattle.btree_range_map.specs.Numbers.{IsNumberOfKeys};
 ghost use Rattle.btree_range_map.specs.Range.{IsEmptyRange};
 ghost use Rattle.btree_range_map.specs.Overlapping.{AreOverlapping};
-ghost use Rattle.range_c_types.specs.Flags.{range_of, entry_item, number_of, from_key, upto_key};
+ghost use Rattle.range_handles.specs.Flags.{range_of, entry_item, number_of, from_key, upto_key};
 ghost use Rattle.range_handles.specs.Held.{HoldsMap, map_items};
 ghost use Rattle.range_handles.specs.Lists.{unsigned_keys, Ranges};
 
-use range_c_types::bounds::{Bounds, Entry, Length};
-use range_c_types::status::{CLOSED, CONNECTED, DONE, NO_MEMORY, NONE, OPEN, OTHER_KIND};
+use range_handles::bounds::{Bounds, Entry, Length};
 use range_handles::collection::Collection;
 use range_handles::handle::Handle;
-use range_handles::unsigned_map::{self, UnsignedMap};
+use range_handles::kept_map::KeptMap;
+use range_handles::reads;
+use range_handles::status::{CLOSED, CONNECTED, DONE, NO_MEMORY, NONE, OPEN, OTHER_KIND};
 use std::alloc::Global;
 
 /// Opens a closed handle, on an empty map. Allocates one block.
 #[unsafe(no_mangle)]
-pub extern "C" fn range_map_u64_create(alloc: Global, handle: &mut Handle) -> u32
+pub extern "C" fn brm_map_u64_create(alloc: Global, handle: &mut Handle) -> u32
     ensures created { result ≡ DONE → (HoldsMap handle.new.seal.held)
         × (map_items handle.new.seal.held ≡ []) }
     ensures refused { result ≢ DONE → handle.new.seal.held ≡ handle.old.seal.held }
@@ -28,17 +29,12 @@ pub extern "C" fn range_map_u64_create(alloc: Global, handle: &mut Handle) -> u3
     if handle.is_open {
         return OPEN;
     }
-    handle.fill(alloc, Collection::Unsigned(UnsignedMap::new(alloc)))
+    handle.fill(alloc, Collection::Unsigned(KeptMap::new(alloc)))
 }
 
 /// Binds each key of the range to the value. An empty range changes nothing.
 #[unsafe(no_mangle)]
-pub extern "C" fn range_map_u64_insert(
-    alloc: Global,
-    handle: &mut Handle,
-    range: &Bounds,
-    value: u64,
-) -> u32
+pub extern "C" fn brm_map_u64_insert(handle: &mut Handle, range: &Bounds, value: u64) -> u32
     ensures bound { result ≡ DONE
         → IsBoundAfter unsigned_keys nat_eq (map_items handle.old.seal.held)
         (map_items handle.new.seal.held) (range_of range.now) value }
@@ -56,16 +52,15 @@ pub extern "C" fn range_map_u64_insert(
     if !handle.is_open {
         return CLOSED;
     }
-    let mut collection = handle.take(alloc);
-    let status = unsigned_map::insert(collection.as_mut(), range, value);
-    *handle = Handle::open(collection);
-    status
+    match handle.seal.as_mut() {
+        Collection::Unsigned(kept) => kept.insert(range.range(), value),
+        _ => OTHER_KIND,
+    }
 }
 
 /// Binds each key of a range that neither meets nor touches a stored one.
 #[unsafe(no_mangle)]
-pub extern "C" fn range_map_u64_insert_disconnected(
-    alloc: Global,
+pub extern "C" fn brm_map_u64_insert_disconnected(
     handle: &mut Handle,
     range: &Bounds,
     value: u64,
@@ -91,15 +86,15 @@ pub extern "C" fn range_map_u64_insert_disconnected(
     if !handle.is_open {
         return CLOSED;
     }
-    let mut collection = handle.take(alloc);
-    let status = unsigned_map::insert_disconnected(collection.as_mut(), range, value);
-    *handle = Handle::open(collection);
-    status
+    match handle.seal.as_mut() {
+        Collection::Unsigned(kept) => kept.insert_disconnected(range.range(), value),
+        _ => OTHER_KIND,
+    }
 }
 
 /// Binds no key of the range. An empty range changes nothing.
 #[unsafe(no_mangle)]
-pub extern "C" fn range_map_u64_remove(alloc: Global, handle: &mut Handle, range: &Bounds) -> u32
+pub extern "C" fn brm_map_u64_remove(handle: &mut Handle, range: &Bounds) -> u32
     ensures unbound { result ≡ DONE
         → IsUnboundAfter unsigned_keys nat_eq (map_items handle.old.seal.held)
         (map_items handle.new.seal.held) (range_of range.now) }
@@ -117,20 +112,15 @@ pub extern "C" fn range_map_u64_remove(alloc: Global, handle: &mut Handle, range
     if !handle.is_open {
         return CLOSED;
     }
-    let mut collection = handle.take(alloc);
-    let status = unsigned_map::remove(collection.as_mut(), range);
-    *handle = Handle::open(collection);
-    status
+    match handle.seal.as_mut() {
+        Collection::Unsigned(kept) => kept.remove(range.range()),
+        _ => OTHER_KIND,
+    }
 }
 
 /// Writes the stored range that holds the key, with its value.
 #[unsafe(no_mangle)]
-pub extern "C" fn range_map_u64_get(
-    alloc: Global,
-    handle: &mut Handle,
-    key: u64,
-    entry: &mut Entry,
-) -> u32
+pub extern "C" fn brm_map_u64_get(handle: &mut Handle, key: u64, entry: &mut Entry) -> u32
     ensures unchanged { handle.new.seal.held ≡ handle.old.seal.held }
     ensures found { result ≡ DONE
         → IsItemFor unsigned_keys (map_items handle.old.seal.held) key (entry_item entry.new) }
@@ -147,15 +137,15 @@ pub extern "C" fn range_map_u64_get(
     if !handle.is_open {
         return CLOSED;
     }
-    let collection = handle.take(alloc);
-    let status = unsigned_map::get(collection.as_ref(), key, entry);
-    *handle = Handle::open(collection);
-    status
+    match handle.seal.as_mut() {
+        Collection::Unsigned(kept) => reads::get(kept.as_map(), key, entry),
+        _ => OTHER_KIND,
+    }
 }
 
 /// Whether the key is bound: `DONE` where it is, `NONE` where it is not.
 #[unsafe(no_mangle)]
-pub extern "C" fn range_map_u64_contains(alloc: Global, handle: &mut Handle, key: u64) -> u32
+pub extern "C" fn brm_map_u64_contains(handle: &mut Handle, key: u64) -> u32
     ensures unchanged { handle.new.seal.held ≡ handle.old.seal.held }
     ensures yes { result ≡ DONE → IsBound unsigned_keys (map_items handle.old.seal.held) key }
     ensures no { result ≡ NONE → ¬ IsBound unsigned_keys (map_items handle.old.seal.held) key }
@@ -167,19 +157,15 @@ pub extern "C" fn range_map_u64_contains(alloc: Global, handle: &mut Handle, key
     if !handle.is_open {
         return CLOSED;
     }
-    let collection = handle.take(alloc);
-    let status = unsigned_map::contains(collection.as_ref(), key);
-    *handle = Handle::open(collection);
-    status
+    match handle.seal.as_mut() {
+        Collection::Unsigned(kept) => reads::contains(kept.as_map(), key),
+        _ => OTHER_KIND,
+    }
 }
 
 /// Whether some key of the range is bound: `DONE` where one is, `NONE` where none is.
 #[unsafe(no_mangle)]
-pub extern "C" fn range_map_u64_intersects(
-    alloc: Global,
-    handle: &mut Handle,
-    range: &Bounds,
-) -> u32
+pub extern "C" fn brm_map_u64_intersects(handle: &mut Handle, range: &Bounds) -> u32
     ensures unchanged { handle.new.seal.held ≡ handle.old.seal.held }
     ensures yes { result ≡ DONE
         → BindsKeyOf unsigned_keys (map_items handle.old.seal.held) (range_of range.now) }
@@ -193,15 +179,15 @@ pub extern "C" fn range_map_u64_intersects(
     if !handle.is_open {
         return CLOSED;
     }
-    let collection = handle.take(alloc);
-    let status = unsigned_map::intersects(collection.as_ref(), range);
-    *handle = Handle::open(collection);
-    status
+    match handle.seal.as_mut() {
+        Collection::Unsigned(kept) => reads::intersects(kept.as_map(), range.range()),
+        _ => OTHER_KIND,
+    }
 }
 
 /// Writes how many keys are bound.
 #[unsafe(no_mangle)]
-pub extern "C" fn range_map_u64_len(alloc: Global, handle: &mut Handle, length: &mut Length) -> u32
+pub extern "C" fn brm_map_u64_len(handle: &mut Handle, length: &mut Length) -> u32
     ensures unchanged { handle.new.seal.held ≡ handle.old.seal.held }
     ensures counted { result ≡ DONE → IsNumberOfKeys unsigned_keys
         (IsBound unsigned_keys (map_items handle.old.seal.held)) (number_of length.new) }
@@ -214,15 +200,15 @@ pub extern "C" fn range_map_u64_len(alloc: Global, handle: &mut Handle, length: 
     if !handle.is_open {
         return CLOSED;
     }
-    let collection = handle.take(alloc);
-    let status = unsigned_map::len(collection.as_ref(), length);
-    *handle = Handle::open(collection);
-    status
+    match handle.seal.as_mut() {
+        Collection::Unsigned(kept) => reads::len(kept.as_map(), length),
+        _ => OTHER_KIND,
+    }
 }
 
 /// Writes the first stored range, with its value.
 #[unsafe(no_mangle)]
-pub extern "C" fn range_map_u64_first(alloc: Global, handle: &mut Handle, entry: &mut Entry) -> u32
+pub extern "C" fn brm_map_u64_first(handle: &mut Handle, entry: &mut Entry) -> u32
     ensures unchanged { handle.new.seal.held ≡ handle.old.seal.held }
     ensures first { result ≡ DONE → (rest : Ranges)
         × (map_items handle.old.seal.held ≡ entry_item entry.new ∷ rest) }
@@ -236,15 +222,15 @@ pub extern "C" fn range_map_u64_first(alloc: Global, handle: &mut Handle, entry:
     if !handle.is_open {
         return CLOSED;
     }
-    let collection = handle.take(alloc);
-    let status = unsigned_map::first(collection.as_ref(), entry);
-    *handle = Handle::open(collection);
-    status
+    match handle.seal.as_mut() {
+        Collection::Unsigned(kept) => reads::first(kept.as_map(), entry),
+        _ => OTHER_KIND,
+    }
 }
 
 /// Writes the last stored range, with its value.
 #[unsafe(no_mangle)]
-pub extern "C" fn range_map_u64_last(alloc: Global, handle: &mut Handle, entry: &mut Entry) -> u32
+pub extern "C" fn brm_map_u64_last(handle: &mut Handle, entry: &mut Entry) -> u32
     ensures unchanged { handle.new.seal.held ≡ handle.old.seal.held }
     ensures last { result ≡ DONE → (front : Ranges)
         × (map_items handle.old.seal.held ≡ front ++ entry_item entry.new ∷ []) }
@@ -258,10 +244,10 @@ pub extern "C" fn range_map_u64_last(alloc: Global, handle: &mut Handle, entry: 
     if !handle.is_open {
         return CLOSED;
     }
-    let collection = handle.take(alloc);
-    let status = unsigned_map::last(collection.as_ref(), entry);
-    *handle = Handle::open(collection);
-    status
+    match handle.seal.as_mut() {
+        Collection::Unsigned(kept) => reads::last(kept.as_map(), entry),
+        _ => OTHER_KIND,
+    }
 }
 
 /// Writes the first stored range that ends at the key or after it, with its value.
@@ -269,12 +255,7 @@ pub extern "C" fn range_map_u64_last(alloc: Global, handle: &mut Handle, entry: 
 /// It is the first of those that meet the keys from this one on; all before it end below the key.
 /// Costs one search.
 #[unsafe(no_mangle)]
-pub extern "C" fn range_map_u64_next(
-    alloc: Global,
-    handle: &mut Handle,
-    key: u64,
-    entry: &mut Entry,
-) -> u32
+pub extern "C" fn brm_map_u64_next(handle: &mut Handle, key: u64, entry: &mut Entry) -> u32
     ensures unchanged { handle.new.seal.held ≡ handle.old.seal.held }
     ensures next { result ≡ DONE → (rest : Ranges)
         × AreOverlapping unsigned_keys (map_items handle.old.seal.held) (from_key key)
@@ -290,10 +271,10 @@ pub extern "C" fn range_map_u64_next(
     if !handle.is_open {
         return CLOSED;
     }
-    let collection = handle.take(alloc);
-    let status = unsigned_map::next(collection.as_ref(), key, entry);
-    *handle = Handle::open(collection);
-    status
+    match handle.seal.as_mut() {
+        Collection::Unsigned(kept) => reads::next(kept.as_map(), key, entry),
+        _ => OTHER_KIND,
+    }
 }
 
 /// Writes the last stored range that starts at the key or before it, with its value.
@@ -301,12 +282,7 @@ pub extern "C" fn range_map_u64_next(
 /// It is the last of those that meet the keys up to this one; all after it start past the key.
 /// Costs two searches.
 #[unsafe(no_mangle)]
-pub extern "C" fn range_map_u64_previous(
-    alloc: Global,
-    handle: &mut Handle,
-    key: u64,
-    entry: &mut Entry,
-) -> u32
+pub extern "C" fn brm_map_u64_previous(handle: &mut Handle, key: u64, entry: &mut Entry) -> u32
     ensures unchanged { handle.new.seal.held ≡ handle.old.seal.held }
     ensures previous { result ≡ DONE → (front : Ranges)
         × AreOverlapping unsigned_keys (map_items handle.old.seal.held) (upto_key key)
@@ -322,19 +298,15 @@ pub extern "C" fn range_map_u64_previous(
     if !handle.is_open {
         return CLOSED;
     }
-    let collection = handle.take(alloc);
-    let status = unsigned_map::previous(collection.as_ref(), key, entry);
-    *handle = Handle::open(collection);
-    status
+    match handle.seal.as_mut() {
+        Collection::Unsigned(kept) => reads::previous(kept.as_map(), key, entry),
+        _ => OTHER_KIND,
+    }
 }
 
 /// Takes the first stored range out, and writes it with its value. Allocates nothing.
 #[unsafe(no_mangle)]
-pub extern "C" fn range_map_u64_pop_first(
-    alloc: Global,
-    handle: &mut Handle,
-    entry: &mut Entry,
-) -> u32
+pub extern "C" fn brm_map_u64_pop_first(handle: &mut Handle, entry: &mut Entry) -> u32
     ensures first { result ≡ DONE → map_items handle.old.seal.held
         ≡ entry_item entry.new ∷ map_items handle.new.seal.held }
     ensures none { result ≢ DONE → map_items handle.old.seal.held ≡ [] }
@@ -349,19 +321,15 @@ pub extern "C" fn range_map_u64_pop_first(
     if !handle.is_open {
         return CLOSED;
     }
-    let mut collection = handle.take(alloc);
-    let status = unsigned_map::pop_first(collection.as_mut(), entry);
-    *handle = Handle::open(collection);
-    status
+    match handle.seal.as_mut() {
+        Collection::Unsigned(kept) => kept.pop_first(entry),
+        _ => OTHER_KIND,
+    }
 }
 
 /// Takes the last stored range out, and writes it with its value. Allocates nothing.
 #[unsafe(no_mangle)]
-pub extern "C" fn range_map_u64_pop_last(
-    alloc: Global,
-    handle: &mut Handle,
-    entry: &mut Entry,
-) -> u32
+pub extern "C" fn brm_map_u64_pop_last(handle: &mut Handle, entry: &mut Entry) -> u32
     ensures last { result ≡ DONE → map_items handle.old.seal.held
         ≡ map_items handle.new.seal.held ++ entry_item entry.new ∷ [] }
     ensures none { result ≢ DONE → map_items handle.old.seal.held ≡ [] }
@@ -376,8 +344,78 @@ pub extern "C" fn range_map_u64_pop_last(
     if !handle.is_open {
         return CLOSED;
     }
-    let mut collection = handle.take(alloc);
-    let status = unsigned_map::pop_last(collection.as_mut(), entry);
-    *handle = Handle::open(collection);
-    status
+    match handle.seal.as_mut() {
+        Collection::Unsigned(kept) => kept.pop_last(entry),
+        _ => OTHER_KIND,
+    }
+}
+
+/// Writes the stored ranges from the first that ends at the key or after it on, in ascending
+/// order, as many as the array takes, and how many.
+///
+/// Fewer than the array takes are written where there are no more. What lies behind them in the
+/// array stays as it was. Costs one search, and a step for each range.
+#[unsafe(no_mangle)]
+pub extern "C" fn brm_map_u64_read(
+    handle: &mut Handle,
+    key: u64,
+    entries: &mut [Entry],
+    count: &mut usize,
+) -> u32
+    ensures unchanged { handle.new.seal.held ≡ handle.old.seal.held }
+    ensures read { result ≡ DONE → (rest : Ranges)
+        × AreOverlapping unsigned_keys (map_items handle.old.seal.held) (from_key key)
+        (map entry_item (take count.new entries.new) ++ rest)
+        × (count.new < length entries.old → rest ≡ []) }
+    ensures within { result ≡ DONE → count.new ≤ length entries.old }
+    ensures behind { result ≡ DONE → drop count.new entries.new ≡ drop count.new entries.old }
+    ensures unwritten { result ≢ DONE
+        → (entries.new ≡ entries.old) × (count.new ≡ count.old) }
+    ensures answer { HoldsMap handle.old.seal.held → result ≡ DONE }
+    ensures closed { handle.old.is_open ≡ false → result ≡ CLOSED }
+    ensures other { handle.old.is_open ≡ true → (¬ HoldsMap handle.old.seal.held)
+        → result ≡ OTHER_KIND }
+{
+    if !handle.is_open {
+        return CLOSED;
+    }
+    match handle.seal.as_mut() {
+        Collection::Unsigned(kept) => reads::read(kept.as_map(), key, entries, count),
+        _ => OTHER_KIND,
+    }
+}
+
+/// Writes the stored ranges from the last that starts at the key or before it on, in descending
+/// order, as many as the array takes, and how many.
+///
+/// Fewer than the array takes are written where there are no more. What lies behind them in the
+/// array stays as it was. Costs two searches, and a step for each range.
+#[unsafe(no_mangle)]
+pub extern "C" fn brm_map_u64_read_back(
+    handle: &mut Handle,
+    key: u64,
+    entries: &mut [Entry],
+    count: &mut usize,
+) -> u32
+    ensures unchanged { handle.new.seal.held ≡ handle.old.seal.held }
+    ensures read { result ≡ DONE → (rest : Ranges)
+        × AreOverlapping unsigned_keys (map_items handle.old.seal.held) (upto_key key)
+        (rest ++ reverse (map entry_item (take count.new entries.new)))
+        × (count.new < length entries.old → rest ≡ []) }
+    ensures within { result ≡ DONE → count.new ≤ length entries.old }
+    ensures behind { result ≡ DONE → drop count.new entries.new ≡ drop count.new entries.old }
+    ensures unwritten { result ≢ DONE
+        → (entries.new ≡ entries.old) × (count.new ≡ count.old) }
+    ensures answer { HoldsMap handle.old.seal.held → result ≡ DONE }
+    ensures closed { handle.old.is_open ≡ false → result ≡ CLOSED }
+    ensures other { handle.old.is_open ≡ true → (¬ HoldsMap handle.old.seal.held)
+        → result ≡ OTHER_KIND }
+{
+    if !handle.is_open {
+        return CLOSED;
+    }
+    match handle.seal.as_mut() {
+        Collection::Unsigned(kept) => reads::read_back(kept.as_map(), key, entries, count),
+        _ => OTHER_KIND,
+    }
 }

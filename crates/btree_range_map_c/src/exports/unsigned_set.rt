@@ -1,27 +1,27 @@
 //! The calls on sets of `u64` keys.
-ghost use Rattle.std.specs.Prelude.{◌≡◌, ◌≢◌, ◌⊎◌, ◌↔◌, ℕ, List, [], ◌∷◌, ◌++◌, IsSome, Some, None, true, false};
-ghost use Rattle.btree_range_map.specs.AnyRange.{AnyRange};
+ghost use Rattle.std.specs.Prelude.{◌<◌, ◌≤◌, map, take, drop, reverse, length, ◌≡◌, ◌≢◌, ◌⊎◌, ◌↔◌, [], ◌∷◌, ◌++◌, IsSome, Some, None, true, false};
+ghost use Rattle.btree_range_map.specs.Bindings.{IsItemFor};
 ghost use Rattle.btree_range_map.specs.FreeRanges.{item_ranges};
 ghost use Rattle.btree_range_map.specs.KeySets.{HoldsKey, HoldsAlso, HoldsWithout};
 ghost use Rattle.btree_range_map.specs.Lookups.{BindsKeyOf};
 ghost use Rattle.btree_range_map.specs.Numbers.{IsNumberOfKeys};
+ghost use Rattle.btree_range_map.specs.Overlapping.{AreOverlapping};
 ghost use Rattle.btree_range_map.specs.Range.{IsEmptyRange};
-ghost use Rattle.btree_range_map.specs.SetReads.{AreRangesThatMeet};
-ghost use Rattle.btree_range_map.specs.TwoSets.{HoldsEither, HoldsBoth};
-ghost use Rattle.range_c_types.specs.Flags.{range_of, number_of, from_key, upto_key};
-ghost use Rattle.range_handles.specs.Held.{HoldsSet, IsRangeFor, set_items};
+ghost use Rattle.range_handles.specs.Flags.{range_of, bounds_item, number_of, from_key, upto_key};
+ghost use Rattle.range_handles.specs.Held.{HoldsSet, set_items};
 ghost use Rattle.range_handles.specs.Lists.{unsigned_keys, KeyRanges};
 
-use range_c_types::bounds::{Bounds, Length};
-use range_c_types::status::{CLOSED, DONE, NO_MEMORY, NONE, OPEN, OTHER_KIND};
+use range_handles::bounds::{Bounds, Length};
 use range_handles::collection::Collection;
 use range_handles::handle::Handle;
-use range_handles::unsigned_set::{self, UnsignedSet};
+use range_handles::kept_set::KeptSet;
+use range_handles::reads;
+use range_handles::status::{CLOSED, DONE, NO_MEMORY, NONE, OPEN, OTHER_KIND};
 use std::alloc::Global;
 
 /// Opens a closed handle, on an empty set. Allocates one block.
 #[unsafe(no_mangle)]
-pub extern "C" fn range_set_u64_create(alloc: Global, handle: &mut Handle) -> u32
+pub extern "C" fn brm_set_u64_create(alloc: Global, handle: &mut Handle) -> u32
     ensures created { result ≡ DONE → (HoldsSet handle.new.seal.held)
         × (set_items handle.new.seal.held ≡ []) }
     ensures refused { result ≢ DONE → handle.new.seal.held ≡ handle.old.seal.held }
@@ -31,12 +31,12 @@ pub extern "C" fn range_set_u64_create(alloc: Global, handle: &mut Handle) -> u3
     if handle.is_open {
         return OPEN;
     }
-    handle.fill(alloc, Collection::Set(UnsignedSet::new(alloc)))
+    handle.fill(alloc, Collection::Set(KeptSet::new(alloc)))
 }
 
 /// Adds each key of the range. An empty range changes nothing.
 #[unsafe(no_mangle)]
-pub extern "C" fn range_set_u64_insert(alloc: Global, handle: &mut Handle, range: &Bounds) -> u32
+pub extern "C" fn brm_set_u64_insert(handle: &mut Handle, range: &Bounds) -> u32
     ensures added { result ≡ DONE
         → HoldsAlso unsigned_keys (set_items handle.old.seal.held)
         (set_items handle.new.seal.held) (range_of range.now) }
@@ -54,15 +54,15 @@ pub extern "C" fn range_set_u64_insert(alloc: Global, handle: &mut Handle, range
     if !handle.is_open {
         return CLOSED;
     }
-    let mut collection = handle.take(alloc);
-    let status = unsigned_set::insert(collection.as_mut(), range);
-    *handle = Handle::open(collection);
-    status
+    match handle.seal.as_mut() {
+        Collection::Set(kept) => kept.insert(range.range()),
+        _ => OTHER_KIND,
+    }
 }
 
 /// Takes each key of the range away. An empty range changes nothing.
 #[unsafe(no_mangle)]
-pub extern "C" fn range_set_u64_remove(alloc: Global, handle: &mut Handle, range: &Bounds) -> u32
+pub extern "C" fn brm_set_u64_remove(handle: &mut Handle, range: &Bounds) -> u32
     ensures removed { result ≡ DONE
         → HoldsWithout unsigned_keys (set_items handle.old.seal.held)
         (set_items handle.new.seal.held) (range_of range.now) }
@@ -80,23 +80,18 @@ pub extern "C" fn range_set_u64_remove(alloc: Global, handle: &mut Handle, range
     if !handle.is_open {
         return CLOSED;
     }
-    let mut collection = handle.take(alloc);
-    let status = unsigned_set::remove(collection.as_mut(), range);
-    *handle = Handle::open(collection);
-    status
+    match handle.seal.as_mut() {
+        Collection::Set(kept) => kept.remove(range.range()),
+        _ => OTHER_KIND,
+    }
 }
 
 /// Writes the stored range that holds the key.
 #[unsafe(no_mangle)]
-pub extern "C" fn range_set_u64_get(
-    alloc: Global,
-    handle: &mut Handle,
-    key: u64,
-    entry: &mut Bounds,
-) -> u32
+pub extern "C" fn brm_set_u64_get(handle: &mut Handle, key: u64, entry: &mut Bounds) -> u32
     ensures unchanged { handle.new.seal.held ≡ handle.old.seal.held }
     ensures found { result ≡ DONE
-        → IsRangeFor unsigned_keys (set_items handle.old.seal.held) key (range_of entry.new) }
+        → IsItemFor unsigned_keys (set_items handle.old.seal.held) key (bounds_item entry.new) }
     ensures free { result ≢ DONE → ¬ HoldsKey unsigned_keys (set_items handle.old.seal.held) key }
     ensures unwritten { result ≢ DONE → entry.new ≡ entry.old }
     ensures answer { HoldsSet handle.old.seal.held → (result ≡ DONE) ⊎ (result ≡ NONE) }
@@ -107,15 +102,15 @@ pub extern "C" fn range_set_u64_get(
     if !handle.is_open {
         return CLOSED;
     }
-    let collection = handle.take(alloc);
-    let status = unsigned_set::get(collection.as_ref(), key, entry);
-    *handle = Handle::open(collection);
-    status
+    match handle.seal.as_mut() {
+        Collection::Set(kept) => reads::get(kept.as_map(), key, entry),
+        _ => OTHER_KIND,
+    }
 }
 
 /// Whether the key is in the set: `DONE` where it is, `NONE` where it is not.
 #[unsafe(no_mangle)]
-pub extern "C" fn range_set_u64_contains(alloc: Global, handle: &mut Handle, key: u64) -> u32
+pub extern "C" fn brm_set_u64_contains(handle: &mut Handle, key: u64) -> u32
     ensures unchanged { handle.new.seal.held ≡ handle.old.seal.held }
     ensures yes { result ≡ DONE → HoldsKey unsigned_keys (set_items handle.old.seal.held) key }
     ensures no { result ≡ NONE → ¬ HoldsKey unsigned_keys (set_items handle.old.seal.held) key }
@@ -127,19 +122,15 @@ pub extern "C" fn range_set_u64_contains(alloc: Global, handle: &mut Handle, key
     if !handle.is_open {
         return CLOSED;
     }
-    let collection = handle.take(alloc);
-    let status = unsigned_set::contains(collection.as_ref(), key);
-    *handle = Handle::open(collection);
-    status
+    match handle.seal.as_mut() {
+        Collection::Set(kept) => reads::contains(kept.as_map(), key),
+        _ => OTHER_KIND,
+    }
 }
 
 /// Whether some key of the range is in the set: `DONE` where one is, `NONE` where none is.
 #[unsafe(no_mangle)]
-pub extern "C" fn range_set_u64_intersects(
-    alloc: Global,
-    handle: &mut Handle,
-    range: &Bounds,
-) -> u32
+pub extern "C" fn brm_set_u64_intersects(handle: &mut Handle, range: &Bounds) -> u32
     ensures unchanged { handle.new.seal.held ≡ handle.old.seal.held }
     ensures yes { result ≡ DONE
         → BindsKeyOf unsigned_keys (set_items handle.old.seal.held) (range_of range.now) }
@@ -153,15 +144,15 @@ pub extern "C" fn range_set_u64_intersects(
     if !handle.is_open {
         return CLOSED;
     }
-    let collection = handle.take(alloc);
-    let status = unsigned_set::intersects(collection.as_ref(), range);
-    *handle = Handle::open(collection);
-    status
+    match handle.seal.as_mut() {
+        Collection::Set(kept) => reads::intersects(kept.as_map(), range.range()),
+        _ => OTHER_KIND,
+    }
 }
 
 /// Writes how many keys are in the set.
 #[unsafe(no_mangle)]
-pub extern "C" fn range_set_u64_len(alloc: Global, handle: &mut Handle, length: &mut Length) -> u32
+pub extern "C" fn brm_set_u64_len(handle: &mut Handle, length: &mut Length) -> u32
     ensures unchanged { handle.new.seal.held ≡ handle.old.seal.held }
     ensures counted { result ≡ DONE → IsNumberOfKeys unsigned_keys
         (HoldsKey unsigned_keys (set_items handle.old.seal.held)) (number_of length.new) }
@@ -174,18 +165,18 @@ pub extern "C" fn range_set_u64_len(alloc: Global, handle: &mut Handle, length: 
     if !handle.is_open {
         return CLOSED;
     }
-    let collection = handle.take(alloc);
-    let status = unsigned_set::len(collection.as_ref(), length);
-    *handle = Handle::open(collection);
-    status
+    match handle.seal.as_mut() {
+        Collection::Set(kept) => reads::len(kept.as_map(), length),
+        _ => OTHER_KIND,
+    }
 }
 
 /// Writes the first stored range.
 #[unsafe(no_mangle)]
-pub extern "C" fn range_set_u64_first(alloc: Global, handle: &mut Handle, entry: &mut Bounds) -> u32
+pub extern "C" fn brm_set_u64_first(handle: &mut Handle, entry: &mut Bounds) -> u32
     ensures unchanged { handle.new.seal.held ≡ handle.old.seal.held }
-    ensures first { result ≡ DONE → (rest : List (AnyRange ℕ))
-        × (item_ranges (set_items handle.old.seal.held) ≡ range_of entry.new ∷ rest) }
+    ensures first { result ≡ DONE → (rest : KeyRanges)
+        × (set_items handle.old.seal.held ≡ bounds_item entry.new ∷ rest) }
     ensures none { result ≢ DONE → set_items handle.old.seal.held ≡ [] }
     ensures unwritten { result ≢ DONE → entry.new ≡ entry.old }
     ensures answer { HoldsSet handle.old.seal.held → (result ≡ DONE) ⊎ (result ≡ NONE) }
@@ -196,18 +187,18 @@ pub extern "C" fn range_set_u64_first(alloc: Global, handle: &mut Handle, entry:
     if !handle.is_open {
         return CLOSED;
     }
-    let collection = handle.take(alloc);
-    let status = unsigned_set::first(collection.as_ref(), entry);
-    *handle = Handle::open(collection);
-    status
+    match handle.seal.as_mut() {
+        Collection::Set(kept) => reads::first(kept.as_map(), entry),
+        _ => OTHER_KIND,
+    }
 }
 
 /// Writes the last stored range.
 #[unsafe(no_mangle)]
-pub extern "C" fn range_set_u64_last(alloc: Global, handle: &mut Handle, entry: &mut Bounds) -> u32
+pub extern "C" fn brm_set_u64_last(handle: &mut Handle, entry: &mut Bounds) -> u32
     ensures unchanged { handle.new.seal.held ≡ handle.old.seal.held }
-    ensures last { result ≡ DONE → (front : List (AnyRange ℕ))
-        × (item_ranges (set_items handle.old.seal.held) ≡ front ++ range_of entry.new ∷ []) }
+    ensures last { result ≡ DONE → (front : KeyRanges)
+        × (set_items handle.old.seal.held ≡ front ++ bounds_item entry.new ∷ []) }
     ensures none { result ≢ DONE → set_items handle.old.seal.held ≡ [] }
     ensures unwritten { result ≢ DONE → entry.new ≡ entry.old }
     ensures answer { HoldsSet handle.old.seal.held → (result ≡ DONE) ⊎ (result ≡ NONE) }
@@ -218,10 +209,10 @@ pub extern "C" fn range_set_u64_last(alloc: Global, handle: &mut Handle, entry: 
     if !handle.is_open {
         return CLOSED;
     }
-    let collection = handle.take(alloc);
-    let status = unsigned_set::last(collection.as_ref(), entry);
-    *handle = Handle::open(collection);
-    status
+    match handle.seal.as_mut() {
+        Collection::Set(kept) => reads::last(kept.as_map(), entry),
+        _ => OTHER_KIND,
+    }
 }
 
 /// Writes the first stored range that ends at the key or after it.
@@ -229,18 +220,13 @@ pub extern "C" fn range_set_u64_last(alloc: Global, handle: &mut Handle, entry: 
 /// It is the first of those that meet the keys from this one on; all before it end below the key.
 /// Costs one search.
 #[unsafe(no_mangle)]
-pub extern "C" fn range_set_u64_next(
-    alloc: Global,
-    handle: &mut Handle,
-    key: u64,
-    entry: &mut Bounds,
-) -> u32
+pub extern "C" fn brm_set_u64_next(handle: &mut Handle, key: u64, entry: &mut Bounds) -> u32
     ensures unchanged { handle.new.seal.held ≡ handle.old.seal.held }
-    ensures next { result ≡ DONE → (rest : List (AnyRange ℕ))
-        × AreRangesThatMeet unsigned_keys (set_items handle.old.seal.held) (from_key key)
-        (range_of entry.new ∷ rest) }
+    ensures next { result ≡ DONE → (rest : KeyRanges)
+        × AreOverlapping unsigned_keys (set_items handle.old.seal.held) (from_key key)
+        (bounds_item entry.new ∷ rest) }
     ensures none { result ≡ NONE
-        → AreRangesThatMeet unsigned_keys (set_items handle.old.seal.held) (from_key key) [] }
+        → AreOverlapping unsigned_keys (set_items handle.old.seal.held) (from_key key) [] }
     ensures unwritten { result ≢ DONE → entry.new ≡ entry.old }
     ensures answer { HoldsSet handle.old.seal.held → (result ≡ DONE) ⊎ (result ≡ NONE) }
     ensures closed { handle.old.is_open ≡ false → result ≡ CLOSED }
@@ -250,10 +236,10 @@ pub extern "C" fn range_set_u64_next(
     if !handle.is_open {
         return CLOSED;
     }
-    let collection = handle.take(alloc);
-    let status = unsigned_set::next(collection.as_ref(), key, entry);
-    *handle = Handle::open(collection);
-    status
+    match handle.seal.as_mut() {
+        Collection::Set(kept) => reads::next(kept.as_map(), key, entry),
+        _ => OTHER_KIND,
+    }
 }
 
 /// Writes the last stored range that starts at the key or before it.
@@ -261,18 +247,13 @@ pub extern "C" fn range_set_u64_next(
 /// It is the last of those that meet the keys up to this one; all after it start past the key.
 /// Costs two searches.
 #[unsafe(no_mangle)]
-pub extern "C" fn range_set_u64_previous(
-    alloc: Global,
-    handle: &mut Handle,
-    key: u64,
-    entry: &mut Bounds,
-) -> u32
+pub extern "C" fn brm_set_u64_previous(handle: &mut Handle, key: u64, entry: &mut Bounds) -> u32
     ensures unchanged { handle.new.seal.held ≡ handle.old.seal.held }
-    ensures previous { result ≡ DONE → (front : List (AnyRange ℕ))
-        × AreRangesThatMeet unsigned_keys (set_items handle.old.seal.held) (upto_key key)
-        (front ++ range_of entry.new ∷ []) }
+    ensures previous { result ≡ DONE → (front : KeyRanges)
+        × AreOverlapping unsigned_keys (set_items handle.old.seal.held) (upto_key key)
+        (front ++ bounds_item entry.new ∷ []) }
     ensures none { result ≡ NONE
-        → AreRangesThatMeet unsigned_keys (set_items handle.old.seal.held) (upto_key key) [] }
+        → AreOverlapping unsigned_keys (set_items handle.old.seal.held) (upto_key key) [] }
     ensures unwritten { result ≢ DONE → entry.new ≡ entry.old }
     ensures answer { HoldsSet handle.old.seal.held → (result ≡ DONE) ⊎ (result ≡ NONE) }
     ensures closed { handle.old.is_open ≡ false → result ≡ CLOSED }
@@ -282,19 +263,15 @@ pub extern "C" fn range_set_u64_previous(
     if !handle.is_open {
         return CLOSED;
     }
-    let collection = handle.take(alloc);
-    let status = unsigned_set::previous(collection.as_ref(), key, entry);
-    *handle = Handle::open(collection);
-    status
+    match handle.seal.as_mut() {
+        Collection::Set(kept) => reads::previous(kept.as_map(), key, entry),
+        _ => OTHER_KIND,
+    }
 }
 
 /// Takes the first stored range out, and writes it. Allocates nothing.
 #[unsafe(no_mangle)]
-pub extern "C" fn range_set_u64_pop_first(
-    alloc: Global,
-    handle: &mut Handle,
-    entry: &mut Bounds,
-) -> u32
+pub extern "C" fn brm_set_u64_pop_first(handle: &mut Handle, entry: &mut Bounds) -> u32
     ensures first { result ≡ DONE → item_ranges (set_items handle.old.seal.held)
         ≡ range_of entry.new ∷ item_ranges (set_items handle.new.seal.held) }
     ensures none { result ≢ DONE → set_items handle.old.seal.held ≡ [] }
@@ -309,19 +286,15 @@ pub extern "C" fn range_set_u64_pop_first(
     if !handle.is_open {
         return CLOSED;
     }
-    let mut collection = handle.take(alloc);
-    let status = unsigned_set::pop_first(collection.as_mut(), entry);
-    *handle = Handle::open(collection);
-    status
+    match handle.seal.as_mut() {
+        Collection::Set(kept) => kept.pop_first(entry),
+        _ => OTHER_KIND,
+    }
 }
 
 /// Takes the last stored range out, and writes it. Allocates nothing.
 #[unsafe(no_mangle)]
-pub extern "C" fn range_set_u64_pop_last(
-    alloc: Global,
-    handle: &mut Handle,
-    entry: &mut Bounds,
-) -> u32
+pub extern "C" fn brm_set_u64_pop_last(handle: &mut Handle, entry: &mut Bounds) -> u32
     ensures last { result ≡ DONE → item_ranges (set_items handle.old.seal.held)
         ≡ item_ranges (set_items handle.new.seal.held) ++ range_of entry.new ∷ [] }
     ensures none { result ≢ DONE → set_items handle.old.seal.held ≡ [] }
@@ -336,90 +309,78 @@ pub extern "C" fn range_set_u64_pop_last(
     if !handle.is_open {
         return CLOSED;
     }
-    let mut collection = handle.take(alloc);
-    let status = unsigned_set::pop_last(collection.as_mut(), entry);
-    *handle = Handle::open(collection);
-    status
+    match handle.seal.as_mut() {
+        Collection::Set(kept) => kept.pop_last(entry),
+        _ => OTHER_KIND,
+    }
 }
 
-/// Opens a closed handle on a set of the keys that are in either set, which stay as they are.
+/// Writes the stored ranges from the first that ends at the key or after it on, in ascending
+/// order, as many as the array takes, and how many.
 ///
-/// Allocates its ranges, a list of them before, and one block more. Goes once over both sets.
+/// Fewer than the array takes are written where there are no more. What lies behind them in the
+/// array stays as it was. Costs one search, and a step for each range.
 #[unsafe(no_mangle)]
-pub extern "C" fn range_set_u64_union(
-    alloc: Global,
+pub extern "C" fn brm_set_u64_read(
     handle: &mut Handle,
-    other: &mut Handle,
-    made: &mut Handle,
+    key: u64,
+    entries: &mut [Bounds],
+    count: &mut usize,
 ) -> u32
-    ensures unchanged { (handle.new.seal.held ≡ handle.old.seal.held)
-        × (other.new.seal.held ≡ other.old.seal.held) }
-    ensures made { result ≡ DONE → HoldsSet made.new.seal.held × HoldsEither unsigned_keys
-        (set_items handle.old.seal.held) (set_items other.old.seal.held)
-        (set_items made.new.seal.held) }
-    ensures refused { result ≢ DONE → made.new.seal.held ≡ made.old.seal.held }
-    ensures open { made.old.is_open ≡ true → result ≡ OPEN }
-    ensures closed { made.old.is_open ≡ false
-        → (handle.old.is_open ≡ false) ⊎ (other.old.is_open ≡ false) → result ≡ CLOSED }
-    ensures answer { made.old.is_open ≡ false
-        → HoldsSet handle.old.seal.held → HoldsSet other.old.seal.held
-        → (result ≡ DONE) ⊎ (result ≡ NO_MEMORY) }
-    ensures other { made.old.is_open ≡ false
-        → handle.old.is_open ≡ true → other.old.is_open ≡ true
-        → (¬ HoldsSet handle.old.seal.held) ⊎ (¬ HoldsSet other.old.seal.held)
+    ensures unchanged { handle.new.seal.held ≡ handle.old.seal.held }
+    ensures read { result ≡ DONE → (rest : KeyRanges)
+        × AreOverlapping unsigned_keys (set_items handle.old.seal.held) (from_key key)
+        (map bounds_item (take count.new entries.new) ++ rest)
+        × (count.new < length entries.old → rest ≡ []) }
+    ensures within { result ≡ DONE → count.new ≤ length entries.old }
+    ensures behind { result ≡ DONE → drop count.new entries.new ≡ drop count.new entries.old }
+    ensures unwritten { result ≢ DONE
+        → (entries.new ≡ entries.old) × (count.new ≡ count.old) }
+    ensures answer { HoldsSet handle.old.seal.held → result ≡ DONE }
+    ensures closed { handle.old.is_open ≡ false → result ≡ CLOSED }
+    ensures other { handle.old.is_open ≡ true → (¬ HoldsSet handle.old.seal.held)
         → result ≡ OTHER_KIND }
 {
-    if made.is_open {
-        return OPEN;
-    }
-    if !handle.is_open || !other.is_open {
+    if !handle.is_open {
         return CLOSED;
     }
-    let collection = handle.take(alloc);
-    let second = other.take(alloc);
-    let status = unsigned_set::union(alloc, collection.as_ref(), second.as_ref(), made);
-    *handle = Handle::open(collection);
-    *other = Handle::open(second);
-    status
+    match handle.seal.as_mut() {
+        Collection::Set(kept) => reads::read(kept.as_map(), key, entries, count),
+        _ => OTHER_KIND,
+    }
 }
 
-/// Opens a closed handle on a set of the keys that are in both sets, which stay as they are.
+/// Writes the stored ranges from the last that starts at the key or before it on, in descending
+/// order, as many as the array takes, and how many.
 ///
-/// Allocates its ranges, a list of them before, and one block more. Goes once over both sets.
+/// Fewer than the array takes are written where there are no more. What lies behind them in the
+/// array stays as it was. Costs two searches, and a step for each range.
 #[unsafe(no_mangle)]
-pub extern "C" fn range_set_u64_intersection(
-    alloc: Global,
+pub extern "C" fn brm_set_u64_read_back(
     handle: &mut Handle,
-    other: &mut Handle,
-    made: &mut Handle,
+    key: u64,
+    entries: &mut [Bounds],
+    count: &mut usize,
 ) -> u32
-    ensures unchanged { (handle.new.seal.held ≡ handle.old.seal.held)
-        × (other.new.seal.held ≡ other.old.seal.held) }
-    ensures made { result ≡ DONE → HoldsSet made.new.seal.held × HoldsBoth unsigned_keys
-        (set_items handle.old.seal.held) (set_items other.old.seal.held)
-        (set_items made.new.seal.held) }
-    ensures refused { result ≢ DONE → made.new.seal.held ≡ made.old.seal.held }
-    ensures open { made.old.is_open ≡ true → result ≡ OPEN }
-    ensures closed { made.old.is_open ≡ false
-        → (handle.old.is_open ≡ false) ⊎ (other.old.is_open ≡ false) → result ≡ CLOSED }
-    ensures answer { made.old.is_open ≡ false
-        → HoldsSet handle.old.seal.held → HoldsSet other.old.seal.held
-        → (result ≡ DONE) ⊎ (result ≡ NO_MEMORY) }
-    ensures other { made.old.is_open ≡ false
-        → handle.old.is_open ≡ true → other.old.is_open ≡ true
-        → (¬ HoldsSet handle.old.seal.held) ⊎ (¬ HoldsSet other.old.seal.held)
+    ensures unchanged { handle.new.seal.held ≡ handle.old.seal.held }
+    ensures read { result ≡ DONE → (rest : KeyRanges)
+        × AreOverlapping unsigned_keys (set_items handle.old.seal.held) (upto_key key)
+        (rest ++ reverse (map bounds_item (take count.new entries.new)))
+        × (count.new < length entries.old → rest ≡ []) }
+    ensures within { result ≡ DONE → count.new ≤ length entries.old }
+    ensures behind { result ≡ DONE → drop count.new entries.new ≡ drop count.new entries.old }
+    ensures unwritten { result ≢ DONE
+        → (entries.new ≡ entries.old) × (count.new ≡ count.old) }
+    ensures answer { HoldsSet handle.old.seal.held → result ≡ DONE }
+    ensures closed { handle.old.is_open ≡ false → result ≡ CLOSED }
+    ensures other { handle.old.is_open ≡ true → (¬ HoldsSet handle.old.seal.held)
         → result ≡ OTHER_KIND }
 {
-    if made.is_open {
-        return OPEN;
-    }
-    if !handle.is_open || !other.is_open {
+    if !handle.is_open {
         return CLOSED;
     }
-    let collection = handle.take(alloc);
-    let second = other.take(alloc);
-    let status = unsigned_set::intersection(alloc, collection.as_ref(), second.as_ref(), made);
-    *handle = Handle::open(collection);
-    *other = Handle::open(second);
-    status
+    match handle.seal.as_mut() {
+        Collection::Set(kept) => reads::read_back(kept.as_map(), key, entries, count),
+        _ => OTHER_KIND,
+    }
 }

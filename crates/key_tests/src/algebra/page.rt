@@ -1,4 +1,4 @@
-//! A custom key type that tells no end, with keys longer than 1.
+//! A custom key type without known ends, with keys longer than 1.
 
 ghost use Rattle.std.specs.Prelude.{ℕ, ◌*◌, ◌-◌, ◌<◌, ◌^◌, None, refl};
 ghost use Rattle.std.specs.Ordering.{nat_cmp, on};

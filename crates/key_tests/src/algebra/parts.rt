@@ -11,7 +11,7 @@ fn range(ends: Ends) -> AnyRange<i32> {
     AnyRange::new(Bound::Included(ends.0), Bound::Excluded(ends.1))
 }
 
-/// What is left of a range, as a row tells it.
+/// What is left of a range, as a row says it.
 #[derive(Clone, Copy)]
 enum Left {
     Before(Ends, bool),
@@ -82,14 +82,14 @@ fn leaves_parts(rt: HostRuntime) -> Result<(), Fail> {
     Ok(())
 }
 
-/// A part of a product, as a row tells it.
+/// A part of a product, as a row says it.
 #[derive(Clone, Copy)]
 enum Part {
     Subject(Ends),
     Object(Ends),
 }
 
-/// The parts of a product, as a row tells them.
+/// The parts of a product, as a row says them.
 type Parts = (Option<Part>, Option<Ends>, Option<Part>);
 
 fn is_subject(part: &ProductArg<i32>, ends: Ends) -> bool {

@@ -27,7 +27,7 @@ fn has_succ<T: PartialEnum>(key: &T) -> bool {
     key.succ().is_some()
 }
 
-/// The neighbours that are not as the row tells, if there are any.
+/// The neighbours that are not as the row says, if there are any.
 fn wrong_neighbour<T: PartialEnum + Copy>(ends: &Ends<T>) -> Option<&'static str> {
     ends.first.known();
     if !are_neighbours(ends.first, ends.second) {
@@ -60,7 +60,7 @@ fn is_greatest<T: MaybeBounded + Copy>(key: T) -> bool {
     <T as MaybeBounded>::max() == Some(key)
 }
 
-/// The end or the measure that is not the one that the row tells, if there is one.
+/// The end or the measure that is not the one that the row says, if there is one.
 fn wrong_end<T: Measure + Complete + Copy>(ends: &Ends<T>, distance: u128) -> Option<&'static str> {
     if !is_least(ends.first) {
         Some("the least key")

@@ -91,7 +91,7 @@ fn number_by_commands<K: Measure + Clone>(
     bound_by_commands(alloc, commands, &add, key, container)
 }
 
-/// Over keys that tell nothing but their order.
+/// Over keys of which nothing but the order is known.
 pub fn over_blind_bytes(
     alloc: Global,
     commands: Commands<Blind<u8>>,
@@ -127,7 +127,7 @@ pub fn over_only(alloc: Global, commands: Commands<Only>, key: Only) -> Numbers<
     number_by_commands(alloc, commands, key)
 }
 
-/// Over keys of which several are equal, and which tell their neighbours.
+/// Over keys of which several are equal, and whose neighbours are known.
 pub fn over_halves(alloc: Global, commands: Commands<Half>, key: Half) -> Numbers<Half>
     ensures { IfOk result (λ answered. IsDecided ⟦<Half as MaybeBounded>⟧.order int_eq IsAdded key
         commands.items answered.replies.items answered.value) }
@@ -135,7 +135,7 @@ pub fn over_halves(alloc: Global, commands: Commands<Half>, key: Half) -> Number
     number_by_commands(alloc, commands, key)
 }
 
-/// Over fractions, of which several are equal, and which tell no neighbour.
+/// Over fractions, of which several are equal, and whose neighbours are not known.
 pub fn over_fractions(
     alloc: Global,
     commands: Commands<Fraction>,

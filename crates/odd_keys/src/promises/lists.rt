@@ -1,6 +1,6 @@
-//! The bindings decide the stored list: whatever commands a map was given, its list is the only coarse
-//! one that binds the same, none is shorter, and maps are equal where they bind alike. Over every
-//! complete key.
+//! The bindings decide the stored list, whatever commands a map was given. Its list is the only
+//! coarse one that binds the same, none is shorter, and maps are equal where they bind alike. Over
+//! every complete key.
 
 ghost use Rattle.std.specs.Prelude.{◌↔◌, IfOk, IsTrue};
 ghost use Rattle.std.specs.Option.{option_copied};
@@ -98,7 +98,7 @@ pub fn over_only(alloc: Global, commands: Commands<Only>, other: &Map<Only, i64>
     numbers_after_commands(alloc, commands, other)
 }
 
-/// Over keys of which several are equal, and which tell their neighbours.
+/// Over keys of which several are equal, and whose neighbours are known.
 pub fn over_halves(alloc: Global, commands: Commands<Half>, other: &Map<Half, i64>) -> Numbers<Half>
     ensures canonical { IfOk result
         (λ made. IsCanonical ⟦<Half as MaybeBounded>⟧.order int_eq (box_items made.map) made.range_count) }

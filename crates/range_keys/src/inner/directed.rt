@@ -49,7 +49,7 @@ pub(crate) fn touches<T: PartialEnum>(
     }
 }
 
-/// Does nothing, and promises what the flag of a comparison tells: it is true exactly where no
+/// Does nothing, and promises what the flag of a comparison means: it is true exactly where no
 /// bound over keys has its position between the two.
 pub fn flags_tell_gaps<K: PartialEnum>()
     ensures { FlagsTellGaps K.order }

@@ -1,4 +1,4 @@
-//! How the ranges of two maps lie to one another, told in one pass over both.
+//! How the ranges of two maps lie to one another, found in one pass over both.
 ghost use Rattle.std.specs.Prelude.{◌↔◌, IsTrue};
 ghost use Rattle.range_algebra.specs.Relations.{LiesBefore};
 ghost use Rattle.range_change.specs.Pieces.{LiesIn};

@@ -1,11 +1,11 @@
-//! Two maps put together, key by key, as a closure answers.
+//! Two maps put together, key by key, by a closure.
 ghost use Rattle.std.specs.Prelude.{◌≡◌, ◌<◌, length, IfOk, Err};
 ghost use Rattle.range_keys.specs.Order.{IsComplete};
 ghost use Rattle.range_algebra.specs.Range.{ClonesAreEqual};
 ghost use Rattle.range_change.specs.Bindings.{IsCoarse, IsOnlyCoarse};
 ghost use Rattle.range_change.specs.Stored.{IsStored};
 ghost use Rattle.range_change.specs.declared.error.UpdateError.TheVariants.{Closure as ClosureError, Memory as MemoryError};
-ghost use Rattle.range_merge.specs.Combining.{MayAnswerBoth, MayBeAskedOfBoth, AreCombined, IsCombination, MayFailOnBoth, MaySucceedOnBoth};
+ghost use Rattle.range_merge.specs.Combining.{MayAnswerBoth, MayBeAskedOfBoth, AreCombined, IsCombination, MayFailOnBoth, MayGiveValueOnBoth};
 
 use crate::inner::build::map_of;
 use crate::map::RangeMap;
@@ -16,7 +16,7 @@ use range_keys::traits::PartialEnum;
 use range_merge::asking::ask_first;
 use range_store::storage::{Item, Storage};
 
-/// What the closure answers to the pieces of two maps, in order, as one list.
+/// What the closure returns for the pieces of two maps, in order, as one list.
 fn gather_both<
     'a,
     K: PartialEnum + Clone,
@@ -42,10 +42,10 @@ fn gather_both<
         → MayFailOnBoth K.order (MayAnswerBoth F.Fn f.now) (C.items map.now) (D.items other.now)
         e }
     ensures some { IfOk result (λ answers. 0 < length answers.items
-        → MaySucceedOnBoth K.order (MayAnswerBoth F.Fn f.now) (C.items map.now)
+        → MayGiveValueOnBoth K.order (MayAnswerBoth F.Fn f.now) (C.items map.now)
         (D.items other.now)) }
     ensures memory { result ≡ Err MemoryError
-        → MaySucceedOnBoth K.order (MayAnswerBoth F.Fn f.now) (C.items map.now)
+        → MayGiveValueOnBoth K.order (MayAnswerBoth F.Fn f.now) (C.items map.now)
         (D.items other.now) }
 {
     map.in_form();
@@ -63,17 +63,18 @@ fn gather_both<
 }
 
 impl<K: PartialEnum + Clone, V: Eq + Drop, C: Storage<Item<AnyRange<K>, V>>> RangeMap<K, V, C> {
-    /// A map that binds each key as the closure answers to what this map and the other bind it to.
+    /// A map that binds each key to what the closure returns for its values in this map and the
+    /// other.
     ///
-    /// The closure is asked once for each piece, as wide as it goes, on which neither map changes
-    /// its value, with the two values, or `None` in place of the one that is missing; it answers
+    /// The closure is called once for each piece, as wide as it goes, on which neither map changes
+    /// its value. It gets the two values, or `None` in place of the one that is missing. It returns
     /// the new value, `None` to leave the keys unbound, or an error, which ends the call. It is not
-    /// asked for keys that neither map binds, and they stay unbound. The three maps may be kept in
+    /// called for keys that neither map binds, and they stay unbound. The three maps may be kept in
     /// three kinds of containers.
     ///
     /// Allocates a list of what the closure returns, clones of the bounds of its pieces, and the
-    /// new map's ranges, all at once; fails with `Memory` where an allocation does, and only once the
-    /// closure answered without an error. Goes once over both maps, and searches neither.
+    /// new map's ranges, all at once. Fails with `Memory` where an allocation does, and only once
+    /// the closure returned a value. Goes once over both maps, and searches neither.
     ///
     /// ```
     /// // of a map that binds 0..=5 to 1, and one that binds 4..9 to 10
@@ -108,7 +109,7 @@ impl<K: PartialEnum + Clone, V: Eq + Drop, C: Storage<Item<AnyRange<K>, V>>> Ran
             → MayFailOnBoth K.order (MayAnswerBoth F.Fn f) (C.items self.now) (D.items other.now)
             e }
         ensures memory { result ≡ Err MemoryError
-            → MaySucceedOnBoth K.order (MayAnswerBoth F.Fn f) (C.items self.now)
+            → MayGiveValueOnBoth K.order (MayAnswerBoth F.Fn f) (C.items self.now)
             (D.items other.now) }
     {
         let answers = gather_both(self, other, &f)?;

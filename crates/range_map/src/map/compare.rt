@@ -126,9 +126,8 @@ where
 impl<K: PartialEnum, V: Eq + Drop, C: Storage<Item<AnyRange<K>, V>>> RangeMap<K, V, C> {
     /// Whether a map over any container stores equal ranges with equal values.
     ///
-    /// Then the two bind every key alike; over keys that tell their neighbours and ends, as
-    /// integers and characters, it does exactly where they do. Allocates nothing. Costs one step
-    /// for each stored range.
+    /// Then the two bind every key alike; over complete keys, as integers and characters, it does
+    /// exactly where they do. Allocates nothing. Costs one step for each stored range.
     ///
     /// ```
     /// // of a map that binds 0..=5 to 1, and one over a vector that binds 0..6 to 1
@@ -151,9 +150,9 @@ impl<K: PartialEnum, V: Ord + Drop, C: Storage<Item<AnyRange<K>, V>>> RangeMap<K
     /// How a map over any container compares, by the stored ranges with their values in dictionary
     /// order, each range before its value.
     ///
-    /// Over keys that tell their neighbours and ends, as integers and characters, maps that bind
-    /// every key alike, and no others, are `Equal`, and compare alike with every map.
-    /// Allocates nothing. Costs one step for each stored range.
+    /// Over complete keys, as integers and characters, maps that bind every key alike, and no
+    /// others, are `Equal`, and compare alike with every map. Allocates nothing. Costs one step for
+    /// each stored range.
     ///
     /// ```
     /// // of a map that binds 0..=5 to 1, and one over a vector that binds 0..6 to 1

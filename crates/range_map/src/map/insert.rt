@@ -21,11 +21,11 @@ use range_store::storage::{Item, Steps, Storage};
 impl<K: Measure + Clone, V: Eq + Clone, C: Storage<Item<AnyRange<K>, V>>> RangeMap<K, V, C> {
     /// Binds each key of the range to the value. An empty range changes nothing.
     ///
-    /// Allocates where more ranges are stored than the container has capacity for, and for a clone
-    /// of a bound or a value where a stored range with another value is cut. After an error the map
-    /// is as it was. With room for two ranges more, and clones that never fail, it succeeds. Costs
-    /// one search, and a step for each stored range that the range meets or touches; no search where
-    /// the range comes before or after all stored ones and touches none.
+    /// Allocates where more ranges are stored than the container has capacity for. Clones a bound
+    /// or a value where a stored range with another value is cut. After an error the map is as it
+    /// was. With room for two ranges more, and clones that never fail, it succeeds. Costs one
+    /// search, and a step for each stored range that the range meets or touches. A range before or
+    /// after all stored ones that touches none costs no search.
     ///
     /// ```
     /// map.insert(0..=5, 1)?;

@@ -13,7 +13,7 @@ use range_algebra::any::AnyRange;
 use range_keys::traits::{Bounded, Measure};
 use range_store::storage::{Item, Storage};
 
-/// What ranges in order measure together, or none where one of them has an end that is not told.
+/// What ranges in order measure together, or none where one of them has an end that is not known.
 fn measure<K: Measure, V, C: Storage<Item<AnyRange<K>, V>>>(
     mut items: Iter<'_, K, V, C>,
 ) -> Option<u128>
@@ -52,7 +52,7 @@ impl<K: Measure + Bounded, V: Eq + Drop, C: Storage<Item<AnyRange<K>, V>>> Range
 
 impl<K: Measure, V: Eq + Drop, C: Storage<Item<AnyRange<K>, V>>> RangeMap<K, V, C> {
     /// What the stored ranges measure together, as `len` says, or `None` where one of them is
-    /// unbounded towards an end that the key type does not tell.
+    /// unbounded towards an end that is not known.
     ///
     /// Costs a step and a distance for each stored range. Allocates nothing.
     ///

@@ -32,7 +32,7 @@ impl<K: PartialEnum, V: Eq + Drop> RangeMap<K, V, BoxStorage<Item<AnyRange<K>, V
 }
 
 /// There is one greatest number of levels that a tree of fewer than so many items may have, or 0,
-/// and `greatest_level` tells it. A law: the body does nothing.
+/// and `greatest_level` is it. A law: the body does nothing.
 pub fn one_level_is_greatest()
     ensures greatest { (many : ℕ) → IsGreatestLevel many (greatest_level many) }
     ensures only { (many level : ℕ) → IsGreatestLevel many level → level ≡ greatest_level many }

@@ -22,7 +22,7 @@ use range_keys::traits::PartialEnum;
 use range_merge::merged::{Part, keys_of};
 use range_store::storage::{Item, Storage};
 
-/// A clone of the range, with what the closure answers to the value.
+/// A clone of the range, with what the closure returns for the value.
 fn answered<'a, K: PartialEnum + Clone, V, W: Drop, E: Drop, F: Fn(&V) -> Result<W, E>>(
     part: Part<'a, K, V>,
     f: &F,
@@ -48,7 +48,7 @@ fn answered<'a, K: PartialEnum + Clone, V, W: Drop, E: Drop, F: Fn(&V) -> Result
     }
 }
 
-/// A map of the answers to all values.
+/// A map of what the closure returns for all values.
 fn answers_to<
     K: PartialEnum + Clone,
     V: Eq + Drop,
@@ -80,15 +80,15 @@ fn answers_to<
 }
 
 impl<K: PartialEnum + Clone, V: Eq + Drop, C: Storage<Item<AnyRange<K>, V>>> RangeMap<K, V, C> {
-    /// A map that binds each key of this map as the closure answers to its value.
+    /// A map that binds each key of this map to what the closure returns for its value.
     ///
-    /// The closure is asked once for each stored range, in ascending order; an error that it
-    /// answers ends the call. Ranges that touch and get equal values are kept as one. The two maps
+    /// The closure is called once for each stored range, in ascending order; an error that it
+    /// returns ends the call. Ranges that touch and get equal values are kept as one. The two maps
     /// may be kept in two kinds of containers.
     ///
     /// Allocates a list of as many ranges as this map has and capacity for those that come of it,
-    /// each at once, and a clone of each bound; fails with `Memory` where an allocation does, and only
-    /// once the closure answered without an error. Costs a step for each stored range, and no search.
+    /// each at once, and a clone of each bound. Fails with `Memory` where an allocation does, and
+    /// only once the closure returned no error. Costs a step for each stored range, and no search.
     ///
     /// ```
     /// // of a map that binds 0..=5 to 1, and 6..=8 to 2

@@ -21,8 +21,8 @@ use range_store::storage::{Item, Storage};
 use std::marker::Model;
 use std::ops::{Bound, RangeBounds};
 
-/// The pieces of a range that are left, in order: ranges over references to the keys that bound
-/// them, each with the value that it is bound to, if it is. A contract sees the list of what they
+/// The pieces of a range that are left, in order. Each is a range over references to the keys that
+/// bound it, with the value that it is bound to, if it is. A contract sees the list of what they
 /// refer to.
 #[derive(Drop)]
 pub struct Pieces<'a, K: PartialEnum + 'a, V: Eq + 'a, C: Storage<Item<AnyRange<K>, V>> + 'a> {

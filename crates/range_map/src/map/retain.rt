@@ -11,7 +11,7 @@ use range_algebra::any::AnyRange;
 use range_keys::traits::PartialEnum;
 use range_store::storage::{Item, Storage};
 
-/// What the closure answers of an item.
+/// What the closure returns for an item.
 fn keeps<K, V, F: FnMut(&AnyRange<K>, &V) -> bool>(f: &mut F, item: &Item<AnyRange<K>, V>) -> bool
     requires { F.IsAlwaysCallable f.old }
     ensures called { CalledAtItem F.FnMut f.old item.now result f.new }
@@ -21,7 +21,7 @@ fn keeps<K, V, F: FnMut(&AnyRange<K>, &V) -> bool>(f: &mut F, item: &Item<AnyRan
 }
 
 impl<K: PartialEnum, V: Eq + Drop, C: Storage<Item<AnyRange<K>, V>>> RangeMap<K, V, C> {
-    /// Keeps the stored ranges at which the closure answers true, and unbinds the keys of all
+    /// Keeps the stored ranges for which the closure returns true, and unbinds the keys of all
     /// others.
     ///
     /// The closure is asked once of each stored range with its value, in ascending order. Those

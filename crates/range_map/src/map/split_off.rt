@@ -186,7 +186,7 @@ impl<K: PartialEnum + Clone, V: Eq + Clone, C: Storage<Item<AnyRange<K>, V>>> Ra
     /// Moves what lies from the key on, the key with it, to a map of its own, which is returned.
     ///
     /// A stored range that holds the key is cut there, unless it starts there. Allocates what the
-    /// new map needs, and a clone of the key and of the value of the range that is cut; after an
+    /// new map needs, and a clone of the key and of the value of the range that is cut. After an
     /// error the map is as it was. Costs a step for each range that is moved, and one more; over a
     /// vector each step moves all that were moved before.
     ///

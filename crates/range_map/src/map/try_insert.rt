@@ -13,7 +13,9 @@ use crate::map::RangeMap;
 use range_algebra::any::AnyRange;
 use range_algebra::inner;
 use range_algebra::range::IntoRange;
+use range_change::append::{comes_last, put_apart};
 use range_change::free::bind_free;
+use range_change::reach::Reach;
 use range_change::window::find_window;
 use range_keys::traits::Measure;
 use range_store::storage::{Item, Steps, Storage};
@@ -43,14 +45,31 @@ fn bind_where_free<K: Measure, V: Eq + Drop, C: Storage<Item<AnyRange<K>, V>>>(
     ensures succeeds { 1 ≤ C.room stored.old → ¬ MeetsSome K.order (C.items stored.old) range
         → IsOk result }
 {
+    if comes_last::<K, V, C>(stored, &range) {
+        return match put_apart::<K, V, C>(stored, None, Item { key: range, value }) {
+            Ok(()) => Ok(()),
+            Err(refused) => {
+                let Item { key, value } = refused.value;
+                Err(NotFree::Memory(key, value))
+            }
+        };
+    }
     let mut steps = Steps::new();
     let window = find_window::<K, V, C, AnyRange<K>>(stored, &range, &mut steps);
     if window.count > 0 {
         return Err(NotFree::Occupied(range, value));
     }
-    match bind_free::<K, V, C>(stored, window, Item { key: range, value }) {
+    let reach = Reach {
+        window,
+        first: None,
+        last: None,
+    };
+    match bind_free::<K, V, C>(stored, &reach, Item { key: range, value }, &mut steps) {
         Ok(()) => Ok(()),
-        Err(Item { key, value }) => Err(NotFree::Memory(key, value)),
+        Err(refused) => {
+            let Item { key, value } = refused.value;
+            Err(NotFree::Memory(key, value))
+        }
     }
 }
 
@@ -60,7 +79,8 @@ impl<K: Measure, V: Eq + Drop, C: Storage<Item<AnyRange<K>, V>>> RangeMap<K, V, 
     /// It may touch stored ranges, and becomes one with those of an equal value, as with `insert`.
     /// An empty range changes nothing. An error hands back the range and the value, and leaves the
     /// map as it was. Clones nothing; allocates where the container has no capacity for one more
-    /// range. Costs one search, and a step for each stored range that the range meets or touches.
+    /// range. Costs one search, and a step for each stored range that the range meets or touches;
+    /// no search where it comes after all stored ones.
     ///
     /// ```
     /// assert!(rt; map.try_insert(0..5, 1).is_ok());

@@ -30,7 +30,7 @@ use range_keys::traits::Measure;
 use range_store::storage::{Item, Steps, Storage};
 use std::alloc::{AllocError, Global};
 
-/// Asks the closure for a range that one stored range surrounds, and does as it answers.
+/// Asks the closure for a range that one stored range surrounds, and does what it returns.
 fn update_within<
     K: Measure + Clone,
     V: Eq + Clone,
@@ -77,7 +77,7 @@ fn update_within<
     }
 }
 
-/// Asks the closure for each piece of a nonempty range, and then does as it answered.
+/// Asks the closure for each piece of a nonempty range, and then does what it returned.
 fn update_pieces<
     K: Measure + Clone,
     V: Eq + Clone,
@@ -127,22 +127,22 @@ fn clone_range<K: Clone, R: AsRange<Item = K>>(range: &R) -> Result<AnyRange<K>,
 }
 
 impl<K: Measure + Clone, V: Eq + Clone, C: Storage<Item<AnyRange<K>, V>>> RangeMap<K, V, C> {
-    /// Binds each piece of the range as the closure answers to what its keys are bound to.
+    /// Binds each piece of the range to what the closure returns for what its keys are bound to.
     ///
-    /// For each part that the range has in common with a stored range the closure is asked once,
-    /// with that value, and once with `None` for each gap in the range; it answers the new value,
-    /// `None` to unbind the keys, or an error, which ends the call. Only when all answers are there
-    /// is anything changed; after an error the map is as it was. An empty range asks nothing and
-    /// changes nothing. A stored range that the range only touches keeps its bounds and its value,
-    /// unless keys beside it come to have an equal value: then it is one range with them. A range
-    /// that starts or ends where a stored one did keeps that bound as it was written: where `0..10`
-    /// is stored, `update(0..=9, f)` binds `0..10`.
+    /// The closure is called once for each part that the range shares with a stored range, with its
+    /// value, and once with `None` for each gap in the range. It returns the new value, `None` to
+    /// unbind the keys, or an error, which ends the call. The map is changed only once all calls
+    /// returned; after an error it is as it was. For an empty range the closure is not called, and
+    /// nothing changes. A stored range that the range only touches keeps its bounds and its value.
+    /// It becomes one range with the keys beside it where these come to have an equal value. A
+    /// range that starts or ends where a stored one did keeps that bound as it was written: where
+    /// `0..10` is stored, `update(0..=9, f)` binds `0..10`.
     ///
-    /// Allocates a list of what the closure returns, clones of the bounds of its pieces
-    /// and of the stored ranges that are cut, and where more ranges are stored than the container
-    /// has capacity for; fails with `Memory` where an allocation does, over keys whose clones never
-    /// fail only once the closure answered without an error. Costs one search, and a step for each
-    /// stored range that the range meets or touches.
+    /// Allocates a list of what the closure returns, and clones of the bounds of its pieces and of
+    /// the stored ranges that are cut. It also allocates where more ranges are stored than the
+    /// container has capacity for. Fails with `Memory` where an allocation does: over keys whose
+    /// clones never fail, only once the closure returned no error. Costs one search, and a step for
+    /// each stored range that the range meets or touches.
     ///
     /// ```
     /// // of a map that binds 0..=5 to 1

@@ -1,6 +1,7 @@
 //! std's `BTreeSet` as a set of a multimap.
 ghost use Rattle.std.specs.BTreeSet.{contains, IsEmpty, IsOrdered};
-ghost use Rattle.range_sets.specs.ListedMembers.{tree_void, tree_void_equal, tree_equal_value, tree_equal_same, tree_same_equal, tree_clones};
+ghost use Rattle.range_sets.specs.ListedMembers.{tree_void, tree_void_equal, tree_equal_value, tree_equal_same, tree_clones};
+ghost use Rattle.range_map.specs.OrderedSets.{tree_same_equal};
 
 use super::{MaybeEmpty, SetAlgebra, SetMut};
 use std::alloc::{AllocError, Global};

@@ -113,8 +113,8 @@ impl<K: Measure + Clone, S: MaybeEmpty, C: Storage<Item<AnyRange<K>, S>>> RangeM
     /// A multimap of the pairs that are in this one, in the other, or in both, whatever containers
     /// they are kept in.
     ///
-    /// Allocates as `clone` and then, for each stored range of the other, as `update` of a map
-    /// with a set of the values of both; fails where an allocation is refused. Costs a clone, and a
+    /// Allocates as `clone` and then, for each stored range of the other, as `update` of a map with
+    /// a set of the values of both. Fails where an allocation is refused. Costs a clone, and a
     /// search for each stored range of the other.
     ///
     /// ```
@@ -150,9 +150,9 @@ impl<K: Measure + Clone, S: MaybeEmpty, C: Storage<Item<AnyRange<K>, S>>> RangeM
     /// A multimap of the pairs of this one that are not in the other, whatever containers they are
     /// kept in.
     ///
-    /// Allocates as `clone` and then, for each stored range of the other, as `update` of a map
-    /// with a set of the values that are left; fails where an allocation is refused. Costs a clone,
-    /// and a search for each stored range of the other.
+    /// Allocates as `clone` and then, for each stored range of the other, as `update` of a map with
+    /// a set of the values that are left. Fails where an allocation is refused. Costs a clone, and
+    /// a search for each stored range of the other.
     ///
     /// ```
     /// // of a multimap that gives '0'..='9' the value 1, and one that gives '5'..='z' the value 1

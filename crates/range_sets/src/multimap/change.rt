@@ -87,10 +87,10 @@ impl<K: Measure + Clone, S: MaybeEmpty, C: Storage<Item<AnyRange<K>, S>>> RangeM
     /// range. A stored range that the range neither meets nor touches stands as it was, and a bound
     /// that lies where a stored range had one stays as it was written. An empty range changes
     /// nothing. Allocates for a copy of each set that the range meets, for a clone of the value in
-    /// each set that it joins, for clones of bounds, and where more ranges are stored than the
-    /// container has capacity for; after an error nothing is changed. Costs one search, a step for
-    /// each stored range that the range meets or touches, and the copies: `n` values that are given
-    /// to one range one by one copy `n * n / 2` values in all.
+    /// each set that it joins, and for clones of bounds. It also allocates where more ranges are
+    /// stored than the container has capacity for. After an error nothing is changed. Costs one
+    /// search, a step for each stored range that the range meets or touches, and the copies. So `n`
+    /// values that are given to one range one by one copy `n * n / 2` values in all.
     ///
     /// ```
     /// classes.insert('0'..='9', 1)?; // digits
@@ -151,7 +151,7 @@ impl<K: Measure + Clone, S: MaybeEmpty, C: Storage<Item<AnyRange<K>, S>>> RangeM
     /// touches stands as it was, and a bound that lies where a stored range had one stays as it was
     /// written. An empty range changes nothing. Allocates for a copy of each set that the range
     /// meets, for clones of bounds, and where more ranges are stored than the container has
-    /// capacity for; after an error nothing is changed. Costs one search, a step for each stored
+    /// capacity for. After an error nothing is changed. Costs one search, a step for each stored
     /// range that the range meets or touches, and the copies.
     ///
     /// ```

@@ -14,9 +14,9 @@ use range_store::storage::{Item, Storage};
 impl<K: PartialEnum, S: MaybeEmpty, C: Storage<Item<AnyRange<K>, S>>> RangeMultiMap<K, S, C> {
     /// Whether a multimap over any container stores equal ranges with equal sets.
     ///
-    /// Then every key has the same values in both; over keys that tell their neighbours and ends,
-    /// as integers and characters, it does exactly where they have. Allocates nothing. Costs one
-    /// step and one comparison of two sets for each stored range.
+    /// Then every key has the same values in both; over complete keys, as integers and characters,
+    /// it does exactly where they have. Allocates nothing. Costs one step and one comparison of two
+    /// sets for each stored range.
     ///
     /// ```
     /// let copy = classes.clone()?;

@@ -12,7 +12,7 @@ use range_map::inner::build::map_of;
 use range_map::map::{MapError, UpdateError};
 use range_store::storage::{Item, Storage};
 
-/// What the test says of a piece, as the answer of a closure that puts two maps together.
+/// What the test says of a piece, as the result of a closure that puts two maps together.
 fn answer<F: Fn(bool, bool) -> bool>(
     keeps: &F,
     first: Option<&()>,
@@ -31,7 +31,7 @@ fn answer<F: Fn(bool, bool) -> bool>(
 }
 
 impl<T: PartialEnum + Clone, C: Storage<Item<AnyRange<T>, ()>>> RangeSet<T, C> {
-    /// A set of the keys of both sets at which the test answers true to whether this set has the
+    /// A set of the keys of both sets at which the test returns true for whether this set has the
     /// key, and whether the other has it.
     fn kept<D: Storage<Item<AnyRange<T>, ()>>, F: Fn(bool, bool) -> bool>(
         &self,

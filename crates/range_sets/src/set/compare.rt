@@ -21,9 +21,8 @@ use std::hash::{Hash, Hasher};
 impl<T: PartialEnum, C: Storage<Item<AnyRange<T>, ()>>> RangeSet<T, C> {
     /// Whether a set over any container stores equal ranges.
     ///
-    /// Then the two hold the same keys; over keys that tell their neighbours and ends, as integers
-    /// and characters, it does exactly where they do. Allocates nothing. Costs one step for each
-    /// stored range.
+    /// Then the two hold the same keys; over complete keys, as integers and characters, it does
+    /// exactly where they do. Allocates nothing. Costs one step for each stored range.
     ///
     /// ```
     /// // of equal sets, which may be over different containers
@@ -40,9 +39,9 @@ impl<T: PartialEnum, C: Storage<Item<AnyRange<T>, ()>>> RangeSet<T, C> {
 
     /// How a set over any container compares, by the stored ranges in dictionary order.
     ///
-    /// Over keys that tell their neighbours and ends, as integers and characters, sets that hold
-    /// the same keys, and no others, are `Equal`, and compare alike with every set.
-    /// Allocates nothing. Costs one step for each stored range.
+    /// Over complete keys, as integers and characters, sets that hold the same keys, and no others,
+    /// are `Equal`, and compare alike with every set. Allocates nothing. Costs one step for each
+    /// stored range.
     ///
     /// ```
     /// // of equal sets, which may be over different containers

@@ -68,9 +68,10 @@ impl<T: Measure + Clone, C: Storage<Item<AnyRange<T>, ()>>> RangeSet<T, C> {
     ///
     /// Searches once for each gap of the other set, and takes each stored range out by itself:
     /// where little is left, `intersection`, which goes once over both sets, costs less. Allocates
-    /// a clone of each bound of a gap, one of each bound at which a stored range is cut, and where
-    /// more ranges are stored than the container has capacity for. After an error the keys of the
-    /// other set's gaps before the one at which it failed are gone, and no other key.
+    /// a clone of each bound of a gap, and one of each bound at which a stored range is cut. It
+    /// also allocates where more ranges are stored than the container has capacity for. After an
+    /// error the keys of the other set's gaps before the one at which it failed are gone, and no
+    /// other key.
     ///
     /// ```
     /// // of a set of the keys 0..=5, and one of the keys 4..9

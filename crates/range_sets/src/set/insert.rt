@@ -19,8 +19,8 @@ impl<T: Measure + Clone, C: Storage<Item<AnyRange<T>, ()>>> RangeSet<T, C> {
     ///
     /// Allocates where one range more is stored and the container has no capacity for it. After an
     /// error the set is as it was. Costs one search, and a step for each stored range that the
-    /// range meets or touches; no search where the range comes before or after all stored ones and
-    /// touches none.
+    /// range meets or touches. A range before or after all stored ones that touches none costs no
+    /// search.
     ///
     /// ```
     /// set.insert(0..=5)?;

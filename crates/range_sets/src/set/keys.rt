@@ -38,7 +38,7 @@ impl<T: PartialEnum + Clone, C: Storage<Item<AnyRange<T>, ()>>> RangeSet<T, C> {
     /// Ranges that touch are one. The map may be kept in another kind of container.
     ///
     /// Allocates a list of as many ranges as the map has and capacity for those that come of it,
-    /// each at once, and a clone of each bound; fails where an allocation does. Costs a step for
+    /// each at once, and a clone of each bound. Fails where an allocation does. Costs a step for
     /// each stored range, and no search.
     ///
     /// ```

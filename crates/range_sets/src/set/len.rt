@@ -36,7 +36,7 @@ impl<T: Measure + Bounded, C: Storage<Item<AnyRange<T>, ()>>> RangeSet<T, C> {
 
 impl<T: Measure, C: Storage<Item<AnyRange<T>, ()>>> RangeSet<T, C> {
     /// What the stored ranges measure together, as `len` says, or `None` where one of them is
-    /// unbounded towards an end that the key type does not tell.
+    /// unbounded towards an end that is not known.
     ///
     /// Costs a step and a distance for each stored range. Allocates nothing.
     ///

@@ -12,9 +12,9 @@ use range_store::storage::{Item, Storage};
 impl<T: PartialEnum, C: Storage<Item<AnyRange<T>, ()>>> RangeSet<T, C> {
     /// Whether no range of this set meets one of the other, whatever containers they are kept in.
     ///
-    /// Then no key is in both; over keys that tell their neighbours and ends, as integers and
-    /// characters, it is so exactly then. Allocates nothing. Goes once over both sets, at most a
-    /// step for each stored range, and stops at the first two ranges that meet.
+    /// Then no key is in both; over complete keys, as integers and characters, it is so exactly
+    /// then. Allocates nothing. Goes once over both sets, at most a step for each stored range, and
+    /// stops at the first two ranges that meet.
     ///
     /// ```
     /// // of a set of the keys 0..=5, and one of the keys 2..4
@@ -35,9 +35,9 @@ impl<T: PartialEnum, C: Storage<Item<AnyRange<T>, ()>>> RangeSet<T, C> {
     /// Whether each range of this set lies in a range of the other, whatever containers they are
     /// kept in.
     ///
-    /// Then each key of this set is in the other; over keys that tell their neighbours and ends, as
-    /// integers and characters, it is so exactly then. Allocates nothing. Goes once over both sets,
-    /// at most a step for each stored range, and stops at the first range that lies in none.
+    /// Then each key of this set is in the other; over complete keys, as integers and characters,
+    /// it is so exactly then. Allocates nothing. Goes once over both sets, at most a step for each
+    /// stored range, and stops at the first range that lies in none.
     ///
     /// ```
     /// // of a set of the keys 0..=5, and one of the keys 2..4
@@ -55,7 +55,7 @@ impl<T: PartialEnum, C: Storage<Item<AnyRange<T>, ()>>> RangeSet<T, C> {
         lie_inside(&self.map, &other.map)
     }
 
-    /// Whether each range of the other set lies in a range of this one, as `is_subset` answers the
+    /// Whether each range of the other set lies in a range of this one, which is `is_subset` the
     /// other way round. Allocates nothing.
     ///
     /// ```

@@ -12,7 +12,7 @@ use range_keys::traits::PartialEnum;
 use range_store::storage::{Item, Storage};
 
 impl<T: PartialEnum, C: Storage<Item<AnyRange<T>, ()>>> RangeSet<T, C> {
-    /// Keeps the stored ranges at which the closure answers true, and takes the keys of all others
+    /// Keeps the stored ranges for which the closure returns true, and takes the keys of all others
     /// away.
     ///
     /// The closure is asked once of each stored range, in ascending order. Those that it keeps

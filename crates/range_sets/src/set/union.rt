@@ -103,8 +103,8 @@ fn push_clone<T: PartialEnum + Clone>(
     Ok(())
 }
 
-/// What is the last range once another comes: the last one up to the later end of both, where the
-/// other meets or touches it; or else the other, once the last one stands after those before it.
+/// What is the last range once another comes. Where the other meets or touches the last one, it is
+/// this one up to the later end of both. Else it is the other, and the last one goes to the list.
 #[inline(always)]
 fn add<'a, T: PartialEnum + Clone>(
     ranges: &mut Vec<Item<AnyRange<T>, ()>>,

@@ -5,8 +5,8 @@ ghost use Rattle.range_store.specs.Building.{IsBuilt, HasRoomToBuild};
 ghost use Rattle.range_store.specs.Heap.{HasRoomFor};
 ghost use Rattle.range_store.specs.Nodes.{items_below};
 
-use crate::btree::node::next_item;
 use crate::btree::nodes::{CAPACITY, Nodes};
+use crate::btree::rows::next_item;
 use std::vec::IntoIter;
 
 // The levels below the root of a tree, and one more than the most items below a child of its root.

@@ -18,7 +18,7 @@ pub struct Insertion<T> {
 }
 
 // Puts an item before the one at `index` of a node, and the child that comes with it after the one
-// at `index`; cuts the node in two if it was full. Tells where the edge at a seat comes to lie.
+// at `index`. Cuts the node in two if it was full. Returns where the edge at a seat comes to lie.
 pub fn put_or_cut<T: Drop>(
     nodes: &mut Nodes<T>,
     below: usize,

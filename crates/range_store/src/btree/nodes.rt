@@ -2,9 +2,11 @@
 ghost use Rattle.std.specs.Prelude.{◌≡◌, ◌≢◌, ◌⊎◌, ◌+◌, ◌-◌, ◌<◌, ◌≤◌, [], ◌∷◌, length, take, drop, slice_get, slice_index, slice_index_or, insert, remove, IsOk, OnOk};
 ghost use Rattle.std.specs.Borrow.{Lends, sem};
 ghost use Rattle.std.specs.Vec.Iter.{into_iter_items};
+ghost use Rattle.range_store.specs.Rows.{HoldsItems};
 ghost use Rattle.range_store.specs.Heap.{node_of, HasNode, items_of, children_of, node_count, HasRoomFor, SameNodes, with_child, with_item, FitsChild, Writes, Stores, Removes, Divides, left_items, right_items, HasPair, RotatesLeft, RotatesRight, Merges, Absorbs};
 
 use crate::btree::node::Node;
+use crate::btree::rows::Rows;
 use slab::Slab;
 use std::alloc::{AllocError, Global};
 use std::marker::Model;
@@ -28,7 +30,8 @@ pub const CHILD_PLACES: usize = CAPACITY + 1;
 /// Nodes under numbers, each with items and the numbers of its children.
 #[derive(Drop)]
 pub struct Nodes<T> {
-    slab: Slab<Node<T>>,
+    slab: Slab<Node>,
+    rows: Rows<T>,
     // The numbers of empty nodes that are not in use.
     spares: Vec<usize>,
 }
@@ -44,9 +47,9 @@ impl<T> Model for Nodes<T> {
     ghost use Rattle.slab.specs.Slab.{slab_len};
     ghost use Rattle.range_store.specs.Spares.{heap_of, IsWhole};
 
-    ghost view = { λ s. heap_of s.slab s.spares.items };
+    ghost view = { λ s. heap_of s.slab s.rows s.spares.items };
 
-    ghost invariant = { λ s. IsWhole s.slab s.spares.items
+    ghost invariant = { λ s. IsWhole s.slab s.rows s.spares.items
         × (slab_len s.slab ≤ vec_capacity s.spares) };
 }
 
@@ -67,6 +70,7 @@ impl<T: Drop> Nodes<T> {
     {
         Nodes {
             slab: Slab::new(alloc),
+            rows: Rows::new(alloc),
             spares: Vec::new(alloc),
         }
     }
@@ -98,24 +102,23 @@ impl<T: Drop> Nodes<T> {
             return Ok(());
         }
         self.slab.reserve(missing)?;
+        self.rows.reserve(missing)?;
         for _ in 0..missing {
-            self.add_spare(alloc)?;
+            self.add_spare()?;
         }
         Ok(())
     }
 
     // Adds one empty node.
-    fn add_spare(&mut self, alloc: Global) -> Result<(), AllocError>
+    fn add_spare(&mut self) -> Result<(), AllocError>
         ensures more { OnOk result (self.new.capacity ≡ self.old.capacity + 1) }
         ensures no_less { self.old.capacity ≤ self.new.capacity }
         ensures kept { SameNodes self.old self.new }
     {
-        let node = Node::new(alloc)?;
-        // For the proof: the number of nodes is a `usize`.
-        let _places = self.slab.capacity();
+        self.rows.add_to(self.slab.vacant_key())?;
         self.spares
             .reserve(self.slab.len() - self.spares.len() + 1)?;
-        match self.slab.insert(node) {
+        match self.slab.insert(Node::new()) {
             Ok(number) => self.spares.push_reserved(number),
             Err(_) => return Err(AllocError),
         }
@@ -127,15 +130,16 @@ impl<T: Drop> Nodes<T> {
         requires { HasNode self.now number }
         ensures { result ≡ length (items_of (node_of self.now number)) }
     {
-        self.slab[number].items.len()
+        self.slab[number].len
     }
 
-    /// The items of a node.
-    pub fn items(&self, number: usize) -> &[T]
+    /// The cells of a node, of which the first have its items.
+    #[inline(always)]
+    pub fn cells(&self, number: usize) -> &[Option<T>]
         requires { HasNode self.now number }
-        ensures { result.now ≡ items_of (node_of self.now number) }
+        ensures { HoldsItems result.now (items_of (node_of self.now number)) }
     {
-        self.slab[number].items.as_slice()
+        self.rows.cells(number)
     }
 
     /// The children of a node, by their numbers.
@@ -153,7 +157,7 @@ impl<T: Drop> Nodes<T> {
         ensures { result.now
             ≡ slice_index_or (items_of (node_of self.now number)) index result.now }
     {
-        &self.items(number)[index]
+        self.rows.item_at(number, index)
     }
 
     /// The child of a node at an index.
@@ -174,10 +178,10 @@ impl<T: Drop> Nodes<T> {
         ensures value { result.now
             ≡ slice_index_or (items_of (node_of self.old number)) index result.now }
     {
-        &mut self.slab[number].items[index]
+        self.rows.item_mut(number, index)
     }
 
-    /// Puts an item in the place of the one at an index, which it returns.
+    /// Replaces the item at an index, and returns it.
     pub fn replace_item(&mut self, number: usize, index: usize, item: T) -> T
         requires present { HasNode self.old number }
         requires within { index < length (items_of (node_of self.old number)) }
@@ -216,9 +220,9 @@ impl<T: Drop> Nodes<T> {
             result.right }
     {
         let right = self.spares.take_last();
-        let mut upper = self.slab.remove(right);
-        let middle = self.slab[number].divide(&mut upper, index, item, index + 1, child);
-        let right = self.slab.insert_reserved(upper);
+        let upper = self.slab[number].divide(index + 1, child);
+        self.slab[right] = upper;
+        let middle = self.rows.divide(number, right, index, item);
         Split { middle, right }
     }
 
@@ -231,7 +235,9 @@ impl<T: Drop> Nodes<T> {
             (remove (items_of (node_of self.old number)) index)
             (children_of (node_of self.old number)) }
     {
-        self.slab[number].items.remove(index)
+        let len = self.item_count(number);
+        self.slab[number].len = len - 1;
+        self.rows.take(number, len, index)
     }
 
     /// Stores a new node with one item and no child.
@@ -240,7 +246,8 @@ impl<T: Drop> Nodes<T> {
         ensures { Stores self.old self.new result (item ∷ []) [] }
     {
         let number = self.spares.take_last();
-        self.slab[number].items.push_reserved(item);
+        self.slab[number].len = 1;
+        self.rows.put(number, 0, 0, item);
         number
     }
 
@@ -254,7 +261,8 @@ impl<T: Drop> Nodes<T> {
         ensures rest { into_iter_items items.new ≡ drop count (into_iter_items items.old) }
     {
         let number = self.spares.take_last();
-        self.slab[number].fill(count, items);
+        self.slab[number].len = count;
+        self.rows.fill(number, count, items);
         number
     }
 
@@ -265,9 +273,10 @@ impl<T: Drop> Nodes<T> {
     {
         let number = self.spares.take_last();
         let node = &mut self.slab[number];
-        node.items.push_reserved(middle);
+        node.len = 1;
         node.children.push(left);
         node.children.push(right);
+        self.rows.put(number, 0, 0, middle);
         number
     }
 
@@ -286,7 +295,9 @@ impl<T: Drop> Nodes<T> {
         requires { HasNode self.old number }
         ensures { Removes self.old self.new number }
     {
-        self.slab[number].clear();
+        let len = self.item_count(number);
+        self.slab[number] = Node::new();
+        self.rows.clear(number, len);
         self.spares.push_reserved(number);
     }
 
@@ -359,7 +370,8 @@ impl<T: Drop> Nodes<T> {
             (insert (items_of (node_of self.old number)) index item)
             (with_child (children_of (node_of self.old number)) place child) }
     {
-        self.slab[number].put(index, item, place, child);
+        let len = self.slab[number].add(place, child);
+        self.rows.put(number, len, index, item);
     }
 
     // Takes the item at an index out of a node, and the child at `place`, if there is one.
@@ -373,7 +385,9 @@ impl<T: Drop> Nodes<T> {
             (remove (items_of (node_of self.old number)) index)
             (remove (children_of (node_of self.old number)) place) }
     {
-        self.slab[number].take(index, place)
+        let len = self.item_count(number);
+        let child = self.slab[number].take(place);
+        (self.rows.take(number, len, index), child)
     }
 
     // Moves all that a node has to the end of another, with an item between.
@@ -389,9 +403,9 @@ impl<T: Drop> Nodes<T> {
             + length (children_of (node_of self.old right)) ≤ CHILD_PLACES }
         ensures { Absorbs self.old self.new left middle right }
     {
-        let mut upper = self.slab.remove(right);
-        self.slab[left].absorb(middle, &mut upper);
-        let right = self.slab.insert_reserved(upper);
+        let upper = mem::replace(&mut self.slab[right], Node::new());
+        let len = self.slab[left].absorb(&upper);
+        self.rows.absorb(left, len, middle, right, upper.len);
         self.spares.push_reserved(right);
     }
 }

@@ -171,9 +171,9 @@ pub fn following<T: Drop>(nodes: &Nodes<T>, below: usize, number: usize, edge: E
     edge_behind(nodes, below, number, edge)
 }
 
-// The same of an edge at the end of its leaf: the first edge below the child after the one through
-// which the path goes, of the lowest node that has such a child. Out of line, so that a step within
-// a leaf is no call.
+// The same of an edge at the end of its leaf. It is the first edge below the child after the one on
+// the path, in the lowest node that has such a child. Out of line, so that a step within a leaf is
+// no call.
 #[inline(never)]
 fn edge_behind<T: Drop>(nodes: &Nodes<T>, below: usize, number: usize, edge: Edge) -> Option<Edge>
     requires shaped { ShapedBut 1 CAPACITY nodes.now below number }

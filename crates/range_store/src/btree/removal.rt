@@ -70,8 +70,8 @@ pub fn borrow_from_right<T: Drop>(
     seen_above(edge, index)
 }
 
-// The seat of an edge in a node that was made of two with an item between them, from that in the
-// first, of which this is the number of items (`side` is 0), or in the second.
+// The seat of an edge in a node that was made of two, the first of `many` items, with an item
+// between them. The edge was in the first where `side` is 0, else in the second.
 fn joined_seat(low: usize, many: usize, side: usize, edge: Edge) -> usize
     requires many { many ≤ CAPACITY }
     requires small { seat_of low edge ≤ CAPACITY }

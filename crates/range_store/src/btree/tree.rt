@@ -100,7 +100,7 @@ impl<T: Drop> BoxStorage<T> {
         Some(edge)
     }
 
-    // Puts an item at an edge, or into an empty tree, and tells the edge after it.
+    // Puts an item at an edge, or into an empty tree, and returns the edge after it.
     pub fn insert(&mut self, edge: Option<Edge>, item: T) -> Edge
         requires edge { MatchOption edge (box_items self.old ≡ []) (IsBoxEdge self.old) }
         requires room { 1 ≤ box_room self.old }
@@ -116,7 +116,7 @@ impl<T: Drop> BoxStorage<T> {
         }
     }
 
-    // Puts an item into an empty tree, and tells the edge after it.
+    // Puts an item into an empty tree, and returns the edge after it.
     fn insert_into_empty(&mut self, item: T) -> Edge
         requires empty { box_items self.old ≡ [] }
         requires room { 1 ≤ box_room self.old }
@@ -135,7 +135,7 @@ impl<T: Drop> BoxStorage<T> {
         }
     }
 
-    // Puts an item at an edge, and tells the edge after it.
+    // Puts an item at an edge, and returns the edge after it.
     fn insert_between(&mut self, edge: Edge, item: T) -> Edge
         requires edge { IsBoxEdge self.old edge }
         requires room { 1 ≤ box_room self.old }
@@ -240,7 +240,7 @@ impl<T: Drop> BoxStorage<T> {
         (taken.item, Some(edge))
     }
 
-    // Takes the item before an edge out, and tells the edge after the one that followed it.
+    // Takes the item before an edge out, and returns the edge after the one that followed it.
     pub fn take(&mut self, edge: Edge) -> (T, Option<Edge>)
         requires edge { IsBoxEdge self.old edge }
         requires some { 0 < box_place self.old edge }

@@ -1,12 +1,6 @@
-use Rattle.std.proofs.lemmas.Grind.{common_steps}
-use Rattle.std.proofs.Common.{◌≡◌, ◌+◌, ap, ◌∙◌, arith, refl}
+use Rattle.std.proofs.Common.{refl}
 use Rattle.std.proofs.lemmas.Bool.{false≢true}
-use Rattle.range_change.specs.Borders.{joined_count}
-use Rattle.range_change.specs.Reach.{inner_count}
-use Rattle.range_change.proofs.Planned.{plan_fits, planned_count, planned_insert, planned_size, planned_run}
 use Rattle.range_change.proofs.Results.{error_has_no_value, on_error}
-use Rattle.range_change.proofs.JoinedMiddle.{seam_count}
-use Rattle.range_change.proofs.Surrounded.{run_can_start}
 use Rattle.range_change.proofs.bind.bind_merging.Goals as goal
 
 pub seam_at-requires : goal.seam_at-requires
@@ -14,114 +8,6 @@ seam_at-requires g c = c.requires.keys
 
 pub seam_at-requires-2 : goal.seam_at-requires-2
 seam_at-requires-2 g c = c.requires.keys
-
-pub run_start-requires : goal.run_start-requires
-run_start-requires g c =
-    record {
-      from =
-          (run_can_start c.requires.reach).0;
-      first =
-          (run_can_start c.requires.reach).1;
-    }
-
-pub run_length-requires-clause-fits : goal.run_length-requires-clause-fits
-run_length-requires-clause-fits g c =
-    let lawful = g.met.K.PartialEnum.lawful in
-    let equal = g.met.V.Eq.laws in
-    let before = c.in_ok-left.ensures.seam in
-    let after = c.in_ok-right.ensures.seam in
-    let joins = c.args.joins.now in
-    let left =
-    rw (← before.at) at (c.requires.before lawful equal before.cut c.run_start.result
-    before.known (rw (c.start_bound.ensures tt) at before.flipped) c.run_start.ensures) in
-    let right =
-    rw (← after.at) at (c.requires.after lawful equal after.cut after.known
-    (rw (c.end_bound.ensures tt) at after.flipped)) in
-    let left_joins =
-    ap joined_count before.at ∙ seam_count joins.before c.args.reach.now.first before.cut in
-    let right_joins =
-    ap joined_count after.at ∙ seam_count joins.after c.args.reach.now.last after.cut in
-    omega (
-      arith,
-      planned_count c.requires.reach.window left right c.requires.apart,
-      left_joins,
-      right_joins,
-      g.met.C.Storage.length_fits c.args.stored.now,
-    )
-
-pub change-requires : goal.change-requires
-change-requires g c =
-    let lawful = g.met.K.PartialEnum.lawful in
-    let equal = g.met.V.Eq.laws in
-    let before = c.in_ok-left.ensures.seam in
-    let after = c.in_ok-right.ensures.seam in
-    let joins = c.args.joins.now in
-    let left =
-    rw (← before.at) at (c.requires.before lawful equal before.cut c.run_start.result
-    before.known (rw (c.start_bound.ensures tt) at before.flipped) c.run_start.ensures) in
-    let right =
-    rw (← after.at) at (c.requires.after lawful equal after.cut after.known
-    (rw (c.end_bound.ensures tt) at after.flipped)) in
-    let left_joins =
-    ap joined_count before.at ∙ seam_count joins.before c.args.reach.now.first before.cut in
-    let right_joins =
-    ap joined_count after.at ∙ seam_count joins.after c.args.reach.now.last after.cut in
-    let window = c.requires.reach.window in
-    let length_is : c.run_length.result
-    ≡ joined_count c.in_ok-left.left + inner_count c.args.reach.now + joined_count
-    c.in_ok-right.right = omega (arith, left_joins, right_joins, c.run_length.ensures) in
-    let sum = planned_run window left right c.requires.apart c.run_length.result length_is in
-    let fit =
-    plan_fits c.reserve.ensures.positions c.reserve.ensures.list c.in_ok-left.left
-    c.in_ok-right.right c.run_start.result c.run_length.result left.at left.begin right.upto
-    right.end left.rest right.rest left.start right.finish left.shape right.shape left.run
-    sum right.side.in_range in
-    record {
-      left = fit.left_good;
-      right = fit.right_good;
-      good = fit.good;
-      in_range = fit.in_range;
-      space = grind (arith, common_steps);
-    }
-
-pub returns : goal.returns
-returns g c =
-    let lawful = g.met.K.PartialEnum.lawful in
-    let equal = g.met.V.Eq.laws in
-    let before = c.in_ok-left.ensures.seam in
-    let after = c.in_ok-right.ensures.seam in
-    let joins = c.args.joins.now in
-    let left =
-    rw (← before.at) at (c.requires.before lawful equal before.cut c.run_start.result
-    before.known (rw (c.start_bound.ensures tt) at before.flipped) c.run_start.ensures) in
-    let right =
-    rw (← after.at) at (c.requires.after lawful equal after.cut after.known
-    (rw (c.end_bound.ensures tt) at after.flipped)) in
-    let left_joins =
-    ap joined_count before.at ∙ seam_count joins.before c.args.reach.now.first before.cut in
-    let right_joins =
-    ap joined_count after.at ∙ seam_count joins.after c.args.reach.now.last after.cut in
-    let window = c.requires.reach.window in
-    let length_is : c.run_length.result
-    ≡ joined_count c.in_ok-left.left + inner_count c.args.reach.now + joined_count
-    c.in_ok-right.right = omega (arith, left_joins, right_joins, c.run_length.ensures) in
-    let sum = planned_run window left right c.requires.apart c.run_length.result length_is in
-    let fit =
-    plan_fits c.reserve.ensures.positions c.reserve.ensures.list c.in_ok-left.left
-    c.in_ok-right.right c.run_start.result c.run_length.result left.at left.begin right.upto
-    right.end left.rest right.rest left.start right.finish left.shape right.shape left.run
-    sum right.side.in_range in
-    let made =
-    rw c.reserve.ensures.list at
-    (c.change.ensures.list left.at right.end left.rest right.rest left.start right.finish
-    fit.on_left fit.on_right (omega (arith, length_is))) in
-    let new = g.C.Storage.items c.change.new.stored in
-    record {
-      ok = planned_insert window left right c.requires.apart new made;
-      few = planned_size window left right c.requires.apart new made;
-      refused = tt;
-      succeeds = λ keys enough. refl;
-    }
 
 pub returns-in_err-left : goal.returns-in_err-left
 returns-in_err-left g c =
@@ -143,20 +29,4 @@ returns-in_err-right g c =
           c.from_residual-in_err-right.ensures.0;
       refused = on_error _ c.from_residual-in_err-right.result refl;
       succeeds = λ keys enough. absurd (false≢true (c.in_err-right.ensures.succeeds keys));
-    }
-
-pub returns-in_err-reserve : goal.returns-in_err-reserve
-returns-in_err-reserve g c =
-    record {
-      ok = error_has_no_value _ c.from_residual-in_err-reserve.result
-          c.from_residual-in_err-reserve.ensures.0;
-      few =
-          error_has_no_value _ c.from_residual-in_err-reserve.result
-          c.from_residual-in_err-reserve.ensures.0;
-      refused =
-          on_error _ c.from_residual-in_err-reserve.result c.reserve.ensures.list;
-      succeeds =
-          λ keys enough.
-          absurd (false≢true (c.in_err-reserve.ensures.succeeds
-          (omega (arith, enough, c.growth.ensures))));
     }

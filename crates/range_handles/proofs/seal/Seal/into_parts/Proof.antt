@@ -29,7 +29,7 @@ use Rattle.std.specs.Prelude.{Option, Some, None, IsSome}
 use Rattle.std.proofs.lemmas.Bool.{false≢true}
 use Rattle.range_handles.specs.declared.collection.Collection.{Collection}
 use Rattle.range_handles.specs.contracts.seal.Seal as Seal
-use Rattle.range_handles.proofs.AsBox.{E, FromSeal as From}
+use Rattle.range_handles.proofs.AsBox.{E, FromSeal as From, some_value}
 use Rattle.range_handles.specs.contracts.seal.Seal.into_parts as F
 use Rattle.range_handles.specs.contracts.seal.Seal.into_parts.Key.{name as #self}
 use Rattle.range_handles.proofs.seal.Seal.into_parts.Statement as stated
@@ -40,10 +40,6 @@ stayed = (stay_dropped From yes, tt)
 
 abbrev Sealed : RattleType
 Sealed = Seal.the_row
-
-some_value : {A : Type 0} (o : Option A) → IsSome o → (x : A) × (o ≡ Some x)
-some_value (Some x) h = (x, refl)
-some_value None h = absurd (false≢true h)
 
 module _ {M : Type 1} {𝓤 : Ura M} (𝓛 : Logic 𝓤) (at_mem : Memory → SProp 𝓤) (run : Routine → Fun 𝓤)
     (𝓣 : Tables 𝓤 𝓛.H) where

@@ -1,8 +1,8 @@
-use Rattle.std.proofs.Common.{◌∙◌, ap, refl, length, arith, rules, Ok, Err}
+use Rattle.std.proofs.Common.{◌∙◌, ap, refl, length, arith, rules, Ok, Err, Some}
 use Rattle.range_map.proofs.Common.{bound_clone, MayAnswerBoth}
 use Rattle.range_merge.specs.Merged.{part_item}
 use Rattle.std.specs.Option.{option_map}
-use Rattle.range_merge.proofs.AskedPieces.{asked_within, answered_asked, combined_asked, first_left, some_answered}
+use Rattle.range_merge.proofs.AskedPieces.{asked_within, answered_asked, combined_asked, first_left, value_answered}
 use Rattle.range_merge.proofs.Combination.{combined_none, combined_all}
 use Rattle.range_merge.proofs.Combining.{unmapped}
 use Rattle.range_map.proofs.CloneLists.{clones_tied}
@@ -57,7 +57,7 @@ returns-in_err-rests-clause-memory g c is =
       answered_asked (bound_clone g.K.MaybeBounded.order lawful g.K.Clone.is_clone equal_keys)
           (inv.up_to lawful g.met.X.Eq.laws)
           (λ e. inv.first (unmapped part_item c.loop-answers.left e))
-          (λ e. inv.second (unmapped part_item c.loop-answers.right e)) (Ok said.0) said.1,
+          (λ e. inv.second (unmapped part_item c.loop-answers.right e)) (Ok (Some said.0)) said.1,
     )
 
 pub loop-answers-smaller : goal.loop-answers-smaller
@@ -90,11 +90,11 @@ loop-answers-preserved g c =
       second = c.refilled-right.ensures.last;
       some = λ some.
           let lawful = g.met.K.PartialEnum.lawful in
-          some_answered (bound_clone g.K.MaybeBounded.order lawful g.K.Clone.is_clone equal_keys)
+          value_answered (bound_clone g.K.MaybeBounded.order lawful g.K.Clone.is_clone equal_keys)
           (inv.up_to lawful g.met.X.Eq.laws)
           (λ e. inv.first (unmapped part_item c.loop-answers.left e))
           (λ e. inv.second (unmapped part_item c.loop-answers.right e)) _ c.in-Some.rests
-          (rw c.in-Some.is at c.in_ok-rests.ensures.ok);
+          (rw c.in-Some.is at c.in_ok-rests.ensures.ok) inv.some some;
     }
 
 pub returns : goal.returns

@@ -1,6 +1,6 @@
 use Rattle.std.proofs.Common.{◌≡◌, ◌+◌, ◌<◌, ◌++◌, [], None, length}
 use Rattle.range_map.proofs.Common.{IsEquivalence, option_map, IsLawful, MayAnswerBoth}
-use Rattle.range_merge.specs.Combining.{MaySucceedOnBoth}
+use Rattle.range_merge.specs.Combining.{MayGiveValueOnBoth}
 use Rattle.range_merge.specs.Merged.{part_item}
 use Rattle.range_change.specs.Window.{option_items}
 use Rattle.range_merge.proofs.Combination.{IsCombinedUpTo}
@@ -15,7 +15,7 @@ invariant-loop-answers g l = record {
   first : l.left ≡ None → l.items ≡ [];
   second : l.right ≡ None → l.others ≡ [];
   some : 0 < length l.answers.items
-      → MaySucceedOnBoth g.K.MaybeBounded.order (MayAnswerBoth g.F.Fn l.f)
+      → MayGiveValueOnBoth g.K.MaybeBounded.order (MayAnswerBoth g.F.Fn l.f)
       (g.C.Storage.items l.map) (g.D.Storage.items l.other);
 }
 

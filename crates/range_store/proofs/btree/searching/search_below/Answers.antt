@@ -5,27 +5,47 @@ use Rattle.range_store.specs.Heap.{items_of, node_of}
 use Rattle.range_store.specs.declared.btree.nodes.TheConstants.{CAPACITY}
 use Rattle.range_store.proofs.Descending.{adds_more, adds_none, begins, descends, descent_ends}
 use Rattle.range_store.proofs.Searching.{node_falls}
+use Rattle.range_store.proofs.Cells.{items_held}
 use Rattle.range_store.proofs.Paths.{child_within}
 use Rattle.range_store.proofs.PathsBelow.{weight_fits}
 use Rattle.range_store.proofs.btree.searching.search_below.Goals as goal
 use Rattle.range_store.proofs.btree.searching.search_below.Given.{Over}
 use Rattle.range_store.proofs.btree.searching.search_below.Goals.{After-count_passing-index}
 
-pub items-requires : goal.items-requires
-items-requires g c = c.down.invariant.0.lies.shaped.node.present
+pub cells-requires : goal.cells-requires
+cells-requires g c = c.down.invariant.0.lies.shaped.node.present
 
 pub count_passing-index-requires-clause-falls : goal.count_passing-index-requires-clause-falls
 count_passing-index-requires-clause-falls g c =
     let p = g.P.Probe.test c.args.probe.now in
     let d = c.down.invariant.0 in
-    rw (c.down.invariant.1, c.items.ensures)
+    rw (
+      c.down.invariant.1,
+      items_held c.cells.result.now (items_of (node_of c.args.nodes.now
+          c.down.at)) c.cells.ensures,
+    )
     (node_falls p 1 CAPACITY c.args.nodes.now c.down.left c.down.at d.lies.shaped d.falls)
+
+pub count_passing-index-requires-clause-held : goal.count_passing-index-requires-clause-held
+count_passing-index-requires-clause-held g c =
+    rw (items_held c.cells.result.now (items_of (node_of c.args.nodes.now c.down.at))
+    c.cells.ensures) c.cells.ensures
+
+pub count_passing-index-requires-clause-some : goal.count_passing-index-requires-clause-some
+count_passing-index-requires-clause-some g c =
+    rw (items_held c.cells.result.now (items_of (node_of c.args.nodes.now c.down.at))
+    c.cells.ensures) (omega (arith, c.down.invariant.0.lies.shaped.node.enough))
 
 -- how many of the node's items pass
 counted : (g : Over) (c : After-count_passing-index g)
     → c.count_passing-index.result ≡ count_by (g.P.Probe.test c.args.probe.now)
     (items_of (node_of c.args.nodes.now c.down.at))
-counted g c = rw (c.down.invariant.1, c.items.ensures) at c.count_passing-index.ensures.count
+counted g c = rw (
+  c.down.invariant.1,
+  items_held c.cells.result.now
+      (items_of (node_of c.args.nodes.now c.down.at)) c.cells.ensures,
+)
+    at c.count_passing-index.ensures.count
 
 few : (g : Over) (c : After-count_passing-index g) → c.count_passing-index.result ≤ CAPACITY
 few g c =

@@ -1,5 +1,13 @@
-use Rattle.std.proofs.Common.{arith}
-use Rattle.range_store.proofs.Spares.{added, added_whole, counted}
+use Rattle.std.proofs.Common.{◌≡◌, ◌<◌, ◌≤◌, ◌+◌, ◌-◌, [], ◌∷◌, ◌++◌, length, get_or, take, drop, arith, refl, sym, ap, ◌∙◌, length-append}
+use Rattle.std.specs.Prelude.{slice_get}
+use Rattle.std.specs.List.{insert, remove}
+use Rattle.std.specs.Vec.Iter.{into_iter_items}
+use Rattle.std.proofs.lemmas.List.{length-take-le, set-get_or}
+use Rattle.std.proofs.lemmas.List.Edits.{length-insert, length-remove}
+use Rattle.range_store.specs.Heap.{node_of, items_of, children_of, with_child}
+use Rattle.range_store.specs.Rows.{row_of}
+use Rattle.range_store.specs.Spares.{heap_of, contents, without}
+use Rattle.range_store.proofs.Spares.{added, added_whole, bare_children, bare_row, children_seen, counted, edited, edited_len, edited_whole, emptied, emptied_whole, fewer_spares, filled, filled_whole, fits_count, found, grown, grown_whole, item_whole, item_written, items_seen, len_seen, none_whole, row_len, row_there, spare_found, spare_there, spares_left, vacant_row, Changes}
 use Rattle.range_store.proofs.btree.nodes.Nodes.add_spare.Goals as goal
 
 pub overflow_sub-len : goal.overflow_sub-len
@@ -7,26 +15,55 @@ overflow_sub-len g c =
     let s = c.self.inside in
     omega (
       arith,
-      counted s.slab s.spares.items c.self.invariant.0,
+      counted s.slab s.rows s.spares.items c.self.invariant.0,
       s.spares.ok.0,
       c.len.ensures,
       c.len-2.ensures,
     )
 
+pub returns-in_err-add_to-clause-kept : goal.returns-in_err-add_to-clause-kept
+returns-in_err-add_to-clause-kept g c =
+    let s = c.self.inside in
+    rw (← c.self.view_is) (grown s.slab s.rows c.add_to.new.self s.spares.items c.self.invariant.0
+    c.add_to.ensures.no_less c.add_to.ensures.kept)
+
+pub returns-in_err-reserve-clause-kept : goal.returns-in_err-reserve-clause-kept
+returns-in_err-reserve-clause-kept g c =
+    let s = c.self.inside in
+    rw (← c.self.view_is, c.reserve.ensures.items) (grown s.slab s.rows c.add_to.new.self s.spares.items c.self.invariant.0
+    c.add_to.ensures.no_less c.add_to.ensures.kept)
+
 pub invariant_of-self-in-Ok : goal.invariant_of-self-in-Ok
 invariant_of-self-in-Ok g c =
-    let s = c.self.inside in (
-      rw (c.push_reserved.ensures.items, c.reserve.ensures.items) (added_whole s.slab
-          c.insert.new.self s.spares.items c.self.invariant.0 c.in-Ok.number c.in_ok-node.node
-          c.in-Ok.ensures.updates c.in_ok-node.ensures.room c.in-Ok.ensures.was_vacant
-          c.in-Ok.ensures.len c.in_ok-node.ensures.items c.in_ok-node.ensures.children),
+    let s = c.self.inside in
+    let there : c.in-Ok.number < length c.add_to.new.self =
+    omega (
+      arith,
+      c.in_ok-add_to.ensures.there,
+      c.in-Ok.ensures.key,
+      c.vacant_key.ensures.value,
+    ) in
+    let changes : Changes s.slab c.insert.new.self s.rows c.add_to.new.self c.in-Ok.number
+    c.new.result [] =
+    record {
+      updates = c.in-Ok.ensures.updates;
+      here = c.add_to.ensures.kept c.in-Ok.number
+          ∙ vacant_row s.slab s.rows s.spares.items c.self.invariant.0 c.in-Ok.number c.in-Ok.ensures.was_vacant;
+      others = λ k differs. c.add_to.ensures.kept k;
+      long = c.add_to.ensures.no_less;
+      there = there;
+      len_is = c.new.ensures.len;
+    } in (
+      rw (c.push_reserved.ensures.items, c.reserve.ensures.items) (added_whole s.slab c.insert.new.self s.rows c.add_to.new.self s.spares.items
+          c.self.invariant.0 c.in-Ok.number c.new.result [] changes c.in-Ok.ensures.was_vacant
+          c.in-Ok.ensures.len refl c.new.ensures.children),
       omega (
         arith,
         c.in-Ok.ensures.len,
         c.in_ok-reserve.ensures.ok,
         c.push_reserved.ensures.capacity,
         c.reserve.ensures.len,
-        counted s.slab s.spares.items c.self.invariant.0,
+        counted s.slab s.rows s.spares.items c.self.invariant.0,
         s.spares.ok.0,
         c.len.ensures,
         c.len-2.ensures,
@@ -36,7 +73,31 @@ invariant_of-self-in-Ok g c =
 pub returns-clause-kept : goal.returns-clause-kept
 returns-clause-kept g c =
     let s = c.self.inside in
-    rw (← c.self.view_is, c.push_reserved.ensures.items, c.reserve.ensures.items) (added s.slab
-    c.insert.new.self s.spares.items c.self.invariant.0 c.in-Ok.number c.in_ok-node.node
-    c.in-Ok.ensures.updates c.in_ok-node.ensures.room c.in-Ok.ensures.was_vacant
-    c.in-Ok.ensures.len c.in_ok-node.ensures.items c.in_ok-node.ensures.children)
+    let there : c.in-Ok.number < length c.add_to.new.self =
+    omega (
+      arith,
+      c.in_ok-add_to.ensures.there,
+      c.in-Ok.ensures.key,
+      c.vacant_key.ensures.value,
+    ) in
+    let changes : Changes s.slab c.insert.new.self s.rows c.add_to.new.self c.in-Ok.number
+    c.new.result [] =
+    record {
+      updates = c.in-Ok.ensures.updates;
+      here = c.add_to.ensures.kept c.in-Ok.number
+          ∙ vacant_row s.slab s.rows s.spares.items c.self.invariant.0 c.in-Ok.number c.in-Ok.ensures.was_vacant;
+      others = λ k differs. c.add_to.ensures.kept k;
+      long = c.add_to.ensures.no_less;
+      there = there;
+      len_is = c.new.ensures.len;
+    } in
+    rw (← c.self.view_is, c.push_reserved.ensures.items, c.reserve.ensures.items) (added s.slab c.insert.new.self s.rows c.add_to.new.self s.spares.items
+    c.self.invariant.0 c.in-Ok.number c.new.result [] changes c.in-Ok.ensures.was_vacant
+    c.in-Ok.ensures.len refl c.new.ensures.children)
+
+pub returns-in-Err-clause-kept : goal.returns-in-Err-clause-kept
+returns-in-Err-clause-kept g c =
+    let s = c.self.inside in
+    rw (← c.self.view_is, c.reserve.ensures.items, c.in-Err.ensures.err) (grown s.slab s.rows
+    c.add_to.new.self s.spares.items c.self.invariant.0 c.add_to.ensures.no_less
+    c.add_to.ensures.kept)

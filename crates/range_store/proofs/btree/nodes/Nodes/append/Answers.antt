@@ -1,102 +1,192 @@
-use Rattle.std.proofs.Common.{◌≡◌, Some, arith, sym, ◌∙◌}
-use Rattle.slab.specs.Slab.{get}
-use Rattle.range_store.proofs.Spares.{children_seen, fewer_spares, found, items_seen}
-use Rattle.range_store.proofs.TwoNodes.{absorbed, absorbed_whole, all_back}
+use Rattle.std.proofs.Common.{◌≡◌, ◌<◌, ◌≤◌, ◌+◌, ◌-◌, [], ◌∷◌, ◌++◌, length, length-drop, get_or, take, drop, arith, refl, sym, ap, ◌∙◌, length-append}
+use Rattle.std.specs.Prelude.{◌≢◌, Some, None, IsSome}
+use Rattle.std.proofs.Math.ListN.{set}
+use Rattle.slab.specs.Slab.{get, with_value}
+use Rattle.std.specs.List.{insert, remove}
+use Rattle.std.specs.Vec.Iter.{into_iter_items}
+use Rattle.std.proofs.lemmas.List.{length-take-le, get_or-set_other}
+use Rattle.std.proofs.lemmas.List.Edits.{length-insert, length-remove}
+use Rattle.range_store.specs.Heap.{HasNode, node_of, items_of, children_of, with_child}
+use Rattle.range_store.specs.Rows.{row_of}
+use Rattle.range_store.specs.Spares.{heap_of, contents, without}
+use Rattle.range_store.proofs.Spares.{added, added_whole, bare_children, bare_row, children_seen, counted, edited, edited_len, edited_whole, emptied, emptied_whole, fewer_spares, filled, filled_whole, fits_count, found, grown, grown_whole, item_whole, item_written, items_seen, len_seen, none_whole, row_len, row_there, spare_found, spare_there, spares_left, apart_from_spare}
 use Rattle.range_store.proofs.btree.nodes.Nodes.append.Goals as goal
-use Rattle.range_store.proofs.btree.nodes.Nodes.append.Goals.{After-push_reserved}
-use Rattle.range_store.proofs.btree.nodes.Nodes.append.Given.{Over}
-
-pub remove-upper-requires : goal.remove-upper-requires
-remove-upper-requires g c = found c.self.inside.slab c.self.inside.spares.items c.args.right
-    (rw (← c.self.view_is) at c.requires.right)
 
 pub index_mut-requires : goal.index_mut-requires
 index_mut-requires g c =
-    rw (c.remove-upper.ensures.updates.others c.args.left c.requires.apart) (found
-    c.self.inside.slab c.self.inside.spares.items c.args.left
-    (rw (← c.self.view_is) at c.requires.left))
-
-pub push_reserved-requires : goal.push_reserved-requires
-push_reserved-requires g c =
     let s = c.self.inside in
-    omega (
-      arith,
-      fewer_spares s.slab s.spares.items c.self.invariant.0 c.args.right
-          (rw (← c.self.view_is) at c.requires.right),
-      s.spares.ok.0,
-      c.self.invariant.1,
-    )
+    let left = rw (← c.self.view_is) at c.requires.left in
+    let right = rw (← c.self.view_is) at c.requires.right in
+    found s.slab s.rows s.spares.items c.args.right right
+
+pub index_mut-requires-2 : goal.index_mut-requires-2
+index_mut-requires-2 g c =
+    let s = c.self.inside in
+    let left = rw (← c.self.view_is) at c.requires.left in
+    let right = rw (← c.self.view_is) at c.requires.right in
+    rw (get_or-set_other s.slab.slots c.args.right c.args.left (Some c.replace-upper.new.dest) None c.requires.apart)
+    (found s.slab s.rows s.spares.items c.args.left left)
+
+pub absorb-len-requires-clause-room : goal.absorb-len-requires-clause-room
+absorb-len-requires-clause-room g c =
+    let s = c.self.inside in
+    let left = rw (← c.self.view_is) at c.requires.left in
+    let right = rw (← c.self.view_is) at c.requires.right in
+    let at : get s.slab c.args.left ≡ Some c.index_mut-2.result.now =
+    sym (get_or-set_other s.slab.slots c.args.right c.args.left (Some c.replace-upper.new.dest) None c.requires.apart)
+    ∙ c.index_mut-2.ensures.value in
+    let left_len = len_seen s.slab s.rows s.spares.items c.self.invariant.0 c.args.left c.index_mut-2.result.now left at in
+    let right_len : c.replace-upper.result.len
+    ≡ length (items_of (node_of (heap_of s.slab s.rows s.spares.items) c.args.right)) =
+    rw c.replace-upper.ensures.value (len_seen s.slab s.rows s.spares.items c.self.invariant.0 c.args.right c.index_mut.result.now right
+    c.index_mut.ensures.value) in
+    omega (arith, left_len, right_len, rw (← c.self.view_is) at c.requires.room)
+
+pub absorb-len-requires-clause-places : goal.absorb-len-requires-clause-places
+absorb-len-requires-clause-places g c =
+    let s = c.self.inside in
+    let left = rw (← c.self.view_is) at c.requires.left in
+    let right = rw (← c.self.view_is) at c.requires.right in
+    let at : get s.slab c.args.left ≡ Some c.index_mut-2.result.now =
+    sym (get_or-set_other s.slab.slots c.args.right c.args.left (Some c.replace-upper.new.dest) None c.requires.apart)
+    ∙ c.index_mut-2.ensures.value in
+    let left_children = children_seen s.slab s.rows s.spares.items c.args.left c.index_mut-2.result.now left at in
+    let right_children : children_of (node_of (heap_of s.slab s.rows s.spares.items) c.args.right)
+    ≡ c.replace-upper.result.children.items =
+    rw c.replace-upper.ensures.value (children_seen s.slab s.rows s.spares.items c.args.right c.index_mut.result.now right
+    c.index_mut.ensures.value) in
+    rw (← left_children, ← right_children) (rw (← c.self.view_is) at c.requires.places)
 
 pub absorb-requires-clause-room : goal.absorb-requires-clause-room
 absorb-requires-clause-room g c =
     let s = c.self.inside in
-    let first = rw (← c.self.view_is) at c.requires.left in
-    let second = rw (← c.self.view_is) at c.requires.right in
-    let at : get s.slab c.args.left ≡ Some c.index_mut.result.now =
-    sym (c.remove-upper.ensures.updates.others c.args.left c.requires.apart)
-    ∙ c.index_mut.ensures.value in
-    rw (
-      ← items_seen s.slab s.spares.items c.args.left c.index_mut.result.now first at,
-      ← items_seen s.slab s.spares.items c.args.right c.remove-upper.result second
-          c.remove-upper.ensures.value,
+    let left = rw (← c.self.view_is) at c.requires.left in
+    let right = rw (← c.self.view_is) at c.requires.right in
+    let at : get s.slab c.args.left ≡ Some c.index_mut-2.result.now =
+    sym (get_or-set_other s.slab.slots c.args.right c.args.left (Some c.replace-upper.new.dest) None c.requires.apart)
+    ∙ c.index_mut-2.ensures.value in
+    let left_len = len_seen s.slab s.rows s.spares.items c.self.invariant.0 c.args.left c.index_mut-2.result.now left at in
+    let right_len : c.replace-upper.result.len
+    ≡ length (items_of (node_of (heap_of s.slab s.rows s.spares.items) c.args.right)) =
+    rw c.replace-upper.ensures.value (len_seen s.slab s.rows s.spares.items c.self.invariant.0 c.args.right c.index_mut.result.now right
+    c.index_mut.ensures.value) in
+    omega (
+      arith,
+      c.absorb-len.ensures.before,
+      left_len,
+      right_len,
+      rw (← c.self.view_is) at c.requires.room,
     )
-    (rw (← c.self.view_is) at c.requires.room)
 
-pub absorb-requires-clause-places : goal.absorb-requires-clause-places
-absorb-requires-clause-places g c =
+pub push_reserved-requires : goal.push_reserved-requires
+push_reserved-requires g c =
     let s = c.self.inside in
-    let first = rw (← c.self.view_is) at c.requires.left in
-    let second = rw (← c.self.view_is) at c.requires.right in
-    let at : get s.slab c.args.left ≡ Some c.index_mut.result.now =
-    sym (c.remove-upper.ensures.updates.others c.args.left c.requires.apart)
-    ∙ c.index_mut.ensures.value in
-    rw (
-      ← children_seen s.slab s.spares.items c.args.left c.index_mut.result.now first at,
-      ← children_seen s.slab s.spares.items c.args.right c.remove-upper.result second
-          c.remove-upper.ensures.value,
+    let left = rw (← c.self.view_is) at c.requires.left in
+    let right = rw (← c.self.view_is) at c.requires.right in
+    omega (
+      arith,
+      fewer_spares s.slab s.rows s.spares.items c.self.invariant.0 c.args.right right,
+      s.spares.ok.0,
+      c.self.invariant.1,
     )
-    (rw (← c.self.view_is) at c.requires.places)
-
--- the node comes back under its number
-same_number : (g : Over) (c : After-push_reserved g)
-    → c.insert_reserved-right.result ≡ c.args.right
-same_number g c = c.insert_reserved-right.ensures.key ∙ c.remove-upper.ensures.key_is_next
 
 pub invariant_of-self : goal.invariant_of-self
 invariant_of-self g c =
     let s = c.self.inside in
-    let a = (goal.at.invariant_of-self g c).After-push_reserved in
-    let back = rw (same_number g a) at c.insert_reserved-right.ensures.updates in (
-      rw (c.push_reserved.ensures.items, same_number g a) (absorbed_whole s.slab
-          c.remove-upper.new.self c.insert_reserved-right.new.self c.args.left c.args.right
-          c.requires.apart c.remove-upper.ensures.updates c.remove-upper.ensures.len
-          c.index_mut.result.now c.absorb.new.self c.index_mut.ensures.value c.absorb.new.upper
-          back c.insert_reserved-right.ensures.len s.spares.items c.self.invariant.0
-          (rw (← c.self.view_is) at c.requires.left) (rw (← c.self.view_is) at c.requires.right)
-          c.remove-upper.result c.remove-upper.ensures.value c.args.middle c.absorb.ensures.left
-          c.absorb.ensures.right),
+    let left = rw (← c.self.view_is) at c.requires.left in
+    let right = rw (← c.self.view_is) at c.requires.right in
+    let at : get s.slab c.args.left ≡ Some c.index_mut-2.result.now =
+    sym (get_or-set_other s.slab.slots c.args.right c.args.left (Some c.replace-upper.new.dest) None c.requires.apart)
+    ∙ c.index_mut-2.ensures.value in
+    let left_len = len_seen s.slab s.rows s.spares.items c.self.invariant.0 c.args.left c.index_mut-2.result.now left at in
+    let right_len : c.replace-upper.result.len
+    ≡ length (items_of (node_of (heap_of s.slab s.rows s.spares.items) c.args.right)) =
+    rw c.replace-upper.ensures.value (len_seen s.slab s.rows s.spares.items c.self.invariant.0 c.args.right c.index_mut.result.now right
+    c.index_mut.ensures.value) in
+    let left_items = items_seen s.slab s.rows s.spares.items c.args.left left in
+    let right_items = items_seen s.slab s.rows s.spares.items c.args.right right in
+    let slab = with_value s.slab c.args.right c.replace-upper.new.dest in
+    let rows = set s.rows c.args.right [] in
+    let spares = s.spares.items ++ c.args.right ∷ [] in
+    let none_len : c.replace-upper.new.dest.len ≡ 0 = rw c.replace-upper.ensures.after c.new.ensures.len in
+    let none_children : c.replace-upper.new.dest.children.items ≡ [] =
+    rw c.replace-upper.ensures.after c.new.ensures.children in
+    let whole = emptied_whole s.slab s.rows s.spares.items c.self.invariant.0 c.args.right c.index_mut.result.now c.replace-upper.new.dest
+    c.index_mut.ensures.value [] none_len [] none_children right refl refl in
+    let gone = emptied s.slab s.rows s.spares.items c.self.invariant.0 c.args.right c.index_mut.result.now c.replace-upper.new.dest
+    c.index_mut.ensures.value [] none_len [] none_children right refl refl in
+    let there : HasNode (heap_of slab rows spares) c.args.left =
+    rw (gone.others c.args.left c.requires.apart) left in
+    let all = row_of s.rows c.args.left ++ c.args.middle ∷ row_of s.rows c.args.right in
+    let many : c.absorb-len.new.self.len ≡ length all =
+    omega (
+      arith,
+      c.absorb-len.ensures.len,
+      left_len,
+      right_len,
+      ap length left_items,
+      ap length right_items,
+      length-append (row_of s.rows c.args.left) (c.args.middle ∷ row_of s.rows c.args.right),
+    ) in (
+      rw (c.push_reserved.ensures.items, c.absorb.ensures) (edited_whole slab rows spares whole c.args.left c.index_mut-2.result.now c.absorb-len.new.self
+          c.index_mut-2.ensures.value all many _ c.absorb-len.ensures.children there),
       omega (
         arith,
         c.self.invariant.1,
         c.push_reserved.ensures.capacity,
-        all_back s.slab c.remove-upper.new.self c.insert_reserved-right.new.self c.args.left
-            c.args.right c.requires.apart c.remove-upper.ensures.updates
-            c.remove-upper.ensures.len c.index_mut.result.now c.absorb.new.self
-            c.index_mut.ensures.value c.absorb.new.upper back
-            c.insert_reserved-right.ensures.len,
+        edited_len s.slab s.rows s.spares.items c.self.invariant.0 c.args.right c.index_mut.result.now c.replace-upper.new.dest
+            c.index_mut.ensures.value [] none_len [] none_children,
+        edited_len slab rows spares whole c.args.left c.index_mut-2.result.now c.absorb-len.new.self
+            c.index_mut-2.ensures.value all many _ c.absorb-len.ensures.children,
       ),
     )
 
 pub returns : goal.returns
 returns g c =
     let s = c.self.inside in
-    let a = (goal.at.returns g c).After-push_reserved in
-    let back = rw (same_number g a) at c.insert_reserved-right.ensures.updates in
-    rw (← c.self.view_is, c.push_reserved.ensures.items, same_number g a) (absorbed s.slab
-    c.remove-upper.new.self c.insert_reserved-right.new.self c.args.left c.args.right
-    c.requires.apart c.remove-upper.ensures.updates c.remove-upper.ensures.len
-    c.index_mut.result.now c.absorb.new.self c.index_mut.ensures.value c.absorb.new.upper back
-    c.insert_reserved-right.ensures.len s.spares.items c.self.invariant.0
-    (rw (← c.self.view_is) at c.requires.left) (rw (← c.self.view_is) at c.requires.right)
-    c.remove-upper.result c.remove-upper.ensures.value c.args.middle c.absorb.ensures.left
-    c.absorb.ensures.right)
+    let left = rw (← c.self.view_is) at c.requires.left in
+    let right = rw (← c.self.view_is) at c.requires.right in
+    let at : get s.slab c.args.left ≡ Some c.index_mut-2.result.now =
+    sym (get_or-set_other s.slab.slots c.args.right c.args.left (Some c.replace-upper.new.dest) None c.requires.apart)
+    ∙ c.index_mut-2.ensures.value in
+    let left_len = len_seen s.slab s.rows s.spares.items c.self.invariant.0 c.args.left c.index_mut-2.result.now left at in
+    let right_len : c.replace-upper.result.len
+    ≡ length (items_of (node_of (heap_of s.slab s.rows s.spares.items) c.args.right)) =
+    rw c.replace-upper.ensures.value (len_seen s.slab s.rows s.spares.items c.self.invariant.0 c.args.right c.index_mut.result.now right
+    c.index_mut.ensures.value) in
+    let left_items = items_seen s.slab s.rows s.spares.items c.args.left left in
+    let right_items = items_seen s.slab s.rows s.spares.items c.args.right right in
+    let slab = with_value s.slab c.args.right c.replace-upper.new.dest in
+    let rows = set s.rows c.args.right [] in
+    let spares = s.spares.items ++ c.args.right ∷ [] in
+    let none_len : c.replace-upper.new.dest.len ≡ 0 = rw c.replace-upper.ensures.after c.new.ensures.len in
+    let none_children : c.replace-upper.new.dest.children.items ≡ [] =
+    rw c.replace-upper.ensures.after c.new.ensures.children in
+    let whole = emptied_whole s.slab s.rows s.spares.items c.self.invariant.0 c.args.right c.index_mut.result.now c.replace-upper.new.dest
+    c.index_mut.ensures.value [] none_len [] none_children right refl refl in
+    let gone = emptied s.slab s.rows s.spares.items c.self.invariant.0 c.args.right c.index_mut.result.now c.replace-upper.new.dest
+    c.index_mut.ensures.value [] none_len [] none_children right refl refl in
+    let there : HasNode (heap_of slab rows spares) c.args.left =
+    rw (gone.others c.args.left c.requires.apart) left in
+    let all = row_of s.rows c.args.left ++ c.args.middle ∷ row_of s.rows c.args.right in
+    let many : c.absorb-len.new.self.len ≡ length all =
+    omega (
+      arith,
+      c.absorb-len.ensures.len,
+      left_len,
+      right_len,
+      ap length left_items,
+      ap length right_items,
+      length-append (row_of s.rows c.args.left) (c.args.middle ∷ row_of s.rows c.args.right),
+    ) in
+    let left_children = children_seen s.slab s.rows s.spares.items c.args.left c.index_mut-2.result.now left at in
+    let right_children : children_of (node_of (heap_of s.slab s.rows s.spares.items) c.args.right)
+    ≡ c.replace-upper.result.children.items =
+    rw c.replace-upper.ensures.value (children_seen s.slab s.rows s.spares.items c.args.right c.index_mut.result.now right
+    c.index_mut.ensures.value) in
+    rw (← c.self.view_is, c.push_reserved.ensures.items, c.absorb.ensures) (record {
+      between = heap_of slab rows spares;
+      right = gone;
+      left = rw (left_items, right_items, left_children, right_children) (edited slab rows spares whole c.args.left c.index_mut-2.result.now c.absorb-len.new.self
+          c.index_mut-2.ensures.value all many _ c.absorb-len.ensures.children there);
+    })

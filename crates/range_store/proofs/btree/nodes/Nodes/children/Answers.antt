@@ -1,13 +1,24 @@
-use Rattle.std.proofs.Common.{sym, ap, length, arith, ◌∙◌}
-use Rattle.range_store.proofs.Spares.{found, items_seen, children_seen}
+use Rattle.std.proofs.Common.{◌≡◌, ◌<◌, ◌≤◌, ◌+◌, ◌-◌, [], ◌∷◌, ◌++◌, length, get_or, take, drop, arith, refl, sym, ap, ◌∙◌, length-append}
+use Rattle.std.specs.Prelude.{slice_get}
+use Rattle.std.specs.List.{insert, remove}
+use Rattle.std.specs.Vec.Iter.{into_iter_items}
+use Rattle.std.proofs.lemmas.List.{length-take-le}
+use Rattle.std.proofs.lemmas.List.Edits.{length-insert, length-remove}
+use Rattle.range_store.specs.Heap.{node_of, items_of, children_of, with_child}
+use Rattle.range_store.specs.Rows.{row_of}
+use Rattle.range_store.specs.Spares.{heap_of, contents, without}
+use Rattle.range_store.proofs.Spares.{added, added_whole, bare_children, bare_row, children_seen, counted, edited, edited_len, edited_whole, emptied, emptied_whole, fewer_spares, filled, filled_whole, fits_count, found, grown, grown_whole, item_whole, item_written, items_seen, len_seen, none_whole, row_len, row_there, spare_found, spare_there, spares_left}
 use Rattle.range_store.proofs.btree.nodes.Nodes.children.Goals as goal
 
 pub index-requires : goal.index-requires
 index-requires g c =
-    found c.self.inside.slab c.self.inside.spares.items c.args.number
-    (rw (← c.self.view_is) at c.requires)
+    let s = c.self.inside in
+    let present = rw (← c.self.view_is) at c.requires in
+    found s.slab s.rows s.spares.items c.args.number present
 
 pub returns : goal.returns
 returns g c =
     let s = c.self.inside in
-    rw (← c.self.view_is) (c.as_slice.ensures.value ∙ sym (children_seen s.slab s.spares.items c.args.number c.index.result.now (rw (← c.self.view_is) at c.requires) c.index.ensures))
+    let present = rw (← c.self.view_is) at c.requires in
+    rw (← c.self.view_is) (c.as_slice.ensures.value ∙ sym (children_seen s.slab s.rows s.spares.items c.args.number
+    c.index.result.now present c.index.ensures))

@@ -1,43 +1,46 @@
-use Rattle.std.proofs.Common.{◌<◌, length, arith, ap, get_or, refl, sym, ◌∙◌}
-use Rattle.range_store.proofs.Spares.{found, item_whole, item_written, items_seen}
+use Rattle.std.proofs.Common.{◌≡◌, ◌<◌, ◌≤◌, ◌+◌, ◌-◌, [], ◌∷◌, ◌++◌, length, get_or, take, drop, arith, refl, sym, ap, ◌∙◌, length-append}
+use Rattle.std.specs.Prelude.{slice_get}
+use Rattle.std.specs.List.{insert, remove}
+use Rattle.std.specs.Vec.Iter.{into_iter_items}
+use Rattle.std.proofs.lemmas.List.{length-take-le}
+use Rattle.std.proofs.lemmas.List.Edits.{length-insert, length-remove}
+use Rattle.range_store.specs.Heap.{node_of, items_of, children_of, with_child}
+use Rattle.range_store.specs.Rows.{row_of}
+use Rattle.range_store.specs.Spares.{heap_of, contents, without}
+use Rattle.range_store.proofs.Spares.{added, added_whole, bare_children, bare_row, children_seen, counted, edited, edited_len, edited_whole, emptied, emptied_whole, fewer_spares, filled, filled_whole, fits_count, found, grown, grown_whole, item_whole, item_written, items_seen, len_seen, none_whole, row_len, row_there, spare_found, spare_there, spares_left}
 use Rattle.range_store.proofs.btree.nodes.Nodes.item_mut.Goals as goal
 
-pub index_mut-requires : goal.index_mut-requires
-index_mut-requires g c =
-    found c.self.inside.slab c.self.inside.spares.items c.args.number
-    (rw (← c.self.view_is) at c.requires.present)
-
-pub index_mut-requires-2 : goal.index_mut-requires-2
-index_mut-requires-2 g c =
+pub item_mut-requires-clause-number : goal.item_mut-requires-clause-number
+item_mut-requires-clause-number g c =
     let s = c.self.inside in
     let present = rw (← c.self.view_is) at c.requires.present in
-    let items = items_seen s.slab s.spares.items c.args.number c.index_mut.result.now present
-    c.index_mut.ensures.value in
-    let within : c.args.index < length c.index_mut.result.now.items.items =
-    rw (← items) (rw (← c.self.view_is) at c.requires.within) in
-    omega (arith, c.index_mut.result.now.items.ok.0, within)
+    row_there s.slab s.rows s.spares.items c.self.invariant.0 c.args.number present
+
+pub item_mut-requires-clause-within : goal.item_mut-requires-clause-within
+item_mut-requires-clause-within g c =
+    let s = c.self.inside in
+    let present = rw (← c.self.view_is) at c.requires.present in
+    let items = items_seen s.slab s.rows s.spares.items c.args.number present in
+    rw (← items) (rw (← c.self.view_is) at c.requires.within)
 
 pub invariant_of-self-lent : goal.invariant_of-self-lent
 invariant_of-self-lent g c w =
     let s = c.self.inside in
     let present = rw (← c.self.view_is) at c.requires.present in
-    item_whole s.slab s.spares.items c.self.invariant.0 c.args.number c.index_mut.result.now _
-    c.index_mut.ensures.value present _ c.self.invariant.1 refl refl
+    (item_whole s.slab s.rows s.spares.items c.self.invariant.0 c.args.number c.args.index w present, c.self.invariant.1)
 
 pub returns : goal.returns
 returns g c =
     let s = c.self.inside in
     let present = rw (← c.self.view_is) at c.requires.present in
-    let items = items_seen s.slab s.spares.items c.args.number c.index_mut.result.now present
-    c.index_mut.ensures.value in (
+    let items = items_seen s.slab s.rows s.spares.items c.args.number present in (
       (
         refl,
-        λ w. rw (← c.self.view_is) (item_written s.slab s.spares.items c.args.number c.args.index w
-            c.index_mut.result.now _ c.index_mut.ensures.value present refl refl),
+        λ w. rw (← c.self.view_is) (item_written s.slab s.rows s.spares.items c.self.invariant.0 c.args.number c.args.index w
+            present),
       ),
       record {
         writes_back = tt;
-        value = rw (← c.self.view_is) (c.index_mut-2.ensures.value
-            ∙ ap (λ xs. get_or xs c.args.index c.index_mut-2.result.now) (sym items));
+        value = rw (← c.self.view_is) (rw items c.item_mut.ensures.value);
       },
     )

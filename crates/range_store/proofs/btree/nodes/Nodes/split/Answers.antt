@@ -1,103 +1,123 @@
-use Rattle.std.proofs.Common.{◌≡◌, Some, arith, sym, ◌∙◌}
-use Rattle.slab.specs.Slab.{get}
-use Rattle.range_store.proofs.Spares.{apart_from_spare, bare_children, bare_items, children_seen, found, items_seen, spare_found, spares_left}
-use Rattle.range_store.proofs.TwoNodes.{all_back, divided, divided_whole}
+use Rattle.std.proofs.Common.{◌≡◌, ◌<◌, ◌≤◌, ◌+◌, ◌-◌, [], ◌∷◌, ◌++◌, length, length-drop, get_or, take, drop, arith, refl, sym, ap, ◌∙◌, length-append}
+use Rattle.std.specs.Prelude.{◌≢◌, Some, None, IsSome}
+use Rattle.std.proofs.Math.ListN.{set}
+use Rattle.slab.specs.Slab.{get, with_value}
+use Rattle.std.specs.List.{insert, remove}
+use Rattle.std.specs.Vec.Iter.{into_iter_items}
+use Rattle.std.proofs.lemmas.List.{length-take-le, get_or-set_other}
+use Rattle.std.proofs.lemmas.List.Edits.{length-insert, length-remove}
+use Rattle.range_store.specs.Heap.{HasNode, node_of, items_of, children_of, with_child}
+use Rattle.range_store.specs.Rows.{row_of}
+use Rattle.range_store.specs.Spares.{heap_of, contents, without}
+use Rattle.range_store.proofs.Spares.{added, added_whole, bare_children, bare_row, children_seen, counted, edited, edited_len, edited_whole, emptied, emptied_whole, fewer_spares, filled, filled_whole, fits_count, found, grown, grown_whole, item_whole, item_written, items_seen, len_seen, none_whole, row_len, row_there, spare_found, spare_there, spares_left, apart_from_spare}
 use Rattle.range_store.proofs.btree.nodes.Nodes.split.Goals as goal
-use Rattle.range_store.proofs.btree.nodes.Nodes.split.Goals.{After-insert_reserved-right}
-use Rattle.range_store.proofs.btree.nodes.Nodes.split.Given.{Over}
 
 pub take_last-right-requires : goal.take_last-right-requires
 take_last-right-requires g c =
     let s = c.self.inside in
     omega (
       arith,
-      spares_left s.slab s.spares.items c.self.invariant.0 1
-          (rw (← c.self.view_is) at c.requires.room),
+      spares_left s.slab s.rows s.spares.items c.self.invariant.0 1 (rw (← c.self.view_is) at c.requires.room),
       s.spares.ok.0,
     )
-
-pub remove-upper-requires : goal.remove-upper-requires
-remove-upper-requires g c =
-    let s = c.self.inside in
-    spare_found s.slab s.spares.items c.take_last-right.new.self.items c.self.invariant.0
-    c.take_last-right.result c.take_last-right.ensures.items
 
 pub index_mut-requires : goal.index_mut-requires
 index_mut-requires g c =
     let s = c.self.inside in
     let present = rw (← c.self.view_is) at c.requires.present in
-    let apart = apart_from_spare s.slab s.spares.items c.take_last-right.new.self.items
-    c.take_last-right.result c.take_last-right.ensures.items c.args.number present in
-    rw (c.remove-upper.ensures.updates.others c.args.number apart) (found s.slab s.spares.items
-    c.args.number present)
+    let items = items_seen s.slab s.rows s.spares.items c.args.number present in
+    found s.slab s.rows s.spares.items c.args.number present
+
+pub divide-upper-requires-clause-child : goal.divide-upper-requires-clause-child
+divide-upper-requires-clause-child g c =
+    let s = c.self.inside in
+    let present = rw (← c.self.view_is) at c.requires.present in
+    let items = items_seen s.slab s.rows s.spares.items c.args.number present in
+    let children = children_seen s.slab s.rows s.spares.items c.args.number c.index_mut.result.now present c.index_mut.ensures.value in
+    rw (← children) (fits_count c.args.child (items_of (node_of (heap_of s.slab s.rows s.spares.items) c.args.number))
+    (children_of (node_of (heap_of s.slab s.rows s.spares.items) c.args.number)) 11
+    (sym (rw (← c.self.view_is) at c.requires.full)) (rw (← c.self.view_is) at c.requires.child))
+
+pub index_mut-requires-2 : goal.index_mut-requires-2
+index_mut-requires-2 g c =
+    let s = c.self.inside in
+    let present = rw (← c.self.view_is) at c.requires.present in
+    let items = items_seen s.slab s.rows s.spares.items c.args.number present in
+    let parts = c.take_last-right.ensures.items in
+    let all = insert (row_of s.rows c.args.number) c.args.index c.args.item in
+    let within : c.args.index ≤ length (row_of s.rows c.args.number) =
+    omega (arith, ap length items, rw (← c.self.view_is) at c.requires.within) in
+    let long : length all ≡ 12 =
+    omega (
+      arith,
+      ap length items,
+      rw (← c.self.view_is) at c.requires.full,
+      length-insert (row_of s.rows c.args.number) c.args.index c.args.item within,
+    ) in
+    let first_len : c.divide-upper.new.self.len ≡ length (take 6 all) =
+    c.divide-upper.ensures.left_len ∙ sym (length-take-le 6 all (omega arith)) in
+    let slab = with_value s.slab c.args.number c.divide-upper.new.self in
+    let rows = set s.rows c.args.number (take 6 all) in
+    let whole = edited_whole s.slab s.rows s.spares.items c.self.invariant.0 c.args.number c.index_mut.result.now c.divide-upper.new.self
+    c.index_mut.ensures.value (take 6 all) first_len _ c.divide-upper.ensures.left present in
+    spare_found slab rows s.spares.items c.take_last-right.new.self.items whole c.take_last-right.result parts
+
+pub divide-middle-requires-clause-apart : goal.divide-middle-requires-clause-apart
+divide-middle-requires-clause-apart g c =
+    let s = c.self.inside in
+    let present = rw (← c.self.view_is) at c.requires.present in
+    let items = items_seen s.slab s.rows s.spares.items c.args.number present in
+    apart_from_spare s.slab s.rows s.spares.items c.take_last-right.new.self.items c.take_last-right.result c.take_last-right.ensures.items c.args.number present
 
 pub divide-middle-requires-clause-full : goal.divide-middle-requires-clause-full
 divide-middle-requires-clause-full g c =
     let s = c.self.inside in
     let present = rw (← c.self.view_is) at c.requires.present in
-    let apart = apart_from_spare s.slab s.spares.items c.take_last-right.new.self.items
-    c.take_last-right.result c.take_last-right.ensures.items c.args.number present in
-    let at : get s.slab c.args.number ≡ Some c.index_mut.result.now =
-    sym (c.remove-upper.ensures.updates.others c.args.number apart) ∙ c.index_mut.ensures.value in
-    let items = items_seen s.slab s.spares.items c.args.number c.index_mut.result.now present at in
-    rw (← items) (rw (← c.self.view_is) at c.requires.full)
+    let items = items_seen s.slab s.rows s.spares.items c.args.number present in
+    omega (arith, ap length items, rw (← c.self.view_is) at c.requires.full)
 
-pub divide-middle-requires-clause-no_items : goal.divide-middle-requires-clause-no_items
-divide-middle-requires-clause-no_items g c =
+pub divide-middle-requires-clause-empty : goal.divide-middle-requires-clause-empty
+divide-middle-requires-clause-empty g c =
     let s = c.self.inside in
-    bare_items s.slab s.spares.items c.take_last-right.new.self.items c.self.invariant.0
-    c.take_last-right.result c.take_last-right.ensures.items c.remove-upper.result
-    c.remove-upper.ensures.value
-
-pub divide-middle-requires-clause-no_children : goal.divide-middle-requires-clause-no_children
-divide-middle-requires-clause-no_children g c =
-    let s = c.self.inside in
-    bare_children s.slab s.spares.items c.take_last-right.new.self.items c.self.invariant.0
-    c.take_last-right.result c.take_last-right.ensures.items c.remove-upper.result
-    c.remove-upper.ensures.value
-
-pub divide-middle-requires-clause-child : goal.divide-middle-requires-clause-child
-divide-middle-requires-clause-child g c =
-    let s = c.self.inside in
-    let present = rw (← c.self.view_is) at c.requires.present in
-    let apart = apart_from_spare s.slab s.spares.items c.take_last-right.new.self.items
-    c.take_last-right.result c.take_last-right.ensures.items c.args.number present in
-    let at : get s.slab c.args.number ≡ Some c.index_mut.result.now =
-    sym (c.remove-upper.ensures.updates.others c.args.number apart) ∙ c.index_mut.ensures.value in
-    let items = items_seen s.slab s.spares.items c.args.number c.index_mut.result.now present at in
-    let children = children_seen s.slab s.spares.items c.args.number c.index_mut.result.now present
-    at in
-    rw (← items, ← children) (rw (← c.self.view_is) at c.requires.child)
-
--- the node comes back under its number
-same_number : (g : Over) (c : After-insert_reserved-right g)
-    → c.insert_reserved-right.result ≡ c.take_last-right.result
-same_number g c = c.insert_reserved-right.ensures.key ∙ c.remove-upper.ensures.key_is_next
+    bare_row s.slab s.rows s.spares.items c.take_last-right.new.self.items c.self.invariant.0 c.take_last-right.result c.take_last-right.ensures.items
 
 pub invariant_of-self : goal.invariant_of-self
 invariant_of-self g c =
     let s = c.self.inside in
     let present = rw (← c.self.view_is) at c.requires.present in
-    let apart = apart_from_spare s.slab s.spares.items c.take_last-right.new.self.items
-    c.take_last-right.result c.take_last-right.ensures.items c.args.number present in
-    let a = (goal.at.invariant_of-self g c).After-insert_reserved-right in
-    let back = rw (same_number g a) at c.insert_reserved-right.ensures.updates in (
-      divided_whole s.slab c.remove-upper.new.self c.insert_reserved-right.new.self c.args.number
-          c.take_last-right.result apart c.remove-upper.ensures.updates c.remove-upper.ensures.len
-          c.index_mut.result.now c.divide-middle.new.self c.index_mut.ensures.value
-          c.divide-middle.new.upper back c.insert_reserved-right.ensures.len s.spares.items
-          c.take_last-right.new.self.items c.self.invariant.0 present
-          c.take_last-right.ensures.items c.remove-upper.result c.remove-upper.ensures.value 6 _ _
-          c.divide-middle.ensures.left c.divide-middle.ensures.right,
+    let items = items_seen s.slab s.rows s.spares.items c.args.number present in
+    let parts = c.take_last-right.ensures.items in
+    let all = insert (row_of s.rows c.args.number) c.args.index c.args.item in
+    let within : c.args.index ≤ length (row_of s.rows c.args.number) =
+    omega (arith, ap length items, rw (← c.self.view_is) at c.requires.within) in
+    let long : length all ≡ 12 =
+    omega (
+      arith,
+      ap length items,
+      rw (← c.self.view_is) at c.requires.full,
+      length-insert (row_of s.rows c.args.number) c.args.index c.args.item within,
+    ) in
+    let first_len : c.divide-upper.new.self.len ≡ length (take 6 all) =
+    c.divide-upper.ensures.left_len ∙ sym (length-take-le 6 all (omega arith)) in
+    let slab = with_value s.slab c.args.number c.divide-upper.new.self in
+    let rows = set s.rows c.args.number (take 6 all) in
+    let whole = edited_whole s.slab s.rows s.spares.items c.self.invariant.0 c.args.number c.index_mut.result.now c.divide-upper.new.self
+    c.index_mut.ensures.value (take 6 all) first_len _ c.divide-upper.ensures.left present in
+    let second_len : c.divide-upper.result.len ≡ length (drop 7 all) =
+    omega (arith, c.divide-upper.ensures.right_len, length-drop 7 all) in (
+      rw c.divide-middle.ensures.rows (filled_whole slab rows s.spares.items whole c.take_last-right.result c.index_mut-2.result.now
+          c.divide-upper.result c.index_mut-2.ensures.value (drop 7 all) second_len _
+          c.divide-upper.ensures.right c.take_last-right.new.self.items parts),
       omega (
         arith,
         c.self.invariant.1,
         c.take_last-right.ensures.capacity,
-        all_back s.slab c.remove-upper.new.self c.insert_reserved-right.new.self c.args.number
-            c.take_last-right.result apart c.remove-upper.ensures.updates
-            c.remove-upper.ensures.len c.index_mut.result.now c.divide-middle.new.self
-            c.index_mut.ensures.value c.divide-middle.new.upper back
-            c.insert_reserved-right.ensures.len,
+        edited_len s.slab s.rows s.spares.items c.self.invariant.0 c.args.number c.index_mut.result.now
+            c.divide-upper.new.self c.index_mut.ensures.value (take 6 all) first_len _
+            c.divide-upper.ensures.left,
+        edited_len slab rows s.spares.items whole c.take_last-right.result c.index_mut-2.result.now
+            c.divide-upper.result c.index_mut-2.ensures.value (drop 7 all) second_len _
+            c.divide-upper.ensures.right,
       ),
     )
 
@@ -105,20 +125,34 @@ pub returns : goal.returns
 returns g c =
     let s = c.self.inside in
     let present = rw (← c.self.view_is) at c.requires.present in
-    let apart = apart_from_spare s.slab s.spares.items c.take_last-right.new.self.items
-    c.take_last-right.result c.take_last-right.ensures.items c.args.number present in
-    let at : get s.slab c.args.number ≡ Some c.index_mut.result.now =
-    sym (c.remove-upper.ensures.updates.others c.args.number apart) ∙ c.index_mut.ensures.value in
-    let items = items_seen s.slab s.spares.items c.args.number c.index_mut.result.now present at in
-    let children = children_seen s.slab s.spares.items c.args.number c.index_mut.result.now present
-    at in
-    let a = (goal.at.returns g c).After-insert_reserved-right in
-    let back = rw (same_number g a) at c.insert_reserved-right.ensures.updates in
-    rw (← c.self.view_is, same_number g a) (rw (items, children) (divided s.slab
-    c.remove-upper.new.self c.insert_reserved-right.new.self c.args.number
-    c.take_last-right.result apart c.remove-upper.ensures.updates c.remove-upper.ensures.len
-    c.index_mut.result.now c.divide-middle.new.self c.index_mut.ensures.value
-    c.divide-middle.new.upper back c.insert_reserved-right.ensures.len s.spares.items
-    c.take_last-right.new.self.items c.self.invariant.0 present c.take_last-right.ensures.items
-    c.remove-upper.result c.remove-upper.ensures.value 6 _ _ c.divide-middle.ensures.left
-    c.divide-middle.ensures.right c.divide-middle.result c.divide-middle.ensures.middle))
+    let items = items_seen s.slab s.rows s.spares.items c.args.number present in
+    let parts = c.take_last-right.ensures.items in
+    let all = insert (row_of s.rows c.args.number) c.args.index c.args.item in
+    let within : c.args.index ≤ length (row_of s.rows c.args.number) =
+    omega (arith, ap length items, rw (← c.self.view_is) at c.requires.within) in
+    let long : length all ≡ 12 =
+    omega (
+      arith,
+      ap length items,
+      rw (← c.self.view_is) at c.requires.full,
+      length-insert (row_of s.rows c.args.number) c.args.index c.args.item within,
+    ) in
+    let first_len : c.divide-upper.new.self.len ≡ length (take 6 all) =
+    c.divide-upper.ensures.left_len ∙ sym (length-take-le 6 all (omega arith)) in
+    let slab = with_value s.slab c.args.number c.divide-upper.new.self in
+    let rows = set s.rows c.args.number (take 6 all) in
+    let whole = edited_whole s.slab s.rows s.spares.items c.self.invariant.0 c.args.number c.index_mut.result.now c.divide-upper.new.self
+    c.index_mut.ensures.value (take 6 all) first_len _ c.divide-upper.ensures.left present in
+    let children = children_seen s.slab s.rows s.spares.items c.args.number c.index_mut.result.now present c.index_mut.ensures.value in
+    let second_len : c.divide-upper.result.len ≡ length (drop 7 all) =
+    omega (arith, c.divide-upper.ensures.right_len, length-drop 7 all) in
+    rw (← c.self.view_is, c.divide-middle.ensures.rows) (rw (items, children) (record {
+      middle_is = c.divide-middle.ensures.middle;
+      between = heap_of slab rows s.spares.items;
+      first = edited s.slab s.rows s.spares.items c.self.invariant.0 c.args.number c.index_mut.result.now
+          c.divide-upper.new.self c.index_mut.ensures.value (take 6 all) first_len _
+          c.divide-upper.ensures.left present;
+      second = filled slab rows s.spares.items whole c.take_last-right.result c.index_mut-2.result.now
+          c.divide-upper.result c.index_mut-2.ensures.value (drop 7 all) second_len _
+          c.divide-upper.ensures.right c.take_last-right.new.self.items parts;
+    }))

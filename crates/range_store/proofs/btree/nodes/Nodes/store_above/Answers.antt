@@ -1,82 +1,69 @@
-use Rattle.std.proofs.Common.{◌≡◌, ◌<◌, [], ◌∷◌, ◌++◌, length, arith, refl, ap, ◌∙◌}
-use Rattle.range_store.specs.Spares.{IsRewritten}
-use Rattle.range_store.proofs.Spares.{bare_children, bare_items, edited_len, filled, filled_whole, spare_found, spares_left}
+use Rattle.std.proofs.Common.{◌≡◌, ◌<◌, ◌≤◌, ◌+◌, ◌-◌, [], ◌∷◌, ◌++◌, length, get_or, take, drop, arith, refl, sym, ap, ◌∙◌, length-append}
+use Rattle.std.specs.Prelude.{slice_get}
+use Rattle.std.specs.List.{insert, remove}
+use Rattle.std.specs.Vec.Iter.{into_iter_items}
+use Rattle.std.proofs.lemmas.List.{length-take-le, set-get_or}
+use Rattle.std.proofs.lemmas.List.Edits.{length-insert, length-remove}
+use Rattle.range_store.specs.Heap.{node_of, items_of, children_of, with_child}
+use Rattle.range_store.specs.Rows.{row_of}
+use Rattle.range_store.specs.Spares.{heap_of, contents, without}
+use Rattle.range_store.proofs.Spares.{added, added_whole, bare_children, bare_row, children_seen, counted, edited, edited_len, edited_whole, emptied, emptied_whole, fewer_spares, filled, filled_whole, fits_count, found, grown, grown_whole, item_whole, item_written, items_seen, len_seen, none_whole, row_len, row_there, spare_found, spare_there, spares_left, vacant_row, Changes}
 use Rattle.range_store.proofs.btree.nodes.Nodes.store_above.Goals as goal
-use Rattle.range_store.proofs.btree.nodes.Nodes.store_above.Goals.{After-push}
-use Rattle.range_store.proofs.btree.nodes.Nodes.store_above.Given.{Over}
 
 pub take_last-number-requires : goal.take_last-number-requires
 take_last-number-requires g c =
     let s = c.self.inside in
     omega (
       arith,
-      spares_left s.slab s.spares.items c.self.invariant.0 1
-          (rw (← c.self.view_is) at c.requires),
+      spares_left s.slab s.rows s.spares.items c.self.invariant.0 1 (rw (← c.self.view_is) at c.requires),
       s.spares.ok.0,
     )
 
 pub index_mut-requires : goal.index_mut-requires
 index_mut-requires g c =
     let s = c.self.inside in
-    spare_found s.slab s.spares.items c.take_last-number.new.self.items c.self.invariant.0
+    spare_found s.slab s.rows s.spares.items c.take_last-number.new.self.items c.self.invariant.0
     c.take_last-number.result c.take_last-number.ensures.items
-
--- the spare has nothing
-blank_items : (g : Over) (c : After-push g) → c.index_mut.result.now.items.items ≡ []
-blank_items g c =
-    let s = c.self.inside in
-    bare_items s.slab s.spares.items c.take_last-number.new.self.items c.self.invariant.0
-    c.take_last-number.result c.take_last-number.ensures.items c.index_mut.result.now
-    c.index_mut.ensures.value
-
-blank_children : (g : Over) (c : After-push g) → c.index_mut.result.now.children.items ≡ []
-blank_children g c =
-    let s = c.self.inside in
-    bare_children s.slab s.spares.items c.take_last-number.new.self.items c.self.invariant.0
-    c.take_last-number.result c.take_last-number.ensures.items c.index_mut.result.now
-    c.index_mut.ensures.value
 
 pub push-requires : goal.push-requires
 push-requires g c =
-    let s = c.self.inside in (
-      omega arith,
-      omega (
-        arith,
-        ap length (bare_children s.slab s.spares.items c.take_last-number.new.self.items c.self.invariant.0
-            c.take_last-number.result c.take_last-number.ensures.items c.index_mut.result.now
-            c.index_mut.ensures.value),
-      ),
-    )
-
-rewritten : (g : Over) (c : After-push g) → IsRewritten c.index_mut.result.now (record c.index_mut.result.now { children = c.push.new.self }) ([]) (c.args.child ∷ [])
-rewritten g c =
-    record {
-      items_are = blank_items g c;
-      children_are = c.push.ensures.items ∙ ap (λ ks. ks ++ c.args.child ∷ [])
-          (blank_children g c);
-      room = omega arith;
-    }
+    let s = c.self.inside in
+    let bare = bare_children s.slab s.rows s.spares.items c.take_last-number.new.self.items c.self.invariant.0
+    c.take_last-number.result c.take_last-number.ensures.items c.index_mut.result.now c.index_mut.ensures.value in
+    let blank = bare_row s.slab s.rows s.spares.items c.take_last-number.new.self.items c.self.invariant.0
+    c.take_last-number.result c.take_last-number.ensures.items in
+    (omega arith, omega (arith, ap length bare))
 
 pub invariant_of-self : goal.invariant_of-self
 invariant_of-self g c =
     let s = c.self.inside in
-    let a = (goal.at.invariant_of-self g c).After-push in (
-      filled_whole s.slab s.spares.items c.self.invariant.0 c.take_last-number.result
-          c.index_mut.result.now _ c.index_mut.ensures.value _ _ (rewritten g a)
-          c.take_last-number.new.self.items c.take_last-number.ensures.items,
+    let bare = bare_children s.slab s.rows s.spares.items c.take_last-number.new.self.items c.self.invariant.0
+    c.take_last-number.result c.take_last-number.ensures.items c.index_mut.result.now c.index_mut.ensures.value in
+    let blank = bare_row s.slab s.rows s.spares.items c.take_last-number.new.self.items c.self.invariant.0
+    c.take_last-number.result c.take_last-number.ensures.items in (
+      rw (set-get_or s.rows c.take_last-number.result []) at (filled_whole s.slab s.rows s.spares.items c.self.invariant.0 c.take_last-number.result c.index_mut.result.now
+          (record c.index_mut.result.now { children = c.push.new.self }) c.index_mut.ensures.value (row_of s.rows c.take_last-number.result)
+          (row_len s.slab s.rows s.spares.items c.self.invariant.0 c.take_last-number.result c.index_mut.result.now c.index_mut.ensures.value) (c.args.child ∷ [])
+          (c.push.ensures.items ∙ ap (λ ks. ks ++ c.args.child ∷ []) bare) c.take_last-number.new.self.items c.take_last-number.ensures.items),
       omega (
         arith,
         c.self.invariant.1,
         c.take_last-number.ensures.capacity,
-        edited_len s.slab s.spares.items c.self.invariant.0 c.take_last-number.result
-            c.index_mut.result.now _ c.index_mut.ensures.value _ _ (rewritten g a),
+        edited_len s.slab s.rows s.spares.items c.self.invariant.0 c.take_last-number.result c.index_mut.result.now
+            (record c.index_mut.result.now { children = c.push.new.self }) c.index_mut.ensures.value (row_of s.rows c.take_last-number.result)
+            (row_len s.slab s.rows s.spares.items c.self.invariant.0 c.take_last-number.result c.index_mut.result.now c.index_mut.ensures.value) (c.args.child ∷ [])
+            (c.push.ensures.items ∙ ap (λ ks. ks ++ c.args.child ∷ []) bare),
       ),
     )
 
 pub returns : goal.returns
 returns g c =
     let s = c.self.inside in
-    let a = (goal.at.returns g c).After-push in
-    rw (← c.self.view_is) (filled s.slab s.spares.items c.self.invariant.0
-    c.take_last-number.result c.index_mut.result.now _ c.index_mut.ensures.value _ _ (rewritten g a)
-    c.take_last-number.new.self.items c.take_last-number.ensures.items)
+    let bare = bare_children s.slab s.rows s.spares.items c.take_last-number.new.self.items c.self.invariant.0
+    c.take_last-number.result c.take_last-number.ensures.items c.index_mut.result.now c.index_mut.ensures.value in
+    let blank = bare_row s.slab s.rows s.spares.items c.take_last-number.new.self.items c.self.invariant.0
+    c.take_last-number.result c.take_last-number.ensures.items in
+    rw (← c.self.view_is) (rw (set-get_or s.rows c.take_last-number.result [], blank) at (filled s.slab s.rows s.spares.items c.self.invariant.0 c.take_last-number.result c.index_mut.result.now
+    (record c.index_mut.result.now { children = c.push.new.self }) c.index_mut.ensures.value (row_of s.rows c.take_last-number.result)
+    (row_len s.slab s.rows s.spares.items c.self.invariant.0 c.take_last-number.result c.index_mut.result.now c.index_mut.ensures.value) (c.args.child ∷ [])
+    (c.push.ensures.items ∙ ap (λ ks. ks ++ c.args.child ∷ []) bare) c.take_last-number.new.self.items c.take_last-number.ensures.items))

@@ -1,111 +1,90 @@
-use Rattle.std.proofs.Common.{◌≡◌, ◌<◌, [], ◌∷◌, ◌++◌, length, arith, refl, ap, ◌∙◌, length-append}
-use Rattle.range_store.specs.Spares.{IsRewritten}
-use Rattle.range_store.proofs.Spares.{bare_children, bare_items, edited_len, filled, filled_whole, spare_found, spares_left}
+use Rattle.std.proofs.Common.{◌≡◌, ◌<◌, ◌≤◌, ◌+◌, ◌-◌, [], ◌∷◌, ◌++◌, length, get_or, take, drop, arith, refl, sym, ap, ◌∙◌, length-append}
+use Rattle.std.specs.Prelude.{slice_get}
+use Rattle.std.specs.List.{insert, remove}
+use Rattle.std.specs.Vec.Iter.{into_iter_items}
+use Rattle.std.proofs.lemmas.List.{length-take-le}
+use Rattle.std.proofs.lemmas.List.Edits.{length-insert, length-remove}
+use Rattle.range_store.specs.Heap.{node_of, items_of, children_of, with_child}
+use Rattle.range_store.specs.Rows.{row_of}
+use Rattle.range_store.specs.Spares.{heap_of, contents, without}
+use Rattle.range_store.proofs.Spares.{added, added_whole, bare_children, bare_row, children_seen, counted, edited, edited_len, edited_whole, emptied, emptied_whole, fewer_spares, filled, filled_whole, fits_count, found, grown, grown_whole, item_whole, item_written, items_seen, len_seen, none_whole, row_len, row_there, spare_found, spare_there, spares_left}
 use Rattle.range_store.proofs.btree.nodes.Nodes.store_branch.Goals as goal
-use Rattle.range_store.proofs.btree.nodes.Nodes.store_branch.Goals.{After-push-2}
-use Rattle.range_store.proofs.btree.nodes.Nodes.store_branch.Given.{Over}
 
 pub take_last-number-requires : goal.take_last-number-requires
 take_last-number-requires g c =
     let s = c.self.inside in
     omega (
       arith,
-      spares_left s.slab s.spares.items c.self.invariant.0 1
-          (rw (← c.self.view_is) at c.requires),
+      spares_left s.slab s.rows s.spares.items c.self.invariant.0 1 (rw (← c.self.view_is) at c.requires),
       s.spares.ok.0,
     )
 
 pub index_mut-node-requires : goal.index_mut-node-requires
 index_mut-node-requires g c =
     let s = c.self.inside in
-    spare_found s.slab s.spares.items c.take_last-number.new.self.items c.self.invariant.0
+    spare_found s.slab s.rows s.spares.items c.take_last-number.new.self.items c.self.invariant.0
     c.take_last-number.result c.take_last-number.ensures.items
 
--- the spare has nothing
-blank_items : (g : Over) (c : After-push-2 g) → c.index_mut-node.result.now.items.items ≡ []
-blank_items g c =
+pub put-requires-clause-number : goal.put-requires-clause-number
+put-requires-clause-number g c =
     let s = c.self.inside in
-    bare_items s.slab s.spares.items c.take_last-number.new.self.items c.self.invariant.0
-    c.take_last-number.result c.take_last-number.ensures.items c.index_mut-node.result.now
-    c.index_mut-node.ensures.value
+    spare_there s.slab s.rows s.spares.items c.take_last-number.new.self.items c.self.invariant.0
+    c.take_last-number.result c.take_last-number.ensures.items
 
-blank_children : (g : Over) (c : After-push-2 g) → c.index_mut-node.result.now.children.items ≡ []
-blank_children g c =
+pub put-requires-clause-len : goal.put-requires-clause-len
+put-requires-clause-len g c =
     let s = c.self.inside in
-    bare_children s.slab s.spares.items c.take_last-number.new.self.items c.self.invariant.0
-    c.take_last-number.result c.take_last-number.ensures.items c.index_mut-node.result.now
-    c.index_mut-node.ensures.value
-
-pub push_reserved-requires : goal.push_reserved-requires
-push_reserved-requires g c =
-    let s = c.self.inside in
-    omega (
-      arith,
-      ap length (bare_items s.slab s.spares.items c.take_last-number.new.self.items c.self.invariant.0
-          c.take_last-number.result c.take_last-number.ensures.items c.index_mut-node.result.now
-          c.index_mut-node.ensures.value),
-      c.index_mut-node.result.now.items.ok.0,
-      c.self.invariant.0.roomy c.take_last-number.result c.index_mut-node.result.now
-          c.index_mut-node.ensures.value,
-    )
+    sym (ap length (bare_row s.slab s.rows s.spares.items c.take_last-number.new.self.items c.self.invariant.0
+    c.take_last-number.result c.take_last-number.ensures.items))
 
 pub push-requires : goal.push-requires
 push-requires g c =
-    let s = c.self.inside in (
-      omega arith,
-      omega (
-        arith,
-        ap length (bare_children s.slab s.spares.items c.take_last-number.new.self.items c.self.invariant.0
-            c.take_last-number.result c.take_last-number.ensures.items c.index_mut-node.result.now
-            c.index_mut-node.ensures.value),
-      ),
-    )
+    let s = c.self.inside in
+    let bare = bare_children s.slab s.rows s.spares.items c.take_last-number.new.self.items c.self.invariant.0
+    c.take_last-number.result c.take_last-number.ensures.items c.index_mut-node.result.now c.index_mut-node.ensures.value in
+    (omega arith, omega (arith, ap length bare))
 
 pub push-requires-2 : goal.push-requires-2
 push-requires-2 g c =
     let s = c.self.inside in
-    let none = ap length (bare_children s.slab s.spares.items c.take_last-number.new.self.items c.self.invariant.0
-    c.take_last-number.result c.take_last-number.ensures.items c.index_mut-node.result.now
-    c.index_mut-node.ensures.value) in (
+    let bare = bare_children s.slab s.rows s.spares.items c.take_last-number.new.self.items c.self.invariant.0
+    c.take_last-number.result c.take_last-number.ensures.items c.index_mut-node.result.now c.index_mut-node.ensures.value in (
       omega arith,
       omega (
         arith,
         ap length c.push.ensures.items,
         length-append c.index_mut-node.result.now.children.items (c.args.left ∷ []),
-        none,
+        ap length bare,
       ),
     )
-
-rewritten : (g : Over) (c : After-push-2 g) → IsRewritten c.index_mut-node.result.now (record c.index_mut-node.result.now { items = c.push_reserved.new.self; children = c.push-2.new.self }) (c.args.middle ∷ []) (c.args.left ∷ c.args.right ∷ [])
-rewritten g c =
-    record {
-      items_are = c.push_reserved.ensures.items ∙ ap (λ xs. xs ++ c.args.middle ∷ [])
-          (blank_items g c);
-      children_are = c.push-2.ensures.items ∙ ap (λ ks. ks ++ c.args.right ∷ [])
-          (c.push.ensures.items ∙ ap (λ ks. ks ++ c.args.left ∷ []) (blank_children g c));
-      room = omega (arith, c.push_reserved.ensures.capacity);
-    }
 
 pub invariant_of-self : goal.invariant_of-self
 invariant_of-self g c =
     let s = c.self.inside in
-    let a = (goal.at.invariant_of-self g c).After-push-2 in (
-      filled_whole s.slab s.spares.items c.self.invariant.0 c.take_last-number.result
-          c.index_mut-node.result.now _ c.index_mut-node.ensures.value _ _ (rewritten g a)
-          c.take_last-number.new.self.items c.take_last-number.ensures.items,
+    let blank = bare_row s.slab s.rows s.spares.items c.take_last-number.new.self.items c.self.invariant.0
+    c.take_last-number.result c.take_last-number.ensures.items in
+    let bare = bare_children s.slab s.rows s.spares.items c.take_last-number.new.self.items c.self.invariant.0
+    c.take_last-number.result c.take_last-number.ensures.items c.index_mut-node.result.now c.index_mut-node.ensures.value in (
+      rw (c.put.ensures, ap (λ xs. insert xs 0 c.args.middle) blank) (filled_whole s.slab s.rows s.spares.items c.self.invariant.0 c.take_last-number.result c.index_mut-node.result.now (record c.index_mut-node.result.now { len = 1; children = c.push-2.new.self })
+          c.index_mut-node.ensures.value (c.args.middle ∷ []) (refl) (c.args.left ∷ c.args.right ∷ []) (c.push-2.ensures.items ∙ ap (λ ks. ks ++ c.args.right ∷ [])
+          (c.push.ensures.items ∙ ap (λ ks. ks ++ c.args.left ∷ []) bare)) c.take_last-number.new.self.items c.take_last-number.ensures.items),
       omega (
         arith,
         c.self.invariant.1,
         c.take_last-number.ensures.capacity,
-        edited_len s.slab s.spares.items c.self.invariant.0 c.take_last-number.result
-            c.index_mut-node.result.now _ c.index_mut-node.ensures.value _ _ (rewritten g a),
+        edited_len s.slab s.rows s.spares.items c.self.invariant.0 c.take_last-number.result c.index_mut-node.result.now (record c.index_mut-node.result.now { len = 1; children = c.push-2.new.self })
+            c.index_mut-node.ensures.value (c.args.middle ∷ []) (refl) (c.args.left ∷ c.args.right ∷ []) (c.push-2.ensures.items ∙ ap (λ ks. ks ++ c.args.right ∷ [])
+            (c.push.ensures.items ∙ ap (λ ks. ks ++ c.args.left ∷ []) bare)),
       ),
     )
 
 pub returns : goal.returns
 returns g c =
     let s = c.self.inside in
-    let a = (goal.at.returns g c).After-push-2 in
-    rw (← c.self.view_is) (filled s.slab s.spares.items c.self.invariant.0
-    c.take_last-number.result c.index_mut-node.result.now _ c.index_mut-node.ensures.value _ _ (rewritten g a)
-    c.take_last-number.new.self.items c.take_last-number.ensures.items)
+    let blank = bare_row s.slab s.rows s.spares.items c.take_last-number.new.self.items c.self.invariant.0
+    c.take_last-number.result c.take_last-number.ensures.items in
+    let bare = bare_children s.slab s.rows s.spares.items c.take_last-number.new.self.items c.self.invariant.0
+    c.take_last-number.result c.take_last-number.ensures.items c.index_mut-node.result.now c.index_mut-node.ensures.value in
+    rw (← c.self.view_is, c.put.ensures, ap (λ xs. insert xs 0 c.args.middle) blank) (filled s.slab s.rows s.spares.items c.self.invariant.0 c.take_last-number.result c.index_mut-node.result.now (record c.index_mut-node.result.now { len = 1; children = c.push-2.new.self })
+    c.index_mut-node.ensures.value (c.args.middle ∷ []) (refl) (c.args.left ∷ c.args.right ∷ []) (c.push-2.ensures.items ∙ ap (λ ks. ks ++ c.args.right ∷ [])
+    (c.push.ensures.items ∙ ap (λ ks. ks ++ c.args.left ∷ []) bare)) c.take_last-number.new.self.items c.take_last-number.ensures.items)

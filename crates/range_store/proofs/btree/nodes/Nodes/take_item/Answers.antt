@@ -1,48 +1,64 @@
-use Rattle.std.proofs.Common.{◌<◌, length, arith, ap, get_or, refl, ◌∙◌, sym}
-use Rattle.std.specs.List.{remove}
-use Rattle.range_store.specs.Spares.{IsRewritten}
-use Rattle.range_store.proofs.Spares.{children_seen, edited, edited_len, edited_whole, found, items_seen}
+use Rattle.std.proofs.Common.{◌≡◌, ◌<◌, ◌≤◌, ◌+◌, ◌-◌, [], ◌∷◌, ◌++◌, length, get_or, take, drop, arith, refl, sym, ap, ◌∙◌, length-append}
+use Rattle.std.specs.Prelude.{slice_get}
+use Rattle.std.specs.List.{insert, remove}
+use Rattle.std.specs.Vec.Iter.{into_iter_items}
+use Rattle.std.proofs.lemmas.List.{length-take-le}
+use Rattle.std.proofs.lemmas.List.Edits.{length-insert, length-remove}
+use Rattle.range_store.specs.Heap.{node_of, items_of, children_of, with_child}
+use Rattle.range_store.specs.Rows.{row_of}
+use Rattle.range_store.specs.Spares.{heap_of, contents, without}
+use Rattle.range_store.proofs.Spares.{added, added_whole, bare_children, bare_row, children_seen, counted, edited, edited_len, edited_whole, emptied, emptied_whole, fewer_spares, filled, filled_whole, fits_count, found, grown, grown_whole, item_whole, item_written, items_seen, len_seen, none_whole, row_len, row_there, spare_found, spare_there, spares_left}
 use Rattle.range_store.proofs.btree.nodes.Nodes.take_item.Goals as goal
-use Rattle.range_store.proofs.btree.nodes.Nodes.take_item.Goals.{After-remove}
-use Rattle.range_store.proofs.btree.nodes.Nodes.take_item.Given.{Over}
 
 pub index_mut-requires : goal.index_mut-requires
 index_mut-requires g c =
-    found c.self.inside.slab c.self.inside.spares.items c.args.number
-    (rw (← c.self.view_is) at c.requires.present)
-
-pub remove-requires : goal.remove-requires
-remove-requires g c =
     let s = c.self.inside in
     let present = rw (← c.self.view_is) at c.requires.present in
-    let items = items_seen s.slab s.spares.items c.args.number c.index_mut.result.now present
-    c.index_mut.ensures.value in
-    let within : c.args.index < length c.index_mut.result.now.items.items =
-    rw (← items) (rw (← c.self.view_is) at c.requires.within) in
-    omega (arith, c.index_mut.result.now.items.ok.0, within)
+    found s.slab s.rows s.spares.items c.args.number present
 
-rewritten : (g : Over) (c : After-remove g) → IsRewritten c.index_mut.result.now
-    (record c.index_mut.result.now { items = c.remove.new.self })
-    (remove c.index_mut.result.now.items.items c.args.index)
-    c.index_mut.result.now.children.items
-rewritten g c = record {
-  items_are = c.remove.ensures.items;
-  children_are = refl;
-  room = omega (arith, c.remove.ensures.capacity);
-}
+pub take-requires-clause-number : goal.take-requires-clause-number
+take-requires-clause-number g c =
+    let s = c.self.inside in
+    let present = rw (← c.self.view_is) at c.requires.present in
+    row_there s.slab s.rows s.spares.items c.self.invariant.0 c.args.number present
+
+pub take-requires-clause-len : goal.take-requires-clause-len
+take-requires-clause-len g c =
+    let s = c.self.inside in
+    let present = rw (← c.self.view_is) at c.requires.present in
+    let items = items_seen s.slab s.rows s.spares.items c.args.number present in
+    (rw (← c.self.view_is) at c.item_count-len.ensures) ∙ ap length items
+
+pub take-requires-clause-within : goal.take-requires-clause-within
+take-requires-clause-within g c =
+    let s = c.self.inside in
+    let present = rw (← c.self.view_is) at c.requires.present in
+    omega (arith, rw (← c.self.view_is) at c.item_count-len.ensures, rw (← c.self.view_is) at c.requires.within)
 
 pub invariant_of-self : goal.invariant_of-self
 invariant_of-self g c =
     let s = c.self.inside in
     let present = rw (← c.self.view_is) at c.requires.present in
-    let a = (goal.at.invariant_of-self g c).After-remove in (
-      edited_whole s.slab s.spares.items c.self.invariant.0 c.args.number c.index_mut.result.now _
-          c.index_mut.ensures.value _ _ (rewritten g a) present,
+    let items = items_seen s.slab s.rows s.spares.items c.args.number present in
+    let len = len_seen s.slab s.rows s.spares.items c.self.invariant.0 c.args.number c.index_mut.result.now present c.index_mut.ensures.value in
+    let children = children_seen s.slab s.rows s.spares.items c.args.number c.index_mut.result.now present c.index_mut.ensures.value in
+    let row = row_of s.rows c.args.number in
+    let within : c.args.index < length row = omega (arith, ap length items, rw (← c.self.view_is) at c.requires.within) in
+    let shorter : (record c.index_mut.result.now { len = c.item_count-len.result - 1 }).len ≡ length (remove row c.args.index) =
+    omega (
+      arith,
+      rw (← c.self.view_is) at c.item_count-len.ensures,
+      len,
+      ap length items,
+      length-remove row c.args.index within,
+    ) in (
+      rw c.take.ensures.rest (edited_whole s.slab s.rows s.spares.items c.self.invariant.0 c.args.number c.index_mut.result.now (record c.index_mut.result.now { len = c.item_count-len.result - 1 })
+          c.index_mut.ensures.value _ shorter c.index_mut.result.now.children.items refl present),
       omega (
         arith,
         c.self.invariant.1,
-        edited_len s.slab s.spares.items c.self.invariant.0 c.args.number c.index_mut.result.now _
-            c.index_mut.ensures.value _ _ (rewritten g a),
+        edited_len s.slab s.rows s.spares.items c.self.invariant.0 c.args.number c.index_mut.result.now (record c.index_mut.result.now { len = c.item_count-len.result - 1 })
+            c.index_mut.ensures.value _ shorter c.index_mut.result.now.children.items refl,
       ),
     )
 
@@ -50,14 +66,21 @@ pub returns : goal.returns
 returns g c =
     let s = c.self.inside in
     let present = rw (← c.self.view_is) at c.requires.present in
-    let items = items_seen s.slab s.spares.items c.args.number c.index_mut.result.now present
-    c.index_mut.ensures.value in
-    let children = children_seen s.slab s.spares.items c.args.number c.index_mut.result.now present
-    c.index_mut.ensures.value in
-    let a = (goal.at.returns g c).After-remove in
+    let items = items_seen s.slab s.rows s.spares.items c.args.number present in
+    let len = len_seen s.slab s.rows s.spares.items c.self.invariant.0 c.args.number c.index_mut.result.now present c.index_mut.ensures.value in
+    let children = children_seen s.slab s.rows s.spares.items c.args.number c.index_mut.result.now present c.index_mut.ensures.value in
+    let row = row_of s.rows c.args.number in
+    let within : c.args.index < length row = omega (arith, ap length items, rw (← c.self.view_is) at c.requires.within) in
+    let shorter : (record c.index_mut.result.now { len = c.item_count-len.result - 1 }).len ≡ length (remove row c.args.index) =
+    omega (
+      arith,
+      rw (← c.self.view_is) at c.item_count-len.ensures,
+      len,
+      ap length items,
+      length-remove row c.args.index within,
+    ) in
     rw (← c.self.view_is) (record {
-      value = c.remove.ensures.value ∙ ap (λ xs. get_or xs c.args.index c.remove.result)
-          (sym items);
-      rest = rw (items, children) (edited s.slab s.spares.items c.self.invariant.0 c.args.number
-          c.index_mut.result.now _ c.index_mut.ensures.value _ _ (rewritten g a) present);
+      value = c.take.ensures.item ∙ ap (λ xs. get_or xs c.args.index c.take.result) (sym items);
+      rest = rw (items, children, c.take.ensures.rest) (edited s.slab s.rows s.spares.items c.self.invariant.0 c.args.number c.index_mut.result.now (record c.index_mut.result.now { len = c.item_count-len.result - 1 })
+          c.index_mut.ensures.value _ shorter c.index_mut.result.now.children.items refl present);
     })

@@ -1,0 +1,53 @@
+"""Makes a wheel for this platform: python3 setup.py bdist_wheel. The shared library lies in btree_range_map/.
+
+setuptools before 70.1 makes wheels by the package `wheel` alone, which need not be there, so the command is given here.
+"""
+
+import base64
+import csv
+import hashlib
+import io
+import pathlib
+import sysconfig
+import zipfile
+
+from setuptools import Command, setup
+
+TAG = f"py3-none-{sysconfig.get_platform().replace('-', '_').replace('.', '_')}"
+
+
+class bdist_wheel(Command):
+    """Puts the built package and its metadata into one archive."""
+
+    user_options = [("dist-dir=", "d", "where the wheel is put")]
+
+    def initialize_options(self):
+        self.dist_dir = "dist"
+
+    def finalize_options(self):
+        pass
+
+    def run(self):
+        self.run_command("build_py")
+        self.run_command("egg_info")
+        built = pathlib.Path(self.get_finalized_command("build_py").build_lib)
+        metadata = pathlib.Path(self.get_finalized_command("egg_info").egg_info, "PKG-INFO").read_bytes()
+        name = f"{self.distribution.get_name().replace('-', '_')}-{self.distribution.get_version()}"
+        files = [(str(it.relative_to(built)), it.read_bytes()) for it in sorted(built.rglob("*")) if it.is_file()]
+        wheel = f"Wheel-Version: 1.0\nGenerator: setup.py\nRoot-Is-Purelib: false\nTag: {TAG}\n"
+        files += [(f"{name}.dist-info/METADATA", metadata), (f"{name}.dist-info/WHEEL", wheel.encode())]
+        record = io.StringIO()
+        lines = csv.writer(record, lineterminator="\n")
+        for path, data in files:
+            digest = base64.urlsafe_b64encode(hashlib.sha256(data).digest()).rstrip(b"=").decode()
+            lines.writerow([path, f"sha256={digest}", len(data)])
+        lines.writerow([f"{name}.dist-info/RECORD", "", ""])
+        files.append((f"{name}.dist-info/RECORD", record.getvalue().encode()))
+        folder = pathlib.Path(self.dist_dir)
+        folder.mkdir(parents=True, exist_ok=True)
+        with zipfile.ZipFile(folder / f"{name}-{TAG}.whl", "w", zipfile.ZIP_DEFLATED) as archive:
+            for path, data in files:
+                archive.writestr(path, data)
+
+
+setup(cmdclass={"bdist_wheel": bdist_wheel}, has_ext_modules=lambda: True)

@@ -1,0 +1,373 @@
+"""Tests of the package: python3 -m unittest in this folder, with the package installed or RANGE_MAP_LIBRARY set."""
+
+import copy
+import doctest
+import gc
+import json
+import os
+import pickle
+import random
+import threading
+import time
+import unittest
+
+import btree_range_map
+from btree_range_map import Connected, NotLoaded, Range, RangeMap, RangeSet
+
+#: How many random calls the comparisons with plain dicts make.
+CALLS = int(os.environ.get("RANGE_MAP_CALLS", "20000"))
+
+
+def keys_of(keys):
+    """The keys of a range that has both ends."""
+    return range(keys.start + (not keys.holds_start), keys.end + keys.holds_end)
+
+
+class Index:
+    """A whole number of another library, as numpy has them."""
+
+    def __init__(self, number):
+        self.number = number
+
+    def __index__(self):
+        return self.number
+
+
+class Maps(unittest.TestCase):
+    def test_ranges_are_joined_and_cut(self):
+        ports = RangeMap([(slice(0, 1024), 1), (80, 2)])
+        self.assertEqual((ports[80], ports[81], len(ports), ports.key_count()), (2, 1, 3, 1024))
+        self.assertEqual(list(ports.items())[1:], [(Range(80, 80, True, True), 2), (Range(80, 1024, False), 1)])
+        self.assertEqual(list(ports)[0], Range(0, 80))
+        ports[80] = 1
+        self.assertEqual((len(ports), ports.entry(5)), (1, (Range(0, 1024), 1)))
+        del ports[10:20]
+        self.assertNotIn(10, ports)
+        self.assertIn(20, ports)
+        self.assertIsNone(ports.get(15))
+        self.assertEqual(ports.get(15, 7), 7)
+        with self.assertRaises(KeyError):
+            ports[15]
+
+    def test_values_of_any_type(self):
+        room = RangeMap({Range(0, 10): "free", range(3, 5): None, 7: 1.5})
+        self.assertEqual([room[0], room[4], room[7], room[9]], ["free", None, 1.5, "free"])
+        some, more = [1], [1]
+        room[0:2], room[2:4] = some, more
+        self.assertIs(room[0], some)
+        self.assertIs(room[3], more)
+        self.assertEqual(len([value for value in room.values() if value == [1]]), 2)
+        room[0:4] = some
+        self.assertEqual(room.entry(3), (Range(0, 4), some))
+        room[20:30] = (1, 2)
+        room[30:40] = tuple([1, 2])
+        self.assertEqual(room.last(), (Range(20, 40), (1, 2)))
+
+    def test_values_that_are_not_used_are_freed(self):
+        numbers = RangeMap()
+        for at in range(10_000):
+            numbers[at % 50] = f"value {at}"
+        self.assertEqual(len(numbers), 50)
+        self.assertLess(len(numbers._values.by_number), 300)
+        self.assertEqual(numbers[49], "value 9999")
+
+    def test_bounds_of_each_kind(self):
+        keys = RangeMap(keys="i64")
+        keys[:] = 1
+        self.assertEqual((keys.key_count(), keys.first()), (2**64, (Range(None, None, False, False), 1)))
+        del keys[-5:5]
+        self.assertEqual(keys.last(), (Range(5, None, True, False), 1))
+        self.assertEqual(list(keys), [Range(None, -5, False, False), Range(5, None, True, False)])
+        keys[Range(-5, 5, False, True)] = 2
+        self.assertEqual((keys[-4], keys[5], keys.get(-5), keys[-6]), (2, 2, None, 1))
+        self.assertEqual([keys.pop_first()[1], keys.pop_last()[1], keys.pop_last()[1]], [1, 1, 2])
+        self.assertIsNone(keys.pop_last())
+
+    def test_keys_of_each_kind(self):
+        for name, least, greatest in [("u8", 0, 255), ("i8", -128, 127), ("u32", 0, 2**32 - 1), ("i64", -(2**63), 2**63 - 1)]:
+            keys, held = RangeMap(keys=name), RangeSet(keys=name)
+            keys[:] = "all"
+            held.add(slice(None))
+            self.assertEqual((keys.key_count(), held.key_count()), (greatest - least + 1,) * 2)
+            self.assertEqual((keys[least], keys[greatest], least in held, greatest + 1 in held), ("all", "all", True, False))
+            with self.assertRaises(OverflowError):
+                keys[greatest + 1] = 1
+            held.discard(least)
+            self.assertEqual(list(held.gaps()), [Range(least, least, True, True)])
+            self.assertEqual(list(held.complement() | held), list(RangeSet([slice(least, None)], keys=name)))
+            keys[least : greatest + 1] = 5
+            self.assertEqual(len(keys), 1)
+        self.assertEqual(RangeSet([slice(0, 1)], keys="i8").to_json(), '[[{"Included":0},{"Excluded":1}]]')
+
+    def test_characters(self):
+        kinds = RangeMap([(Range("a", "z", True, True), "letter"), ("e", "vowel")], keys="char")
+        self.assertEqual((kinds["e"], kinds["f"], len(kinds), kinds.get("E")), ("vowel", "letter", 3, None))
+        letters = RangeSet([Range("a", "\ud7ff", True, True), Range("\ue000", "\ue010")], keys="char")
+        self.assertEqual(letters.first(), Range("a", "\ue010"))
+        self.assertNotIn("\ud800", letters)
+        self.assertNotIn("ab", letters)
+        read = RangeMap(keys="char")
+        read.load_json(kinds.to_json())
+        self.assertEqual(read, kinds)
+        self.assertEqual(read.to_json(), kinds.to_json())
+
+    def test_refusals_change_nothing(self):
+        keys = RangeMap([(slice(0, 10), 1)])
+        with self.assertRaises(Connected):
+            keys.insert_disconnected(slice(10, 20), 2)
+        keys.insert_disconnected(slice(11, 20), 2)
+        self.assertFalse(keys.try_insert(slice(9, 12), 3))
+        for wrong, error in [(-1, OverflowError), (2**64, OverflowError), ("a", TypeError), (1.5, TypeError), (None, TypeError)]:
+            with self.assertRaises(error):
+                keys[wrong] = 1
+            with self.assertRaises(TypeError if error is TypeError else KeyError):
+                keys[wrong]
+            self.assertNotIn(wrong, keys)
+        self.assertEqual((len(keys), keys.last()), (2, (Range(11, 20), 2)))
+        with self.assertRaises(TypeError):
+            keys[0:5]
+        with self.assertRaises(ValueError):
+            keys[0:5:2] = 1
+        keys[0 : 2**64] = 3
+        self.assertEqual((len(keys), keys.key_count()), (1, 2**64))
+        keys[Index(5)] = 4
+        self.assertEqual((keys[5], keys[Index(5)], Index(5) in keys), (4, 4, True))
+
+    def test_closed_collections_raise(self):
+        with RangeMap([(1, 1)]) as keys:
+            self.assertEqual(keys[1], 1)
+        keys.close()
+        self.assertEqual(len(keys), 0)
+        for call in (lambda: keys[1], keys.first, keys.clear, keys.key_count, keys.to_json, keys.copy, lambda: list(keys)):
+            with self.assertRaises(RuntimeError):
+                call()
+
+    def test_copies_share_nothing(self):
+        first = RangeMap([(slice(0, 10), "a"), (20, ["b"])], keys="i64")
+        for made in (copy.copy(first), copy.deepcopy(first), pickle.loads(pickle.dumps(first)), first.copy()):
+            self.assertEqual((made, made.keys_kind), (first, "i64"))
+            made[0:5] = "c"
+            self.assertEqual((first[0], made[0], first != made), ("a", "c", True))
+            made.close()
+        self.assertEqual((first[0], len(first)), ("a", 2))
+        self.assertIs(copy.copy(first)[20], first[20])
+        self.assertIsNot(copy.deepcopy(first)[20], first[20])
+        keys = RangeSet([slice(0, 10), 20])
+        for made in (copy.copy(keys), copy.deepcopy(keys), pickle.loads(pickle.dumps(keys))):
+            self.assertEqual(made, keys)
+            made.add(100)
+            self.assertNotEqual(made, keys)
+
+    def test_a_second_init_starts_anew(self):
+        keys = RangeMap([(1, 1)])
+        keys.__init__([(2, 2)])
+        self.assertEqual(repr(keys), "RangeMap({2: 2})")
+
+    def test_equality_is_of_bindings(self):
+        self.assertEqual(RangeMap([(slice(0, 10), 1)]), RangeMap([(Range(0, 9, True, True), 1)]))
+        self.assertNotEqual(RangeMap([(slice(0, 10), 1)]), RangeMap([(slice(0, 10), 2)]))
+        self.assertNotEqual(RangeMap(), RangeMap(keys="i64"))
+        self.assertFalse(RangeMap() == {})
+        with self.assertRaises(TypeError):
+            hash(RangeMap())
+
+    def test_a_range_tells_its_keys(self):
+        self.assertTrue(5 in Range(0, 10) and 0 in Range(0, 10) and 10 not in Range(0, 10))
+        self.assertTrue(0 not in Range(0, 10, False) and 10 in Range(0, 10, True, True) and 7 in Range(None, None))
+        self.assertNotIn("a", Range(0, 10))
+        self.assertIn("b", Range("a", "c"))
+
+    def test_parts_of_a_map(self):
+        keys = RangeMap([(slice(0, 10), "a"), (slice(20, 30), "b"), (slice(30, 40), "c")])
+        self.assertEqual([str(value) for _, value in keys.overlapping(slice(5, 31))], ["a", "b", "c"])
+        pieces = [(keys_of(part), value) for part, value in keys.pieces(slice(5, 31))]
+        self.assertEqual(pieces, [(range(5, 10), "a"), (range(20, 30), "b"), (range(30, 31), "c")])
+        self.assertEqual([keys_of(gap) for gap in keys.gaps(slice(5, 50))], [range(10, 20), range(40, 50)])
+        self.assertEqual(list(keys.gaps(slice(2, 8))), [])
+        self.assertEqual([gap.start for gap in keys.gaps()], [10, 40])
+        self.assertEqual(list(keys.gaps(slice(5, 5))), [])
+        rest = keys.split_off(25)
+        self.assertEqual((repr(keys), repr(rest)), ("RangeMap({0:10: 'a', 20:25: 'b'})", "RangeMap({25:30: 'b', 30:40: 'c'})"))
+        self.assertEqual((keys | rest)[39], "c")
+        self.assertEqual(repr((keys | rest) & RangeSet([slice(8, 22)])), "RangeMap({8:10: 'a', 20:22: 'b'})")
+        self.assertEqual(repr(keys - RangeSet([slice(5, 22)])), "RangeMap({0:5: 'a', 22:25: 'b'})")
+        self.assertEqual((keys.setdefault(0, "x"), keys.setdefault(11, "x"), keys.pop(11), keys.pop(11, None)), ("a", "x", "x", None))
+        self.assertEqual([keys.next(15), keys.previous(15)], [(Range(20, 25), "b"), (Range(0, 10), "a")])
+        self.assertEqual(list(reversed(keys)), list(keys)[::-1])
+        self.assertEqual(list(zip(keys.keys(), keys.values())), list(keys.items()))
+
+    def test_many_ranges_are_read_in_batches(self):
+        for count in (0, 1, 255, 256, 257, 512, 1000):
+            keys = RangeMap((slice(10 * at, 10 * at + 5), at) for at in range(count))
+            self.assertEqual([value for _, value in keys.items()], list(range(count)))
+            self.assertEqual([keys.start // 10 for keys in reversed(keys)], list(range(count))[::-1])
+            touching = RangeMap((Range(at, at, True, True), at) for at in range(count))
+            self.assertEqual([value for _, value in touching.items()], list(range(count)))
+            self.assertEqual(len(list(reversed(touching))), count)
+            self.assertEqual(len(list(RangeSet(keys))), count)
+
+    def test_random_calls_answer_as_a_dict(self):
+        numbers = random.Random(5)
+        keys, wanted = RangeMap(keys="i64"), {}
+        for step in range(CALLS):
+            start = numbers.randrange(-150, 150)
+            span = range(start, start + numbers.randrange(30))
+            value = ("value", numbers.randrange(3) + step // 500)
+            call = numbers.randrange(6)
+            if call < 3:
+                keys[span] = value
+                wanted.update((key, value) for key in span)
+            elif call == 3:
+                del keys[span]
+                for key in span:
+                    wanted.pop(key, None)
+            elif call == 4:
+                is_free = not any(key in wanted for key in span)
+                self.assertEqual(keys.try_insert(span, value), is_free)
+                if is_free:
+                    wanted.update((key, value) for key in span)
+            else:
+                pieces = [(key, value) for part, value in keys.pieces(span) for key in keys_of(part)]
+                self.assertEqual(pieces, [(key, wanted[key]) for key in span if key in wanted])
+                gaps = [key for part in keys.gaps(span) for key in keys_of(part)]
+                self.assertEqual(gaps, [key for key in span if key not in wanted])
+            key = numbers.randrange(-170, 190)
+            self.assertEqual((keys.get(key), key in keys), (wanted.get(key), key in wanted))
+        self.assertEqual(keys.key_count(), len(wanted))
+        joins = (key for key in wanted if wanted.get(key - 1) == wanted[key])
+        self.assertEqual(len(keys), len(wanted) - sum(1 for _ in joins))
+        self.assertEqual(pickle.loads(pickle.dumps(keys)), keys)
+
+
+class Sets(unittest.TestCase):
+    def test_keys_are_added_and_taken(self):
+        keys = RangeSet([slice(0, 10), slice(20, 30), slice(10, 15)])
+        self.assertEqual((len(keys), keys.key_count()), (2, 25))
+        self.assertEqual(list(keys), [Range(0, 15), Range(20, 30)])
+        keys.discard(3)
+        self.assertTrue(3 not in keys and 4 in keys and keys.intersects(slice(3, 5)))
+        self.assertFalse(keys.intersects(slice(15, 20)))
+        self.assertEqual(keys.range_of(25), Range(20, 30))
+        with self.assertRaises(KeyError):
+            keys.remove(3)
+        keys.remove(4)
+        self.assertEqual((keys.first(), keys.pop_last()), (Range(0, 3), Range(20, 30)))
+        keys.clear()
+        self.assertEqual((len(keys), bool(keys)), (0, False))
+
+    def test_random_sets_answer_as_sets_of_keys(self):
+        numbers = random.Random(7)
+
+        def drawn(kind):
+            ranges = [range(at, at + numbers.randrange(20)) for at in (numbers.randrange(100) for _ in range(numbers.randrange(8)))]
+            return RangeSet(ranges, keys=kind), {key for span in ranges for key in span}
+
+        def held(ranges):
+            return {key for keys in ranges for key in keys_of(keys)}
+
+        for kind in ("u64", "i64", "u8") * 40:
+            (some, first), (more, second) = drawn(kind), drawn(kind)
+            for made, wanted in [(some | more, first | second), (some & more, first & second), (some - more, first - second), (some ^ more, first ^ second)]:
+                self.assertEqual(held(made), wanted)
+            self.assertEqual((some <= more, some < more, some >= more, some > more), (first <= second, first < second, first >= second, first > second))
+            self.assertEqual((some == more, some.isdisjoint(more)), (first == second, first.isdisjoint(second)))
+            self.assertEqual(held(some.gaps(slice(0, 120))), set(range(120)) - first)
+            self.assertTrue((some | some) == some == (some & some) and not some - some and not some ^ some and some <= some)
+            self.assertEqual(some.complement().complement(), some)
+        with self.assertRaises(TypeError):
+            some | [1]
+        with self.assertRaises(TypeError):
+            RangeSet() | RangeSet(keys="i64")
+        some.close()
+        with self.assertRaises(RuntimeError):
+            some & more
+
+    def test_texts_are_read_back(self):
+        keys = RangeSet([slice(0, 4)])
+        self.assertEqual(keys.to_json(), '[[{"Included":0},{"Excluded":4}]]')
+        for wrong in ("", "[", "[1]", "{}", '[[{"Included":-1},"Unbounded"]]', b"\xff", "\ud800", "[[]]", '[[{"Included":"a"},"Unbounded"]]'):
+            with self.assertRaises(NotLoaded):
+                keys.load_json(wrong)
+        self.assertEqual(list(keys), [Range(0, 4)])
+        keys.load_json(b'[["Unbounded",{"Included":9}]]')
+        self.assertEqual(keys.key_count(), 10)
+        numbers = RangeMap([(slice(0, 4), "a"), (slice(9, None), [1, None])])
+        read = RangeMap()
+        read.load_json(numbers.to_json())
+        self.assertEqual(list(read.items()), list(numbers.items()))
+        for wrong in ("{}", "[1]", "[[1,2]]", '{"items":[],"version":3}', json.dumps({"items": [[["Unbounded", "Unbounded"], 1]] * 2, "version": 2})):
+            with self.assertRaises(NotLoaded):
+                read.load_json(wrong)
+        self.assertEqual(read, numbers)
+        small = RangeMap(keys="u8")
+        small.load_json('{"items":[[["Unbounded","Unbounded"],"a"]],"version":2}')
+        self.assertEqual((small.key_count(), small.to_json()), (256, '{"items":[[[{"Included":0},{"Included":255}],"a"]],"version":2}'))
+        with self.assertRaises(NotLoaded):
+            small.load_json('{"items":[[[{"Included":256},"Unbounded"],"a"]],"version":2}')
+
+
+class Threads(unittest.TestCase):
+    def test_threads_share_a_map(self):
+        """Readers and writers of one map: no answer is wrong, and nothing crashes."""
+        keys = RangeMap((slice(10 * at, 10 * at + 10), ("first", at)) for at in range(200))
+        errors, ends = [], time.monotonic() + 2
+
+        def read(seed):
+            numbers = random.Random(seed)
+            while time.monotonic() < ends and not errors:
+                key = numbers.randrange(2000)
+                value = keys[key]
+                if value[1] != key // 10 or len(keys) < 200 or key not in keys:
+                    errors.append((key, value))
+
+        def write(seed):
+            numbers = random.Random(seed)
+            while time.monotonic() < ends and not errors:
+                at = numbers.randrange(200)
+                keys[10 * at : 10 * at + 10] = (f"value {numbers.random()}", at)
+
+        def walk(seed):
+            while time.monotonic() < ends and not errors:
+                if [value[1] for _, value in keys.items()] != list(range(200)):
+                    errors.append("walk")
+
+        def guarded(call, seed):
+            try:
+                call(seed)
+            except Exception as error:
+                errors.append(error)
+
+        threads = [threading.Thread(target=guarded, args=it) for it in [(read, 1), (read, 2), (read, 3), (write, 4), (write, 5), (walk, 6)]]
+        for thread in threads:
+            thread.start()
+        for thread in threads:
+            thread.join()
+        self.assertEqual(errors, [])
+
+    def test_nothing_is_left_behind(self):
+        def resident():
+            with open("/proc/self/statm") as pages:
+                return int(pages.read().split()[1]) * 4096
+
+        def some():
+            for at in range(2000):
+                keys = RangeMap((slice(10 * at, 10 * at + 5), at) for at in range(20))
+                keys.__init__([(1, 1)])
+                keys.copy().close()
+
+        some()
+        gc.collect()
+        before = resident()
+        some()
+        gc.collect()
+        self.assertLess(resident() - before, 2_000_000)
+
+
+def load_tests(loader, tests, pattern):
+    tests.addTests(doctest.DocTestSuite(btree_range_map, optionflags=doctest.ELLIPSIS))
+    tests.addTests(doctest.DocTestSuite(btree_range_map._keys))
+    return tests
+
+
+if __name__ == "__main__":
+    unittest.main()

@@ -1,0 +1,226 @@
+//! Maps from ranges of keys to numbers: the library's maps as they are.
+use crate::batches::Batches;
+use crate::ffi::{self, Handle, RawEntry, RawLength, RawRange, done};
+use crate::range::sealed::{Native, Numbered};
+use crate::range::{Key, Range, range_of, raw_range};
+use crate::{NoMemory, NotInserted, NotLoaded};
+use std::fmt;
+use std::iter::FusedIterator;
+use std::marker::PhantomData;
+use std::ops::RangeBounds;
+
+/// A map of keys to numbers, kept as ranges: ranges that touch and have equal numbers are one.
+///
+/// It is the proved map itself. No call panics or aborts where memory runs out: those that allocate say so by an error,
+/// and leave the map as it was.
+///
+/// ```
+/// use btree_range_map_proved::NumberMap;
+///
+/// let mut map: NumberMap<u64> = NumberMap::new()?;
+/// map.insert(0..10, 1)?;
+/// map.insert(4..=5, 2)?;
+/// assert_eq!((map.get(5), map.range_count(), map.key_count()), (Some(2), 3, 10));
+/// # Ok::<(), btree_range_map_proved::NoMemory>(())
+/// ```
+pub struct NumberMap<K: Key> {
+    handle: Handle,
+    _keys: PhantomData<K>,
+}
+
+fn calls<K: Key>() -> &'static ffi::Calls<K::Native, RawEntry<K::Native>> {
+    K::Native::CALLS
+}
+
+pub(crate) fn raw<K: Key>(range: &impl RangeBounds<K>) -> RawRange<K::Native> {
+    raw_range(range, K::IS_NATIVE, K::number)
+}
+
+fn shown<K: Key>(entry: RawEntry<K::Native>) -> (Range<K>, u64) {
+    (range_of(&entry.range, K::of_number), entry.value)
+}
+
+fn found<K: Key>(call: impl FnOnce(&mut RawEntry<K::Native>) -> u32) -> Option<(Range<K>, u64)> {
+    let mut entry = RawEntry::default();
+    (call(&mut entry) == ffi::DONE).then(|| shown::<K>(entry))
+}
+
+// SAFETY, of each call below: the handle is the map's own, open on a map of these keys, and written by no other call, by
+// the references to the map; what a call writes to is an initialised local.
+impl<K: Key> NumberMap<K> {
+    /// A map that binds no key.
+    pub fn new() -> Result<NumberMap<K>, NoMemory> {
+        let handle = Handle::opened(|made| unsafe { (calls::<K>().create)(made) })?;
+        Ok(NumberMap { handle, _keys: PhantomData })
+    }
+
+    /// Binds each key of the range to the number.
+    pub fn insert(&mut self, range: impl RangeBounds<K>, number: u64) -> Result<(), NoMemory> {
+        done(unsafe { (K::Native::BINDS.insert)(self.handle.get_mut(), &raw(&range), number) })
+    }
+
+    /// Binds each key of a range that neither meets nor touches a stored one.
+    pub fn insert_disconnected(
+        &mut self,
+        range: impl RangeBounds<K>,
+        number: u64,
+    ) -> Result<(), NotInserted> {
+        match unsafe { (K::Native::BINDS.insert_disconnected)(self.handle.get_mut(), &raw(&range), number) } {
+            ffi::DONE => Ok(()),
+            ffi::CONNECTED => Err(NotInserted::Connected),
+            _ => Err(NotInserted::NoMemory),
+        }
+    }
+
+    /// Binds no key of the range.
+    pub fn remove(&mut self, range: impl RangeBounds<K>) -> Result<(), NoMemory> {
+        done(unsafe { (calls::<K>().remove)(self.handle.get_mut(), &raw(&range)) })
+    }
+
+    /// Takes all ranges away, and keeps their memory for others.
+    pub fn clear(&mut self) {
+        self.handle.clear();
+    }
+
+    /// The number that the key is bound to.
+    pub fn get(&self, key: K) -> Option<u64> {
+        self.get_range_value(key).map(|(_, number)| number)
+    }
+
+    /// The stored range that holds the key, with its number.
+    pub fn get_range_value(&self, key: K) -> Option<(Range<K>, u64)> {
+        found(|it| unsafe { (calls::<K>().get)(self.handle.get(), key.number(), it) })
+    }
+
+    /// Whether the key is bound.
+    pub fn contains_key(&self, key: K) -> bool {
+        (unsafe { (calls::<K>().contains)(self.handle.get(), key.number()) }) == ffi::DONE
+    }
+
+    /// Whether some key of the range is bound.
+    pub fn intersects(&self, range: impl RangeBounds<K>) -> bool {
+        (unsafe { (calls::<K>().intersects)(self.handle.get(), &raw(&range)) }) == ffi::DONE
+    }
+
+    /// How many ranges are stored.
+    pub fn range_count(&self) -> usize {
+        self.handle.count()
+    }
+
+    /// Whether no key is bound.
+    pub fn is_empty(&self) -> bool {
+        self.range_count() == 0
+    }
+
+    /// How many keys are bound. Goes over all stored ranges.
+    pub fn key_count(&self) -> u128 {
+        let mut length = RawLength::default();
+        unsafe { (calls::<K>().len)(self.handle.get(), &mut length) };
+        length.number()
+    }
+
+    /// The first stored range, with its number.
+    pub fn first_range_value(&self) -> Option<(Range<K>, u64)> {
+        found(|it| unsafe { (calls::<K>().first)(self.handle.get(), it) })
+    }
+
+    /// The last stored range, with its number.
+    pub fn last_range_value(&self) -> Option<(Range<K>, u64)> {
+        found(|it| unsafe { (calls::<K>().last)(self.handle.get(), it) })
+    }
+
+    /// The first stored range that ends at the key or after it, with its number.
+    pub fn next(&self, key: K) -> Option<(Range<K>, u64)> {
+        found(|it| unsafe { (calls::<K>().next)(self.handle.get(), key.number(), it) })
+    }
+
+    /// The last stored range that starts at the key or before it, with its number.
+    pub fn previous(&self, key: K) -> Option<(Range<K>, u64)> {
+        found(|it| unsafe { (calls::<K>().previous)(self.handle.get(), key.number(), it) })
+    }
+
+    /// Takes the first stored range out.
+    pub fn pop_first(&mut self) -> Option<(Range<K>, u64)> {
+        found(|it| unsafe { (calls::<K>().pop_first)(self.handle.get_mut(), it) })
+    }
+
+    /// Takes the last stored range out.
+    pub fn pop_last(&mut self) -> Option<(Range<K>, u64)> {
+        found(|it| unsafe { (calls::<K>().pop_last)(self.handle.get_mut(), it) })
+    }
+
+    /// The stored ranges with their numbers, from both ends.
+    pub fn iter(&self) -> Iter<'_, K> {
+        Iter { batches: Batches::new(&self.handle, calls::<K>(), (K::LEAST.number(), K::GREATEST.number())) }
+    }
+
+    /// A map with the same ranges and numbers.
+    pub fn try_clone(&self) -> Result<NumberMap<K>, NoMemory> {
+        Ok(NumberMap { handle: self.handle.copied()?, _keys: PhantomData })
+    }
+}
+
+/// JSON, for the key types that the library has maps of: `u64` and `i64`.
+impl<K: Key + Native> NumberMap<K> {
+    /// What is stored as JSON text.
+    pub fn to_json(&self) -> Result<String, NoMemory> {
+        self.handle.to_json()
+    }
+
+    /// Becomes what the JSON text is read as. After an error the map is as it was.
+    pub fn load_json(&mut self, text: &str) -> Result<(), NotLoaded> {
+        self.handle.load_json(text)
+    }
+}
+
+impl<K: Key> PartialEq for NumberMap<K> {
+    /// Whether both bind each key alike. Goes once over both.
+    fn eq(&self, other: &NumberMap<K>) -> bool {
+        self.handle.equals(&other.handle)
+    }
+}
+
+impl<K: Key> Eq for NumberMap<K> {}
+
+impl<K: Key> fmt::Debug for NumberMap<K> {
+    fn fmt(&self, f: &mut fmt::Formatter<'_>) -> fmt::Result {
+        f.debug_map().entries(self.iter()).finish()
+    }
+}
+
+/// The stored ranges of a [`NumberMap`] with their numbers, in ascending order, from both ends.
+#[derive(Clone)]
+pub struct Iter<'a, K: Key> {
+    batches: Batches<'a, <K as Numbered>::Native, RawEntry<<K as Numbered>::Native>>,
+}
+
+impl<K: Key> Iterator for Iter<'_, K> {
+    type Item = (Range<K>, u64);
+
+    fn next(&mut self) -> Option<(Range<K>, u64)> {
+        self.batches.next().map(shown::<K>)
+    }
+
+    fn size_hint(&self) -> (usize, Option<usize>) {
+        (self.batches.left(), Some(self.batches.left()))
+    }
+}
+
+impl<K: Key> DoubleEndedIterator for Iter<'_, K> {
+    fn next_back(&mut self) -> Option<(Range<K>, u64)> {
+        self.batches.next_back().map(shown::<K>)
+    }
+}
+
+impl<K: Key> ExactSizeIterator for Iter<'_, K> {}
+
+impl<K: Key> FusedIterator for Iter<'_, K> {}
+
+impl<'a, K: Key> IntoIterator for &'a NumberMap<K> {
+    type Item = (Range<K>, u64);
+    type IntoIter = Iter<'a, K>;
+
+    fn into_iter(self) -> Iter<'a, K> {
+        self.iter()
+    }
+}

@@ -1,0 +1,4 @@
+-- What a list of addresses says, and how its prefixes are printed.
+pub mod Lists
+pub mod Printed
+pub mod Reading

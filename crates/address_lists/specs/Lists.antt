@@ -1,0 +1,34 @@
+-- The addresses of lists: those that their lines say.
+use Rattle.std.specs.Prelude.{◌≢◌, ℕ, ◌<◌, ◌^◌, ◌↔◌, Bool, List, [], ◌∷◌}
+use Rattle.std.specs.Io.BufRead.{drop_through, take_through}
+use Rattle.btree_range_map.specs.Holding.{box_items}
+use Rattle.btree_range_map.specs.Intervals.{Any}
+use Rattle.btree_range_map.specs.KeySets.{HoldsKey}
+use Rattle.address_sets.specs.Addresses.{ipv4_at, ipv4_order, ipv6_at, ipv6_order}
+use Rattle.address_text.specs.Lines.{Says, SaysAddress}
+use Rattle.address_text.specs.Texts.{width}
+use Rattle.address_text.specs.declared.family.Family.{Family}
+use Rattle.address_text.specs.declared.family.Family.TheVariants.{V4, V6}
+use Rattle.address_text.specs.declared.line.Line.{Line}
+use Rattle.address_lists.specs.declared.addresses.Addresses.{Addresses}
+
+-- the list has the address of the family with these bits
+abbrev pub Has : Addresses → Family → ℕ → Type 0
+Has list V4 n = HoldsKey ipv4_order (box_items list.v4) (ipv4_at n)
+Has list V6 n = HoldsKey ipv6_order (box_items list.v6) (ipv6_at n)
+
+-- the list has just the addresses of which this is so
+abbrev pub HasJust : Addresses → (Family → ℕ → Type 0) → Type 0
+HasJust list P = (family : Family) (n : ℕ) → n < 2 ^ width family → Has list family n ↔ P family n
+
+-- one of the lines says the address
+abbrev pub IsListed : Family → ℕ → List Line → Type 0
+IsListed family n lines = Any (SaysAddress family n) lines
+
+module _ (strict : Bool) where
+  -- what the lines of the input say, one after the other, up to the rest of it
+  pub data AreSaid : List ℕ → List Line → List ℕ → Type 0 where
+    Ended : (input : List ℕ) → AreSaid input [] input
+    Said : (input : List ℕ) (line : Line) (lines : List Line) (rest : List ℕ) → input ≢ []
+        → Says strict (take_through 10 input) line → AreSaid (drop_through 10 input) lines rest
+        → AreSaid input (line ∷ lines) rest

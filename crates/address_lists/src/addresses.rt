@@ -1,0 +1,95 @@
+//! The addresses of a list.
+
+ghost use Rattle.std.specs.Prelude.{◌⊎◌, ◌≡◌, [], IfOk, OnOk};
+ghost use Rattle.btree_range_map.specs.Holding.{box_items};
+ghost use Rattle.address_text.specs.Lines.{AreAddresses, SaysAddress};
+ghost use Rattle.address_lists.specs.Lists.{Has, HasJust};
+
+use address_sets::{AddressSet, Ipv4, Ipv6};
+use address_text::{Family, Line};
+use btree_range_map::MapError;
+use std::alloc::Global;
+
+/// Addresses of both families.
+#[derive(Drop)]
+pub struct Addresses {
+    /// Those of IPv4.
+    pub v4: AddressSet<Ipv4>,
+    /// Those of IPv6.
+    pub v6: AddressSet<Ipv6>,
+}
+
+impl Addresses {
+    /// No addresses. Allocates nothing.
+    pub fn new(alloc: Global) -> Addresses
+        ensures v4 { box_items result.v4 ≡ [] }
+        ensures v6 { box_items result.v6 ≡ [] }
+    {
+        Addresses {
+            v4: AddressSet::new(alloc),
+            v6: AddressSet::new(alloc),
+        }
+    }
+
+    /// Adds the addresses that a line says. Costs no search where they come after all others.
+    pub fn add(&mut self, line: Line) -> Result<(), MapError>
+        requires { AreAddresses line }
+        ensures { OnOk result (HasJust self.new
+            (λ family n. Has self.old family n ⊎ SaysAddress family n line)) }
+    {
+        match line {
+            Line::Nothing => Ok(()),
+            Line::Addresses(Family::V4, first, last) => {
+                self.v4.insert(Ipv4(first as u32)..=Ipv4(last as u32))
+            }
+            Line::Addresses(Family::V6, first, last) => self.v6.insert(Ipv6(first)..=Ipv6(last)),
+        }
+    }
+
+    /// Adds the addresses of the other list.
+    pub fn join(&mut self, other: &Addresses) -> Result<(), MapError>
+        ensures { OnOk result (HasJust self.new
+            (λ family n. Has self.old family n ⊎ Has other.now family n)) }
+    {
+        self.v4.extend_from(&other.v4)?;
+        self.v6.extend_from(&other.v6)
+    }
+
+    /// Keeps the addresses that the other list has too.
+    pub fn keep_common(&mut self, other: &Addresses) -> Result<(), MapError>
+        ensures { OnOk result (HasJust self.new
+            (λ family n. Has self.old family n × Has other.now family n)) }
+    {
+        self.v4.retain_all(&other.v4)?;
+        self.v6.retain_all(&other.v6)
+    }
+
+    /// Takes out the addresses of the other list.
+    pub fn take_out(&mut self, other: &Addresses) -> Result<(), MapError>
+        ensures { OnOk result (HasJust self.new
+            (λ family n. Has self.old family n × ¬ Has other.now family n)) }
+    {
+        self.v4.remove_all(&other.v4)?;
+        self.v6.remove_all(&other.v6)
+    }
+
+    /// The addresses that just one of both lists has.
+    pub fn difference(&self, other: &Addresses) -> Result<Addresses, MapError>
+        ensures { IfOk result (λ new. HasJust new
+            (λ family n. (Has self.now family n × ¬ Has other.now family n)
+            ⊎ ((¬ Has self.now family n) × Has other.now family n))) }
+    {
+        let v4 = self.v4.symmetric_difference(&other.v4)?;
+        let v6 = self.v6.symmetric_difference(&other.v6)?;
+        Ok(Addresses { v4, v6 })
+    }
+
+    /// All other addresses of both families.
+    pub fn inverse(&self) -> Result<Addresses, MapError>
+        ensures { IfOk result (λ new. HasJust new (λ family n. ¬ Has self.now family n)) }
+    {
+        let v4 = self.v4.complement()?;
+        let v6 = self.v6.complement()?;
+        Ok(Addresses { v4, v6 })
+    }
+}

@@ -1,0 +1,3 @@
+-- Lemmas.
+mod Blocks
+mod Spans

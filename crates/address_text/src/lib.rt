@@ -1,0 +1,20 @@
+//! Texts of IP addresses: the lines of an address list, and addresses as they are printed.
+//!
+//! An address is its [`Family`] and its bits as a number, so that both families are read and
+//! written by the same functions. Nothing here allocates.
+//!
+//! Where to find what:
+//!
+//! - what a line of a list says: `src/line.rt`, `specs/Lines.antt`; what is wrong with one that
+//!   says nothing: `src/fault.rt`
+//! - an address, prefix or range as it is printed: `src/write.rt`, `specs/Texts.antt`
+#![tactic(auto)]
+
+pub mod family;
+pub mod fault;
+pub mod line;
+pub mod write;
+
+pub use family::Family;
+pub use fault::{Expected, Fault};
+pub use line::{Line, line_of};

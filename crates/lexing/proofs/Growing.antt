@@ -1,0 +1,194 @@
+-- Machines in the making: a state more, and sets that are found or added.
+use Rattle.std.proofs.Common.{◌≡◌, refl, sym, ap, subst, ◌∙◌, ◌↔◌, ◌⊎◌, inl, inr, ℕ, ◌<◌, ◌≤◌, ◌+◌, ◌*◌, Bool, true, false, nat_eq, IsTrue, List, [], ◌∷◌, ◌++◌, length, get_or, Option, Some, None, BTreeSet, arith, length-append}
+use Rattle.std.proofs.lemmas.Bool.Decides.{Decides-eqb}
+use Rattle.std.proofs.lemmas.Slice.Eq.{slice_eq-Decides}
+use lib.Pointwise.{pointwise}
+use Rattle.std.specs.List.{slice_get, list_any}
+use Rattle.std.specs.Ordering.{nat_cmp, eq_by_cmp}
+use Rattle.std.specs.BTreeSet.{contains, IsOrdered}
+use Rattle.std.proofs.lemmas.Cmp.{nat_cmp_total}
+use Rattle.std.proofs.lemmas.Map.Lookups.{btree_set_from_contains, exact_unsigned}
+use Rattle.std.proofs.lemmas.Option.{slice_get_within, slice_get-get_or}
+use Rattle.btree_range_map.specs.Members.{HaveSame}
+use Rattle.lexing.specs.declared.lexer.Lexer.{Lexer}
+use Rattle.lexing.specs.declared.states.States.{States}
+use Rattle.lexing.specs.Lexers.{rules_in, IsFirstAmong}
+use Rattle.lexing.specs.Machines.{Row, RowBinds, Goes, IsRowOf, AreDense, AreStates}
+use Rattle.lexing.specs.Building.{AreFirst, KeepsAll, IsRowAt, IsIndexOf, AddsDense}
+use Rattle.lexing.proofs.Lists.{pushed_at, pushed_there, still_at}
+
+same_keys : (xs ys : List ℕ) (r : Bool) → r ≡ pointwise nat_eq xs ys → r ≡ true → xs ≡ ys
+same_keys xs ys r e t = (slice_eq-Decides Decides-eqb xs ys r e).0 t
+
+-- sets are equal just where they have the same states
+module _ (set other : BTreeSet ℕ) (ordered : IsOrdered nat_cmp set)
+    (other_ordered : IsOrdered nat_cmp other) where
+  keys_of_same : HaveSame (contains nat_cmp) set other → set.keys ≡ other.keys
+  keys_of_same same =
+      btree_set_from_contains nat_cmp_total set other ordered other_ordered same exact_unsigned
+
+  pub unlike_by_length : (n m : ℕ) → n ≡ length set.keys → m ≡ length other.keys → ¬ (n ≡ m)
+      → IsTrue false ↔ HaveSame (contains nat_cmp) set other
+  unlike_by_length n m a b not = (
+    λ h. absurd cc,
+    λ same. absurd (not (a ∙ ap length (keys_of_same same) ∙ sym b)),
+  )
+
+  pub alike_by_equality : (r : Bool) → r ≡ pointwise nat_eq set.keys other.keys
+      → IsTrue r ↔ HaveSame (contains nat_cmp) set other
+  alike_by_equality r e = (
+    λ t q. ap (λ ks. list_any (eq_by_cmp nat_cmp q) ks) (same_keys set.keys other.keys r e t),
+    λ same. (slice_eq-Decides Decides-eqb set.keys other.keys r e).1 (keys_of_same same),
+  )
+
+-- what stands at an index of before has stood there
+stood : {X : Type 0} (before after : List X) → KeepsAll before after → (i : ℕ) (x : X)
+    → i < length before → slice_get after i ≡ Some x → slice_get before i ≡ Some x
+stood before after keeps i x within at =
+    let was = slice_get-get_or before i x within in
+    let still = keeps i (get_or before i x) was in
+    let same : get_or before i x ≡ x = cc in was ∙ ap Some same
+
+-- one item more at the end of a list that is known as another
+pub pushed_into : {X : Type 0} (xs ys : List X) (y : X) (i : ℕ) (z : X) → ys ≡ xs ++ y ∷ []
+    → slice_get ys i ≡ Some z → (slice_get xs i ≡ Some z) ⊎ ((i ≡ length xs) × (y ≡ z))
+pushed_into xs ys y i z pushed at =
+    pushed_at xs y i z (subst (λ l. slice_get l i ≡ Some z) pushed at)
+
+pub pushed_length : {X : Type 0} (xs ys : List X) (y : X) → ys ≡ xs ++ y ∷ []
+    → length ys ≡ length xs + 1
+pushed_length xs ys y pushed = ap length pushed ∙ length-append xs (y ∷ [])
+
+pub keeps_pushed : {X : Type 0} (xs ys : List X) (y : X) → ys ≡ xs ++ y ∷ [] → KeepsAll xs ys
+keeps_pushed xs ys y pushed i x at =
+    subst (λ l. slice_get l i ≡ Some x) (sym pushed) (still_at xs y i x at)
+
+-- the first set, and no state
+pub states_none : (lexer : Lexer) (sets : List (BTreeSet ℕ)) (states : States)
+    → AreFirst (rules_in lexer) sets → states.rows.items ≡ [] → states.dense.items ≡ []
+    → states.first_rules.items ≡ [] → AreStates lexer sets states
+states_none lexer sets states (set, only, starts) rows dense rules = record {
+  start = (set, subst (λ l. slice_get l 0 ≡ Some set) (sym only) refl, starts);
+  row = λ i row s at. absurd (let none = subst (λ l. slice_get l i ≡ Some row) rows at in cc);
+  first = λ i found s at.
+      absurd (let none = subst (λ l. slice_get l i ≡ Some found) rules at in cc);
+  ascii = λ i c row next below at.
+      absurd (let none = subst (λ l. slice_get l i ≡ Some row) rows at in cc);
+  marked = ap length rules ∙ sym (ap length rows);
+  full = let d = ap length dense in let r = ap length rows in omega (arith, d, r);
+  few = let r = ap length rows in omega (arith, r);
+}
+
+module _ (lexer : Lexer) (sets after : List (BTreeSet ℕ)) (keeps : KeepsAll sets after) where
+  goes_still : (set : BTreeSet ℕ) (c : ℕ) (next : Option ℕ) → Goes (rules_in lexer) sets set c next
+      → Goes (rules_in lexer) after set c next
+  goes_still set c None h = h
+  goes_still set c (Some next) (reached, at, by) = (reached, keeps next reached at, by)
+
+  module _ (before new : States) (row : Row) (first : Option ℕ)
+      (was : AreStates lexer sets before) (room : length before.rows.items < length sets)
+      (longer : length sets ≤ length after)
+      (this : IsRowAt (rules_in lexer) sets after (length before.rows.items) row)
+      (among : (set : BTreeSet ℕ) → slice_get after (length before.rows.items) ≡ Some set
+      → IsFirstAmong lexer set first)
+      (rows : new.rows.items ≡ before.rows.items ++ row ∷ [])
+      (adds : AddsDense row 128 before.dense.items new.dense.items)
+      (rules : new.first_rules.items ≡ before.first_rules.items ++ first ∷ []) where
+    dense_more : AreDense new.rows.items new.dense.items
+    dense_more i c r next ascii at here =
+        elim (pushed_into before.rows.items new.rows.items row i r rows at) [
+          | inl old ↦
+              let within = slice_get_within before.rows.items i r old in
+              let full = was.full in
+              was.ascii i c r next ascii old
+              (stood before.dense.items new.dense.items adds.0 (128 * i + c) next
+              (omega (arith, within, ascii, full)) here)
+          | inr end ↦
+              let full = was.full in
+              let is = end.0 in
+              let place : 128 * i + c ≡ length before.dense.items + c = omega (arith, full, is) in
+              subst (λ x. RowBinds x c next) end.1
+              (adds.2 c next ascii (subst (λ k. slice_get new.dense.items k ≡ Some next) place here))
+        ]
+
+    row_still : (i : ℕ) (r : Row) (set : BTreeSet ℕ) → slice_get new.rows.items i ≡ Some r
+        → slice_get after i ≡ Some set → IsRowOf (rules_in lexer) after set r
+    row_still i r set at stands =
+        elim (pushed_into before.rows.items new.rows.items row i r rows at) [
+          | inl old ↦
+              let within = slice_get_within before.rows.items i r old in
+              let here = stood sets after keeps i set (omega (arith, within, room)) stands in
+              λ c is next binds. goes_still set c next (was.row i r set old here c is next binds)
+          | inr end ↦
+              let place = end.0 in
+              let here = stood sets after keeps i set (omega (arith, place, room)) stands in
+              subst (λ r. IsRowOf (rules_in lexer) after set r) end.1
+              (this set (subst (λ k. slice_get sets k ≡ Some set) end.0 here))
+        ]
+
+    first_still : (i : ℕ) (f : Option ℕ) (set : BTreeSet ℕ)
+        → slice_get new.first_rules.items i ≡ Some f → slice_get after i ≡ Some set
+        → IsFirstAmong lexer set f
+    first_still i f set at stands =
+        elim (pushed_into before.first_rules.items new.first_rules.items first i f rules at) [
+          | inl old ↦
+              let within = slice_get_within before.first_rules.items i f old in
+              let marked = was.marked in
+              was.first i f set old
+              (stood sets after keeps i set (omega (arith, within, room, marked)) stands)
+          | inr end ↦
+              subst (IsFirstAmong lexer set) end.1
+              (among set (subst (λ k. slice_get after k ≡ Some set) (end.0 ∙ was.marked) stands))
+        ]
+
+    -- with the row and the first rule of the next set
+    pub states_grow : AreStates lexer after new
+    states_grow =
+        let marked = was.marked in
+        let full = was.full in
+        let added = adds.1 in
+        let more = pushed_length before.rows.items new.rows.items row rows in
+        let more_rules = pushed_length before.first_rules.items new.first_rules.items first rules in
+        record {
+          start = let (set, at, is) = was.start in (set, keeps 0 set at, is);
+          row = row_still;
+          first = first_still;
+          ascii = dense_more;
+          marked = omega (arith, marked, more, more_rules);
+          full = omega (arith, full, added, more);
+          few = omega (arith, room, longer, more);
+        }
+
+-- a set that is added behind the others
+pub added_index : (before after : List (BTreeSet ℕ)) (set copy : BTreeSet ℕ)
+    → after ≡ before ++ copy ∷ [] → copy.keys ≡ set.keys → IsIndexOf after set (length before)
+added_index before after set copy pushed same = (
+  copy,
+  subst (λ l. slice_get l (length before) ≡ Some copy) (sym pushed)
+      (pushed_there before copy (length before) refl),
+  λ q. ap (λ ks. list_any (eq_by_cmp nat_cmp q) ks) same,
+)
+
+-- one character more in a dense row
+pub dense_none : (row : Row) (dense : List (Option ℕ)) → AddsDense row 0 dense dense
+dense_none row dense = (λ i x h. h, omega arith, λ c next h at. absurd (omega (arith, h)))
+
+pub dense_one : (row : Row) (count : ℕ) (before mid after : List (Option ℕ)) (next : Option ℕ)
+    → AddsDense row count before mid → after ≡ mid ++ next ∷ [] → RowBinds row count next
+    → AddsDense row (count + 1) before after
+dense_one row count before mid after next (keeps, len, binds) pushed this =
+    let longer = pushed_length mid after next pushed in (
+      λ i x h. keeps_pushed mid after next pushed i x (keeps i x h),
+      omega (arith, len, longer),
+      λ c found below at.
+          elim (pushed_into mid after next (length before + c) found pushed at) [
+            | inl old ↦
+                let within = slice_get_within mid (length before + c) found old in
+                binds c found (omega (arith, within, len)) old
+            | inr end ↦
+                let place = end.0 in
+                let same : count ≡ c = omega (arith, place, len) in
+                subst (λ k. RowBinds row k found) same
+                (subst (λ f. RowBinds row count f) end.1 this)
+          ],
+    )

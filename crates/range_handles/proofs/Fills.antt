@@ -1,0 +1,26 @@
+-- One more item is written behind those that were.
+use Rattle.std.proofs.Common.{◌≡◌, ◌∙◌, ap, ℕ, ◌+◌, ◌<◌, ◌++◌, List, [], ◌∷◌, map, reverse, take, length, slice_set, sym}
+use Rattle.std.proofs.lemmas.List.{take_more_set, map_push, append_assoc, reverse-append}
+
+module _ {X E : Type 0} (said : E → X) (slots : List E) (n : ℕ) (e : E) where
+  pub one_more : (all : List X) (x : X) (left : List X) → n < length slots
+      → all ≡ map said (take n slots) ++ x ∷ left → said e ≡ x
+      → all ≡ map said (take (n + 1) (slice_set slots n e)) ++ left
+  one_more all x left within before is =
+      before
+      ∙ (ap (λ y. map said (take n slots) ++ y ∷ left) (sym is)
+      ∙ (sym (append_assoc (map said (take n slots)) (said e ∷ []) left)
+      ∙ (ap (λ l. l ++ left) (sym (map_push said (take n slots) e))
+      ∙ ap (λ l. map said l ++ left) (sym (take_more_set slots n e within)))))
+
+  -- and, where they come from the back, in front of those
+  pub one_more_back : (all : List X) (x : X) (left : List X) → n < length slots
+      → all ≡ (left ++ x ∷ []) ++ reverse (map said (take n slots)) → said e ≡ x
+      → all ≡ left ++ reverse (map said (take (n + 1) (slice_set slots n e)))
+  one_more_back all x left within before is =
+      before
+      ∙ (append_assoc left (x ∷ []) (reverse (map said (take n slots)))
+      ∙ (ap (λ y. left ++ y ∷ reverse (map said (take n slots))) (sym is)
+      ∙ (ap (λ l. left ++ l) (sym (reverse-append (map said (take n slots)) (said e ∷ [])))
+      ∙ (ap (λ l. left ++ reverse l) (sym (map_push said (take n slots) e))
+      ∙ ap (λ l. left ++ reverse (map said l)) (sym (take_more_set slots n e within))))))

@@ -1,0 +1,208 @@
+//! Maps to `u64` values, which a contract sees as lists.
+ghost use Rattle.std.specs.Prelude.{◌≡◌, ◌≢◌, ◌⊎◌, ◌↔◌, [], ◌∷◌, ◌++◌, false, length, nat_eq, IsTrue, IfOk, IfErr};
+ghost use Rattle.btree_range_map.specs.Bindings.{IsBoundAfter, IsUnboundAfter, IsLeastCount, BindAlike};
+ghost use Rattle.btree_range_map.specs.Holding.{box_items};
+ghost use Rattle.btree_range_map.specs.JsonError.TheVariants.{Memory};
+ghost use Rattle.btree_range_map.specs.Keys.{unsigned_shape};
+ghost use Rattle.btree_range_map.specs.ListOrder.{IsCopyOf};
+ghost use Rattle.btree_range_map.specs.Lookups.{IsConnectedToSome};
+ghost use Rattle.btree_range_map.specs.MapFaults.{IsMapRead, IsMapFault};
+ghost use Rattle.btree_range_map.specs.Range.{IsEmptyRange, ClonesAreEqual};
+ghost use Rattle.btree_range_map.specs.Shapes.{map_shape};
+ghost use Rattle.serde_json.specs.View.{view};
+ghost use Rattle.serde_json.specs.Written.{compact_text, has_float};
+ghost use Rattle.range_handles.specs.Texts.{reads_unsigned, IsUnsignedRead};
+
+use crate::batch::Shown;
+use crate::key::Key;
+use crate::status::{CONNECTED, DONE, NO_MEMORY, NONE, of_refusal};
+use btree_range_map::json::{Json, JsonError, map_from_json, map_to_json};
+use btree_range_map::range::traits::PartialEnum;
+use btree_range_map::{AnyRange, RangeMap};
+use serde_json::Value;
+use std::alloc::{AllocError, Global};
+use std::marker::Model;
+
+/// A map to `u64` values, which a contract sees as its ranges with their values.
+pub struct KeptMap<K: PartialEnum> {
+    map: RangeMap<K, u64>,
+}
+
+impl<K: PartialEnum> Model for KeptMap<K> {
+    ghost use Rattle.std.specs.Prelude.{List, ℕ};
+    ghost use Rattle.btree_range_map.specs.AnyRange.{AnyRange};
+    ghost use Rattle.btree_range_map.specs.Holding.{box_items};
+    ghost use Rattle.btree_range_map.specs.Item.{Item};
+
+    ghost Value = { List (Item (AnyRange K) ℕ) };
+
+    ghost view = { λ s. box_items s.map };
+}
+
+impl<K: PartialEnum> Drop for KeptMap<K> {
+    fn drop(self) {
+        let KeptMap { map } = self;
+        drop(map);
+    }
+}
+
+impl<K: Key> KeptMap<K> {
+    pub fn new(alloc: Global) -> KeptMap<K>
+        ensures { result ≡ [] }
+    {
+        KeptMap {
+            map: RangeMap::new(alloc),
+        }
+    }
+
+    /// The map, for what only reads it.
+    pub fn as_map(&self) -> &RangeMap<K, u64>
+        ensures { box_items result.now ≡ self.now }
+    {
+        &self.map
+    }
+
+    pub fn range_count(&self) -> usize
+        ensures value { result ≡ length self.now }
+        ensures least { IsLeastCount K.order nat_eq self.now result }
+    {
+        self.map.range_count()
+    }
+
+    pub fn clear(&mut self)
+        ensures { self.new ≡ [] }
+    {
+        self.map.clear();
+    }
+
+    pub fn copied(&self) -> Result<KeptMap<K>, AllocError>
+        requires keys { ClonesAreEqual K.is_clone K.eq }
+        ensures { IfOk result (λ copy. IsCopyOf K.order nat_eq copy self.now) }
+    {
+        Ok(KeptMap {
+            map: self.map.clone()?,
+        })
+    }
+
+    pub fn equals(&self, other: &KeptMap<K>) -> bool
+        ensures { IsTrue result ↔ BindAlike K.order nat_eq self.now other.now }
+    {
+        self.map.eq_across(&other.map)
+    }
+
+    /// Binds each key of the range to the value.
+    pub fn insert(&mut self, range: AnyRange<K>, value: u64) -> u32
+        requires keys { ClonesAreEqual K.is_clone K.eq }
+        ensures bound { result ≡ DONE
+            → IsBoundAfter K.order nat_eq self.old self.new range value }
+        ensures empty { IsEmptyRange K.order range → result ≡ DONE }
+        ensures empty_unchanged { IsEmptyRange K.order range
+            → self.new ≡ self.old }
+        ensures refused { result ≢ DONE → self.new ≡ self.old }
+        ensures answer { (result ≡ DONE) ⊎ (result ≡ NO_MEMORY) }
+    {
+        match self.map.insert(range, value) {
+            Ok(()) => DONE,
+            Err(_) => NO_MEMORY,
+        }
+    }
+
+    /// Binds each key of a range that neither meets nor touches a stored one.
+    pub fn insert_disconnected(&mut self, range: AnyRange<K>, value: u64) -> u32
+        requires keys { ClonesAreEqual K.is_clone K.eq }
+        ensures bound { result ≡ DONE
+            → IsBoundAfter K.order nat_eq self.old self.new range value }
+        ensures connected { result ≡ CONNECTED
+            ↔ (¬ IsEmptyRange K.order range)
+            × IsConnectedToSome K.order self.old range }
+        ensures empty { IsEmptyRange K.order range → result ≡ DONE }
+        ensures empty_unchanged { IsEmptyRange K.order range
+            → self.new ≡ self.old }
+        ensures refused { result ≢ DONE → self.new ≡ self.old }
+        ensures answer { (result ≡ DONE) ⊎ ((result ≡ NO_MEMORY) ⊎ (result ≡ CONNECTED)) }
+    {
+        match self.map.insert_disconnected(range, value) {
+            Ok(()) => DONE,
+            Err(refusal) => of_refusal(&refusal),
+        }
+    }
+
+    /// Binds no key of the range.
+    pub fn remove(&mut self, range: AnyRange<K>) -> u32
+        requires keys { ClonesAreEqual K.is_clone K.eq }
+        ensures unbound { result ≡ DONE
+            → IsUnboundAfter K.order nat_eq self.old self.new range }
+        ensures empty { IsEmptyRange K.order range → result ≡ DONE }
+        ensures empty_unchanged { IsEmptyRange K.order range
+            → self.new ≡ self.old }
+        ensures refused { result ≢ DONE → self.new ≡ self.old }
+        ensures answer { (result ≡ DONE) ⊎ (result ≡ NO_MEMORY) }
+    {
+        match self.map.remove(range) {
+            Ok(()) => DONE,
+            Err(_) => NO_MEMORY,
+        }
+    }
+
+    /// Takes the first stored range out, and writes it with its value.
+    pub fn pop_first<E: Shown<K, u64>>(&mut self, entry: &mut E) -> u32
+        ensures first { result ≡ DONE → self.old ≡ E.said entry.new ∷ self.new }
+        ensures none { result ≡ NONE → self.old ≡ [] }
+        ensures unchanged { result ≡ NONE → self.new ≡ self.old }
+        ensures unwritten { result ≡ NONE → entry.new ≡ entry.old }
+        ensures answer { (result ≡ DONE) ⊎ (result ≡ NONE) }
+    {
+        match self.map.pop_first() {
+            Some((range, value)) => {
+                *entry = E::of_item(&range, &value);
+                DONE
+            }
+            None => NONE,
+        }
+    }
+
+    /// Takes the last stored range out, and writes it with its value.
+    pub fn pop_last<E: Shown<K, u64>>(&mut self, entry: &mut E) -> u32
+        ensures last { result ≡ DONE → self.old ≡ self.new ++ E.said entry.new ∷ [] }
+        ensures none { result ≡ NONE → self.old ≡ [] }
+        ensures unchanged { result ≡ NONE → self.new ≡ self.old }
+        ensures unwritten { result ≡ NONE → entry.new ≡ entry.old }
+        ensures answer { (result ≡ DONE) ⊎ (result ≡ NONE) }
+    {
+        match self.map.pop_last() {
+            Some((range, value)) => {
+                *entry = E::of_item(&range, &value);
+                DONE
+            }
+            None => NONE,
+        }
+    }
+}
+
+impl<K: Key + Json> KeptMap<K> {
+    /// The text that it is saved as, of keys that are written with no float.
+    pub fn text(&self, alloc: Global) -> Result<Vec<u8>, AllocError>
+        requires { (key : K) → has_float (K.shape key) ≡ false }
+        ensures { IfOk result
+            (λ text. text.items ≡ compact_text (map_shape K.shape unsigned_shape self.now)) }
+    {
+        map_to_json(alloc, &self.map)?.to_vec(alloc)
+    }
+
+    /// What the JSON value is read as.
+    pub fn read(alloc: Global, value: &Value) -> Result<KeptMap<K>, JsonError>
+        requires keys { ClonesAreEqual K.is_clone K.eq }
+        ensures read { IfOk result
+            (λ new. IsMapRead K.order K.reads reads_unsigned K.is_read IsUnsignedRead nat_eq
+            (view value.now) new) }
+        ensures fault { IfErr result
+            (λ e. (e ≡ Memory)
+            ⊎ IsMapFault K.order K.reads reads_unsigned K.is_read IsUnsignedRead
+            (view value.now) e) }
+    {
+        match map_from_json(alloc, value) {
+            Ok(map) => Ok(KeptMap { map }),
+            Err(error) => Err(error),
+        }
+    }
+}

@@ -1,0 +1,201 @@
+//! What is asked of a map of ranges, and of a set as the map of its keys to nothing.
+ghost use Rattle.std.specs.Prelude.{◌<◌, ◌≤◌, ◌≡◌, ◌⊎◌, List, [], ◌∷◌, ◌++◌, Some, length, map, take, drop, reverse};
+ghost use Rattle.btree_range_map.specs.AnyRange.{AnyRange};
+ghost use Rattle.btree_range_map.specs.Bindings.{Binds, IsBound, IsItemFor};
+ghost use Rattle.btree_range_map.specs.Holding.{box_items};
+ghost use Rattle.btree_range_map.specs.Item.{Item};
+ghost use Rattle.btree_range_map.specs.Lookups.{BindsKeyOf};
+ghost use Rattle.btree_range_map.specs.Numbers.{IsNumberOfKeys};
+ghost use Rattle.btree_range_map.specs.Overlapping.{AreOverlapping};
+ghost use Rattle.range_handles.specs.Flags.{number_of, from_key, upto_key};
+
+use crate::batch::{Shown, fill, fill_back};
+use crate::bounds::Length;
+use crate::key::Key;
+use crate::status::{DONE, NONE, answer};
+use btree_range_map::range::traits::measure_counts_keys;
+use btree_range_map::{AnyRange, RangeMap};
+
+/// Writes the stored range that holds the key, with its value.
+pub fn get<K: Key, V: Eq + Drop, E: Shown<K, V>>(
+    stored: &RangeMap<K, V>,
+    key: K,
+    entry: &mut E,
+) -> u32
+    ensures found { result ≡ DONE
+        → IsItemFor K.order (box_items stored.now) key (E.said entry.new) }
+    ensures bound { result ≡ DONE
+        → Binds K.order V.eq (box_items stored.now) key (Some (E.said entry.new).value) }
+    ensures free { result ≡ NONE → ¬ IsBound K.order (box_items stored.now) key }
+    ensures unwritten { result ≡ NONE → entry.new ≡ entry.old }
+    ensures answer { (result ≡ DONE) ⊎ (result ≡ NONE) }
+{
+    match stored.get_key_value(key) {
+        Some((range, value)) => {
+            *entry = E::of_item(range, value);
+            DONE
+        }
+        None => NONE,
+    }
+}
+
+/// Whether the key is bound.
+pub fn contains<K: Key, V: Eq + Drop>(stored: &RangeMap<K, V>, key: K) -> u32
+    ensures yes { result ≡ DONE → IsBound K.order (box_items stored.now) key }
+    ensures no { result ≡ NONE → ¬ IsBound K.order (box_items stored.now) key }
+    ensures answer { (result ≡ DONE) ⊎ (result ≡ NONE) }
+{
+    answer(stored.contains_key(key))
+}
+
+/// Whether some key of the range is bound.
+pub fn intersects<K: Key, V: Eq + Drop>(stored: &RangeMap<K, V>, range: AnyRange<K>) -> u32
+    ensures yes { result ≡ DONE
+        → BindsKeyOf K.order (box_items stored.now) range }
+    ensures no { result ≡ NONE
+        → ¬ BindsKeyOf K.order (box_items stored.now) range }
+    ensures answer { (result ≡ DONE) ⊎ (result ≡ NONE) }
+{
+    answer(stored.intersects(range))
+}
+
+/// Writes how many keys are bound.
+pub fn len<K: Key, V: Eq + Drop>(stored: &RangeMap<K, V>, length: &mut Length) -> u32
+    ensures counted { IsNumberOfKeys K.order (IsBound K.order (box_items stored.now))
+        (number_of length.new) }
+    ensures done { result ≡ DONE }
+{
+    measure_counts_keys::<K>();
+    *length = Length::of(stored.len());
+    DONE
+}
+
+/// Writes the first stored range, with its value.
+pub fn first<K: Key, V: Eq + Drop, E: Shown<K, V>>(stored: &RangeMap<K, V>, entry: &mut E) -> u32
+    ensures first { result ≡ DONE → (rest : List (Item (AnyRange K) V))
+        × (box_items stored.now ≡ E.said entry.new ∷ rest) }
+    ensures none { result ≡ NONE → box_items stored.now ≡ [] }
+    ensures unwritten { result ≡ NONE → entry.new ≡ entry.old }
+    ensures answer { (result ≡ DONE) ⊎ (result ≡ NONE) }
+{
+    match stored.first_range_value() {
+        Some((range, value)) => {
+            *entry = E::of_item(range, value);
+            DONE
+        }
+        None => NONE,
+    }
+}
+
+/// Writes the last stored range, with its value.
+pub fn last<K: Key, V: Eq + Drop, E: Shown<K, V>>(stored: &RangeMap<K, V>, entry: &mut E) -> u32
+    ensures last { result ≡ DONE → (front : List (Item (AnyRange K) V))
+        × (box_items stored.now ≡ front ++ E.said entry.new ∷ []) }
+    ensures none { result ≡ NONE → box_items stored.now ≡ [] }
+    ensures unwritten { result ≡ NONE → entry.new ≡ entry.old }
+    ensures answer { (result ≡ DONE) ⊎ (result ≡ NONE) }
+{
+    match stored.last_range_value() {
+        Some((range, value)) => {
+            *entry = E::of_item(range, value);
+            DONE
+        }
+        None => NONE,
+    }
+}
+
+/// Writes the first stored range that ends at the key or after it, with its value.
+pub fn next<K: Key, V: Eq + Drop, E: Shown<K, V>>(
+    stored: &RangeMap<K, V>,
+    key: K,
+    entry: &mut E,
+) -> u32
+    ensures next { result ≡ DONE → (rest : List (Item (AnyRange K) V))
+        × AreOverlapping K.order (box_items stored.now) (from_key key)
+        (E.said entry.new ∷ rest) }
+    ensures none { result ≡ NONE
+        → AreOverlapping K.order (box_items stored.now) (from_key key) [] }
+    ensures unwritten { result ≡ NONE → entry.new ≡ entry.old }
+    ensures answer { (result ≡ DONE) ⊎ (result ≡ NONE) }
+{
+    match stored.iter_from(key).next() {
+        Some((range, value)) => {
+            *entry = E::of_item(range, value);
+            DONE
+        }
+        None => NONE,
+    }
+}
+
+/// Writes the last stored range that starts at the key or before it, with its value.
+pub fn previous<K: Key, V: Eq + Drop, E: Shown<K, V>>(
+    stored: &RangeMap<K, V>,
+    key: K,
+    entry: &mut E,
+) -> u32
+    ensures previous { result ≡ DONE → (front : List (Item (AnyRange K) V))
+        × AreOverlapping K.order (box_items stored.now) (upto_key key)
+        (front ++ E.said entry.new ∷ []) }
+    ensures none { result ≡ NONE
+        → AreOverlapping K.order (box_items stored.now) (upto_key key) [] }
+    ensures unwritten { result ≡ NONE → entry.new ≡ entry.old }
+    ensures answer { (result ≡ DONE) ⊎ (result ≡ NONE) }
+{
+    key.known();
+    match stored.overlapping(..=key).next_back() {
+        Some((range, value)) => {
+            *entry = E::of_item(range, value);
+            DONE
+        }
+        None => NONE,
+    }
+}
+
+/// Writes the stored ranges from the first that ends at the key or after it on, in ascending
+/// order, as many as the array takes, and how many.
+///
+/// Fewer than the array takes are written where there are no more. What lies behind them in the
+/// array stays as it was.
+pub fn read<K: Key, V: Eq + Drop, E: Shown<K, V>>(
+    stored: &RangeMap<K, V>,
+    key: K,
+    entries: &mut [E],
+    count: &mut usize,
+) -> u32
+    ensures read { (rest : List (Item (AnyRange K) V))
+        × AreOverlapping K.order (box_items stored.now) (from_key key)
+        (map E.said (take count.new entries.new) ++ rest)
+        × (count.new < length entries.old → rest ≡ []) }
+    ensures within { count.new ≤ length entries.old }
+    ensures behind { drop count.new entries.new ≡ drop count.new entries.old }
+    ensures done { result ≡ DONE }
+{
+    let mut items = stored.iter_from(key);
+    *count = fill(&mut items, entries);
+    DONE
+}
+
+/// Writes the stored ranges from the last that starts at the key or before it on, in descending
+/// order, as many as the array takes, and how many.
+///
+/// Fewer than the array takes are written where there are no more. What lies behind them in the
+/// array stays as it was.
+pub fn read_back<K: Key, V: Eq + Drop, E: Shown<K, V>>(
+    stored: &RangeMap<K, V>,
+    key: K,
+    entries: &mut [E],
+    count: &mut usize,
+) -> u32
+    ensures read { (rest : List (Item (AnyRange K) V))
+        × AreOverlapping K.order (box_items stored.now) (upto_key key)
+        (rest ++ reverse (map E.said (take count.new entries.new)))
+        × (count.new < length entries.old → rest ≡ []) }
+    ensures within { count.new ≤ length entries.old }
+    ensures behind { drop count.new entries.new ≡ drop count.new entries.old }
+    ensures done { result ≡ DONE }
+{
+    key.known();
+    let mut items = stored.overlapping(..=key);
+    *count = fill_back(&mut items, entries);
+    DONE
+}

@@ -1,0 +1,7 @@
+//! What the crate above needs beyond the calls of maps.
+
+pub use crate::array::elements_of_array;
+pub use crate::element::element_from_json;
+pub use crate::map::pair_to_json;
+pub use crate::range::element_range;
+pub use crate::version::{elements_of_map, versioned};

@@ -1,0 +1,3 @@
+pub mod Multimaps
+pub mod SetReading
+pub mod SetReadingBack

@@ -1,0 +1,39 @@
+use Rattle.std.proofs.Common.{◌≡◌, ◌⊎◌, inl, inr, ap, Some, rules, length}
+use Rattle.std.proofs.lemmas.List.{nil_from_length}
+use Rattle.std.specs.BTreeSet.{IsEmpty}
+use Rattle.serde_json.specs.View.{view}
+use Rattle.range_json.specs.MapFaults.{element_fault}
+use Rattle.range_json.specs.ValueSets.{reads_some_values}
+use Rattle.range_json.specs.declared.error.JsonError.TheVariants.{Memory}
+use Rattle.range_set_json.proofs.Multimaps.{fault_too, empty_fault, full_sound}
+use Rattle.range_set_json.proofs.multimap.element_with_values.Goals as goal
+
+pub returns-in_err-element-clause-fault : goal.returns-in_err-element-clause-fault
+returns-in_err-element-clause-fault g c =
+    let e = c.in_err-element.field-0.0 in
+    let d = view c.args.value.now in
+    let told : (e ≡ Memory) ⊎
+    (element_fault g.K.Json.reads (reads_some_values g.V.Json.reads) c.args.index d
+    ≡ Some e) = elim c.in_err-element.ensures.fault [
+      | inl memory ↦ inl memory
+      | inr at ↦ inr (fault_too g.K.Json.reads g.V.Json.reads c.args.index d e at)
+    ] in
+    search (rules, told)
+
+pub returns-then-is_empty-clause-fault : goal.returns-then-is_empty-clause-fault
+returns-then-is_empty-clause-fault g c =
+    let x = c.in_ok-element.element in
+    let empty : IsEmpty x.value =
+    nil_from_length x.value.keys (c.is_empty.ensures.0 c.if-is_empty.true) in
+    inr (empty_fault g.K.Json.reads g.V.Json.reads c.args.index g.V.Ord.cmp g.met.V.Ord.total
+    g.K.Json.is_read g.V.Json.is_read
+    (view c.args.value.now) x c.in_ok-element.ensures.sound c.in_ok-element.ensures.read empty)
+
+pub returns-clause-sound : goal.returns-clause-sound
+returns-clause-sound g c =
+    let x = c.in_ok-element.element in
+    let full : ¬ IsEmpty x.value = λ e. let no = c.is_empty.ensures.1 (ap length e) in let is =
+    c.if-is_empty.false in absurd cc in
+    full_sound g.K.Json.reads g.V.Json.reads c.args.index g.V.Ord.cmp g.met.V.Ord.total
+    g.K.Json.is_read g.V.Json.is_read
+    (view c.args.value.now) x c.in_ok-element.ensures.sound c.in_ok-element.ensures.read full

@@ -1,0 +1,10 @@
+//! Ranges, sets, maps and multimaps as JSON values.
+
+pub use crate::laws::{multimaps_are_read_back, read_multimaps_have_no_fault, sets_are_read_back};
+pub use crate::multimap::{multimap_from_json, multimap_to_json};
+pub use crate::set::{set_from_json, set_to_json};
+pub use range_json::json::{
+    Explanation, Json, JsonError, ReadError, ReadsBack, map_from_json, map_from_json_overwriting,
+    map_to_json, maps_are_read_back, range_from_json, range_to_json, ranges_are_read_back,
+    read_maps_have_no_fault,
+};

@@ -1,0 +1,240 @@
+-- Rows of cells, of which one is written or one added.
+use Rattle.std.proofs.Common.{◌≡◌, ◌≢◌, ℕ, zero, suc, ◌+◌, ◌*◌, ◌<◌, ◌≤◌, List, [], ◌∷◌, ◌++◌, length, get_or, take, drop, replicate, Option, Some, None, refl, sym, ap, ◌∙◌, inl, inr, arith, length-append, length-drop}
+use borrow.Rule.Slice.PartMut.{put_mid}
+use Rattle.std.proofs.Math.ListN.{set, length-set}
+use Rattle.std.proofs.lemmas.Bool.{cases_eq, cases_lt}
+use Rattle.std.proofs.lemmas.List.{drop-drop, drop-take, take-take, take_at, drop_at, drop_all, take_all, take-append-le, drop-append-le, length-take-le, length-replicate, ext_get_or, get_or-set_same, get_or-set_other, get_or-take, get_or-drop, get_or_past, take-set-le, drop-set-lt, drop-set-add}
+use Rattle.std.proofs.lemmas.Slice.{take-put_mid_below, drop-put_mid}
+use Rattle.range_store.specs.declared.btree.nodes.TheConstants.{CAPACITY}
+use Rattle.range_store.specs.Rows.{items_in, HoldsItems, cells_of, row_of, rows_in, IsRows}
+use Rattle.range_store.proofs.Cells.{Standing, cell_read, items_held, held_none, held_set, row_length}
+
+module _ {T : Type 0} where
+  cells_on : (cells : List (Option T)) (n : ℕ) → cells_of (drop CAPACITY cells) n
+      ≡ cells_of cells (suc n)
+  cells_on cells n = ap (take CAPACITY) (drop-drop (CAPACITY * n) CAPACITY cells
+      ∙ ap (λ i. drop i cells) (omega arith))
+
+  pub rows_read : (many : ℕ) (cells : List (Option T)) (n : ℕ) → n < many
+      → row_of (rows_in many cells) n ≡ items_in (cells_of cells n)
+  unfolding rows_in
+  rows_read zero cells n within = absurd (omega arith)
+  rows_read (suc many) cells zero within = refl
+  rows_read (suc many) cells (suc n) within =
+      rows_read many (drop CAPACITY cells) n (omega arith) ∙ ap items_in (cells_on cells n)
+
+  pub length-rows : (many : ℕ) (cells : List (Option T)) → length (rows_in many cells) ≡ many
+  unfolding rows_in
+  length-rows zero cells = refl
+  length-rows (suc many) cells = ap suc (length-rows many (drop CAPACITY cells))
+
+  -- what a row that is there holds
+  pub row_held : (many : ℕ) (cells : List (Option T)) → IsRows many cells → (n : ℕ)
+      → n < length (rows_in many cells)
+      → HoldsItems (cells_of cells n) (row_of (rows_in many cells) n)
+  row_held many cells rows n within =
+      let less : n < many = omega (arith, length-rows many cells) in
+      rw (rows_read many cells n less) (rows.held n less)
+
+  pub room : (many : ℕ) (cells : List (Option T)) → IsRows many cells → (n : ℕ)
+      → n < length (rows_in many cells) → CAPACITY * n + CAPACITY ≤ length cells
+  room many cells rows n within = omega (arith, rows.cells_are, length-rows many cells)
+
+  -- the cell of an item
+  pub cell_in : (many : ℕ) (cells : List (Option T)) → IsRows many cells → (n i : ℕ)
+      → n < length (rows_in many cells) → i < length (row_of (rows_in many cells) n)
+      → (stands : Standing (row_of (rows_in many cells) n) i) → (d : Option T)
+      → get_or cells (CAPACITY * n + i) d ≡ Some stands.item
+  cell_in many cells rows n i there within stands d =
+      let held = row_held many cells rows n there in
+      sym (get_or-take CAPACITY (drop (CAPACITY * n) cells) i d (omega (arith, held.fits))
+      ∙ get_or-drop (CAPACITY * n) cells i d)
+      ∙ cell_read (cells_of cells n) (row_of (rows_in many cells) n) held i within stands d
+
+  -- the cells of one number are new, and hold these items
+  pub record Rewrites (cells new : List (Option T)) (n : ℕ) (items : List T) : Type 0 where
+    pub len : length new ≡ length cells
+    pub others : (m : ℕ) → m ≢ n → cells_of new m ≡ cells_of cells m
+    pub here : HoldsItems (cells_of new n) items
+
+  module _ (many : ℕ) (cells new : List (Option T)) (rows : IsRows many cells) (n : ℕ)
+      (items : List T) (rewrites : Rewrites cells new n items) where
+    held_anew : (m : ℕ) → m < many → HoldsItems (cells_of new m) (items_in (cells_of new m))
+    held_anew m within =
+        elim (cases_eq m n) [
+          | inl same ↦
+              rw same (rw (items_held (cells_of new n) items rewrites.here) rewrites.here)
+          | inr other ↦ rw (rewrites.others m other) (rows.held m within)
+        ]
+
+    pub rewritten_rows : IsRows many new
+    rewritten_rows = record {
+      cells_are = rewrites.len ∙ rows.cells_are;
+      held = held_anew;
+    }
+
+    pub rewritten : n < many → rows_in many new ≡ set (rows_in many cells) n items
+    rewritten within =
+        let long = length-rows many cells in
+        ext_get_or [] (rows_in many new) (set (rows_in many cells) n items)
+        (length-rows many new ∙ sym (length-set (rows_in many cells) n items ∙ long))
+        (λ m below.
+        let less : m < many = omega (arith, length-rows many new) in
+        elim (cases_eq m n) [
+          | inl same ↦
+              rw same (rows_read many new n within
+              ∙ items_held (cells_of new n) items rewrites.here
+              ∙ sym (get_or-set_same (rows_in many cells) n items [] (omega (arith, long))))
+          | inr other ↦
+              rows_read many new m less ∙ ap items_in (rewrites.others m other)
+              ∙ sym (rows_read many cells m less)
+              ∙ sym (get_or-set_other (rows_in many cells) n m items [] other)
+        ])
+
+  -- the cells of a number were written at once
+  all_written : (n : ℕ) (cells part : List (Option T)) (items : List T)
+      → CAPACITY * n + CAPACITY ≤ length cells → HoldsItems part items
+      → Rewrites cells (put_mid (CAPACITY * n) CAPACITY cells part) n items
+  all_written n cells part items within holds =
+      let long = row_length part items holds in
+      let front = take (CAPACITY * n) cells in
+      let back = drop CAPACITY (drop (CAPACITY * n) cells) in
+      let start : length front ≡ CAPACITY * n =
+      length-take-le (CAPACITY * n) cells (omega (arith, within)) in
+      let here : cells_of (put_mid (CAPACITY * n) CAPACITY cells part) n ≡ part =
+      ap (take CAPACITY) (drop_at front (part ++ back) (CAPACITY * n) start)
+      ∙ take_at part back CAPACITY long in
+      record {
+        len = omega (
+          arith,
+          within,
+          length-append front (part ++ back),
+          length-append part back,
+          length-drop CAPACITY (drop (CAPACITY * n) cells),
+          length-drop (CAPACITY * n) cells,
+          start,
+        );
+        others = λ m other.
+            elim (cases_lt m n) [
+              | inl less ↦
+                  sym (drop-take (CAPACITY * m) CAPACITY
+                  (put_mid (CAPACITY * n) CAPACITY cells part))
+                  ∙ ap (drop (CAPACITY * m))
+                  (take-put_mid_below (CAPACITY * n) CAPACITY cells part
+                  (CAPACITY * m + CAPACITY) (omega arith) (omega (arith, within)))
+                  ∙ drop-take (CAPACITY * m) CAPACITY cells
+              | inr past ↦
+                  ap (take CAPACITY)
+                  (drop-put_mid (CAPACITY * n) CAPACITY cells part (CAPACITY * m) (omega arith)
+                  (omega (arith, within)) long)
+            ];
+        here = rw here holds;
+      }
+
+  pub part_written : (n k : ℕ) → k ≡ CAPACITY → (cells part : List (Option T)) (items : List T)
+      → CAPACITY * n + CAPACITY ≤ length cells → HoldsItems part items
+      → Rewrites cells (put_mid (CAPACITY * n) k cells part) n items
+  part_written n k all cells part items within holds =
+      rw all (all_written n cells part items within holds)
+
+  take_set : (n : ℕ) (xs : List (Option T)) (i : ℕ) (x : Option T)
+      → take n (set xs i x) ≡ set (take n xs) i x
+  take_set zero xs i x = refl
+  take_set (suc n) [] i x = refl
+  take_set (suc n) (y ∷ xs) zero x = refl
+  take_set (suc n) (y ∷ xs) (suc i) x = ap (λ ys. y ∷ ys) (take_set n xs i x)
+
+  -- one cell of a number was written
+  pub cell_written : (n i : ℕ) (cells : List (Option T)) (items : List T) (item : T)
+      → i < length items → HoldsItems (cells_of cells n) items
+      → Rewrites cells (set cells (CAPACITY * n + i) (Some item)) n (set items i item)
+  cell_written n i cells items item within holds =
+      let cell : Option T = Some item in
+      let less : i < CAPACITY = omega (arith, holds.fits) in
+      let here : cells_of (set cells (CAPACITY * n + i) cell) n ≡ set (cells_of cells n) i cell =
+      ap (take CAPACITY) (drop-set-add (CAPACITY * n) cells i cell)
+      ∙ take_set CAPACITY (drop (CAPACITY * n) cells) i cell in
+      record {
+        len = length-set cells (CAPACITY * n + i) cell;
+        others = λ m other.
+            elim (cases_lt m n) [
+              | inl before ↦
+                  sym (drop-take (CAPACITY * m) CAPACITY (set cells (CAPACITY * n + i) cell))
+                  ∙ ap (drop (CAPACITY * m))
+                  (take-set-le (CAPACITY * m + CAPACITY) cells (CAPACITY * n + i) cell
+                  (omega arith))
+                  ∙ drop-take (CAPACITY * m) CAPACITY cells
+              | inr past ↦
+                  ap (take CAPACITY)
+                  (drop-set-lt (CAPACITY * m) cells (CAPACITY * n + i) cell (omega arith))
+            ];
+        here = rw here (held_set (cells_of cells n) items i item holds within);
+      }
+
+  -- a row was added
+  module _ (many : ℕ) (cells : List (Option T)) (rows : IsRows many cells) where
+    abbrev more : List (Option T)
+    more = cells ++ replicate CAPACITY None
+
+    added_cells : (n : ℕ) → n < many → cells_of more n ≡ cells_of cells n
+    added_cells n within =
+        sym (drop-take (CAPACITY * n) CAPACITY more)
+        ∙ ap (drop (CAPACITY * n)) (take-append-le (CAPACITY * n + CAPACITY) cells
+        (replicate CAPACITY None) (omega (arith, rows.cells_are)))
+        ∙ drop-take (CAPACITY * n) CAPACITY cells
+
+    new_cells : cells_of more many ≡ replicate CAPACITY None
+    new_cells =
+        ap (take CAPACITY) (drop_at cells (replicate CAPACITY None) (CAPACITY * many)
+        rows.cells_are)
+        ∙ take_all CAPACITY (replicate CAPACITY None)
+        (omega (arith, length-replicate {A = Option T} CAPACITY None))
+
+    added_held : (n : ℕ) → n < suc many → HoldsItems (cells_of more n) (items_in (cells_of more n))
+    added_held n within =
+        elim (cases_lt n many) [
+          | inl less ↦ rw (added_cells n less) (rows.held n less)
+          | inr past ↦
+              let same : n ≡ many = omega arith in
+              rw (same, new_cells) held_none
+        ]
+
+    pub added_rows : IsRows (suc many) more
+    added_rows = record {
+      cells_are = omega (
+        arith,
+        rows.cells_are,
+        length-append cells (replicate CAPACITY None),
+        length-replicate {A = Option T} CAPACITY None,
+      );
+      held = added_held;
+    }
+
+    -- each number has what it had
+    pub added_kept : (n : ℕ) → row_of (rows_in (suc many) more) n ≡ row_of (rows_in many cells) n
+    added_kept n =
+        elim (cases_lt n many) [
+          | inl less ↦
+              rows_read (suc many) more n (omega arith) ∙ ap items_in (added_cells n less)
+              ∙ sym (rows_read many cells n less)
+          | inr past ↦
+              elim (cases_eq n many) [
+                | inl same ↦
+                    rw same (rows_read (suc many) more many (omega arith)
+                    ∙ ap items_in new_cells
+                    ∙ sym (get_or_past (rows_in many cells) many []
+                    (omega (arith, length-rows many cells))))
+                | inr other ↦
+                    get_or_past (rows_in (suc many) more) n []
+                    (omega (arith, length-rows (suc many) more))
+                    ∙ sym (get_or_past (rows_in many cells) n []
+                    (omega (arith, length-rows many cells)))
+              ]
+        ]
+
+  pub no_rows : IsRows {T = T} 0 []
+  no_rows = record { cells_are = refl; held = λ n within. absurd (omega arith) }
+
+  pub rows_none : (cells : List (Option T)) → rows_in 0 cells ≡ []
+  unfolding rows_in
+  rows_none cells = refl

@@ -1,0 +1,35 @@
+use Rattle.std.proofs.Common.{◌≡◌, ◌+◌, suc, length, arith}
+use Rattle.range_store.proofs.Rows.{added_kept, added_rows, length-rows}
+use Rattle.range_store.proofs.btree.rows.Rows.add_row.Goals as goal
+
+pub invariant_of-self-2 : goal.invariant_of-self-2
+invariant_of-self-2 g c =
+    let s = c.self.inside in
+    let next : s.many + 1 ≡ suc s.many = omega arith in
+    rw (next, c.add_cells.ensures, c.reserve.ensures.items) (added_rows s.many s.cells.items
+    c.self.invariant)
+
+pub returns-clause-more : goal.returns-clause-more
+returns-clause-more g c =
+    let s = c.self.inside in
+    rw (← c.self.view_is) (omega (
+      arith,
+      length-rows (s.many + 1) c.add_cells.new.cells.items,
+      length-rows s.many s.cells.items,
+    ))
+
+pub returns-clause-no_less : goal.returns-clause-no_less
+returns-clause-no_less g c =
+    let s = c.self.inside in
+    rw (← c.self.view_is) (omega (
+      arith,
+      length-rows (s.many + 1) c.add_cells.new.cells.items,
+      length-rows s.many s.cells.items,
+    ))
+
+pub returns-clause-kept : goal.returns-clause-kept
+returns-clause-kept g c k =
+    let s = c.self.inside in
+    let next : s.many + 1 ≡ suc s.many = omega arith in
+    rw (← c.self.view_is, next, c.add_cells.ensures, c.reserve.ensures.items) (added_kept s.many
+    s.cells.items c.self.invariant k)

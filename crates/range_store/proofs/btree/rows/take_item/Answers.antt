@@ -1,0 +1,61 @@
+use Rattle.std.proofs.Common.{◌≡◌, ◌+◌, ◌-◌, ◌<◌, suc, length, arith, ap, ◌∙◌, sym}
+use Rattle.std.specs.List.{insert}
+use Rattle.std.proofs.Math.ListN.{length-set}
+use Rattle.std.proofs.lemmas.Option.{none-some, same_Some}
+use Rattle.range_store.specs.Rows.{items_in}
+use Rattle.range_store.proofs.Cells.{carried_back, held_without, row_length, standing}
+use Rattle.range_store.proofs.btree.rows.take_item.Goals as goal
+
+pub loop-at-preserved : goal.loop-at-preserved
+loop-at-preserved g c =
+    let here : suc (c.loop-at.at - 1) ≡ c.loop-at.at = omega (arith, c.loop-at-test.true) in
+    let within : c.loop-at.at - 1 < length c.loop-at.row =
+    omega (
+      arith,
+      c.loop-at-test.true,
+      c.loop-at.invariant.high,
+      c.requires.len,
+      c.requires.held.fits,
+      c.loop-at.auto.row,
+      row_length c.args.row.now (items_in c.args.row.now) c.requires.held,
+    ) in
+    record {
+      same = rw (c.swap.ensures.x_after, c.swap.ensures.y_after) (carried_back c.loop-at.row
+          (c.loop-at.at - 1) c.loop-at.carried c.index-row-at.result within
+          ∙ ap (λ k. insert c.loop-at.row k c.loop-at.carried) here ∙ c.loop-at.invariant.same);
+      long = length-set c.loop-at.row (c.loop-at.at - 1) c.swap.new.x ∙ c.loop-at.invariant.long;
+      low = omega (arith, c.loop-at-test.true);
+      high = omega (arith, c.loop-at.invariant.high);
+    }
+
+pub unreachable-requires : goal.unreachable-requires
+unreachable-requires g c =
+    let at : c.args.index ≡ c.loop-at.at = omega arith in
+    let taken = held_without c.args.row.now c.loop-at.row (items_in c.args.row.now) c.args.len
+    c.args.index c.loop-at.carried c.requires.held c.requires.len c.requires.within
+    c.loop-at.invariant.long
+    (ap (λ k. insert c.loop-at.row k c.loop-at.carried) at ∙ c.loop-at.invariant.same) in
+    let stands = standing (items_in c.args.row.now) c.args.index
+    (omega (arith, c.requires.len, c.requires.within)) in
+    none-some stands.item (sym c.in-None.is ∙ taken.1 stands)
+
+pub returns-clause-item : goal.returns-clause-item
+returns-clause-item g c =
+    let at : c.args.index ≡ c.loop-at.at = omega arith in
+    let taken = held_without c.args.row.now c.loop-at.row (items_in c.args.row.now) c.args.len
+    c.args.index c.loop-at.carried c.requires.held c.requires.len c.requires.within
+    c.loop-at.invariant.long
+    (ap (λ k. insert c.loop-at.row k c.loop-at.carried) at ∙ c.loop-at.invariant.same) in
+    let stands = standing (items_in c.args.row.now) c.args.index
+    (omega (arith, c.requires.len, c.requires.within)) in
+    same_Some c.in-Some.item stands.item (sym c.in-Some.is ∙ taken.1 stands)
+    ∙ sym (stands.item_is c.in-Some.item)
+
+pub returns-clause-held : goal.returns-clause-held
+returns-clause-held g c =
+    let at : c.args.index ≡ c.loop-at.at = omega arith in
+    let taken = held_without c.args.row.now c.loop-at.row (items_in c.args.row.now) c.args.len
+    c.args.index c.loop-at.carried c.requires.held c.requires.len c.requires.within
+    c.loop-at.invariant.long
+    (ap (λ k. insert c.loop-at.row k c.loop-at.carried) at ∙ c.loop-at.invariant.same) in
+    taken.0
