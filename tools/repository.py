@@ -80,10 +80,12 @@ def crates():
     every = proved | listed(UNPROVED)
 
     def add(name):
+        if name in ordered:
+            return
         own = [other for other in every[name] if other in every]
         for other in own:
             add(other)
-        ordered.setdefault(name, Crate(name, own, name in proved))
+        ordered[name] = Crate(name, own, name in proved)
 
     for name in every:
         add(name)

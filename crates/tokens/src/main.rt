@@ -5,8 +5,9 @@
 //! count from 1, columns in characters.
 //!
 //! A line of the rules is `NAME PATTERN`, or `skip PATTERN` for what is left out. Blank lines and
-//! lines that begin with `#` say nothing. Each token is the longest piece of the text from its place
-//! on that one of the patterns matches, by the first such pattern.
+//! lines that begin with `#` say nothing. Spaces around a pattern are none of it: one there is written
+//! `[ ]`. Each token is the longest piece of the text from its place on that one of the patterns
+//! matches, by the first such pattern.
 //!
 //! Where to find what:
 //!
