@@ -38,8 +38,8 @@ split_last (x ∷ z ∷ zs) (suc k) size =
     let rest = split_last (z ∷ zs) k (omega (arith, size)) in
     (x ∷ rest.0, rest.1, ap (λ ys. x ∷ ys) rest.2, rest.3, λ y. ap (λ ys. x ∷ ys) (rest.4 y))
 
-module _ {K : Type 0} (order : KeyOrder K) (lawful : IsLawful order) {V : Type 0}
-    (same : V → V → Bool) (equal : IsEquivalence same) (r : AnyRange K) where
+module _ {K : Type 0} {order : KeyOrder K} (lawful : IsLawful order) {V : Type 0}
+    {same : V → V → Bool} (equal : IsEquivalence same) (r : AnyRange K) where
   abbrev past_of : Bound K → Position K
   past_of e = past order (end_position order e)
 
@@ -48,34 +48,30 @@ module _ {K : Type 0} (order : KeyOrder K) (lawful : IsLawful order) {V : Type 0
   Gives W None = ⊥
   Gives W (Some v) = W v ≡ true
 
-  abbrev pub Alike : (V → Bool) → Type 0
-  Alike W = Respects (line_of order lawful same equal) W
+  abbrev pub Alike : (V → Bool) → Type 0 Alike W = Respects (line_of lawful equal) W
 
   -- a nonempty part between the places of the range
   abbrev pub IsWithin : AnyRange K → Type 0
   IsWithin key =
-      IsKnownRange order key × PLe order lawful (Lo order lawful r) (Lo order lawful key)
-      × PLt order lawful (Lo order lawful key) (Hi order lawful key)
-      × PLe order lawful (Hi order lawful key) (Hi order lawful r)
+      IsKnownRange order key × PLe lawful (Lo lawful r) (Lo lawful key) × PLt lawful (Lo lawful key)
+      (Hi lawful key) × PLe lawful (Hi lawful key) (Hi lawful r)
 
   abbrev HoldsAt : Position K → AnyRange K → Type 0
-  HoldsAt p key =
-      PLe order lawful (Lo order lawful key) p × PLt order lawful p (Hi order lawful key)
+  HoldsAt p key = PLe lawful (Lo lawful key) p × PLt lawful p (Hi lawful key)
 
   -- the range of an item lies in the range, and before the place
   abbrev LiesUpTo : Position K → Item (AnyRange K) V → Type 0
   LiesUpTo m j =
-      PLe order lawful (Lo order lawful r) (Lo order lawful j.key)
-      × PLe order lawful (Hi order lawful j.key) (Hi order lawful r)
-      × PLe order lawful (Hi order lawful j.key) m
+      PLe lawful (Lo lawful r) (Lo lawful j.key) × PLe lawful (Hi lawful j.key) (Hi lawful r) × PLe
+      lawful (Hi lawful j.key) m
 
   -- the items bind what the answers so far say
   pub record IsFilledUpTo (m : Position K) (answers : List (Answered K V))
       (middle : List (Item (AnyRange K) V)) : Type 0 where
-    pub known : Known order lawful same equal middle
-    pub chain : Chained order lawful same equal middle
+    pub known : Known lawful equal middle
+    pub chain : Chained lawful equal middle
     pub inside : Every (LiesUpTo m) middle
-    pub has : (p : Position K) (W : V → Bool) → Alike W → Hold order lawful same equal W p middle
+    pub has : (p : Position K) (W : V → Bool) → Alike W → Hold lawful equal W p middle
         ↔ Any (λ a. HoldsAt p a.key × Gives W a.answer) answers
     pub valued : Every (λ j. Any (λ a. a.answer ≡ Some j.value) answers) middle
 
@@ -90,22 +86,22 @@ module _ {K : Type 0} (order : KeyOrder K) (lawful : IsLawful order) {V : Type 0
       }
 
   module _ (m n : Position K) (answers : List (Answered K V)) (key : AnyRange K)
-      (inside : IsWithin key) (from : PLe order lawful m (Lo order lawful key))
-      (upto : PLe order lawful (Hi order lawful key) n) where
-    later_place_is_not_before : PLe order lawful m n
+      (inside : IsWithin key) (from : PLe lawful m (Lo lawful key))
+      (upto : PLe lawful (Hi lawful key) n) where
+    later_place_is_not_before : PLe lawful m n
     later_place_is_not_before =
         let cmp = position_cmp order.cmp in
         let total = position_total order.cmp lawful.total in
-        le_trans cmp total m (Lo order lawful key) n
-        from (le_trans cmp total (Lo order lawful key) (Hi order lawful key) n
-        (lt_le cmp total (Lo order lawful key) (Hi order lawful key) inside.2) upto)
+        le_trans cmp total m (Lo lawful key) n from
+        (le_trans cmp total (Lo lawful key) (Hi lawful key) n
+        (lt_le cmp total (Lo lawful key) (Hi lawful key) inside.2) upto)
 
     lies_up_to_later_place : (j : Item (AnyRange K) V) → LiesUpTo m j → LiesUpTo n j
     lies_up_to_later_place j h = (
       h.0,
       h.1,
-      le_trans (position_cmp order.cmp) (position_total order.cmp lawful.total)
-          (Hi order lawful j.key) m n h.2 later_place_is_not_before,
+      le_trans (position_cmp order.cmp) (position_total order.cmp lawful.total) (Hi lawful j.key) m
+          n h.2 later_place_is_not_before,
     )
 
     more_valued : (a : Answered K V) (middle : List (Item (AnyRange K) V))
@@ -139,28 +135,24 @@ module _ {K : Type 0} (order : KeyOrder K) (lawful : IsLawful order) {V : Type 0
         }
 
     lead_all : (v : V) (j : Item (AnyRange K) V)
-        → position_cmp order.cmp (Lo order lawful j.key) (Lo order lawful key) ≡ Equal → j.value ≡ v
-        → (xs : List (Item (AnyRange K) V)) → Chained order lawful same equal xs
-        → Every (LiesUpTo m) xs
+        → position_cmp order.cmp (Lo lawful j.key) (Lo lawful key) ≡ Equal → j.value ≡ v
+        → (xs : List (Item (AnyRange K) V)) → Chained lawful equal xs → Every (LiesUpTo m) xs
         → ((k : ℕ) (d : Item (AnyRange K) V) → k + 1 ≡ length xs
         → Touches order (get_or xs k d).key key → same (get_or xs k d).value v ≡ true → ⊥)
-        → Every (λ x. Leads (line_of order lawful same equal) x (item_lower order j) j.value) xs
+        → Every (λ x. Leads (line_of lawful equal) x (item_lower order j) j.value) xs
     lead_all v j at is [] chain within apart = tt
     lead_all v j at is (x ∷ []) chain within apart =
         let cmp = position_cmp order.cmp in
         let total = position_total order.cmp lawful.total in
         let before =
-        le_trans cmp total (Hi order lawful x.key) m
-        (Lo order lawful key) within.0.2 from in (
+        le_trans cmp total (Hi lawful x.key) m
+        (Lo lawful key) within.0.2 from in (
           (
-            le_trans cmp total (Hi order lawful x.key) (Lo order lawful key)
-                (Lo order lawful j.key) before
-                (eq_ge cmp total (Lo order lawful j.key) (Lo order lawful key) at),
-            λ le alike. apart 0 x refl
-                ((touches_is order lawful x.key.end key inside.0 inside.2 before).1
-                (le_trans cmp total (Lo order lawful key) (Lo order lawful j.key)
-                (Hi order lawful x.key) (eq_ge cmp total (Lo order lawful j.key)
-                (Lo order lawful key) at) le)) (rw is at alike),
+            le_trans cmp total (Hi lawful x.key) (Lo lawful key) (Lo lawful j.key) before
+                (eq_ge cmp total (Lo lawful j.key) (Lo lawful key) at),
+            λ le alike. apart 0 x refl ((touches_is lawful x.key.end key inside.0 inside.2 before).1
+                (le_trans cmp total (Lo lawful key) (Lo lawful j.key) (Hi lawful x.key)
+                (eq_ge cmp total (Lo lawful j.key) (Lo lawful key) at) le)) (rw is at alike),
           ),
           tt,
         )
@@ -171,19 +163,18 @@ module _ {K : Type 0} (order : KeyOrder K) (lawful : IsLawful order) {V : Type 0
         lead_all v j at is (y ∷ ys) chain.1.1 within.1
         (λ k d size. apart (suc k) d (omega (arith, size))) in
         let strict =
-        le_lt_trans cmp total (Hi order lawful x.key) (Lo order lawful y.key)
-        (Lo order lawful j.key) chain.1.0.0
-        (lt_le_trans cmp total (Lo order lawful y.key) (Hi order lawful y.key)
-        (Lo order lawful j.key) chain.1.1.0 rest.0.0) in (
-          strictly_leads (line_of order lawful same equal) x (item_lower order j) j.value strict,
+        le_lt_trans cmp total (Hi lawful x.key) (Lo lawful y.key) (Lo lawful j.key) chain.1.0.0
+        (lt_le_trans cmp total (Lo lawful y.key) (Hi lawful y.key)
+        (Lo lawful j.key) chain.1.1.0 rest.0.0) in (
+          strictly_leads (line_of lawful equal) x (item_lower order j) j.value strict,
           rest,
         )
 
     filled_with_item_after : (v : V) (value : Option V) (j : Item (AnyRange K) V)
         (middle : List (Item (AnyRange K) V)) → IsFilledUpTo m answers middle
         → IsKnownRange order j.key
-        → position_cmp order.cmp (Lo order lawful j.key) (Lo order lawful key) ≡ Equal
-        → position_cmp order.cmp (Hi order lawful j.key) (Hi order lawful key) ≡ Equal → j.value ≡ v
+        → position_cmp order.cmp (Lo lawful j.key) (Lo lawful key) ≡ Equal
+        → position_cmp order.cmp (Hi lawful j.key) (Hi lawful key) ≡ Equal → j.value ≡ v
         → JoinsNoLast order same middle key v
         → IsFilledUpTo n (answers ++ record { key = key; value = value; answer = Some v } ∷ [])
         (middle ++ j ∷ [])
@@ -191,10 +182,10 @@ module _ {K : Type 0} (order : KeyOrder K) (lawful : IsLawful order) {V : Type 0
         let cmp = position_cmp order.cmp in
         let total = position_total order.cmp lawful.total in
         let a : Answered K V = record { key = key; value = value; answer = Some v } in
-        let lo = Lo order lawful key in
-        let hi = Hi order lawful key in
-        let p0 = Lo order lawful j.key in
-        let q0 = Hi order lawful j.key in
+        let lo = Lo lawful key in
+        let hi = Hi lawful key in
+        let p0 = Lo lawful j.key in
+        let q0 = Hi lawful j.key in
         let good =
         lt_le_trans cmp total p0 hi q0
         (le_lt_trans cmp total p0 lo hi (eq_le cmp total p0 lo at) inside.2)
@@ -203,7 +194,7 @@ module _ {K : Type 0} (order : KeyOrder K) (lawful : IsLawful order) {V : Type 0
           known =
               every_append (λ i. IsKnownRange order i.key) middle (j ∷ []) was.known (known, tt);
           chain =
-              chains_join (line_of order lawful same equal) middle j [] was.chain (good, tt)
+              chains_join (line_of lawful equal) middle j [] was.chain (good, tt)
               (lead_all v j at is middle was.chain was.inside
               (λ k d size. let last : k
               ≡ length middle - 1 =
@@ -212,8 +203,8 @@ module _ {K : Type 0} (order : KeyOrder K) (lawful : IsLawful order) {V : Type 0
               every_append (LiesUpTo n) middle (j ∷ [])
               (every_weaker (LiesUpTo m) (LiesUpTo n) middle lies_up_to_later_place was.inside) (
                 (
-                  le_trans cmp total (Lo order lawful r) lo p0 inside.1 (eq_ge cmp total p0 lo at),
-                  le_trans cmp total q0 hi (Hi order lawful r) (eq_le cmp total q0 hi to) inside.3,
+                  le_trans cmp total (Lo lawful r) lo p0 inside.1 (eq_ge cmp total p0 lo at),
+                  le_trans cmp total q0 hi (Hi lawful r) (eq_le cmp total q0 hi to) inside.3,
                   le_trans cmp total q0 hi n (eq_le cmp total q0 hi to) upto,
                 ),
                 tt,
@@ -259,30 +250,29 @@ module _ {K : Type 0} (order : KeyOrder K) (lawful : IsLawful order) {V : Type 0
 
     filled_on : (v : V) (value : Option V) (front : List (Item (AnyRange K) V))
         (last j : Item (AnyRange K) V) → IsFilledUpTo m answers (front ++ last ∷ [])
-        → IsKnownRange order j.key → Lo order lawful j.key ≡ Lo order lawful last.key
-        → position_cmp order.cmp (Hi order lawful j.key) (Hi order lawful key) ≡ Equal
-        → j.value ≡ last.value → PLe order lawful (Lo order lawful key) (Hi order lawful last.key)
-        → same last.value v ≡ true
+        → IsKnownRange order j.key → Lo lawful j.key ≡ Lo lawful last.key
+        → position_cmp order.cmp (Hi lawful j.key) (Hi lawful key) ≡ Equal → j.value ≡ last.value
+        → PLe lawful (Lo lawful key) (Hi lawful last.key) → same last.value v ≡ true
         → IsFilledUpTo n (answers ++ record { key = key; value = value; answer = Some v } ∷ [])
         (front ++ j ∷ [])
     filled_on v value front last j was known at to is touches alike_values =
         let cmp = position_cmp order.cmp in
         let total = position_total order.cmp lawful.total in
         let a : Answered K V = record { key = key; value = value; answer = Some v } in
-        let lo = Lo order lawful key in
-        let hi = Hi order lawful key in
-        let q0 = Hi order lawful j.key in
-        let low = Lo order lawful last.key in
-        let high = Hi order lawful last.key in
-        let tail = chain_right (line_of order lawful same equal) front (last ∷ []) was.chain in
+        let lo = Lo lawful key in
+        let hi = Hi lawful key in
+        let q0 = Hi lawful j.key in
+        let low = Lo lawful last.key in
+        let high = Hi lawful last.key in
+        let tail = chain_right (line_of lawful equal) front (last ∷ []) was.chain in
         let within = every_right (LiesUpTo m) front (last ∷ []) was.inside in
-        let before : PLe order lawful high lo = le_trans cmp total high m lo within.0.2 from in
-        let past_lo : PLt order lawful low hi =
+        let before : PLe lawful high lo = le_trans cmp total high m lo within.0.2 from in
+        let past_lo : PLt lawful low hi =
         lt_le_trans cmp total low high hi tail.0
         (le_trans cmp total high lo hi before (lt_le cmp total lo hi inside.2)) in
-        let good : PLt order lawful (Lo order lawful j.key) q0 =
+        let good : PLt lawful (Lo lawful j.key) q0 =
         rw at (lt_le_trans cmp total low hi q0 past_lo (eq_ge cmp total q0 hi to)) in
-        let leads = chain_before (line_of order lawful same equal) front last [] was.chain in
+        let leads = chain_before (line_of lawful equal) front last [] was.chain in
         let old_valued =
         every_right (λ i. Any (λ b. b.answer ≡ Some i.value) answers) front
         (last ∷ []) was.valued in
@@ -291,8 +281,8 @@ module _ {K : Type 0} (order : KeyOrder K) (lawful : IsLawful order) {V : Type 0
               every_append (λ i. IsKnownRange order i.key) front (j ∷ [])
               (every_left (λ i. IsKnownRange order i.key) front (last ∷ []) was.known) (known, tt);
           chain =
-              chains_join (line_of order lawful same equal) front j []
-              (chain_left (line_of order lawful same equal) front (last ∷ []) was.chain) (good, tt)
+              chains_join (line_of lawful equal) front j []
+              (chain_left (line_of lawful equal) front (last ∷ []) was.chain) (good, tt)
               (rw (at, is) leads);
           inside =
               every_append (LiesUpTo n) front (j ∷ [])
@@ -300,7 +290,7 @@ module _ {K : Type 0} (order : KeyOrder K) (lawful : IsLawful order) {V : Type 0
               (every_left (LiesUpTo m) front (last ∷ []) was.inside)) (
                 (
                   rw at within.0.0,
-                  le_trans cmp total q0 hi (Hi order lawful r) (eq_le cmp total q0 hi to) inside.3,
+                  le_trans cmp total q0 hi (Hi lawful r) (eq_le cmp total q0 hi to) inside.3,
                   le_trans cmp total q0 hi n (eq_le cmp total q0 hi to) upto,
                 ),
                 tt,
@@ -309,7 +299,7 @@ module _ {K : Type 0} (order : KeyOrder K) (lawful : IsLawful order) {V : Type 0
               let P = λ (b : Answered K V). HoldsAt p b.key × Gives W b.answer in
               let Q = λ (i : Item (AnyRange K) V). HoldsAt p i.key × (W i.value ≡ true) in
               let old = was.has p W alike in
-              let into : PLt order lawful p hi → PLt order lawful p q0 =
+              let into : PLt lawful p hi → PLt lawful p q0 =
               λ l. lt_le_trans cmp total p hi q0 l (eq_ge cmp total q0 hi to) in (
                 λ h. elim (any_split Q front (j ∷ []) h) [
                   | inl g ↦ any_left P answers (a ∷ []) (old.0 (any_left Q front (last ∷ []) g))
@@ -359,8 +349,8 @@ module _ {K : Type 0} (order : KeyOrder K) (lawful : IsLawful order) {V : Type 0
                             into e.0.1,
                           ),
                           rw is (alike v last.value
-                              (same_is_symmetric (line_of order lawful same equal) last.value v
-                              alike_values) e.1),
+                              (same_is_symmetric (line_of lawful equal) last.value v alike_values)
+                              e.1),
                         )
                     | inr e ↦ absurd e
                   ]
@@ -385,13 +375,12 @@ module _ {K : Type 0} (order : KeyOrder K) (lawful : IsLawful order) {V : Type 0
       fill_more value (Some v) old new was (inl put) =
           rw put.list (filled_with_item_after v value
           (record { key = record { start = put.start; end = put.end }; value = v }) old was
-          put.known (tied_back (position_total order.cmp lawful.total) (Lo order lawful key)
+          put.known (tied_back (position_total order.cmp lawful.total) (Lo lawful key)
           (start_position order put.start)
           (same_start order lawful key.start put.start
           (clones key.start put.start put.start_clone)))
-          (tied_back (position_total order.cmp lawful.total) (Hi order lawful key)
-          (past_of put.end) (same_past order lawful key.end put.end
-          (clones key.end put.end put.end_clone))) refl put.apart)
+          (tied_back (position_total order.cmp lawful.total) (Hi lawful key) (past_of put.end)
+          (same_past lawful key.end put.end (clones key.end put.end put.end_clone))) refl put.apart)
       fill_more value (Some v) old new was (inr put) =
           let some : 0 < length old = put.joins.0 in
           let parts = split_last old (length old - 1) (omega (arith, some)) in
@@ -406,11 +395,8 @@ module _ {K : Type 0} (order : KeyOrder K) (lawful : IsLawful order) {V : Type 0
           let known =
           every_right (λ i. IsKnownRange order i.key) parts.0 (last ∷ []) was_parts.known in
           let before =
-          le_trans cmp total (Hi order lawful last.key) m
-          (Lo order lawful key) within.0.2 from in
+          le_trans cmp total (Hi lawful last.key) m (Lo lawful key) within.0.2 from in
           rw list (filled_on v value parts.0 last j was_parts (known.0.0, put.known) refl
-          (tied_back (position_total order.cmp lawful.total) (Hi order lawful key)
-          (past_of put.end) (same_past order lawful key.end put.end
-          (clones key.end put.end put.end_clone))) refl
-          ((touches_is order lawful last.key.end key inside.0 inside.2 before).0 joins.0)
-          joins.1)
+          (tied_back (position_total order.cmp lawful.total) (Hi lawful key) (past_of put.end)
+          (same_past lawful key.end put.end (clones key.end put.end put.end_clone))) refl
+          ((touches_is lawful last.key.end key inside.0 inside.2 before).0 joins.0) joins.1)

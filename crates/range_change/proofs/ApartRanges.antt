@@ -76,7 +76,7 @@ both_hold : (free a b : Bool) → free ≡ (a && b) → IsTrue free → IsTrue a
 both_hold free true b e f = (refl, sym e ∙ f)
 both_hold free false b e f = absurd (let clash : false ≡ true = sym e ∙ f in cc)
 
-module _ {K : Type 0} (order : KeyOrder K) (lawful : IsLawful order) where
+module _ {K : Type 0} {order : KeyOrder K} (lawful : IsLawful order) where
   abbrev PLe : Position K → Position K → Type 0
   PLe p q = Le (position_cmp order.cmp) p q
 
@@ -86,10 +86,9 @@ module _ {K : Type 0} (order : KeyOrder K) (lawful : IsLawful order) where
   apart_is : (r s : AnyRange K) → IsKnownRange order r → IsKnownRange order s
       → (IsEmptyRange order s → ⊥) → LiesApart order r s → PLt (upper order r) (lower order s)
   apart_is r s known others full h =
-      let le = (before_is order lawful r.end s.start known.1 others.0).0 h.0 in
+      let le = (before_is lawful r.end s.start known.1 others.0).0 h.0 in
       let touch =
-      touches_is order lawful r.end s others
-      ((nonempty_good order lawful s others).0 full) le in
+      touches_is lawful r.end s others ((nonempty_good lawful s others).0 full) le in
       not_le (position_cmp order.cmp) (position_total order.cmp lawful.total) (upper order r)
       (lower order s) (λ back. h.1 (touch.1 back))
 
@@ -103,21 +102,21 @@ module _ {K : Type 0} (order : KeyOrder K) (lawful : IsLawful order) where
       let cmp = position_cmp order.cmp in
       let total = position_total order.cmp lawful.total in
       let before =
-      (before_is order lawful r.end s.start known.1 others.0).1
+      (before_is lawful r.end s.start known.1 others.0).1
       (lt_le cmp total (upper order r) (lower order s) l) in (
         λ meets. meets.0 before,
         λ t. lt_not_le cmp total (upper order r) (lower order s) l
             (eq_ge cmp total (upper order r) (lower order s)
-            (touching_same order lawful r.end (lower order s) t)),
+            (touching_same lawful r.end (lower order s) t)),
         λ t. lt_not_le cmp total (lower order r) (upper order s)
             (lt_trans cmp total (lower order r) (upper order r) (upper order s) good
             (lt_trans cmp total (upper order r) (lower order s) (upper order s) l good_s))
             (eq_le cmp total (upper order s) (lower order r)
-            (touching_same order lawful s.end (lower order r) t)),
+            (touching_same lawful s.end (lower order r) t)),
         before,
       )
 
-  module _ {V : Type 0} (same : V → V → Bool) (equal : IsEquivalence same) where
+  module _ {V : Type 0} {same : V → V → Bool} (equal : IsEquivalence same) where
     abbrev Before : AnyRange K → Item (AnyRange K) V → Type 0
     Before r i = PLt (item_upper order i) (lower order r)
 
@@ -128,11 +127,11 @@ module _ {K : Type 0} (order : KeyOrder K) (lawful : IsLawful order) where
     Good i = PLt (item_lower order i) (item_upper order i)
 
     follows_good : (i : Item (AnyRange K) V) (rest : List (Item (AnyRange K) V))
-        → Chained order lawful same equal (i ∷ rest) → Every Good (i ∷ rest)
+        → Chained lawful equal (i ∷ rest) → Every Good (i ∷ rest)
     follows_good i [] h = (h.0, tt)
     follows_good i (j ∷ rest) h = (h.0, follows_good j rest h.1.1)
 
-    chain_good : (items : List (Item (AnyRange K) V)) → Chained order lawful same equal items
+    chain_good : (items : List (Item (AnyRange K) V)) → Chained lawful equal items
         → Every Good items
     chain_good [] h = tt
     chain_good (i ∷ rest) h = follows_good i rest h
@@ -149,16 +148,14 @@ module _ {K : Type 0} (order : KeyOrder K) (lawful : IsLawful order) where
           drop_more items n x within ∙ ap (λ y. y ∷ drop (n + 1) items) (sym read) in
           let split : items ≡ take n items ++ x ∷ drop (n + 1) items =
           list_is_take_and_drop items n ∙ ap (λ ys. take n items ++ ys) more in
-          let whole : Chained order lawful same equal (take n items ++ x ∷ drop (n + 1) items) =
-          rw split at (stored_chain order lawful same equal items stored) in
-          let all_known : Known order lawful same equal (take n items ++ x ∷ drop (n + 1) items) =
-          rw split at (stored_known order lawful same equal items stored) in
+          let whole : Chained lawful equal (take n items ++ x ∷ drop (n + 1) items) =
+          rw split at (stored_chain lawful equal items stored) in
+          let all_known : Known lawful equal (take n items ++ x ∷ drop (n + 1) items) =
+          rw split at (stored_known lawful equal items stored) in
           let good =
-          chain_right (line_of order lawful same equal) (take n items)
-          (x ∷ drop (n + 1) items) whole in
+          chain_right (line_of lawful equal) (take n items) (x ∷ drop (n + 1) items) whole in
           let before =
-          chain_before (line_of order lawful same equal) (take n items) x
-          (drop (n + 1) items) whole in
+          chain_before (line_of lawful equal) (take n items) x (drop (n + 1) items) whole in
           let own =
           apart_is x.key r (every_right (λ i. IsKnownRange order i.key) (take n items)
           (x ∷ drop (n + 1) items) all_known).0 known full apart in
@@ -179,22 +176,20 @@ module _ {K : Type 0} (order : KeyOrder K) (lawful : IsLawful order) where
           drop_more items n x within ∙ ap (λ y. y ∷ drop (n + 1) items) (sym read) in
           let split : items ≡ take n items ++ x ∷ drop (n + 1) items =
           list_is_take_and_drop items n ∙ ap (λ ys. take n items ++ ys) more in
-          let whole : Chained order lawful same equal (take n items ++ x ∷ drop (n + 1) items) =
-          rw split at (stored_chain order lawful same equal items stored) in
-          let all_known : Known order lawful same equal (take n items ++ x ∷ drop (n + 1) items) =
-          rw split at (stored_known order lawful same equal items stored) in
+          let whole : Chained lawful equal (take n items ++ x ∷ drop (n + 1) items) =
+          rw split at (stored_chain lawful equal items stored) in
+          let all_known : Known lawful equal (take n items ++ x ∷ drop (n + 1) items) =
+          rw split at (stored_known lawful equal items stored) in
           let chain =
-          chain_right (line_of order lawful same equal) (take n items)
-          (x ∷ drop (n + 1) items) whole in
+          chain_right (line_of lawful equal) (take n items) (x ∷ drop (n + 1) items) whole in
           let above =
-          chain_above (line_of order lawful same equal) (item_lower order x) x
-          (drop (n + 1) items) chain (le_refl cmp total (item_lower order x)) in
+          chain_above (line_of lawful equal) (item_lower order x) x (drop (n + 1) items) chain
+          (le_refl cmp total (item_lower order x)) in
           let known_x =
           (every_right (λ i. IsKnownRange order i.key) (take n items)
           (x ∷ drop (n + 1) items) all_known).0 in
           let own =
-          apart_is r x.key known known_x
-          ((nonempty_good order lawful x.key known_x).1 chain.0) apart in
+          apart_is r x.key known known_x ((nonempty_good lawful x.key known_x).1 chain.0) apart in
           rw more (every_weaker _ _ (x ∷ drop (n + 1) items)
           (λ y h. lt_le_trans cmp total (upper order r) (item_lower order x)
           (item_lower order y) own h) above)
@@ -371,7 +366,7 @@ module _ {K : Type 0} (order : KeyOrder K) (lawful : IsLawful order) where
       module _ (place : ℕ) (front : Every (Before r) (take place items))
           (back : Every (Behind r) (drop place items)) where
         range_good : PLt (lower order r) (upper order r)
-        range_good = (nonempty_good order lawful r known).0 full
+        range_good = (nonempty_good lawful r known).0 full
 
         item_before_is_unconnected : (i : Item (AnyRange K) V)
             → (IsKnownRange order i.key × Good i) × Before r i → IsConnectedTo order i.key r → ⊥
@@ -396,10 +391,10 @@ module _ {K : Type 0} (order : KeyOrder K) (lawful : IsLawful order) where
         free_not h =
             let split : items ≡ take place items ++ drop place items =
             list_is_take_and_drop items place in
-            let all_known : Known order lawful same equal (take place items ++ drop place items) =
-            rw split at (stored_known order lawful same equal items stored) in
-            let whole : Chained order lawful same equal (take place items ++ drop place items) =
-            rw split at (stored_chain order lawful same equal items stored) in
+            let all_known : Known lawful equal (take place items ++ drop place items) =
+            rw split at (stored_known lawful equal items stored) in
+            let whole : Chained lawful equal (take place items ++ drop place items) =
+            rw split at (stored_chain lawful equal items stored) in
             let both =
             every_both (λ i. IsKnownRange order i.key) Good
             (take place items ++ drop place items) all_known
@@ -439,43 +434,37 @@ module _ {K : Type 0} (order : KeyOrder K) (lawful : IsLawful order) where
             let d = upper order r in
             let split : items ≡ take place items ++ drop place items =
             list_is_take_and_drop items place in
-            let all_known : Known order lawful same equal (take place items ++ drop place items) =
-            rw split at (stored_known order lawful same equal items stored) in
-            let whole : Chained order lawful same equal (take place items ++ drop place items) =
-            rw split at (stored_chain order lawful same equal items stored) in
+            let all_known : Known lawful equal (take place items ++ drop place items) =
+            rw split at (stored_known lawful equal items stored) in
+            let whole : Chained lawful equal (take place items ++ drop place items) =
+            rw split at (stored_chain lawful equal items stored) in
             let left =
-            left_whole (line_of order lawful same equal) (take place items)
-            (drop place items) c whole
+            left_whole (line_of lawful equal) (take place items) (drop place items) c whole
             (every_weaker _ _ (take place items)
             (λ i h. lt_le cmp total (item_upper order i) c h) front)
             (every_weaker _ _ (drop place items)
             (λ i h. lt_le cmp total c (item_lower order i)
             (lt_trans cmp total c d (item_lower order i) range_good h)) back) in
             let right =
-            right_whole (line_of order lawful same equal) (take place items)
-            (drop place items) d whole
+            right_whole (line_of lawful equal) (take place items) (drop place items) d whole
             (every_weaker _ _ (take place items)
             (λ i h. lt_le cmp total (item_upper order i) d
             (lt_trans cmp total (item_upper order i) c d h range_good)) front)
             (every_weaker _ _ (drop place items)
             (λ i h. lt_le cmp total d (item_lower order i) h) back) in
             let on_left =
-            left_apart (line_of order lawful same equal)
-            (take place items ++ drop place items) (take place items) c v left
-            (every_weaker _ _ (take place items)
-            (λ i h. strictly_leads (line_of order lawful same equal) i c v h) front) in
+            left_apart (line_of lawful equal) (take place items ++ drop place items)
+            (take place items) c v left (every_weaker _ _ (take place items)
+            (λ i h. strictly_leads (line_of lawful equal) i c v h) front) in
             let on_right =
-            right_apart (line_of order lawful same equal)
-            (take place items ++ drop place items) (drop place items) d v right
-            (every_weaker _ _ (drop place items)
-            (λ i h. strictly_trails (line_of order lawful same equal) i d v h) back) in
+            right_apart (line_of lawful equal) (take place items ++ drop place items)
+            (drop place items) d v right (every_weaker _ _ (drop place items)
+            (λ i h. strictly_trails (line_of lawful equal) i d v h) back) in
             let changed =
-            places_between_are_bound (line_of order lawful same equal)
-            (take place items ++ drop place items) (take place items)
-            (drop place items) x c d c d v on_left on_right range_good (tied_itself total c)
-            (tied_itself total d) (equal.refl v) in
-            let new_known : Known order lawful same equal
-            (take place items ++ x ∷ drop place items) =
+            places_between_are_bound (line_of lawful equal) (take place items ++ drop place items)
+            (take place items) (drop place items) x c d c d v on_left on_right range_good
+            (tied_itself total c) (tied_itself total d) (equal.refl v) in
+            let new_known : Known lawful equal (take place items ++ x ∷ drop place items) =
             every_append (λ i. IsKnownRange order i.key) (take place items)
             (x ∷ drop place items) (every_left (λ i. IsKnownRange order i.key)
             (take place items) (drop place items) all_known) (
@@ -484,12 +473,12 @@ module _ {K : Type 0} (order : KeyOrder K) (lawful : IsLawful order) where
                   (drop place items) all_known,
             ) in
             let after =
-            bound_after order lawful same equal (take place items ++ drop place items)
+            bound_after lawful equal (take place items ++ drop place items)
             (take place items ++ x ∷ drop place items) r v known all_known new_known changed
             in
             let joined : take place items ++ drop place items ≡ items = sym split in (
-              chain_stored order lawful same equal
-                  (take place items ++ x ∷ drop place items) new_known changed.chain,
+              chain_stored lawful equal (take place items ++ x ∷ drop place items) new_known
+                  changed.chain,
               subst (λ xs. IsBoundAfter order same xs
                   (take place items ++ x ∷ drop place items) r v) joined after,
             )

@@ -28,16 +28,15 @@ module _ {K : Type 0} {order : KeyOrder K} (lawful : IsLawful order) {V : Type 0
     {same : V → V → Bool} (equal : IsEquivalence same) {P : Type 0} {is_good : P → Type 0}
     {rank : P → ℕ} {items : List (Item (AnyRange K) V)} {r : AnyRange K} {w : Window P} {place : ℕ}
     (window : IsWindow order same is_good rank items r w place) where
-  chain : Chained order lawful same equal items
-  chain = stored_chain order lawful same equal items window.stored
+  chain : Chained lawful equal items
+  chain = stored_chain lawful equal items window.stored
 
-  full : Every (IsFull order lawful items r) items
+  full : Every (IsFull lawful items r) items
   full =
-      all_full order lawful same equal r items
-      (stored_known order lawful same equal items window.stored) chain
+      all_full lawful equal r items (stored_known lawful equal items window.stored) chain
 
-  some : Lt (places order lawful) (lower order r) (upper order r)
-  some = (nonempty_good order lawful r window.known).0 window.nonempty
+  some : Lt (places lawful) (lower order r) (upper order r)
+  some = (nonempty_good lawful r window.known).0 window.nonempty
 
   pub asked_good : (last : Option P) (count : ℕ) → IsLastOf is_good rank last place count
       → ForSome last is_good
@@ -48,8 +47,7 @@ module _ {K : Type 0} {order : KeyOrder K} (lawful : IsLawful order) {V : Type 0
       → IsLastOf is_good rank last place count → place + count ≤ length items
       → IsKeyAt rank items last key → ForSome key (λ i. IsEmptyRange order i → ⊥)
   asked_key_full last count key last_is within is =
-      key_full order lawful same equal r is_good rank items last place count key full last_is within
-      is
+      key_full lawful equal r is_good rank items last place count key full last_is within is
 
   -- an item of the window
   module _ (met : ℕ) (x : Item (AnyRange K) V) (more : met < w.count)
@@ -70,18 +68,17 @@ module _ {K : Type 0} {order : KeyOrder K} (lawful : IsLawful order) {V : Type 0
 
     pub met_nonempty : IsEmptyRange order x.key → ⊥
     met_nonempty = let own =
-        met_holds (IsFull order lawful items r) full in (nonempty_good order lawful x.key own.0).1
-        own.1
+        met_holds (IsFull lawful items r) full in (nonempty_good lawful x.key own.0).1 own.1
 
     module _ {F E : Type 0} {calls : Shared F (Option (Bor V) × Unit {0}) (Result (Option V) E)}
         {f : F} (before : Option (AnyRange K)) {old : List (Item (AnyRange K) V)}
-        (was : IsUnderway order lawful same equal calls f items r (take (place + met) items)
+        (was : IsUnderway lawful equal calls f items r (take (place + met) items)
         (gap_lower order r before) old) where
       pub met_answered : (answer : Result (Option V) E)
           → AnswersItem order calls f r before x answer
           → AnswersPiece order same calls f items r answer
       met_answered answer said =
-          gap_or_item_answered order lawful same equal calls f items r window.known full chain some
+          gap_or_item_answered lawful equal calls f items r window.known full chain some
           (take (place + met) items)
           (drop (place + met + 1) items) x list meets before old was answer said
 
@@ -89,13 +86,13 @@ module _ {K : Type 0} {order : KeyOrder K} (lawful : IsLawful order) {V : Type 0
           (clones : (a b : Bound K) → IsBoundClone is_clone a b → SameBound order a b)
           (new : List (Item (AnyRange K) V))
           → IsItemAsked order same is_clone calls f r before x old new
-          → IsUnderway order lawful same equal calls f items r (take (place + (met + 1)) items)
-          (Hi order lawful x.key) new
+          → IsUnderway lawful equal calls f items r (take (place + (met + 1)) items)
+          (Hi lawful x.key) new
       met_is_underway is_clone clones new asked =
           rw (take_one_more items (place + met) (place + (met + 1)) x within read (omega arith))
-          (asked_item_is_underway order lawful same equal calls f items r window.known full chain
-          some (take (place + met) items)
-          (drop (place + met + 1) items) x list meets before old was is_clone clones new asked)
+          (asked_item_is_underway lawful equal calls f items r window.known full chain some
+          (take (place + met) items) (drop (place + met + 1) items) x list meets before old was
+          is_clone clones new asked)
 
       pub met_keeps_spelling : (is_clone : K → K → Type 0)
           (clones : (a b : Bound K) → IsBoundClone is_clone a b → SameBound order a b)
@@ -103,20 +100,20 @@ module _ {K : Type 0} {order : KeyOrder K} (lawful : IsLawful order) {V : Type 0
           → IsItemAsked order same is_clone calls f r before x old new
           → KeepsSpelling order items new
       met_keeps_spelling is_clone clones new kept asked =
-          asked_item_keeps_spelling order lawful same equal calls f items r window.known full chain
-          some (take (place + met) items)
-          (drop (place + met + 1) items) x list meets before old was is_clone clones new kept asked
+          asked_item_keeps_spelling lawful equal calls f items r window.known full chain some
+          (take (place + met) items) (drop (place + met + 1) items) x list meets before old was
+          is_clone clones new kept asked
 
   -- after all of them
   module _ {F E : Type 0} {calls : Shared F (Option (Bor V) × Unit {0}) (Result (Option V) E)}
       {f : F} (before : Option (AnyRange K)) {old : List (Item (AnyRange K) V)}
-      (was : IsUnderway order lawful same equal calls f items r (take (place + w.count) items)
+      (was : IsUnderway lawful equal calls f items r (take (place + w.count) items)
       (gap_lower order r before) old) where
     pub last_answered : (answer : Result (Option V) E)
         → AnswersGap order calls f r before None answer
         → AnswersPiece order same calls f items r answer
     last_answered answer said =
-        last_gap_answered order lawful same equal calls f items r window.known full chain some
+        last_gap_answered lawful equal calls f items r window.known full chain some
         (take (place + w.count) items) (drop (place + w.count) items)
         (list_is_take_and_drop items (place + w.count)) window.behind before old was answer said
 
@@ -126,8 +123,8 @@ module _ {K : Type 0} {order : KeyOrder K} (lawful : IsLawful order) {V : Type 0
         → IsGapAsked order same is_clone calls f r before None old new
         → IsGathered order same calls f items r new
     all_gathered is_clone clones new asked =
-        last_gap_asked_is_gathered order lawful same equal calls f items r window.known full chain
-        some (take (place + w.count) items) (drop (place + w.count) items)
+        last_gap_asked_is_gathered lawful equal calls f items r window.known full chain some
+        (take (place + w.count) items) (drop (place + w.count) items)
         (list_is_take_and_drop items (place + w.count)) window.behind before old was is_clone clones
         new asked
 
@@ -137,7 +134,7 @@ module _ {K : Type 0} {order : KeyOrder K} (lawful : IsLawful order) {V : Type 0
         → IsGapAsked order same is_clone calls f r before None old new
         → KeepsSpelling order items new
     all_keep_spelling is_clone clones new kept asked =
-        last_gap_keeps_spelling order lawful same equal calls f items r window.known full chain
-        some (take (place + w.count) items) (drop (place + w.count) items)
+        last_gap_keeps_spelling lawful equal calls f items r window.known full chain some
+        (take (place + w.count) items) (drop (place + w.count) items)
         (list_is_take_and_drop items (place + w.count)) window.behind before old was is_clone clones
         new kept asked

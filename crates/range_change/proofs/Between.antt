@@ -18,9 +18,8 @@ pub put_between : {K : Type 0} {order : KeyOrder K} (lawful : IsLawful order) {V
     {same : V → V → Bool} (equal : IsEquivalence same) {P : Type 0} {is_good : P → Type 0}
     {rank : P → ℕ} {items : List (Item (AnyRange K) V)} {r : AnyRange K} {w : Window P} {place : ℕ}
     (window : IsWindow order same is_good rank items r w place) (v : V) →
-    w.count ≡ 0
-    → IsLeftPlan order same lawful equal is_good rank items r v place w.count None Plain w.from
-    → IsRightPlan order same lawful equal is_good rank items r v place w.count None Plain →
+    w.count ≡ 0 → IsLeftPlan lawful equal is_good rank items r v place w.count None Plain w.from
+    → IsRightPlan lawful equal is_good rank items r v place w.count None Plain →
     (new : List (Item (AnyRange K) V)) → new ≡ insert items place (record { key = r; value = v })
     → IsInserted order same items new r v
 put_between {K} lawful {V} {same} equal {P} {is_good} {rank} {items} {r} {w}

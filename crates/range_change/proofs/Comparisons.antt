@@ -29,7 +29,7 @@ false_is_not_both : (t c : Bool) → (IsTrue t → ⊥) → IsTrue (not t || not
 false_is_not_both true c h = absurd (h refl)
 false_is_not_both false c h = refl
 
-module _ {K : Type 0} (order : KeyOrder K) (lawful : IsLawful order) where
+module _ {K : Type 0} {order : KeyOrder K} (lawful : IsLawful order) where
   abbrev PLt : Position K → Position K → Type 0
   PLt p q = Lt (position_cmp order.cmp) p q
 
@@ -78,7 +78,7 @@ module _ {K : Type 0} (order : KeyOrder K) (lawful : IsLawful order) where
       let ends = lt_trans cmp total (End e) (Start r) (Start s) below rise in
       let apart =
       le_lt_trans cmp total (past order (End e)) (Start r) (Start s)
-      ((before_is order lawful e.end r.start known.1 others.0).0 below) rise in
+      ((before_is lawful e.end r.start known.1 others.0).0 below) rise in
       let touch' = starts_at_end order e.end (Start s) in
       (before_by_parts (is_lt (cmp (Start e) (Start s))) (is_lt (cmp (End e) (Start s))) touch'
       (is_eq (cmp (End e) (End s))) (is_gt (cmp (Start e) (End s)))

@@ -21,16 +21,16 @@ pub on_ok : {A E : Type 0} (P Q : Type 0) (r : Result A E) → (P → Q) → OnO
 on_ok P Q (Ok x) f h = f h
 on_ok P Q (Err e) f h = tt
 
-module _ {K : Type 0} (order : KeyOrder K) (lawful : IsLawful order) where
+module _ {K : Type 0} {order : KeyOrder K} (lawful : IsLawful order) where
   -- two ranges meet where each starts below the other's end
   overlap_is : (r s : AnyRange K) → IsKnownRange order r → IsKnownRange order s → Overlap order r s
-      ↔ (Lt (places order lawful) (lower order r) (upper order s)
-      × Lt (places order lawful) (lower order s) (upper order r))
+      ↔ (Lt (places lawful) (lower order r) (upper order s) × Lt (places lawful) (lower order s)
+      (upper order r))
   overlap_is r s known others =
-      let cmp = places order lawful in
+      let cmp = places lawful in
       let total = position_total order.cmp lawful.total in
-      let before = before_is order lawful r.end s.start known.1 others.0 in
-      let behind = before_is order lawful s.end r.start others.1 known.0 in (
+      let before = before_is lawful r.end s.start known.1 others.0 in
+      let behind = before_is lawful s.end r.start others.1 known.0 in (
         λ h. (
           not_le cmp total (lower order r) (upper order s) (λ k. h.1 (behind.1 k)),
           not_le cmp total (lower order s) (upper order r) (λ k. h.0 (before.1 k)),
@@ -44,16 +44,16 @@ module _ {K : Type 0} (order : KeyOrder K) (lawful : IsLawful order) where
   -- a place that two ranges share
   record Shares (r s : AnyRange K) : Type 0 where
     place : Position K
-    from : Le (places order lawful) (lower order r) place
-    upto : Lt (places order lawful) place (upper order r)
-    other_from : Le (places order lawful) (lower order s) place
-    other_upto : Lt (places order lawful) place (upper order s)
+    from : Le (places lawful) (lower order r) place
+    upto : Lt (places lawful) place (upper order r)
+    other_from : Le (places lawful) (lower order s) place
+    other_upto : Lt (places lawful) place (upper order s)
 
   overlapping_ranges_share_place : (r s : AnyRange K) → IsKnownRange order r → IsKnownRange order s
-      → Lt (places order lawful) (lower order r) (upper order r)
-      → Lt (places order lawful) (lower order s) (upper order s) → Overlap order r s → Shares r s
+      → Lt (places lawful) (lower order r) (upper order r)
+      → Lt (places lawful) (lower order s) (upper order s) → Overlap order r s → Shares r s
   overlapping_ranges_share_place r s known others good good_s h =
-      let cmp = places order lawful in
+      let cmp = places lawful in
       let total = position_total order.cmp lawful.total in
       let met = (overlap_is r s known others).0 h in
       elim (cases cmp total (lower order r) (lower order s)) [
@@ -77,21 +77,21 @@ module _ {K : Type 0} (order : KeyOrder K) (lawful : IsLawful order) where
       ]
 
   pub shared_place_is_overlap : (r s : AnyRange K) (p : Position K) → IsKnownRange order r
-      → IsKnownRange order s → Le (places order lawful) (lower order r) p
-      → Lt (places order lawful) p (upper order r) → Le (places order lawful) (lower order s) p
-      → Lt (places order lawful) p (upper order s) → Overlap order r s
+      → IsKnownRange order s → Le (places lawful) (lower order r) p
+      → Lt (places lawful) p (upper order r) → Le (places lawful) (lower order s) p
+      → Lt (places lawful) p (upper order s) → Overlap order r s
   shared_place_is_overlap r s p known others from upto other_from other_upto =
-      let cmp = places order lawful in
+      let cmp = places lawful in
       let total = position_total order.cmp lawful.total in
       (overlap_is r s known others).1 (
         le_lt_trans cmp total (lower order r) p (upper order s) from other_upto,
         le_lt_trans cmp total (lower order s) p (upper order r) other_from upto,
       )
 
-  module _ {V : Type 0} (same : V → V → Bool) (equal : IsEquivalence same) where
+  module _ {V : Type 0} {same : V → V → Bool} (equal : IsEquivalence same) where
     pub chained_items_have_places : (items : List (Item (AnyRange K) V))
-        → Chained order lawful same equal items
-        → Every (λ i. Lt (places order lawful) (item_lower order i) (item_upper order i)) items
+        → Chained lawful equal items
+        → Every (λ i. Lt (places lawful) (item_lower order i) (item_upper order i)) items
     chained_items_have_places [] h = tt
     chained_items_have_places (i ∷ []) h = (h.0, tt)
     chained_items_have_places (i ∷ j ∷ rest) h = (h.0, chained_items_have_places (j ∷ rest) h.1.1)
@@ -99,14 +99,14 @@ module _ {K : Type 0} (order : KeyOrder K) (lawful : IsLawful order) where
     -- a place of the range that some item holds
     pub record IsCovered (s : AnyRange K) (items : List (Item (AnyRange K) V)) : Type 0 where
       pub place : Position K
-      pub from : Le (places order lawful) (lower order s) place
-      pub upto : Lt (places order lawful) place (upper order s)
-      pub held : Hold order lawful same equal (λ u. true) place items
+      pub from : Le (places lawful) (lower order s) place
+      pub upto : Lt (places lawful) place (upper order s)
+      pub held : Hold lawful equal (λ u. true) place items
 
     pub met_range_is_covered : (s : AnyRange K) (items : List (Item (AnyRange K) V))
-        → IsKnownRange order s → Lt (places order lawful) (lower order s) (upper order s)
-        → Known order lawful same equal items
-        → Every (λ i. Lt (places order lawful) (item_lower order i) (item_upper order i)) items
+        → IsKnownRange order s → Lt (places lawful) (lower order s) (upper order s)
+        → Known lawful equal items
+        → Every (λ i. Lt (places lawful) (item_lower order i) (item_upper order i)) items
         → MeetsSome order items s → IsCovered s items
     met_range_is_covered s [] known good all full h = absurd h
     met_range_is_covered s (i ∷ rest) known good all full (inl h) =
@@ -122,9 +122,9 @@ module _ {K : Type 0} (order : KeyOrder K) (lawful : IsLawful order) where
         record { place = at.place; from = at.from; upto = at.upto; held = inr at.held }
 
     held_place_is_met : (s : AnyRange K) (items : List (Item (AnyRange K) V)) (p : Position K)
-        → IsKnownRange order s → Known order lawful same equal items
-        → Le (places order lawful) (lower order s) p → Lt (places order lawful) p (upper order s)
-        → Hold order lawful same equal (λ u. true) p items → MeetsSome order items s
+        → IsKnownRange order s → Known lawful equal items → Le (places lawful) (lower order s) p
+        → Lt (places lawful) p (upper order s) → Hold lawful equal (λ u. true) p items
+        → MeetsSome order items s
     held_place_is_met s [] p known all from upto h = absurd h
     held_place_is_met s (i ∷ rest) p known all from upto (inl h) =
         inl (shared_place_is_overlap i.key s p all.0 known h.0.0 h.0.1 from upto)
@@ -134,16 +134,15 @@ module _ {K : Type 0} (order : KeyOrder K) (lawful : IsLawful order) where
     -- what meets the range or a range of the list meets one of the list in which it was bound, and
     -- nothing else does
     pub meets_bound : (items new : List (Item (AnyRange K) V)) (r : AnyRange K) (v : V)
-        → Known order lawful same equal items → Known order lawful same equal new
-        → Chained order lawful same equal items → IsKnownRange order r
-        → Lt (places order lawful) (lower order r) (upper order r) →
-        IsBoundTo (line_of order lawful same equal) items new (lower order r) (upper order r) v
+        → Known lawful equal items → Known lawful equal new → Chained lawful equal items
+        → IsKnownRange order r → Lt (places lawful) (lower order r) (upper order r) → IsBoundTo
+        (line_of lawful equal) items new (lower order r) (upper order r) v
         → MeetAlso order items new r
     meets_bound items new r v all all_new chain known good changed = λ s known_s full.
-        let cmp = places order lawful in
+        let cmp = places lawful in
         let total = position_total order.cmp lawful.total in
-        let any = respects_any order lawful same equal in
-        let good_s = (nonempty_good order lawful s known_s).0 full in (
+        let any = respects_any lawful equal in
+        let good_s = (nonempty_good lawful s known_s).0 full in (
           λ h.
               let at =
               met_range_is_covered s new known_s good_s all_new

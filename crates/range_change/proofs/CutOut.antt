@@ -21,59 +21,54 @@ use Rattle.range_change.specs.declared.window.Window.{Window}
 use Rattle.range_change.proofs.Forms.{places, nonempty_good, Known, Chained, stored_known, stored_chain, unbound_after}
 use Rattle.range_algebra.proofs.Lists.{list_is_take_and_drop, parts_at, every_weaker, every_append, every_left, every_right}
 
-module _ {K : Type 0} (order : KeyOrder K) (lawful : IsLawful order) {V : Type 0}
-    (same : V → V → Bool) (equal : IsEquivalence same) where
+module _ {K : Type 0} {order : KeyOrder K} (lawful : IsLawful order) {V : Type 0}
+    {same : V → V → Bool} (equal : IsEquivalence same) where
   abbrev pub Left : List (Item (AnyRange K) V) → List (Item (AnyRange K) V) → Position K → Type 0
-  Left items kept c = IsLeft (line_of order lawful same equal) items kept c
+  Left items kept c = IsLeft (line_of lawful equal) items kept c
 
   abbrev pub Right : List (Item (AnyRange K) V) → List (Item (AnyRange K) V) → Position K → Type 0
-  Right items kept d = IsRight (line_of order lawful same equal) items kept d
+  Right items kept d = IsRight (line_of lawful equal) items kept d
 
   -- what stands before the range, where no item starts before it and reaches it
   pub left_all : (items front rest : List (Item (AnyRange K) V)) (c : Position K)
-      → items ≡ front ++ rest → Chained order lawful same equal items
-      → Every (λ i. Le (places order lawful) (item_upper order i) c) front
-      → Every (λ i. Le (places order lawful) c (item_lower order i)) rest → Left items front c
+      → items ≡ front ++ rest → Chained lawful equal items
+      → Every (λ i. Le (places lawful) (item_upper order i) c) front
+      → Every (λ i. Le (places lawful) c (item_lower order i)) rest → Left items front c
   left_all items front rest c split chain ends starts =
-      rw split (left_whole (line_of order lawful same equal) front rest c
-      (rw split at chain) ends starts)
+      rw split (left_whole (line_of lawful equal) front rest c (rw split at chain) ends starts)
 
   pub right_all : (items front rest : List (Item (AnyRange K) V)) (d : Position K)
-      → items ≡ front ++ rest → Chained order lawful same equal items
-      → Every (λ i. Le (places order lawful) (item_upper order i) d) front
-      → Every (λ i. Le (places order lawful) d (item_lower order i)) rest → Right items rest d
+      → items ≡ front ++ rest → Chained lawful equal items
+      → Every (λ i. Le (places lawful) (item_upper order i) d) front
+      → Every (λ i. Le (places lawful) d (item_lower order i)) rest → Right items rest d
   right_all items front rest d split chain ends starts =
-      rw split (right_whole (line_of order lawful same equal) front rest d
-      (rw split at chain) ends starts)
+      rw split (right_whole (line_of lawful equal) front rest d (rw split at chain) ends starts)
 
   left_by : (items front rest : List (Item (AnyRange K) V)) (x : Item (AnyRange K) V)
       (r : AnyRange K) (left : Option (Item (AnyRange K) V)) → items ≡ front ++ x ∷ rest
-      → Chained order lawful same equal items
-      → Every (λ i. Le (places order lawful) (item_upper order i) (lower order r)) front
-      → Lt (places order lawful) (lower order r) (item_upper order x)
-      → IsLeftPart order same x r left → Left items (front ++ option_items left) (lower order r)
+      → Chained lawful equal items
+      → Every (λ i. Le (places lawful) (item_upper order i) (lower order r)) front
+      → Lt (places lawful) (lower order r) (item_upper order x) → IsLeftPart order same x r left
+      → Left items (front ++ option_items left) (lower order r)
   left_by items front rest x r None split chain ends reaches part =
-      let whole =
-      chain_right (line_of order lawful same equal) front (x ∷ rest) (rw split at chain) in
+      let whole = chain_right (line_of lawful equal) front (x ∷ rest) (rw split at chain) in
       rw (append-nil front) (left_all items front (x ∷ rest) (lower order r) split chain ends
-      (chain_above (line_of order lawful same equal) (lower order r) x rest whole part))
+      (chain_above (line_of lawful equal) (lower order r) x rest whole part))
   left_by items front rest x r (Some y) split chain ends reaches part =
-      rw split (left_cut (line_of order lawful same equal) front x rest y (lower order r)
-      (rw split at chain) part.0
-      (lt_le (places order lawful) (position_total order.cmp lawful.total) (lower order r)
+      rw split (left_cut (line_of lawful equal) front x rest y (lower order r) (rw split at chain)
+      part.0 (lt_le (places lawful) (position_total order.cmp lawful.total) (lower order r)
       (item_upper order x) reaches) part.1 part.2 part.3)
 
   -- what the first item that meets a range leaves before it
   pub left_of : (items : List (Item (AnyRange K) V)) (place : ℕ) (d : Item (AnyRange K) V)
       (r : AnyRange K) (left : Option (Item (AnyRange K) V)) → place < length items
-      → Chained order lawful same equal items
-      → Every (λ i. Le (places order lawful) (item_upper order i) (lower order r))
-      (take place items)
-      → Every (λ i. Lt (places order lawful) (lower order r) (item_upper order i))
-      (drop place items) → IsLeftPart order same (get_or items place d) r left
+      → Chained lawful equal items
+      → Every (λ i. Le (places lawful) (item_upper order i) (lower order r)) (take place items)
+      → Every (λ i. Lt (places lawful) (lower order r) (item_upper order i)) (drop place items)
+      → IsLeftPart order same (get_or items place d) r left
       → Left items (take place items ++ option_items left) (lower order r)
   left_of items place d r left within chain ends reaches part =
-      let first : Every (λ i. Lt (places order lawful) (lower order r) (item_upper order i))
+      let first : Every (λ i. Lt (places lawful) (lower order r) (item_upper order i))
       (get_or items place d ∷ drop (place + 1) items) =
       rw (drop_more items place d within) at reaches in
       left_by items (take place items) (drop (place + 1) items) (get_or items place d) r left
@@ -81,15 +76,14 @@ module _ {K : Type 0} (order : KeyOrder K) (lawful : IsLawful order) {V : Type 0
 
   right_by : (items front rest : List (Item (AnyRange K) V)) (x : Item (AnyRange K) V)
       (r : AnyRange K) (right : Option (Item (AnyRange K) V)) → items ≡ front ++ x ∷ rest
-      → Chained order lawful same equal items
-      → Lt (places order lawful) (item_lower order x) (upper order r)
-      → Every (λ i. Le (places order lawful) (upper order r) (item_lower order i)) rest
+      → Chained lawful equal items → Lt (places lawful) (item_lower order x) (upper order r)
+      → Every (λ i. Le (places lawful) (upper order r) (item_lower order i)) rest
       → IsRightPart order same x r right → Right items (option_items right ++ rest) (upper order r)
   right_by items front rest x r None split chain starts above part =
-      let cmp = places order lawful in
+      let cmp = places lawful in
       let total = position_total order.cmp lawful.total in
-      let whole : Chained order lawful same equal (front ++ x ∷ rest) = rw split at chain in
-      let before = chain_before (line_of order lawful same equal) front x rest whole in
+      let whole : Chained lawful equal (front ++ x ∷ rest) = rw split at chain in
+      let before = chain_before (line_of lawful equal) front x rest whole in
       let more : items ≡ (front ++ x ∷ []) ++ rest =
       split ∙ sym (append_assoc front (x ∷ []) rest) in
       right_all items (front ++ x ∷ []) rest (upper order r) more chain
@@ -98,16 +92,16 @@ module _ {K : Type 0} (order : KeyOrder K) (lawful : IsLawful order) {V : Type 0
       le_trans cmp total (item_upper order z) (item_lower order x) (upper order r) h.0
       (lt_le cmp total (item_lower order x) (upper order r) starts)) before) (part, tt)) above
   right_by items front rest x r (Some y) split chain starts above part =
-      rw split (right_cut (line_of order lawful same equal) front x rest y (upper order r)
-      (rw split at chain) (lt_le (places order lawful) (position_total order.cmp lawful.total)
-      (item_lower order x) (upper order r) starts) part.0 part.1 part.2 part.3)
+      rw split (right_cut (line_of lawful equal) front x rest y (upper order r) (rw split at chain)
+      (lt_le (places lawful) (position_total order.cmp lawful.total) (item_lower order x)
+      (upper order r) starts) part.0 part.1 part.2 part.3)
 
   -- what the last item that meets a range leaves after it
   pub right_of : (items : List (Item (AnyRange K) V)) (end : ℕ) (d : Item (AnyRange K) V)
       (r : AnyRange K) (right : Option (Item (AnyRange K) V)) → 0 < end → end ≤ length items
-      → Chained order lawful same equal items
-      → Lt (places order lawful) (item_lower order (get_or items (end - 1) d)) (upper order r)
-      → Every (λ i. Le (places order lawful) (upper order r) (item_lower order i)) (drop end items)
+      → Chained lawful equal items
+      → Lt (places lawful) (item_lower order (get_or items (end - 1) d)) (upper order r)
+      → Every (λ i. Le (places lawful) (upper order r) (item_lower order i)) (drop end items)
       → IsRightPart order same (get_or items (end - 1) d) r right
       → Right items (option_items right ++ drop end items) (upper order r)
   right_of items end d r right some within chain starts above part =
@@ -119,23 +113,23 @@ module _ {K : Type 0} (order : KeyOrder K) (lawful : IsLawful order) {V : Type 0
       (get_or items (end - 1) d) r right split chain starts above part
 
   pub left_known : (x : Item (AnyRange K) V) (r : AnyRange K) (left : Option (Item (AnyRange K) V))
-      → IsLeftPart order same x r left → Known order lawful same equal (option_items left)
+      → IsLeftPart order same x r left → Known lawful equal (option_items left)
   left_known x r None part = tt
   left_known x r (Some y) part = (part.4, tt)
 
   pub right_known : (x : Item (AnyRange K) V) (r : AnyRange K)
       (right : Option (Item (AnyRange K) V)) → IsRightPart order same x r right
-      → Known order lawful same equal (option_items right)
+      → Known lawful equal (option_items right)
   right_known x r None part = tt
   right_known x r (Some y) part = (part.4, tt)
 
-  pub known_take : (items : List (Item (AnyRange K) V)) (n : ℕ)
-      → Known order lawful same equal items → Known order lawful same equal (take n items)
+  pub known_take : (items : List (Item (AnyRange K) V)) (n : ℕ) → Known lawful equal items
+      → Known lawful equal (take n items)
   known_take items n known =
       every_left _ (take n items) (drop n items) (rw (list_is_take_and_drop items n) at known)
 
-  pub known_drop : (items : List (Item (AnyRange K) V)) (n : ℕ)
-      → Known order lawful same equal items → Known order lawful same equal (drop n items)
+  pub known_drop : (items : List (Item (AnyRange K) V)) (n : ℕ) → Known lawful equal items
+      → Known lawful equal (drop n items)
   known_drop items n known =
       every_right _ (take n items) (drop n items) (rw (list_is_take_and_drop items n) at known)
 
@@ -145,11 +139,11 @@ module _ {K : Type 0} (order : KeyOrder K) (lawful : IsLawful order) {V : Type 0
       IsWindow order same is_good rank items r w place → w.count ≡ 0
       → IsUnboundAfter order same items items r
   unmet_is_unbound {P} {is_good} {rank} {items} {r} {w} {place} window none =
-      let cmp = places order lawful in
+      let cmp = places lawful in
       let total = position_total order.cmp lawful.total in
-      let chain = stored_chain order lawful same equal items window.stored in
-      let all = stored_known order lawful same equal items window.stored in
-      let good = (nonempty_good order lawful r window.known).0 window.nonempty in
+      let chain = stored_chain lawful equal items window.stored in
+      let all = stored_known lawful equal items window.stored in
+      let good = (nonempty_good lawful r window.known).0 window.nonempty in
       let at : place + w.count ≡ place = omega (arith, none) in
       let behind : Every (λ i. Le cmp (upper order r) (item_lower order i)) (drop place items) =
       rw at at window.behind in
@@ -166,9 +160,8 @@ module _ {K : Type 0} (order : KeyOrder K) (lawful : IsLawful order) {V : Type 0
       (λ i h. le_trans cmp total (item_upper order i) (lower order r) (upper order r) h
       (lt_le cmp total (lower order r) (upper order r) good)) window.below) behind in
       let result =
-      places_between_are_unbound (line_of order lawful same equal) items (take place items)
-      (drop place items) (lower order r) (upper order r) on_left on_right good in
-      unbound_after order lawful same equal items items r window.known all all
-      (subst (λ (ys : List (Item (AnyRange K) V)). IsUnbound
-      (line_of order lawful same equal) items ys (lower order r) (upper order r))
-      (sym (list_is_take_and_drop items place)) result)
+      places_between_are_unbound (line_of lawful equal) items (take place items) (drop place items)
+      (lower order r) (upper order r) on_left on_right good in
+      unbound_after lawful equal items items r window.known all all
+      (subst (λ (ys : List (Item (AnyRange K) V)). IsUnbound (line_of lawful equal) items ys
+      (lower order r) (upper order r)) (sym (list_is_take_and_drop items place)) result)

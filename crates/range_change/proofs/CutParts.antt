@@ -20,10 +20,10 @@ use Rattle.range_change.specs.Edits.{flipped_bound}
 use Rattle.range_algebra.proofs.Places.{reaching_is_before_past, flipped_bound_is_past, flipped_known, unbounded_start, unbounded_end}
 use Rattle.range_change.proofs.Forms.{places}
 
-module _ {K : Type 0} (order : KeyOrder K) (lawful : IsLawful order) where
+module _ {K : Type 0} {order : KeyOrder K} (lawful : IsLawful order) where
   -- bounds of one kind with equal values have equal places past them
   pub same_past : (a b : Bound K) → SameBound order a b
-      → places order lawful (past order (end_position order a)) (past order (end_position order b))
+      → places lawful (past order (end_position order a)) (past order (end_position order b))
       ≡ Equal
   same_past (Included a) (Included b) h = same_start order lawful (Excluded a) (Excluded b) h
   same_past (Excluded a) (Excluded b) h =
@@ -58,18 +58,18 @@ module _ {K : Type 0} (order : KeyOrder K) (lawful : IsLawful order) where
   known_turned Unbounded h = h
 
   end_by : (s t b : Bound K)
-      → places order lawful (past order (end_position order t)) (start_position order s) ≡ Equal
+      → places lawful (past order (end_position order t)) (start_position order s) ≡ Equal
       → SameBound order t b
-      → places order lawful (past order (end_position order b)) (start_position order s) ≡ Equal
+      → places lawful (past order (end_position order b)) (start_position order s) ≡ Equal
   end_by s t b at h =
       sym ((position_total order.cmp lawful.total).congr (past order (end_position order t))
       (past order (end_position order b)) (start_position order s) (same_past t b h)) ∙ at
 
   -- the end just before a start bound that is not the first of all
   pub cut_end : (a s b : Bound K) → IsKnownBound order a
-      → Lt (places order lawful) (start_position order a) (start_position order s)
+      → Lt (places lawful) (start_position order a) (start_position order s)
       → SameBound order (flipped_bound s) b
-      → places order lawful (past order (end_position order b)) (start_position order s) ≡ Equal
+      → places lawful (past order (end_position order b)) (start_position order s) ≡ Equal
   cut_end a (Included k) b known l h =
       end_by (Included k) (Excluded k) b
       (flipped_bound_is_past order lawful (Excluded k) (Included k) refl) h
@@ -77,14 +77,14 @@ module _ {K : Type 0} (order : KeyOrder K) (lawful : IsLawful order) where
       end_by (Excluded k) (Included k) b
       (flipped_bound_is_past order lawful (Included k) (Excluded k) refl) h
   cut_end a Unbounded b known l h =
-      absurd (lt_not_le (places order lawful) (position_total order.cmp lawful.total)
+      absurd (lt_not_le (places lawful) (position_total order.cmp lawful.total)
       (start_position order a) (start_position order Unbounded) l
       (unbounded_start order lawful a known))
 
   start_by : (e t b : Bound K)
-      → places order lawful (past order (end_position order e)) (start_position order t) ≡ Equal
+      → places lawful (past order (end_position order e)) (start_position order t) ≡ Equal
       → SameBound order t b
-      → places order lawful (start_position order b) (past order (end_position order e)) ≡ Equal
+      → places lawful (start_position order b) (past order (end_position order e)) ≡ Equal
   start_by e t b at h =
       let total = position_total order.cmp lawful.total in
       tied_back total (past order (end_position order e)) (start_position order b)
@@ -93,9 +93,9 @@ module _ {K : Type 0} (order : KeyOrder K) (lawful : IsLawful order) where
 
   -- the start just after an end bound that is not the last of all
   pub cut_start : (a e b : Bound K) → IsKnownBound order a
-      → Lt (places order lawful) (past order (end_position order e))
-      (past order (end_position order a)) → SameBound order (flipped_bound e) b
-      → places order lawful (start_position order b) (past order (end_position order e)) ≡ Equal
+      → Lt (places lawful) (past order (end_position order e)) (past order (end_position order a))
+      → SameBound order (flipped_bound e) b
+      → places lawful (start_position order b) (past order (end_position order e)) ≡ Equal
   cut_start a (Included k) b known l h =
       start_by (Included k) (Excluded k) b
       (flipped_bound_is_past order lawful (Included k) (Excluded k) refl) h
@@ -103,7 +103,7 @@ module _ {K : Type 0} (order : KeyOrder K) (lawful : IsLawful order) where
       start_by (Excluded k) (Included k) b
       (flipped_bound_is_past order lawful (Excluded k) (Included k) refl) h
   cut_start a Unbounded b known l h =
-      absurd (lt_not_le (places order lawful) (position_total order.cmp lawful.total)
+      absurd (lt_not_le (places lawful) (position_total order.cmp lawful.total)
       (past order (end_position order Unbounded)) (past order (end_position order a)) l
       (unbounded_end order lawful a known))
 
@@ -111,18 +111,18 @@ module _ {K : Type 0} (order : KeyOrder K) (lawful : IsLawful order) where
   same_turned b = same_itself (flipped_bound b)
 
   not_past_all : (e a : Bound K) → None ≡ flipped e → IsKnownBound order a
-      → Lt (places order lawful) (past order (end_position order e))
-      (past order (end_position order a)) → ⊥
+      → Lt (places lawful) (past order (end_position order e)) (past order (end_position order a))
+      → ⊥
   not_past_all (Included k) a turns known l = cc
   not_past_all (Excluded k) a turns known l = cc
   not_past_all Unbounded a turns known l =
-      lt_not_le (places order lawful) (position_total order.cmp lawful.total)
+      lt_not_le (places lawful) (position_total order.cmp lawful.total)
       (past order (end_position order Unbounded)) (past order (end_position order a)) l
       (unbounded_end order lawful a known)
 
   -- nothing ends after an unbounded end
   pub ends_never : (r i : AnyRange K) → IsKnownRange order i → None ≡ flipped r.end → IsTrue false
-      ↔ Lt (places order lawful) (upper order r) (upper order i)
+      ↔ Lt (places lawful) (upper order r) (upper order i)
   ends_never r i known turns =
       (λ h. absurd (cc), λ l. absurd (not_past_all r.end i.end turns known.1 l))
 
@@ -134,11 +134,11 @@ module _ {K : Type 0} (order : KeyOrder K) (lawful : IsLawful order) where
   -- a range ends after another where it reaches the start just after it
   pub ends_after_is : (r i : AnyRange K) (s : Bound K) → IsKnownRange order r → IsKnownRange order i
       → Some s ≡ flipped r.end
-      → IsTrue (is_le (places order lawful (start_position order s) (end_position order i.end)))
-      ↔ Lt (places order lawful) (upper order r) (upper order i)
+      → IsTrue (is_le (places lawful (start_position order s) (end_position order i.end)))
+      ↔ Lt (places lawful) (upper order r) (upper order i)
   ends_after_is r i s known others turns =
       let total = position_total order.cmp lawful.total in
-      let cmp = places order lawful in
+      let cmp = places lawful in
       let at = flipped_bound_is_past order lawful r.end s (sym turns) in
       let reach =
       reaching_is_before_past order lawful s i.end

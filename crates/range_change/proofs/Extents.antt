@@ -19,7 +19,7 @@ use Rattle.range_algebra.specs.Orders.{eq_le, eq_ge, le_trans, lt_not_le, not_le
 use Rattle.range_algebra.specs.Cuts.{past}
 use Rattle.range_algebra.proofs.Places.{reaching_is_before_past, flipped_bound_is_past, flipped_known, unbounded_end}
 
-module _ {K : Type 0} (order : KeyOrder K) (lawful : IsLawful order) where
+module _ {K : Type 0} {order : KeyOrder K} (lawful : IsLawful order) where
   abbrev PLe : Position K → Position K → Type 0
   PLe p q = Le (position_cmp order.cmp) p q
 

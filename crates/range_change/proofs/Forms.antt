@@ -25,7 +25,7 @@ use Rattle.range_change.specs.Bindings.{IsBound, BindsTo, Binds, IsSomeOf, IsBou
 use Rattle.range_change.proofs.Listed.{IsListed, stored_list_is_listed, stored_by}
 use Rattle.range_algebra.proofs.Places.{reaching_is_before_past, flipped_bound_is_past, unbounded_end, held_between}
 
-module _ {K : Type 0} (order : KeyOrder K) (lawful : IsLawful order) where
+module _ {K : Type 0} {order : KeyOrder K} (lawful : IsLawful order) where
   abbrev pub places : Position K → Position K → Ordering
   places = position_cmp order.cmp
 
@@ -91,28 +91,26 @@ module _ {K : Type 0} (order : KeyOrder K) (lawful : IsLawful order) where
             (lower order s) (unbounded_end order lawful s.end known.1) le)),
       )
 
-  module _ {V : Type 0} (same : V → V → Bool) (equal : IsEquivalence same) where
+  module _ {V : Type 0} {same : V → V → Bool} (equal : IsEquivalence same) where
     abbrev pub Known : List (Item (AnyRange K) V) → Type 0
     Known items = Every (λ i. IsKnownRange order i.key) items
 
-    abbrev pub Chained : List (Item (AnyRange K) V) → Type 0
-    Chained items = IsChain (line_of order lawful same equal) items
+    abbrev pub Chained : List (Item (AnyRange K) V) → Type 0 Chained items = IsChain
+    (line_of lawful equal) items
 
-    abbrev pub Hold : (V → Bool) → Position K → List (Item (AnyRange K) V) → Type 0
-    Hold W p items = Has (line_of order lawful same equal) W p items
+    abbrev pub Hold : (V → Bool) → Position K → List (Item (AnyRange K) V) → Type 0 Hold W p
+    items = Has (line_of lawful equal) W p items
 
-    listed_known : (items : List (Item (AnyRange K) V)) → IsListed order lawful same items
-        → Known items
+    listed_known : (items : List (Item (AnyRange K) V)) → IsListed lawful same items → Known items
     listed_known [] h = tt
     listed_known (i ∷ []) h = (h.0, tt)
     listed_known (i ∷ j ∷ rest) h = (h.0, listed_known (j ∷ rest) h.4)
 
     pub stored_known : (items : List (Item (AnyRange K) V)) → IsStored order same items
         → Known items
-    stored_known items h = listed_known items (stored_list_is_listed order lawful same items h)
+    stored_known items h = listed_known items (stored_list_is_listed lawful same items h)
 
-    listed_chain : (items : List (Item (AnyRange K) V)) → IsListed order lawful same items
-        → Chained items
+    listed_chain : (items : List (Item (AnyRange K) V)) → IsListed lawful same items → Chained items
     listed_chain [] h = tt
     listed_chain (i ∷ []) h = ((nonempty_good i.key h.0).0 h.1, tt)
     listed_chain (i ∷ j ∷ rest) h =
@@ -125,10 +123,10 @@ module _ {K : Type 0} (order : KeyOrder K) (lawful : IsLawful order) where
 
     pub stored_chain : (items : List (Item (AnyRange K) V)) → IsStored order same items
         → Chained items
-    stored_chain items h = listed_chain items (stored_list_is_listed order lawful same items h)
+    stored_chain items h = listed_chain items (stored_list_is_listed lawful same items h)
 
     chain_listed : (items : List (Item (AnyRange K) V)) → Known items → Chained items
-        → IsListed order lawful same items
+        → IsListed lawful same items
     chain_listed [] known chain = tt
     chain_listed (i ∷ []) known chain = (known.0, (nonempty_good i.key known.0).1 chain.0)
     chain_listed (i ∷ j ∷ rest) known chain = (
@@ -142,8 +140,7 @@ module _ {K : Type 0} (order : KeyOrder K) (lawful : IsLawful order) where
 
     pub chain_stored : (items : List (Item (AnyRange K) V)) → Known items → Chained items
         → IsStored order same items
-    chain_stored items known chain =
-        stored_by order lawful same items (chain_listed items known chain)
+    chain_stored items known chain = stored_by lawful same items (chain_listed items known chain)
 
     pub binds_hold : (items : List (Item (AnyRange K) V)) (k : K) (v : V) → Known items
         → order.is_key k → BindsTo order same items k v ↔ Hold (λ u. same u v) (Beside k At) items
@@ -165,11 +162,10 @@ module _ {K : Type 0} (order : KeyOrder K) (lawful : IsLawful order) where
           λ h. elim h [ inl e ↦ inl (own.1 e.0) | inr e ↦ inr (others.1 e) ],
         )
 
-    respects_same : (v : V) → Respects (line_of order lawful same equal) (λ u. same u v)
-    respects_same v a b s h = sym (equal.congr a b v s) ∙ h
+    respects_same : (v : V) → Respects (line_of lawful equal) (λ u. same u v) respects_same v a b s
+    h = sym (equal.congr a b v s) ∙ h
 
-    pub respects_any : Respects (line_of order lawful same equal) (λ u. true)
-    respects_any a b s h = h
+    pub respects_any : Respects (line_of lawful equal) (λ u. true) respects_any a b s h = h
 
     pub unheld_lies_outside : (r : AnyRange K) (k : K) → IsKnownRange order r → order.is_key k
         → (Holds order r k → ⊥)
@@ -184,8 +180,7 @@ module _ {K : Type 0} (order : KeyOrder K) (lawful : IsLawful order) where
         ]
 
     pub same_binds : (before after : List (Item (AnyRange K) V)) (k : K) → Known before
-        → Known after → order.is_key k
-        → ((W : V → Bool) → Respects (line_of order lawful same equal) W
+        → Known after → order.is_key k → ((W : V → Bool) → Respects (line_of lawful equal) W
         → Hold W (Beside k At) after ↔ Hold W (Beside k At) before) → (b : Option V)
         → Binds order same after k b ↔ Binds order same before k b
     same_binds before after k known known' key f (Some v) =
@@ -201,7 +196,7 @@ module _ {K : Type 0} (order : KeyOrder K) (lawful : IsLawful order) where
 
     inside_bound : (before after : List (Item (AnyRange K) V)) (r : AnyRange K) (v : V) (k : K)
         → Known after → order.is_key k
-        → IsBoundTo (line_of order lawful same equal) before after (lower order r) (upper order r) v
+        → IsBoundTo (line_of lawful equal) before after (lower order r) (upper order r) v
         → Le places (lower order r) (Beside k At) → Lt places (Beside k At) (upper order r)
         → (b : Option V) → Binds order same after k b ↔ IsSomeOf order same v b
     inside_bound before after r v k known key changed from upto (Some w) =
@@ -217,7 +212,7 @@ module _ {K : Type 0} (order : KeyOrder K) (lawful : IsLawful order) where
 
     pub bound_after : (before after : List (Item (AnyRange K) V)) (r : AnyRange K) (v : V)
         → IsKnownRange order r → Known before → Known after
-        → IsBoundTo (line_of order lawful same equal) before after (lower order r) (upper order r) v
+        → IsBoundTo (line_of lawful equal) before after (lower order r) (upper order r) v
         → IsBoundAfter order same before after r v
     bound_after before after r v known_range known known' changed = record {
       held = λ k key h. let within =
@@ -231,7 +226,7 @@ module _ {K : Type 0} (order : KeyOrder K) (lawful : IsLawful order) where
 
     inside_unbound : (before after : List (Item (AnyRange K) V)) (r : AnyRange K) (k : K)
         → Known after → order.is_key k
-        → IsUnbound (line_of order lawful same equal) before after (lower order r) (upper order r)
+        → IsUnbound (line_of lawful equal) before after (lower order r) (upper order r)
         → Le places (lower order r) (Beside k At) → Lt places (Beside k At) (upper order r)
         → (b : Option V) → Binds order same after k b ↔ (b ≡ None)
     inside_unbound before after r k known key changed from upto (Some w) = (
@@ -248,7 +243,7 @@ module _ {K : Type 0} (order : KeyOrder K) (lawful : IsLawful order) where
 
     pub unbound_after : (before after : List (Item (AnyRange K) V)) (r : AnyRange K)
         → IsKnownRange order r → Known before → Known after
-        → IsUnbound (line_of order lawful same equal) before after (lower order r) (upper order r)
+        → IsUnbound (line_of lawful equal) before after (lower order r) (upper order r)
         → IsUnboundAfter order same before after r
     unbound_after before after r known_range known known' changed = record {
       held = λ k key h. let within =

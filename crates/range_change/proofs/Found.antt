@@ -44,7 +44,7 @@ not_at_most Less h e = cc
 not_at_most Equal h e = cc
 not_at_most Greater h e = cc
 
-module _ {K : Type 0} (order : KeyOrder K) (lawful : IsLawful order) {V : Type 0}
+module _ {K : Type 0} {order : KeyOrder K} (lawful : IsLawful order) {V : Type 0}
     (same : V → V → Bool) where
   abbrev Start : Item (AnyRange K) V → Position K
   Start i = start_position order i.key.start
@@ -53,27 +53,26 @@ module _ {K : Type 0} (order : KeyOrder K) (lawful : IsLawful order) {V : Type 0
   End i = end_position order i.key.end
 
   own_order : (i : Item (AnyRange K) V) → (IsEmptyRange order i.key → ⊥)
-      → Le (places order lawful) (Start i) (End i)
-  own_order i h = not_greater (places order lawful (Start i) (End i)) h
+      → Le (places lawful) (Start i) (End i)
+  own_order i h = not_greater (places lawful (Start i) (End i)) h
 
   stored_nonempty : (i : Item (AnyRange K) V) (rest : List (Item (AnyRange K) V))
-      → IsListed order lawful same (i ∷ rest) → IsEmptyRange order i.key → ⊥
+      → IsListed lawful same (i ∷ rest) → IsEmptyRange order i.key → ⊥
   stored_nonempty i [] h = h.1
   stored_nonempty i (j ∷ rest) h = h.1
 
   pub stored_tail : (i : Item (AnyRange K) V) (rest : List (Item (AnyRange K) V))
-      → IsListed order lawful same (i ∷ rest) → IsListed order lawful same rest
+      → IsListed lawful same (i ∷ rest) → IsListed lawful same rest
   stored_tail i [] h = tt
   stored_tail i (j ∷ rest) h = h.4
 
   -- what follows an item starts past its end
   pub starts_rise : (i : Item (AnyRange K) V) (rest : List (Item (AnyRange K) V))
-      → IsListed order lawful same (i ∷ rest)
-      → Every (λ j. Lt (places order lawful) (End i) (Start j)) rest
+      → IsListed lawful same (i ∷ rest) → Every (λ j. Lt (places lawful) (End i) (Start j)) rest
   starts_rise i [] h = tt
   starts_rise i (j ∷ rest) h =
       let total = position_total order.cmp lawful.total in
-      let cmp = places order lawful in
+      let cmp = places lawful in
       let own = own_order j (stored_nonempty j rest h.4) in (
         h.2,
         every_weaker _ _ rest (λ k l.
@@ -81,22 +80,22 @@ module _ {K : Type 0} (order : KeyOrder K) (lawful : IsLawful order) {V : Type 0
             (lt_le_trans cmp total (End i) (Start j) (End j) h.2 own) l) (starts_rise j rest h.4),
       )
 
-  pub every_nonempty : (rest : List (Item (AnyRange K) V)) → IsListed order lawful same rest
-      → Every (λ j. Le (places order lawful) (Start j) (End j)) rest
+  pub every_nonempty : (rest : List (Item (AnyRange K) V)) → IsListed lawful same rest
+      → Every (λ j. Le (places lawful) (Start j) (End j)) rest
   every_nonempty [] h = tt
   every_nonempty (i ∷ rest) h =
       (own_order i (stored_nonempty i rest h), every_nonempty rest (stored_tail i rest h))
 
   -- a test that an item passes where a later one does holds on a front
   listed_partitioned : (test : Item (AnyRange K) V → Bool)
-      → ((x y : Item (AnyRange K) V) → Le (places order lawful) (Start x) (End x)
-      → Lt (places order lawful) (End x) (Start y) → Le (places order lawful) (Start y) (End y)
-      → test y ≡ true → test x ≡ true) → (items : List (Item (AnyRange K) V))
-      → IsListed order lawful same items → IsPartitionedBy test items
+      → ((x y : Item (AnyRange K) V) → Le (places lawful) (Start x) (End x)
+      → Lt (places lawful) (End x) (Start y) → Le (places lawful) (Start y) (End y) → test y ≡ true
+      → test x ≡ true) → (items : List (Item (AnyRange K) V)) → IsListed lawful same items
+      → IsPartitionedBy test items
   listed_partitioned test falls [] h i j d le within passes = absurd (omega arith)
   listed_partitioned test falls (x ∷ xs) h zero zero d le within passes = passes
   listed_partitioned test falls (x ∷ xs) h zero (suc j) d le within passes =
-      let cmp = places order lawful in
+      let cmp = places lawful in
       let rise =
       every_at (λ k. Lt cmp (End x) (Start k)) xs j d (starts_rise x xs h) (omega arith) in
       let own = every_nonempty (x ∷ xs) h in
@@ -107,41 +106,38 @@ module _ {K : Type 0} (order : KeyOrder K) (lawful : IsLawful order) {V : Type 0
       listed_partitioned test falls xs (stored_tail x xs h) i j d (omega arith) (omega arith) passes
 
   pub found_partitions : (items : List (Item (AnyRange K) V)) (p : Position K)
-      → IsStored order same items
-      → IsPartitionedBy (λ i. is_lt (places order lawful (End i) p)) items
+      → IsStored order same items → IsPartitionedBy (λ i. is_lt (places lawful (End i) p)) items
   found_partitions items p h =
       let total = position_total order.cmp lawful.total in
-      let cmp = places order lawful in
+      let cmp = places lawful in
       listed_partitioned (λ i. is_lt (cmp (End i) p))
       (λ x y own rise others passes.
       (lt_is_less (cmp (End x) p)).1
       (lt_trans cmp total (End x) (End y) p
       (lt_le_trans cmp total (End x) (Start y) (End y) rise others)
-      (lt_of (cmp (End y) p) passes)))
-      items (stored_list_is_listed order lawful same items h)
+      (lt_of (cmp (End y) p) passes))) items (stored_list_is_listed lawful same items h)
 
   pub started_partitions : (items : List (Item (AnyRange K) V)) (p : Position K)
-      → IsStored order same items
-      → IsPartitionedBy (λ i. is_le (places order lawful (Start i) p)) items
+      → IsStored order same items → IsPartitionedBy (λ i. is_le (places lawful (Start i) p)) items
   started_partitions items p h =
       let total = position_total order.cmp lawful.total in
-      let cmp = places order lawful in
+      let cmp = places lawful in
       listed_partitioned (λ i. is_le (cmp (Start i) p))
       (λ x y own rise others passes.
       (le_is_at_most (cmp (Start x) p)).0
       (le_trans cmp total (Start x) (Start y) p
       (lt_le cmp total (Start x) (Start y) (le_lt_trans cmp total (Start x) (End x) (Start y) own
-      rise)) ((le_is_at_most (cmp (Start y) p)).1 passes)))
-      items (stored_list_is_listed order lawful same items h)
+      rise)) ((le_is_at_most (cmp (Start y) p)).1 passes))) items
+      (stored_list_is_listed lawful same items h)
 
   pub found_at : {P : Type 0} (is_good : P → Type 0) (rank : P → ℕ)
       (items : List (Item (AnyRange K) V)) (p : Position K) (before from : Option P) (place : ℕ)
       → IsAt is_good rank (length items) from place → IsJustBefore is_good rank before place
-      → IsFrontOf (λ i. is_lt (places order lawful (End i) p)) items place
+      → IsFrontOf (λ i. is_lt (places lawful (End i) p)) items place
       → IsFound order is_good rank items p before from
   found_at is_good rank items p before from place at previous front =
       let same_place = place_at is_good rank (length items) from place at in
-      let cmp = places order lawful in
+      let cmp = places lawful in
       let total = position_total order.cmp lawful.total in
       record {
         position = rw same_place at;
@@ -159,10 +155,10 @@ module _ {K : Type 0} (order : KeyOrder K) (lawful : IsLawful order) {V : Type 0
   module _ {P : Type 0} (is_good : P → Type 0) (rank : P → ℕ) (items : List (Item (AnyRange K) V))
       (p : Position K) where
     started_by : (last : Option P) (place : ℕ) → IsJustBefore is_good rank last place
-        → IsFrontOf (λ i. is_le (places order lawful (Start i) p)) items place
+        → IsFrontOf (λ i. is_le (places lawful (Start i) p)) items place
         → IsLastStarting order is_good rank items p last place
     started_by last place at front =
-        let cmp = places order lawful in
+        let cmp = places lawful in
         let total = position_total order.cmp lawful.total in
         record {
           position = at;
@@ -176,10 +172,8 @@ module _ {K : Type 0} (order : KeyOrder K) (lawful : IsLawful order) {V : Type 0
         }
 
     pub last_started : (last : Option P)
-        → MatchOption last
-        (IsFrontOf (λ i. is_le (places order lawful (Start i) p)) items 0)
-        (λ q. is_good q
-        × IsFrontOf (λ i. is_le (places order lawful (Start i) p)) items (rank q + 1))
+        → MatchOption last (IsFrontOf (λ i. is_le (places lawful (Start i) p)) items 0)
+        (λ q. is_good q × IsFrontOf (λ i. is_le (places lawful (Start i) p)) items (rank q + 1))
         → IsLastStarting order is_good rank items p last (place_after rank last)
     last_started None front = started_by None 0 refl front
     last_started (Some q) front = started_by (Some q) (rank q + 1) (front.0, refl) front.1
@@ -191,21 +185,21 @@ module _ {K : Type 0} (order : KeyOrder K) (lawful : IsLawful order) {V : Type 0
   not_bound (i ∷ rest) k all (inr h) = not_bound rest k all.1 h
 
   below_not : (i : Item (AnyRange K) V) (k : K) → order.is_key k
-      → Lt (places order lawful) (End i) (Beside k At) → Holds order i.key k → ⊥
+      → Lt (places lawful) (End i) (Beside k At) → Holds order i.key k → ⊥
   below_not i k key l h =
-      lt_not_le (places order lawful) (position_total order.cmp lawful.total) (End i)
-      (Beside k At) l ((holds_by_position order lawful i.key k key).0 h).1
+      lt_not_le (places lawful) (position_total order.cmp lawful.total) (End i) (Beside k At) l
+      ((holds_by_position order lawful i.key k key).0 h).1
 
   above_not : (i : Item (AnyRange K) V) (k : K) → order.is_key k
-      → Lt (places order lawful) (Beside k At) (Start i) → Holds order i.key k → ⊥
+      → Lt (places lawful) (Beside k At) (Start i) → Holds order i.key k → ⊥
   above_not i k key l h =
-      lt_not_le (places order lawful) (position_total order.cmp lawful.total) (Beside k At)
-      (Start i) l ((holds_by_position order lawful i.key k key).0 h).0
+      lt_not_le (places lawful) (position_total order.cmp lawful.total) (Beside k At) (Start i) l
+      ((holds_by_position order lawful i.key k key).0 h).0
 
   -- up to the place all end before the key, and from there on all start past it
   pub apart_bound : (items : List (Item (AnyRange K) V)) (k : K) (place : ℕ) → order.is_key k
-      → Every (λ i. Lt (places order lawful) (End i) (Beside k At)) (take place items)
-      → Every (λ i. Lt (places order lawful) (Beside k At) (Start i)) (drop place items)
+      → Every (λ i. Lt (places lawful) (End i) (Beside k At)) (take place items)
+      → Every (λ i. Lt (places lawful) (Beside k At) (Start i)) (drop place items)
       → IsBound order items k → ⊥
   apart_bound items k place key below above =
       let none =
@@ -217,14 +211,14 @@ module _ {K : Type 0} (order : KeyOrder K) (lawful : IsLawful order) {V : Type 0
       (rw (list_is_take_and_drop items place) at h)
 
   ends_upto_listed : (items : List (Item (AnyRange K) V)) (p : Position K) (place : ℕ)
-      (d : Item (AnyRange K) V) → IsListed order lawful same items → place < length items
-      → Lt (places order lawful) (End (get_or items place d)) p
-      → Every (λ i. Lt (places order lawful) (End i) p) (take (suc place) items)
+      (d : Item (AnyRange K) V) → IsListed lawful same items → place < length items
+      → Lt (places lawful) (End (get_or items place d)) p
+      → Every (λ i. Lt (places lawful) (End i) p) (take (suc place) items)
   ends_upto_listed [] p place d h within ends = absurd (omega arith)
   ends_upto_listed (i ∷ rest) p zero d h within ends = (ends, tt)
   ends_upto_listed (i ∷ rest) p (suc place) d h within ends =
       let total = position_total order.cmp lawful.total in
-      let cmp = places order lawful in
+      let cmp = places lawful in
       let y = get_or rest place d in
       let rise =
       every_at (λ j. Lt cmp (End i) (Start j)) rest place d (starts_rise i rest h)
@@ -240,32 +234,31 @@ module _ {K : Type 0} (order : KeyOrder K) (lawful : IsLawful order) {V : Type 0
   -- with an item that ends before a position, those before it do
   pub ends_upto : (items : List (Item (AnyRange K) V)) (p : Position K) (place : ℕ)
       (x : Item (AnyRange K) V) → IsStored order same items → place < length items
-      → x ≡ get_or items place x → true ≡ is_lt (places order lawful (End x) p)
-      → Every (λ i. Lt (places order lawful) (End i) p) (take (place + 1) items)
+      → x ≡ get_or items place x → true ≡ is_lt (places lawful (End x) p)
+      → Every (λ i. Lt (places lawful) (End i) p) (take (place + 1) items)
   ends_upto items p place x stored within read ends =
       let next : suc place ≡ place + 1 = omega arith in
-      rw next at (ends_upto_listed items p place x
-      (stored_list_is_listed order lawful same items stored) within
-      (subst (λ y. Lt (places order lawful) (End y) p) read
-      (lt_of (places order lawful (End x) p) (sym ends))))
+      rw next at (ends_upto_listed items p place x (stored_list_is_listed lawful same items stored)
+      within (subst (λ y. Lt (places lawful) (End y) p) read
+      (lt_of (places lawful (End x) p) (sym ends))))
 
   -- the item at the place is the last of those up to it
   pub starts_here : (items : List (Item (AnyRange K) V)) (p : Position K) (place : ℕ)
       (x : Item (AnyRange K) V) → place < length items → x ≡ get_or items place x
-      → Every (λ i. Le (places order lawful) (Start i) p) (take (place + 1) items)
-      → Le (places order lawful) (Start x) p
+      → Every (λ i. Le (places lawful) (Start i) p) (take (place + 1) items)
+      → Le (places lawful) (Start x) p
   starts_here items p place x within read upto =
-      subst (λ y. Le (places order lawful) (Start y) p) (sym read)
-      (every_right (λ i. Le (places order lawful) (Start i) p) (take place items)
+      subst (λ y. Le (places lawful) (Start y) p) (sym read)
+      (every_right (λ i. Le (places lawful) (Start i) p) (take place items)
       (get_or items place x ∷ []) (rw (take_more items place x within) at upto)).0
 
   -- an item that starts at the key at most and does not end before it holds it
   pub holds_at : (items : List (Item (AnyRange K) V)) (k : K) (place : ℕ) (x : Item (AnyRange K) V)
       → order.is_key k → place < length items → x ≡ get_or items place x
-      → Every (λ i. Le (places order lawful) (Start i) (Beside k At)) (take (place + 1) items)
-      → false ≡ is_lt (places order lawful (End x) (Beside k At)) → Holds order x.key k
+      → Every (λ i. Le (places lawful) (Start i) (Beside k At)) (take (place + 1) items)
+      → false ≡ is_lt (places lawful (End x) (Beside k At)) → Holds order x.key k
   holds_at items k place x key within read upto ends =
-      let cmp = places order lawful in
+      let cmp = places lawful in
       let total = position_total order.cmp lawful.total in
       (holds_by_position order lawful x.key k key).1 (
         starts_here items (Beside k At) place x within read upto,

@@ -22,7 +22,7 @@ true_not : (b : Bool) → true ≡ b → b ≡ false → ⊥
 true_not true h e = cc
 true_not false h e = cc
 
-module _ {K : Type 0} (order : KeyOrder K) (lawful : IsLawful order) (r : AnyRange K)
+module _ {K : Type 0} {order : KeyOrder K} (lawful : IsLawful order) (r : AnyRange K)
     (known : IsKnownRange order r) where
   start_at : (before : Option (AnyRange K)) (s : Bound K) → IsGapStart order r before (Some s)
       → IsKnownBound order s
@@ -68,7 +68,7 @@ module _ {K : Type 0} (order : KeyOrder K) (lawful : IsLawful order) (r : AnyRan
       → (IsEmptyRange order i → ⊥) → Le (position_cmp order.cmp) (lower order i) (upper order i)
   nonempty_start_is_at_most_end i others full =
       lt_le (position_cmp order.cmp) (position_total order.cmp lawful.total) (lower order i)
-      (upper order i) ((nonempty_good order lawful i others).0 full)
+      (upper order i) ((nonempty_good lawful i others).0 full)
 
   pub no_start : (before after : Option (AnyRange K)) (end : Option (Bound K))
       → ForSome after (λ i. IsEmptyRange order i → ⊥) → IsGapStart order r before None

@@ -24,5 +24,5 @@ pub record IsAskedUpTo {K : Type 0} (order : KeyOrder K) {V : Type 0} (same : V 
   pub spelled : KeepsSpelling order items middle
   pub underway : (lawful : IsLawful order) (equal : IsEquivalence same)
       (before : Option (AnyRange K)) → IsKeyAt rank items last before
-      → IsUnderway order lawful same equal calls f items r (take (place + met) items)
+      → IsUnderway lawful equal calls f items r (take (place + met) items)
       (gap_lower order r before) middle

@@ -170,9 +170,8 @@ module _ {K : Type 0} {order : KeyOrder K} (lawful : IsLawful order) {V : Type 0
   no_rest run r v (Some y) all made apart =
       absurd (apart.0 (has_equal run y.value v made.0.value all))
 
-  front_items_have_places : (xs ys : List (Item (AnyRange K) V))
-      → Chained order lawful same equal (xs ++ ys)
-      → Every (λ i. Lt (places order lawful) (item_lower order i) (item_upper order i)) xs
+  front_items_have_places : (xs ys : List (Item (AnyRange K) V)) → Chained lawful equal (xs ++ ys)
+      → Every (λ i. Lt (places lawful) (item_lower order i) (item_upper order i)) xs
   front_items_have_places [] ys h = tt
   front_items_have_places (x ∷ []) ys h = (h.0, tt)
   front_items_have_places (x ∷ y ∷ xs) ys h = (h.0, front_items_have_places (y ∷ xs) ys h.1.1)
@@ -182,40 +181,39 @@ module _ {K : Type 0} {order : KeyOrder K} (lawful : IsLawful order) {V : Type 0
       (window : IsWindow order same is_good rank items r w place) where
     not_before : Every (λ i. LiesBefore order i.key r → ⊥) (drop place items)
     not_before =
-        let cmp = places order lawful in
+        let cmp = places lawful in
         let total = position_total order.cmp lawful.total in
         every_weaker _ _ (drop place items)
         (λ i h k. lt_not_le cmp total (lower order r) (item_upper order i) h.1
-        ((before_is order lawful i.key.end r.start h.0.1 window.known.0).0 k))
+        ((before_is lawful i.key.end r.start h.0.1 window.known.0).0 k))
         (every_both (λ i. IsKnownRange order i.key) _ (drop place items)
-        (known_drop order lawful same equal items place
-        (stored_known order lawful same equal items window.stored)) window.above)
+        (known_drop lawful equal items place (stored_known lawful equal items window.stored))
+        window.above)
 
     window_items_reach_range : (d : Item (AnyRange K) V) → 0 < w.count
         → Every (λ i. LiesBefore order r i.key → ⊥) (take (place + w.count) items)
     window_items_reach_range d some =
-        let cmp = places order lawful in
+        let cmp = places lawful in
         let total = position_total order.cmp lawful.total in
-        let chain = stored_chain order lawful same equal items window.stored in
-        let all = stored_known order lawful same equal items window.stored in
+        let chain = stored_chain lawful equal items window.stored in
+        let all = stored_known lawful equal items window.stored in
         let end = place + w.count in
         let last = get_or items (end - 1) d in
         let next : end - 1 + 1 ≡ end = omega (arith, some) in
         let within : end - 1 < length items = omega (arith, some, window.in_range) in
         let split = parts_at items (end - 1) d within in
         let ordered =
-        chain_before (line_of order lawful same equal) (take (end - 1) items) last
-        (drop (end - 1 + 1) items) (rw split at chain) in
+        chain_before (line_of lawful equal) (take (end - 1) items) last (drop (end - 1 + 1) items)
+        (rw split at chain) in
         let meets = window.meets d some in
         let full =
         front_items_have_places (take (end - 1) items) (last ∷ drop (end - 1 + 1) items)
         (rw split at chain) in
         every_weaker _ _ (take end items)
         (λ i h k. lt_not_le cmp total (item_lower order i) (upper order r) h.1
-        ((before_is order lawful r.end i.key.start window.known.1 h.0.0).0 k))
+        ((before_is lawful r.end i.key.start window.known.1 h.0.0).0 k))
         (every_both (λ i. IsKnownRange order i.key) _ (take end items)
-        (known_take order lawful same equal items end all)
-        (subst (λ (ys : List (Item (AnyRange K) V)). Every
+        (known_take lawful equal items end all) (subst (λ (ys : List (Item (AnyRange K) V)). Every
         (λ i. Lt cmp (item_lower order i) (upper order r)) ys)
         (sym (take_more items (end - 1) d within) ∙ ap (λ n. take n items) next)
         (every_append _ (take (end - 1) items) (last ∷ [])
@@ -274,22 +272,20 @@ module _ {K : Type 0} {order : KeyOrder K} (lawful : IsLawful order) {V : Type 0
     -- an empty window leaves no item that meets the range
     pub none_meets : w.count ≡ 0 → Every (λ i. Overlap order i.key r → ⊥) items
     none_meets none =
-        let all = stored_known order lawful same equal items window.stored in
+        let all = stored_known lawful equal items window.stored in
         let at : place + w.count ≡ place = omega (arith, none) in
-        let behind : Every (λ i. Le (places order lawful) (upper order r) (item_lower order i))
+        let behind : Every (λ i. Le (places lawful) (upper order r) (item_lower order i))
         (drop place items) = rw at at window.behind in
         let before =
         every_weaker _ _ (take place items)
-        (λ i h m.
-        m.0 ((before_is order lawful i.key.end r.start h.0.1 window.known.0).1 h.1))
+        (λ i h m. m.0 ((before_is lawful i.key.end r.start h.0.1 window.known.0).1 h.1))
         (every_both (λ i. IsKnownRange order i.key) _ (take place items)
-        (known_take order lawful same equal items place all) window.below) in
+        (known_take lawful equal items place all) window.below) in
         let after =
         every_weaker _ _ (drop place items)
-        (λ i h m.
-        m.1 ((before_is order lawful r.end i.key.start window.known.1 h.0.0).1 h.1))
+        (λ i h m. m.1 ((before_is lawful r.end i.key.start window.known.1 h.0.0).1 h.1))
         (every_both (λ i. IsKnownRange order i.key) _ (drop place items)
-        (known_drop order lawful same equal items place all) behind) in
+        (known_drop lawful equal items place all) behind) in
         rw (list_is_take_and_drop items place)
         (every_append (λ i. Overlap order i.key r → ⊥) (take place items)
         (drop place items) before after)

@@ -151,8 +151,7 @@ module _ {K : Type 0} {order : KeyOrder K} (lawful : IsLawful order) {V : Type 0
   pub left_plan_inside : (p : P) (x : Item (AnyRange K) V)
       → ReachesBefore order is_good rank items r place w.count (Some p)
       → x ≡ get_or items (rank p) x → same x.value v ≡ true
-      → IsLeftPlan order same lawful equal is_good rank items r v place w.count (Some p) (Joined p)
-      (Some p)
+      → IsLeftPlan lawful equal is_good rank items r v place w.count (Some p) (Joined p) (Some p)
   left_plan_inside p x reach read values =
       let here : x ≡ get_or items place x = read ∙ ap (λ n. get_or items n x) reach.1 in
       record {
@@ -173,8 +172,7 @@ module _ {K : Type 0} {order : KeyOrder K} (lawful : IsLawful order) {V : Type 0
       → x ≡ get_or items (rank p) x → same x.value v ≡ false → IsKnownBound order b
       → SameBound order (flipped_bound r.start) b
       → IsAt is_good rank (length items) from (place + 1)
-      → IsLeftPlan order same lawful equal is_good rank items r v place w.count (Some p)
-      (Cut p b) from
+      → IsLeftPlan lawful equal is_good rank items r v place w.count (Some p) (Cut p b) from
   left_plan_cut p x b from reach read values known_b same_b next =
       let here : x ≡ get_or items place x = read ∙ ap (λ n. get_or items n x) reach.1 in
       record {
@@ -197,8 +195,7 @@ module _ {K : Type 0} {order : KeyOrder K} (lawful : IsLawful order) {V : Type 0
       → ReachesBefore order is_good rank items r place w.count None → is_good q → rank q + 1 ≡ place
       → rank q < length items → x ≡ get_or items (rank q) x
       → TouchesBefore order same items place r v
-      → IsLeftPlan order same lawful equal is_good rank items r v place w.count None (Joined q)
-      (Some q)
+      → IsLeftPlan lawful equal is_good rank items r v place w.count None (Joined q) (Some q)
   left_plan_joined q x reach is at within read touching = record {
     at = rank q;
     begin = rank q;
@@ -229,8 +226,7 @@ module _ {K : Type 0} {order : KeyOrder K} (lawful : IsLawful order) {V : Type 0
   pub left_joined_at : (q : P) → ReachesBefore order is_good rank items r place w.count None
       → is_good q → rank q + 1 ≡ place → rank q < length items
       → TouchesBefore order same items place r v
-      → IsLeftPlan order same lawful equal is_good rank items r v place w.count None (Joined q)
-      (Some q)
+      → IsLeftPlan lawful equal is_good rank items r v place w.count None (Joined q) (Some q)
   left_joined_at q reach is at within touching =
       left_plan_joined q (element_at items (rank q) within) reach is at within
       (element_at_is_read items (rank q) within (element_at items (rank q) within)) touching
@@ -238,7 +234,7 @@ module _ {K : Type 0} {order : KeyOrder K} (lawful : IsLawful order) {V : Type 0
   pub left_plan_free : (from : Option P) → IsAt is_good rank (length items) from place
       → ReachesBefore order is_good rank items r place w.count None
       → TouchesNoneBefore order same items place r v
-      → IsLeftPlan order same lawful equal is_good rank items r v place w.count None Plain from
+      → IsLeftPlan lawful equal is_good rank items r v place w.count None Plain from
   left_plan_free from run reach none = record {
     at = place;
     begin = place;
@@ -270,7 +266,7 @@ module _ {K : Type 0} {order : KeyOrder K} (lawful : IsLawful order) {V : Type 0
   pub right_plan_inside : (p : P) (x : Item (AnyRange K) V)
       → ReachesAfter order is_good rank items r place w.count (Some p) → x ≡ get_or items (rank p) x
       → same x.value v ≡ true
-      → IsRightPlan order same lawful equal is_good rank items r v place w.count (Some p) (Joined p)
+      → IsRightPlan lawful equal is_good rank items r v place w.count (Some p) (Joined p)
   right_plan_inside p x reach read values =
       let here = last_at p x reach.1 read in
       record {
@@ -288,7 +284,7 @@ module _ {K : Type 0} {order : KeyOrder K} (lawful : IsLawful order) {V : Type 0
   pub right_plan_cut : (p : P) (x : Item (AnyRange K) V) (b : Bound K)
       → ReachesAfter order is_good rank items r place w.count (Some p) → x ≡ get_or items (rank p) x
       → same x.value v ≡ false → IsKnownBound order b → SameBound order (flipped_bound r.end) b
-      → IsRightPlan order same lawful equal is_good rank items r v place w.count (Some p) (Cut p b)
+      → IsRightPlan lawful equal is_good rank items r v place w.count (Some p) (Cut p b)
   right_plan_cut p x b reach read values known_b same_b =
       let here = last_at p x reach.1 read in
       record {
@@ -311,7 +307,7 @@ module _ {K : Type 0} {order : KeyOrder K} (lawful : IsLawful order) {V : Type 0
       → ReachesAfter order is_good rank items r place w.count None → is_good q
       → rank q ≡ place + w.count → rank q < length items → x ≡ get_or items (rank q) x
       → TouchesAfter order same items (place + w.count) r v
-      → IsRightPlan order same lawful equal is_good rank items r v place w.count None (Joined q)
+      → IsRightPlan lawful equal is_good rank items r v place w.count None (Joined q)
   right_plan_joined q x reach is at within read touching =
       let here : x ≡ get_or items (place + w.count) x = read ∙ ap (λ n. get_or items n x) at in
       record {
@@ -344,14 +340,14 @@ module _ {K : Type 0} {order : KeyOrder K} (lawful : IsLawful order) {V : Type 0
   pub right_joined_at : (q : P) → ReachesAfter order is_good rank items r place w.count None
       → is_good q → rank q ≡ place + w.count → rank q < length items
       → TouchesAfter order same items (place + w.count) r v
-      → IsRightPlan order same lawful equal is_good rank items r v place w.count None (Joined q)
+      → IsRightPlan lawful equal is_good rank items r v place w.count None (Joined q)
   right_joined_at q reach is at within touching =
       right_plan_joined q (element_at items (rank q) within) reach is at within
       (element_at_is_read items (rank q) within (element_at items (rank q) within)) touching
 
   pub right_plan_plain : ReachesAfter order is_good rank items r place w.count None
       → TouchesNoneAfter order same items (place + w.count) r v
-      → IsRightPlan order same lawful equal is_good rank items r v place w.count None Plain
+      → IsRightPlan lawful equal is_good rank items r v place w.count None Plain
   right_plan_plain reach none = record {
     upto = place + w.count;
     end = place + w.count;
@@ -421,7 +417,7 @@ module _ {K : Type 0} {order : KeyOrder K} (lawful : IsLawful order) {V : Type 0
     pub rest : Option (Item (AnyRange K) V)
     pub shape : IsLeftShape is_good rank items (border_at first b) place
         (place + length (option_items first)) rest None
-    pub side : IsLeftRest order same lawful equal items r place rest
+    pub side : IsLeftRest lawful equal items r place rest
     pub made : Every (IsPart order same (take w.count (drop place items)) r) (option_items rest)
     pub few : length (option_items rest) ≤ 1
 
@@ -450,7 +446,7 @@ module _ {K : Type 0} {order : KeyOrder K} (lawful : IsLawful order) {V : Type 0
   pub record IsRightCut (last : Option P) (b : Bound K) (upto : ℕ) : Type 0 where
     pub rest : Option (Item (AnyRange K) V)
     pub shape : IsRightShape is_good rank items (border_at last b) upto (place + w.count) rest None
-    pub side : IsRightRest order same lawful equal items r (place + w.count) rest
+    pub side : IsRightRest lawful equal items r (place + w.count) rest
     pub made : Every (IsPart order same (take w.count (drop place items)) r) (option_items rest)
     pub few : length (option_items rest) ≤ 1
 

@@ -54,15 +54,15 @@ pub got_none : {X : Type 0} (P : X → Type 0) (o : Option (Bor X)) → o ≡ No
     → option_copied o ≡ Some m → P m
 got_none P o is m e = absurd (let at = sym (ap option_copied is) ∙ e in cc)
 
-module _ {K : Type 0} (order : KeyOrder K) (lawful : IsLawful order) where
+module _ {K : Type 0} {order : KeyOrder K} (lawful : IsLawful order) where
   within_by : (part r : AnyRange K) (o : Option (Bound K)) → o ≡ flipped r.end
       → IsKnownRange order part → IsKnownRange order r
-      → Le (places order lawful) (end_position order part.end) (end_position order r.end)
-      → Lt (places order lawful) (upper order r) (upper order part) → ⊥
+      → Le (places lawful) (end_position order part.end) (end_position order r.end)
+      → Lt (places lawful) (upper order r) (upper order part) → ⊥
   within_by part r None turns known others within over =
-      absurd (let h : IsTrue false = (ends_never order lawful r part known turns).1 over in cc)
+      absurd (let h : IsTrue false = (ends_never lawful r part known turns).1 over in cc)
   within_by part r (Some s) turns known others within over =
-      let cmp = places order lawful in
+      let cmp = places lawful in
       let total = position_total order.cmp lawful.total in
       let at = flipped_bound_is_past order lawful r.end s (sym turns) in
       let known_s = flipped_known order lawful r.end s (sym turns) others.1 in
@@ -79,9 +79,9 @@ module _ {K : Type 0} (order : KeyOrder K) (lawful : IsLawful order) where
 
   -- a range that ends by another's end ends by its place
   pub within_end : (part r : AnyRange K) → IsKnownRange order part → IsKnownRange order r
-      → LiesIn order part r → Le (places order lawful) (upper order part) (upper order r)
+      → LiesIn order part r → Le (places lawful) (upper order part) (upper order r)
   within_end part r known others within =
-      not_lt (places order lawful) (position_total order.cmp lawful.total) (upper order part)
+      not_lt (places lawful) (position_total order.cmp lawful.total) (upper order part)
       (upper order r) (λ over.
       within_by part r (flipped r.end) refl known others within.ends over)
 
@@ -110,24 +110,24 @@ pub seam_count : {K P : Type 0} (joined reaching : Option P) (b : Bound K)
 seam_count None reaching b = cut_joins_none reaching b
 seam_count (Some q) reaching b = refl
 
-module _ {K : Type 0} (order : KeyOrder K) (lawful : IsLawful order) {V : Type 0}
-    (same : V → V → Bool) (equal : IsEquivalence same) where
+module _ {K : Type 0} {order : KeyOrder K} (lawful : IsLawful order) {V : Type 0}
+    {same : V → V → Bool} (equal : IsEquivalence same) where
   abbrev pub Filled : List (Item (AnyRange K) V) → List (Item (AnyRange K) V)
       → List (Item (AnyRange K) V) → Position K → Type 0
-  Filled items middle new c = IsFilled (line_of order lawful same equal) items middle new c
+  Filled items middle new c = IsFilled (line_of lawful equal) items middle new c
 
   abbrev pub Spliced : List (Item (AnyRange K) V) → List (Item (AnyRange K) V)
       → List (Item (AnyRange K) V) → AnyRange K → Type 0
   Spliced items middle new r =
-      IsSpliced (line_of order lawful same equal) items middle new (lower order r) (upper order r)
+      IsSpliced (line_of lawful equal) items middle new (lower order r) (upper order r)
 
   module _ {P : Type 0} (is_good : P → Type 0) (rank : P → ℕ) (items : List (Item (AnyRange K) V))
       (r : AnyRange K) (place count : ℕ) where
     -- the item starts before the range ends, and ends after the range starts
     abbrev pub Crosses : Item (AnyRange K) V → Type 0
     Crosses i =
-        Lt (places order lawful) (item_lower order i) (upper order r)
-        × Lt (places order lawful) (lower order r) (item_upper order i)
+        Lt (places lawful) (item_lower order i) (upper order r) × Lt (places lawful) (lower order r)
+        (item_upper order i)
 
     -- one that crosses the range has the start of an item, and an equal value
     abbrev pub TakesStartOf : Item (AnyRange K) V → List (Item (AnyRange K) V) → Type 0
@@ -151,7 +151,7 @@ module _ {K : Type 0} (order : KeyOrder K) (lawful : IsLawful order) {V : Type 0
       pub begins : begin + joined_count border ≡ place + length (option_items first)
       pub filled : Filled items middle
           ((take at items ++ option_items rest) ++ with_first_start start middle) (lower order r)
-      pub known : Known order lawful same equal
+      pub known : Known lawful equal
           ((take at items ++ option_items rest) ++ with_first_start start middle)
       pub extra : List (Item (AnyRange K) V)
       pub split : take place items ≡ take at items ++ extra
@@ -174,7 +174,7 @@ module _ {K : Type 0} (order : KeyOrder K) (lawful : IsLawful order) {V : Type 0
       pub spliced : Spliced items middle
           ((front ++ with_last_end finish (with_first_start start middle))
           ++ (option_items rest ++ drop end items)) r
-      pub known : Known order lawful same equal
+      pub known : Known lawful equal
           ((front ++ with_last_end finish (with_first_start start middle))
           ++ (option_items rest ++ drop end items))
       pub extra : List (Item (AnyRange K) V)
@@ -182,50 +182,46 @@ module _ {K : Type 0} (order : KeyOrder K) (lawful : IsLawful order) {V : Type 0
       pub touched : Every (λ i. Touches order r i.key
           × TakesEndOf i (with_last_end finish (with_first_start start middle))) extra
       pub reaches : (b : Bound K) → finish ≡ Some b
-          → Lt (places order lawful) (lower order r) (past order (end_position order b))
+          → Lt (places lawful) (lower order r) (past order (end_position order b))
       pub valued : Every (λ j.
           HasValue order same (take count (drop place items) ++ extra) j.value ⊎ HasValue order same
           middle j.value) (option_items rest)
 
     start_filled : (start : Option (Bound K)) (front ms : List (Item (AnyRange K) V))
         (m : Item (AnyRange K) V) (s : Position K)
-        → places order lawful (border_start order same start r) s ≡ Equal
-        → IsLeftOf (line_of order lawful same equal) items front (lower order r) s m.value
-        → Chained order lawful same equal (m ∷ ms)
-        → places order lawful (item_lower order m) (lower order r) ≡ Equal
+        → places lawful (border_start order start r) s ≡ Equal
+        → IsLeftOf (line_of lawful equal) items front (lower order r) s m.value
+        → Chained lawful equal (m ∷ ms) → places lawful (item_lower order m) (lower order r) ≡ Equal
         → Filled items (m ∷ ms) (front ++ with_first_start start (m ∷ ms)) (lower order r)
     start_filled None front ms m s starts left chain at =
         let total = position_total order.cmp lawful.total in
-        filled_joined (line_of order lawful same equal) items front m m ms
-        (lower order r) s left chain at
+        filled_joined (line_of lawful equal) items front m m ms (lower order r) s left chain at
         (total.congr (item_lower order m) (lower order r) s at ∙ starts)
         (tied_itself total (item_upper order m)) (equal.refl m.value)
     start_filled (Some b) front ms m s starts left chain at =
         let total = position_total order.cmp lawful.total in
-        filled_joined (line_of order lawful same equal) items front m (with_start m b) ms
-        (lower order r) s left chain at starts (tied_itself total (item_upper order m))
-        (equal.refl m.value)
+        filled_joined (line_of lawful equal) items front m (with_start m b) ms (lower order r) s
+        left chain at starts (tied_itself total (item_upper order m)) (equal.refl m.value)
 
     start_known : (start : Option (Bound K)) (m : Item (AnyRange K) V)
         (ms : List (Item (AnyRange K) V)) → IsKnownBound order (unwrap_or start r.start)
-        → Known order lawful same equal (m ∷ ms)
-        → Known order lawful same equal (with_first_start start (m ∷ ms))
+        → Known lawful equal (m ∷ ms) → Known lawful equal (with_first_start start (m ∷ ms))
     start_known None m ms known all = all
     start_known (Some b) m ms known all = ((known, all.0.1), all.1)
 
     takes_start : (start : Option (Bound K)) (m : Item (AnyRange K) V)
         (ms : List (Item (AnyRange K) V)) (i : Item (AnyRange K) V) → start ≡ Some i.key.start
-        → Le (places order lawful) (border_start order same start r) (lower order r)
-        → Lt (places order lawful) (lower order r) (upper order r)
-        → Lt (places order lawful) (lower order r) (item_upper order m)
-        → IsTrue (same i.value m.value) → TakesStartOf i (with_first_start start (m ∷ ms))
+        → Le (places lawful) (border_start order start r) (lower order r)
+        → Lt (places lawful) (lower order r) (upper order r)
+        → Lt (places lawful) (lower order r) (item_upper order m) → IsTrue (same i.value m.value)
+        → TakesStartOf i (with_first_start start (m ∷ ms))
     takes_start None m ms i is le good over alike = absurd (cc)
     takes_start (Some b) m ms i is le good over alike =
         let bound : b ≡ i.key.start = cc in
         inl (
           bound,
           (
-            le_lt_trans (places order lawful) (position_total order.cmp lawful.total)
+            le_lt_trans (places lawful) (position_total order.cmp lawful.total)
                 (start_position order b) (lower order r) (upper order r) le good,
             over,
           ),
@@ -233,19 +229,18 @@ module _ {K : Type 0} (order : KeyOrder K) (lawful : IsLawful order) {V : Type 0
         )
 
     left_joining : (m : Item (AnyRange K) V) (ms : List (Item (AnyRange K) V)) (first : Option P)
-        (border : Border K P) (from : Option P)
-        → Lt (places order lawful) (lower order r) (upper order r) → IsStored order same items
-        → IsStored order same (m ∷ ms)
-        → places order lawful (item_lower order m) (lower order r) ≡ Equal
-        → IsLeftPlan order same lawful equal is_good rank items r m.value place count first border
-        from → IsLeftFill (m ∷ ms) first border from
+        (border : Border K P) (from : Option P) → Lt (places lawful) (lower order r) (upper order r)
+        → IsStored order same items → IsStored order same (m ∷ ms)
+        → places lawful (item_lower order m) (lower order r) ≡ Equal
+        → IsLeftPlan lawful equal is_good rank items r m.value place count first border from
+        → IsLeftFill (m ∷ ms) first border from
     left_joining m ms first border from good stored middle at plan =
-        let cmp = places order lawful in
+        let cmp = places lawful in
         let total = position_total order.cmp lawful.total in
-        let chain = stored_chain order lawful same equal (m ∷ ms) middle in
+        let chain = stored_chain lawful equal (m ∷ ms) middle in
         let le =
-        le_trans cmp total (border_start order same plan.start r) plan.side.s (lower order r)
-        (eq_le cmp total (border_start order same plan.start r) plan.side.s plan.side.starts)
+        le_trans cmp total (border_start order plan.start r) plan.side.s (lower order r)
+        (eq_le cmp total (border_start order plan.start r) plan.side.s plan.side.starts)
         plan.side.left.below in
         let over =
         le_lt_trans cmp total (lower order r) (item_lower order m) (item_upper order m)
@@ -265,10 +260,9 @@ module _ {K : Type 0} (order : KeyOrder K) (lawful : IsLawful order) {V : Type 0
               every_append _ (take plan.at items ++ option_items plan.rest)
               (with_first_start plan.start (m ∷ ms))
               (every_append _ (take plan.at items) (option_items plan.rest)
-              (known_take order lawful same equal items plan.at
-              (stored_known order lawful same equal items stored)) plan.side.known)
-              (start_known plan.start m ms plan.side.known_start
-              (stored_known order lawful same equal (m ∷ ms) middle));
+              (known_take lawful equal items plan.at (stored_known lawful equal items stored))
+              plan.side.known) (start_known plan.start m ms plan.side.known_start
+              (stored_known lawful equal (m ∷ ms) middle));
           extra = plan.frame.extra;
           split = plan.frame.split;
           touched =
@@ -281,9 +275,9 @@ module _ {K : Type 0} (order : KeyOrder K) (lawful : IsLawful order) {V : Type 0
 
     left_cutting : (middle : List (Item (AnyRange K) V)) (first : Option P) (border : Border K P)
         (from : Option P) → IsStored order same items → IsStored order same middle
-        → Every (λ i. Lt (places order lawful) (lower order r) (item_lower order i)) middle
-        → IsLeftCutting order same lawful equal is_good rank items r place count first border from →
-        IsLeftFill middle first border from
+        → Every (λ i. Lt (places lawful) (lower order r) (item_lower order i)) middle
+        → IsLeftCutting lawful equal is_good rank items r place count first border from → IsLeftFill
+        middle first border from
     left_cutting middle first border from stored others starts cut =
         let none =
         joins_none_before is_good rank items border place
@@ -297,15 +291,13 @@ module _ {K : Type 0} (order : KeyOrder K) (lawful : IsLawful order) {V : Type 0
           run = cut.run;
           begins = omega (arith, none);
           filled =
-              filled_apart (line_of order lawful same equal) items
-              (take place items ++ option_items cut.rest) middle (lower order r) cut.side.left
-              (stored_chain order lawful same equal middle others) starts;
+              filled_apart (line_of lawful equal) items (take place items ++ option_items cut.rest)
+              middle (lower order r) cut.side.left (stored_chain lawful equal middle others) starts;
           known =
               every_append _ (take place items ++ option_items cut.rest) middle
               (every_append _ (take place items) (option_items cut.rest)
-              (known_take order lawful same equal items place
-              (stored_known order lawful same equal items stored)) cut.side.known)
-              (stored_known order lawful same equal middle others);
+              (known_take lawful equal items place (stored_known lawful equal items stored))
+              cut.side.known) (stored_known lawful equal middle others);
           extra = [];
           split = sym (append-nil (take place items));
           touched = tt;
@@ -313,13 +305,12 @@ module _ {K : Type 0} (order : KeyOrder K) (lawful : IsLawful order) {V : Type 0
         }
 
     all_later : (m : Item (AnyRange K) V) (ms : List (Item (AnyRange K) V))
-        → Chained order lawful same equal (m ∷ ms)
-        → Lt (places order lawful) (lower order r) (item_lower order m)
-        → Every (λ i. Lt (places order lawful) (lower order r) (item_lower order i)) (m ∷ ms)
+        → Chained lawful equal (m ∷ ms) → Lt (places lawful) (lower order r) (item_lower order m)
+        → Every (λ i. Lt (places lawful) (lower order r) (item_lower order i)) (m ∷ ms)
     all_later m ms chain later =
-        let cmp = places order lawful in
+        let cmp = places lawful in
         let total = position_total order.cmp lawful.total in
-        let above = follows_above (line_of order lawful same equal) m ms chain.1 in (
+        let above = follows_above (line_of lawful equal) m ms chain.1 in (
           later,
           every_weaker _ _ ms (λ i h.
               lt_le_trans cmp total (lower order r) (item_upper order m) (item_lower order i)
@@ -328,23 +319,22 @@ module _ {K : Type 0} (order : KeyOrder K) (lawful : IsLawful order) {V : Type 0
         )
 
     pub left_fill : (middle : List (Item (AnyRange K) V)) (first : Option P) (border : Border K P)
-        (from : Option P) → Lt (places order lawful) (lower order r) (upper order r)
+        (from : Option P) → Lt (places lawful) (lower order r) (upper order r)
         → IsStored order same items → IsStored order same middle
-        → IsLeftSeam order same lawful equal is_good rank items r place count
-        (slice_get middle 0) first border from → IsLeftFill middle first border from
+        → IsLeftSeam lawful equal is_good rank items r place count (slice_get middle 0) first border
+        from → IsLeftFill middle first border from
     left_fill [] first border from good stored others (inl h) = absurd (let e = h.1 in cc)
     left_fill [] first border from good stored others (inr h) =
         left_cutting [] first border from stored others tt h.1
     left_fill (m ∷ ms) first border from good stored others (inl h) =
         let item : h.0 ≡ m = let e = h.1 in cc in
         left_joining m ms first border from good stored others
-        (subst (λ (i : Item (AnyRange K) V). places order lawful (item_lower order i)
-        (lower order r) ≡ Equal) item h.2)
-        (subst (λ (i : Item (AnyRange K) V). IsLeftPlan order same lawful equal is_good rank
+        (subst (λ (i : Item (AnyRange K) V). places lawful (item_lower order i) (lower order r)
+        ≡ Equal) item h.2) (subst (λ (i : Item (AnyRange K) V). IsLeftPlan lawful equal is_good rank
         items r i.value place count first border from) item h.3)
     left_fill (m ∷ ms) first border from good stored others (inr h) =
         left_cutting (m ∷ ms) first border from stored others
-        (all_later m ms (stored_chain order lawful same equal (m ∷ ms) others) (h.0 m refl)) h.1
+        (all_later m ms (stored_chain lawful equal (m ∷ ms) others) (h.0 m refl)) h.1
 
     alike_value : (xs : List (Item (AnyRange K) V)) (v u : V) → same u v ≡ true
         → HasValue order same xs v → HasValue order same xs u
@@ -353,16 +343,15 @@ module _ {K : Type 0} (order : KeyOrder K) (lawful : IsLawful order) {V : Type 0
     alike_value (x ∷ xs) v u e (inr h) = inr (alike_value xs v u e h)
 
     ended_lower : (finish : Option (Bound K)) (z : Item (AnyRange K) V)
-        → places order lawful (item_lower order (item_with_end finish z)) (item_lower order z)
-        ≡ Equal
+        → places lawful (item_lower order (item_with_end finish z)) (item_lower order z) ≡ Equal
     ended_lower None z = tied_itself (position_total order.cmp lawful.total) (item_lower order z)
     ended_lower (Some b) z =
         tied_itself (position_total order.cmp lawful.total) (item_lower order z)
 
     ended_upper : (finish : Option (Bound K)) (z : Item (AnyRange K) V) (e : Position K)
-        → places order lawful (border_end order same finish r) e ≡ Equal
-        → places order lawful (item_upper order z) (upper order r) ≡ Equal
-        → places order lawful (item_upper order (item_with_end finish z)) e ≡ Equal
+        → places lawful (border_end order finish r) e ≡ Equal
+        → places lawful (item_upper order z) (upper order r) ≡ Equal
+        → places lawful (item_upper order (item_with_end finish z)) e ≡ Equal
     ended_upper None z e ends at =
         (position_total order.cmp lawful.total).congr (item_upper order z) (upper order r) e at
         ∙ ends
@@ -391,12 +380,11 @@ module _ {K : Type 0} (order : KeyOrder K) (lawful : IsLawful order) {V : Type 0
 
     right_joining : (middle front init : List (Item (AnyRange K) V)) (m : Item (AnyRange K) V)
         (start : Option (Bound K)) (last : Option P) (border : Border K P) → IsStored order same
-        items
-        → Lt (places order lawful) (lower order r) (upper order r) → middle ≡ init ++ m ∷ []
+        items → Lt (places lawful) (lower order r) (upper order r) → middle ≡ init ++ m ∷ []
         → Filled items middle (front ++ with_first_start start middle) (lower order r)
-        → Known order lawful same equal (front ++ with_first_start start middle)
-        → places order lawful (item_upper order m) (upper order r) ≡ Equal
-        → IsRightPlan order same lawful equal is_good rank items r m.value place count last border
+        → Known lawful equal (front ++ with_first_start start middle)
+        → places lawful (item_upper order m) (upper order r) ≡ Equal
+        → IsRightPlan lawful equal is_good rank items r m.value place count last border
         → IsRightFill middle front start last border
     right_joining middle front init m start last border stored good split fill known at plan =
         let own =
@@ -416,21 +404,20 @@ module _ {K : Type 0} (order : KeyOrder K) (lawful : IsLawful order) {V : Type 0
         ap (λ ys. (front ++ ys) ++ behind)
         (ap (with_last_end plan.finish) body ∙ with_last plan.finish s.0 z)
         ∙ regrouped_last front s.0 behind other in
-        let z_ends : places order lawful (item_upper order z) (upper order r) ≡ Equal =
-        subst (λ (b : Bound K). places order lawful (past order (end_position order b))
-        (upper order r) ≡ Equal) (sym s.3) at in
+        let z_ends : places lawful (item_upper order z) (upper order r) ≡ Equal =
+        subst (λ (b : Bound K). places lawful (past order (end_position order b)) (upper order r)
+        ≡ Equal) (sym s.3) at in
         let right =
-        subst (λ (v : V). IsRightOf (line_of order lawful same equal) items behind
-        (upper order r) plan.side.e v) (sym s.4) plan.side.right in
+        subst (λ (v : V). IsRightOf (line_of lawful equal) items behind (upper order r) plan.side.e
+        v) (sym s.4) plan.side.right in
         let filled = subst (λ ys. Filled items middle ys (lower order r)) grouped fill in
-        let all = subst (λ ys. Known order lawful same equal ys) grouped known in
+        let all = subst (λ ys. Known lawful equal ys) grouped known in
         let known_z = every_right _ (front ++ s.0) (z ∷ []) all in
-        let cmp = places order lawful in
+        let cmp = places lawful in
         let body_end : with_last_end plan.finish (with_first_start start middle) ≡ s.0
         ++ other ∷ [] = ap (with_last_end plan.finish) body ∙ with_last plan.finish s.0 z in
         let full =
-        (chain_right (line_of order lawful same equal) (front ++ s.0)
-        (z ∷ []) filled.chain).0 in
+        (chain_right (line_of lawful equal) (front ++ s.0) (z ∷ []) filled.chain).0 in
         let under =
         le_lt_trans cmp total (item_lower order other) (item_lower order z) (upper order r)
         (eq_le cmp total (item_lower order other) (item_lower order z)
@@ -447,22 +434,19 @@ module _ {K : Type 0} (order : KeyOrder K) (lawful : IsLawful order) {V : Type 0
         (ended_upper plan.finish z plan.side.e plan.side.ends z_ends)) in
         let same_value : m.value ≡ other.value = sym (ended_same plan.finish z ∙ s.4) in
         let beyond =
-        lt_le_trans cmp total (lower order r) plan.side.e
-        (border_end order same plan.finish r) above
-        (eq_ge cmp total (border_end order same plan.finish r) plan.side.e plan.side.ends) in
+        lt_le_trans cmp total (lower order r) plan.side.e (border_end order plan.finish r) above
+        (eq_ge cmp total (border_end order plan.finish r) plan.side.e plan.side.ends) in
         let done =
-        spliced_joined (line_of order lawful same equal) items middle
-        (front ++ s.0) behind z other (lower order r)
-        (upper order r) plan.side.e filled good z_ends right (ended_lower plan.finish z)
-        (ended_upper plan.finish z plan.side.e plan.side.ends z_ends)
+        spliced_joined (line_of lawful equal) items middle (front ++ s.0) behind z other
+        (lower order r) (upper order r) plan.side.e filled good z_ends right
+        (ended_lower plan.finish z) (ended_upper plan.finish z plan.side.e plan.side.ends z_ends)
         (ended_value plan.finish z) in
         let known_new =
         every_append _ (front ++ s.0) (other ∷ behind)
         (every_left _ (front ++ s.0) (z ∷ []) all) (
           ended_known plan.finish z known_z.0 plan.side.known_end,
           every_append _ (option_items plan.rest) (drop plan.end items) plan.side.known
-              (known_drop order lawful same equal items plan.end
-              (stored_known order lawful same equal items stored)),
+              (known_drop lawful equal items plan.end (stored_known lawful equal items stored)),
         ) in
         record {
           upto = plan.upto;
@@ -473,7 +457,7 @@ module _ {K : Type 0} (order : KeyOrder K) (lawful : IsLawful order) {V : Type 0
           ends = plan.ends;
           in_range = plan.side.in_range;
           spliced = subst (λ ys. Spliced items middle ys r) (sym list) done;
-          known = subst (λ ys. Known order lawful same equal ys) (sym list) known_new;
+          known = subst (λ ys. Known lawful equal ys) (sym list) known_new;
           extra = plan.frame.extra;
           split = plan.frame.split;
           touched =
@@ -488,8 +472,7 @@ module _ {K : Type 0} (order : KeyOrder K) (lawful : IsLawful order) {V : Type 0
                       subst (λ v. IsTrue (same i.value v)) same_value h.1,
                     ))),
               )) plan.frame.touched;
-          reaches = λ b is. subst (λ o. Lt cmp (lower order r) (border_end order same o r)) is
-              beyond;
+          reaches = λ b is. subst (λ o. Lt cmp (lower order r) (border_end order o r)) is beyond;
           valued =
               every_weaker _ _ (option_items plan.rest)
               (λ j h.
@@ -501,12 +484,12 @@ module _ {K : Type 0} (order : KeyOrder K) (lawful : IsLawful order) {V : Type 0
 
     right_cutting : (middle front : List (Item (AnyRange K) V)) (start : Option (Bound K))
         (last : Option P) (border : Border K P) (u : Position K) → IsStored order same items
-        → place + count ≤ length items → Le (places order lawful) (lower order r) u
-        → Lt (places order lawful) u (upper order r)
-        → Every (λ i. Le (places order lawful) (item_upper order i) u) middle
+        → place + count ≤ length items → Le (places lawful) (lower order r) u
+        → Lt (places lawful) u (upper order r)
+        → Every (λ i. Le (places lawful) (item_upper order i) u) middle
         → Filled items middle (front ++ with_first_start start middle) (lower order r)
-        → Known order lawful same equal (front ++ with_first_start start middle)
-        → IsRightCutting order same lawful equal is_good rank items r place count last border
+        → Known lawful equal (front ++ with_first_start start middle)
+        → IsRightCutting lawful equal is_good rank items r place count last border
         → IsRightFill middle front start last border
     right_cutting middle front start last border u stored within le lt all fill known cut =
         let none =
@@ -522,14 +505,14 @@ module _ {K : Type 0} (order : KeyOrder K) (lawful : IsLawful order) {V : Type 0
           ends = omega (arith, none, cut.ends);
           in_range = within;
           spliced =
-              spliced_apart (line_of order lawful same equal) items middle
+              spliced_apart (line_of lawful equal) items middle
               (front ++ with_first_start start middle) behind (lower order r) u
               (upper order r) fill le lt all cut.side.right;
           known =
               every_append _ (front ++ with_first_start start middle) behind known
               (every_append _ (option_items cut.rest) (drop (place + count) items) cut.side.known
-              (known_drop order lawful same equal items (place + count)
-              (stored_known order lawful same equal items stored)));
+              (known_drop lawful equal items (place + count)
+              (stored_known lawful equal items stored)));
           extra = [];
           split = refl;
           touched = tt;
@@ -541,40 +524,38 @@ module _ {K : Type 0} (order : KeyOrder K) (lawful : IsLawful order) {V : Type 0
 
     pub right_fill : (middle front : List (Item (AnyRange K) V)) (start : Option (Bound K))
         (last : Option P) (border : Border K P) → IsStored order same items → IsStored order same
-        middle
-        → AreWithin order middle r → Lt (places order lawful) (lower order r) (upper order r)
+        middle → AreWithin order middle r → Lt (places lawful) (lower order r) (upper order r)
         → place + count ≤ length items
         → Filled items middle (front ++ with_first_start start middle) (lower order r)
-        → Known order lawful same equal (front ++ with_first_start start middle)
-        → IsRightSeam order same lawful equal is_good rank items r place count
+        → Known lawful equal (front ++ with_first_start start middle)
+        → IsRightSeam lawful equal is_good rank items r place count
         (slice_get middle (length middle - 1)) last border → IsRightFill middle front start last
         border
     right_fill [] front start last border stored others within good in_range fill known (inl h) =
         absurd (let e = h.1 in cc)
     right_fill [] front start last border stored others within good in_range fill known (inr h) =
         right_cutting [] front start last border (lower order r) stored in_range
-        (le_refl (places order lawful) (position_total order.cmp lawful.total) (lower order r))
-        good tt fill known h.1
+        (le_refl (places lawful) (position_total order.cmp lawful.total) (lower order r)) good tt
+        fill known h.1
     right_fill (x ∷ xs) front start last border stored others within good in_range fill known
         (inl h) =
         let end = last_of x xs in
         let item : h.0 ≡ end.1 = let e = sym end.3 ∙ h.1 in cc in
         right_joining (x ∷ xs) front end.0 end.1 start last border stored good end.2 fill known
-        (subst (λ (i : Item (AnyRange K) V). places order lawful (item_upper order i)
-        (upper order r) ≡ Equal) item h.2)
-        (subst (λ (i : Item (AnyRange K) V). IsRightPlan order same lawful equal is_good rank
-        items r i.value place count last border) item h.3)
+        (subst (λ (i : Item (AnyRange K) V). places lawful (item_upper order i) (upper order r)
+        ≡ Equal) item h.2)
+        (subst (λ (i : Item (AnyRange K) V). IsRightPlan lawful equal is_good rank items r i.value
+        place count last border) item h.3)
     right_fill (x ∷ xs) front start last border stored others within good in_range fill known
         (inr h) =
-        let cmp = places order lawful in
+        let cmp = places lawful in
         let total = position_total order.cmp lawful.total in
         let end = last_of x xs in
         let m = end.1 in
         let chain =
-        subst (λ ys. Chained order lawful same equal ys) end.2
-        (stored_chain order lawful same equal (x ∷ xs) others) in
-        let full = (chain_right (line_of order lawful same equal) end.0 (m ∷ []) chain).0 in
-        let before = chain_before (line_of order lawful same equal) end.0 m [] chain in
+        subst (λ ys. Chained lawful equal ys) end.2 (stored_chain lawful equal (x ∷ xs) others) in
+        let full = (chain_right (line_of lawful equal) end.0 (m ∷ []) chain).0 in
+        let before = chain_before (line_of lawful equal) end.0 m [] chain in
         let below =
         every_append (λ i. Le cmp (item_upper order i) (item_upper order m)) end.0 (m ∷ [])
         (every_weaker _ _ end.0 (λ i k.
@@ -603,8 +584,7 @@ module _ {K : Type 0} {order : KeyOrder K} (lawful : IsLawful order) {V : Type 0
       → ReachesBefore order is_good rank items r place w.count first → IsKnownBound order b
       → SameBound order (flipped_bound r.start) b
       → IsAt is_good rank (length items) from (place + length (option_items first))
-      → IsLeftCutting order same lawful equal is_good rank items r place w.count first
-      (border_at first b) from
+      → IsLeftCutting lawful equal is_good rank items r place w.count first (border_at first b) from
   left_cut_out first b from reach known_b same_b next =
       let cut = left_cut_plan lawful equal window first b reach known_b same_b in
       record {
@@ -622,7 +602,7 @@ module _ {K : Type 0} {order : KeyOrder K} (lawful : IsLawful order) {V : Type 0
       → MatchOption joined (TouchesNoneBefore order same items place r v)
       (λ q. is_good q × (rank q + 1 ≡ place) × TouchesBefore order same items place r v)
       → IsRunStart is_good rank (length items) place None joined at
-      → IsLeftPlan order same lawful equal is_good rank items r v place w.count None
+      → IsLeftPlan lawful equal is_good rank items r v place w.count None
       (seam_border joined None b) at
   left_touched v None b at in_range reach none start =
       let plus : place + 0 ≡ place = omega arith in
@@ -636,8 +616,7 @@ module _ {K : Type 0} {order : KeyOrder K} (lawful : IsLawful order) {V : Type 0
       → upto + length (option_items last) ≡ place + w.count
       → ReachesAfter order is_good rank items r place w.count last → IsKnownBound order b
       → SameBound order (flipped_bound r.end) b
-      → IsRightCutting order same lawful equal is_good rank items r place w.count last
-      (border_at last b)
+      → IsRightCutting lawful equal is_good rank items r place w.count last (border_at last b)
   right_cut_from last b upto at reach known_b same_b =
       let cut = right_cut_plan lawful equal window last b upto at reach known_b same_b in
       record {
@@ -652,8 +631,7 @@ module _ {K : Type 0} {order : KeyOrder K} (lawful : IsLawful order) {V : Type 0
   pub right_cut_any : (last : Option P) (b : Bound K)
       → ReachesAfter order is_good rank items r place w.count last → IsKnownBound order b
       → SameBound order (flipped_bound r.end) b
-      → IsRightCutting order same lawful equal is_good rank items r place w.count last
-      (border_at last b)
+      → IsRightCutting lawful equal is_good rank items r place w.count last (border_at last b)
   right_cut_any None b reach known_b same_b =
       right_cut_from None b (place + w.count) (omega arith) reach known_b same_b
   right_cut_any (Some p) b reach known_b same_b =
@@ -665,7 +643,7 @@ module _ {K : Type 0} {order : KeyOrder K} (lawful : IsLawful order) {V : Type 0
       → MatchOption joined (TouchesNoneAfter order same items (place + w.count) r v)
       (λ q. is_good q × (rank q ≡ place + w.count)
       × TouchesAfter order same items (place + w.count) r v)
-      → IsRightPlan order same lawful equal is_good rank items r v place w.count None
+      → IsRightPlan lawful equal is_good rank items r v place w.count None
       (seam_border joined None b)
   right_touched v None b in_range reach none = right_plan_plain lawful equal window v reach none
   right_touched v (Some q) b in_range reach found =

@@ -31,7 +31,7 @@ before_by_parts true false t x d u v w c = (λ h. absurd (cc), λ h. absurd (cc)
 before_by_parts false b t x true u v w c = (λ h. absurd (cc), λ h. absurd (cc))
 before_by_parts false b t x false u v w c = (λ h. absurd (cc), λ h. absurd (cc))
 
-module _ {K : Type 0} (order : KeyOrder K) (lawful : IsLawful order) {V : Type 0}
+module _ {K : Type 0} {order : KeyOrder K} (lawful : IsLawful order) {V : Type 0}
     (same : V → V → Bool) where
   -- known and nonempty, each before the next, and touching only where values differ
   abbrev pub IsListed : List (Item (AnyRange K) V) → Type 0

@@ -26,13 +26,13 @@ each_is_one : {X : Type 0} (xs : List X) → Every (λ x. Any (λ y. y ≡ x) xs
 each_is_one [] = tt
 each_is_one (x ∷ xs) = (inl refl, every_weaker _ _ xs (λ y h. inr h) (each_is_one xs))
 
-module _ {K : Type 0} (order : KeyOrder K) (lawful : IsLawful order) where
+module _ {K : Type 0} {order : KeyOrder K} (lawful : IsLawful order) where
   -- ranges meet where each starts before the other ends
   pub crossing_meets : (s r : AnyRange K) → IsKnownRange order s → IsKnownRange order r
-      → Lt (places order lawful) (lower order s) (upper order r)
-      → Lt (places order lawful) (lower order r) (upper order s) → Overlap order s r
+      → Lt (places lawful) (lower order s) (upper order r)
+      → Lt (places lawful) (lower order r) (upper order s) → Overlap order s r
   crossing_meets s r known others under over =
-      let cmp = places order lawful in
+      let cmp = places lawful in
       let total = position_total order.cmp lawful.total in (
         λ l. lt_not_le cmp total (end_position order s.end) (start_position order r.start) l
             ((reaching_is_before_past order lawful r.start s.end others.0 known.1).1 over),
@@ -40,21 +40,21 @@ module _ {K : Type 0} (order : KeyOrder K) (lawful : IsLawful order) where
             ((reaching_is_before_past order lawful s.start r.end known.0 others.1).1 under),
       )
 
-  module _ {V : Type 0} (same : V → V → Bool) (equal : IsEquivalence same)
+  module _ {V : Type 0} {same : V → V → Bool} (equal : IsEquivalence same)
       (items : List (Item (AnyRange K) V)) (r : AnyRange K) (known : IsKnownRange order r)
-      (some : Lt (places order lawful) (lower order r) (upper order r))
-      (full : Every (IsFull order lawful items r) items)
-      (chain : Chained order lawful same equal items) (done rest : List (Item (AnyRange K) V))
-      (x : Item (AnyRange K) V) (list : items ≡ done ++ x ∷ rest)
-      (starts : Lt (places order lawful) (item_lower order x) (lower order r))
-      (ends : Lt (places order lawful) (upper order r) (item_upper order x)) where
+      (some : Lt (places lawful) (lower order r) (upper order r))
+      (full : Every (IsFull lawful items r) items) (chain : Chained lawful equal items)
+      (done rest : List (Item (AnyRange K) V)) (x : Item (AnyRange K) V)
+      (list : items ≡ done ++ x ∷ rest)
+      (starts : Lt (places lawful) (item_lower order x) (lower order r))
+      (ends : Lt (places lawful) (upper order r) (item_upper order x)) where
     abbrev IsAlone : Item (AnyRange K) V → Type 0
     IsAlone i = IsConnectedTo order i.key r → Overlap order i.key r
 
-    alone_before : (i : Item (AnyRange K) V) → IsFull order lawful items r i
-        → Lt (places order lawful) (item_upper order i) (lower order r) → IsAlone i
+    alone_before : (i : Item (AnyRange K) V) → IsFull lawful items r i
+        → Lt (places lawful) (item_upper order i) (lower order r) → IsAlone i
     alone_before i own l =
-        let apart = apart_not order lawful i.key r own.0 known own.1 some l in
+        let apart = apart_not lawful i.key r own.0 known own.1 some l in
         λ h.
         elim h [
           | inl meets ↦ meets
@@ -62,10 +62,10 @@ module _ {K : Type 0} (order : KeyOrder K) (lawful : IsLawful order) where
           | inr (inr touches) ↦ absurd (apart.2 touches)
         ]
 
-    alone_after : (i : Item (AnyRange K) V) → IsFull order lawful items r i
-        → Lt (places order lawful) (upper order r) (item_lower order i) → IsAlone i
+    alone_after : (i : Item (AnyRange K) V) → IsFull lawful items r i
+        → Lt (places lawful) (upper order r) (item_lower order i) → IsAlone i
     alone_after i own l =
-        let apart = apart_not order lawful r i.key known own.0 some own.1 l in
+        let apart = apart_not lawful r i.key known own.0 some own.1 l in
         λ h.
         elim h [
           | inl meets ↦ meets
@@ -73,9 +73,8 @@ module _ {K : Type 0} (order : KeyOrder K) (lawful : IsLawful order) where
           | inr (inr touches) ↦ absurd (apart.1 touches)
         ]
 
-    alone_around : IsFull order lawful items r x → IsAlone x
-    alone_around own = λ h.
-        let cmp = places order lawful in
+    alone_around : IsFull lawful items r x → IsAlone x alone_around own = λ h.
+        let cmp = places lawful in
         let total = position_total order.cmp lawful.total in
         crossing_meets x.key r own.0 known
         (lt_trans cmp total (item_lower order x) (lower order r) (upper order r) starts some)
@@ -84,15 +83,15 @@ module _ {K : Type 0} (order : KeyOrder K) (lawful : IsLawful order) where
     -- no other item touches a range that one surrounds
     pub surrounded_alone : Every (λ i. IsConnectedTo order i.key r → Overlap order i.key r) items
     surrounded_alone =
-        let cmp = places order lawful in
+        let cmp = places lawful in
         let total = position_total order.cmp lawful.total in
         let whole = rw list at chain in
         let all = rw list at full in
         let own = every_right _ done (x ∷ rest) all in
-        let before = chain_before (line_of order lawful same equal) done x rest whole in
+        let before = chain_before (line_of lawful equal) done x rest whole in
         let after =
-        follows_above (line_of order lawful same equal) x rest
-        (chain_right (line_of order lawful same equal) done (x ∷ rest) whole).1 in
+        follows_above (line_of lawful equal) x rest
+        (chain_right (line_of lawful equal) done (x ∷ rest) whole).1 in
         let front =
         every_with _ _ IsAlone done before (every_left _ done (x ∷ rest) all)
         (λ i h f. alone_before i f

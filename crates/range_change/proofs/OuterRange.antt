@@ -20,8 +20,8 @@ pub one_longer : {X : Type 0} (items new : List X) (place : ℕ) (x : X) → pla
 one_longer items new place x within done =
     omega (arith, ap length done, length-insert items place x within)
 
-module _ {K : Type 0} (order : KeyOrder K) (lawful : IsLawful order) {V : Type 0}
-    (same : V → V → Bool) (equal : IsEquivalence same) (items : List (Item (AnyRange K) V))
+module _ {K : Type 0} {order : KeyOrder K} (lawful : IsLawful order) {V : Type 0}
+    {same : V → V → Bool} (equal : IsEquivalence same) (items : List (Item (AnyRange K) V))
     (r : AnyRange K) (stored : IsStored order same items) (known : IsKnownRange order r)
     (full : IsEmptyRange order r → ⊥) where
   -- it is put where it lies apart from the items on both sides
@@ -32,8 +32,7 @@ module _ {K : Type 0} (order : KeyOrder K) (lawful : IsLawful order) {V : Type 0
   inserted_apart place apart new v done =
       let x : Item (AnyRange K) V = record { key = r; value = v } in
       let front = take place items in
-      let put =
-      put_in order lawful same equal items r stored known full place apart.before apart.behind v in
+      let put = put_in lawful equal items r stored known full place apart.before apart.behind v in
       record {
         stored = rw done put.0;
         bound = rw done put.1;
@@ -54,5 +53,5 @@ module _ {K : Type 0} (order : KeyOrder K) (lawful : IsLawful order) {V : Type 0
             made = (record { start = inl refl; end = inl refl; value = inl (equal.refl v) }, tt);
           };
         };
-        meets = rw done (meets_put order lawful items place x);
+        meets = rw done (meets_put lawful items place x);
       }

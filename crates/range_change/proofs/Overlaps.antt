@@ -32,7 +32,7 @@ any_at P [] place x within read h = absurd (omega arith)
 any_at P (y ∷ ys) zero x within read h = let at : x ≡ y = read in inl (rw at at h)
 any_at P (y ∷ ys) (suc place) x within read h = inr (any_at P ys place x (omega arith) read h)
 
-module _ {K : Type 0} (order : KeyOrder K) (lawful : IsLawful order) where
+module _ {K : Type 0} {order : KeyOrder K} (lawful : IsLawful order) where
   abbrev PLe : Position K → Position K → Type 0
   PLe p q = Le (position_cmp order.cmp) p q
 
@@ -206,13 +206,13 @@ module _ {K : Type 0} (order : KeyOrder K) (lawful : IsLawful order) where
           λ h. absurd (cc),
           λ h.
               absurd (apart_meets items r p e (place + 1) start end
-              (ends_upto order lawful same items p place x stored within read ends) above h.1),
+              (ends_upto lawful same items p place x stored within read ends) above h.1),
         )
     last_started_decides same items r p e place x false start end stored full within read upto above
         ends =
         let total = position_total order.cmp lawful.total in
         let cmp = position_cmp order.cmp in
-        let starts = starts_here order lawful same items e place x within read upto in
+        let starts = starts_here lawful same items e place x within read upto in
         let reaches : is_lt (cmp (End x.key) p) ≡ false = sym ends in (
           λ h. (
             full,

@@ -79,9 +79,8 @@ module _ {K : Type 0} {order : KeyOrder K} {lawful : IsLawful order} {V : Type 0
     {rank : P → ℕ} {items : List (Item (AnyRange K) V)} {r : AnyRange K} {w : Window P} {place : ℕ}
     (window : IsWindow order same is_good rank items r w place) {v : V} {first last : Option P}
     {border behind : Border K P} {from : Option P}
-    (left : IsLeftPlan order same lawful equal is_good rank items r v place w.count first border
-    from)
-    (right : IsRightPlan order same lawful equal is_good rank items r v place w.count last behind)
+    (left : IsLeftPlan lawful equal is_good rank items r v place w.count first border from)
+    (right : IsRightPlan lawful equal is_good rank items r v place w.count last behind)
     (apart : length (option_items first) + length (option_items last) ≤ w.count) where
   -- the range with the bounds of those that it joins
   abbrev made_item : Item (AnyRange K) V

@@ -80,7 +80,7 @@ pub any_end : {X : Type 0} (P : X → Type 0) (xs : List X) (y : X) → P y → 
 any_end P [] y h = inl h
 any_end P (x ∷ xs) y h = inr (any_end P xs y h)
 
-module _ {K : Type 0} (order : KeyOrder K) (lawful : IsLawful order) where
+module _ {K : Type 0} {order : KeyOrder K} (lawful : IsLawful order) where
   abbrev pub PLe : Position K → Position K → Type 0
   PLe p q = Le (position_cmp order.cmp) p q
 
@@ -201,21 +201,20 @@ module _ {K : Type 0} (order : KeyOrder K) (lawful : IsLawful order) where
       let to = eq_le cmp total e (earlier order u v) h.ends in (
         le_trans cmp total p (later order p q) s latest.0 at,
         le_trans cmp total q (later order p q) s latest.1 at,
-        past_le order lawful part.end r.end known''.1 known.1
+        past_le lawful part.end r.end known''.1 known.1
             (le_trans cmp total e (earlier order u v) u to first.0),
-        past_le order lawful part.end i.end known''.1 known'.1
+        past_le lawful part.end i.end known''.1 known'.1
             (le_trans cmp total e (earlier order u v) v to first.1),
       )
 
   lies_places : (r s : AnyRange K) → IsKnownRange order r → IsKnownRange order s → LiesIn order r s
       → PLe (Lo s) (Lo r) × PLe (Hi r) (Hi s)
-  lies_places r s known known' h =
-      (h.starts, past_le order lawful r.end s.end known.1 known'.1 h.ends)
+  lies_places r s known known' h = (h.starts, past_le lawful r.end s.end known.1 known'.1 h.ends)
 
   pub lies_in : (r s : AnyRange K) → IsKnownRange order r → IsKnownRange order s → PLe (Lo s) (Lo r)
       → PLe (Hi r) (Hi s) → LiesIn order r s
   lies_in r s known known' h k =
-      record { starts = h; ends = end_le order lawful r.end s.end known.1 known'.1 k }
+      record { starts = h; ends = end_le lawful r.end s.end known.1 known'.1 k }
 
   -- ranges that do not meet lie one before the other
   apart_of : (i r : AnyRange K) → IsKnownRange order i → IsKnownRange order r
@@ -223,8 +222,8 @@ module _ {K : Type 0} (order : KeyOrder K) (lawful : IsLawful order) where
   apart_of i r known known' none =
       let cmp = position_cmp order.cmp in
       let total = position_total order.cmp lawful.total in
-      let first = before_is order lawful i.end r.start known.1 known'.0 in
-      let other = before_is order lawful r.end i.start known'.1 known.0 in
+      let first = before_is lawful i.end r.start known.1 known'.0 in
+      let other = before_is lawful r.end i.start known'.1 known.0 in
       elim (cases cmp total (Lo r) (Hi i)) [
         | inr le ↦ inl le
         | inl l ↦ elim (cases cmp total (Lo i) (Hi r)) [
@@ -241,9 +240,9 @@ module _ {K : Type 0} (order : KeyOrder K) (lawful : IsLawful order) where
   pub apart_not : (i r : AnyRange K) → IsKnownRange order i → IsKnownRange order r
       → PLe (Hi i) (Lo r) ⊎ PLe (Hi r) (Lo i) → Overlap order i r → ⊥
   apart_not i r known known' (inl le) h =
-      h.0 ((before_is order lawful i.end r.start known.1 known'.0).1 le)
+      h.0 ((before_is lawful i.end r.start known.1 known'.0).1 le)
   apart_not i r known known' (inr le) h =
-      h.1 ((before_is order lawful r.end i.start known'.1 known.0).1 le)
+      h.1 ((before_is lawful r.end i.start known'.1 known.0).1 le)
 
   module _ {V : Type 0} (items : List (Item (AnyRange K) V)) (r : AnyRange K) where
     abbrev pub IsFull : Item (AnyRange K) V → Type 0
@@ -326,7 +325,7 @@ module _ {K : Type 0} (order : KeyOrder K) (lawful : IsLawful order) where
             → IsFreePart order items r key
         free_part key inside h = record {
           known = inside.0;
-          nonempty = (nonempty_good order lawful key inside.0).1 inside.2;
+          nonempty = (nonempty_good lawful key inside.0).1 inside.2;
           within = lies_in key r inside.0 known_r inside.1 inside.3;
           free =
               every_with (λ i. PLe (Hi i.key) (Lo key) ⊎ PLe (Hi key) (Lo i.key)) IsFull
@@ -344,7 +343,7 @@ module _ {K : Type 0} (order : KeyOrder K) (lawful : IsLawful order) where
         pub free_inside : (key : AnyRange K) → IsFreePart order items r key → IsInside key
         free_inside key h =
             let within = lies_places key r h.known known_r h.within in
-            (h.known, within.0, (nonempty_good order lawful key h.known).0 h.nonempty, within.1)
+            (h.known, within.0, (nonempty_good lawful key h.known).0 h.nonempty, within.1)
 
         -- no free part begins before an open one that it meets, or ends after it
         starts_after : (key other : AnyRange K) → IsOpenPart key → PLe (Lo r) (Lo other)
@@ -392,7 +391,7 @@ module _ {K : Type 0} (order : KeyOrder K) (lawful : IsLawful order) where
         -- what is right by places is a piece
         pub a_piece : (key : AnyRange K) (value : Option V) → IsInside key → IsRight key value
             → IsPiece order items r key value
-        a_piece key (Some v) inside h = ((nonempty_good order lawful key inside.0).1 inside.2, h)
+        a_piece key (Some v) inside h = ((nonempty_good lawful key inside.0).1 inside.2, h)
         a_piece key None inside h = (
           free_part key inside h,
           λ other free wide.
@@ -438,33 +437,30 @@ module _ {K : Type 0} (order : KeyOrder K) (lawful : IsLawful order) where
             ∙ tied_back total (end_position order part.end) e k.ends)
 
         -- the item that a place lies in
-        module _ (same : V → V → Bool) (equal : IsEquivalence same) where
+        module _ {same : V → V → Bool} (equal : IsEquivalence same) where
           abbrev Holding : Position K → Item (AnyRange K) V → Type 0
           Holding p i = PLe (Lo i.key) p × PLt p (Hi i.key)
 
           both_held : (p : Position K) (P Q : Item (AnyRange K) V → Type 0)
-              (xs : List (Item (AnyRange K) V)) → Chained order lawful same equal xs
+              (xs : List (Item (AnyRange K) V)) → Chained lawful equal xs
               → Any (λ i. P i × Holding p i) xs → Any (λ i. Q i × Holding p i) xs
               → Any (λ i. P i × Q i) xs
           both_held p P Q [] chain h k = h
           both_held p P Q (x ∷ xs) chain (inl h) (inl k) = inl (h.0, k.0)
           both_held p P Q (x ∷ xs) chain (inr h) (inr k) =
-              inr (both_held p P Q xs (chain_tail (line_of order lawful same equal) x xs chain.1) h
-              k)
+              inr (both_held p P Q xs (chain_tail (line_of lawful equal) x xs chain.1) h k)
           both_held p P Q (x ∷ xs) chain (inl h) (inr k) =
               let cmp = position_cmp order.cmp in
               let total = position_total order.cmp lawful.total in
               any_use (λ i. Q i × Holding p i) (λ i. PLe (Hi x.key) (Lo i.key)) xs k
-              (follows_above (line_of order lawful same equal) x xs chain.1)
-              (λ i g le.
+              (follows_above (line_of lawful equal) x xs chain.1) (λ i g le.
               absurd (lt_not_le cmp total p (Hi x.key) h.1.1
               (le_trans cmp total (Hi x.key) (Lo i.key) p le g.1.0)))
           both_held p P Q (x ∷ xs) chain (inr h) (inl k) =
               let cmp = position_cmp order.cmp in
               let total = position_total order.cmp lawful.total in
               any_use (λ i. P i × Holding p i) (λ i. PLe (Hi x.key) (Lo i.key)) xs h
-              (follows_above (line_of order lawful same equal) x xs chain.1)
-              (λ i g le.
+              (follows_above (line_of lawful equal) x xs chain.1) (λ i g le.
               absurd (lt_not_le cmp total p (Hi x.key) k.1.1
               (le_trans cmp total (Hi x.key) (Lo i.key) p le g.1.0)))
 
@@ -515,14 +511,14 @@ module _ {K : Type 0} (order : KeyOrder K) (lawful : IsLawful order) where
 
           -- a piece whose start lies in a part that is right is that part
           same_piece : (key part : AnyRange K) (value binding : Option V)
-              → Chained order lawful same equal items → IsInside key → IsRight key value
+              → Chained lawful equal items → IsInside key → IsRight key value
               → IsKnownRange order part → IsPiece order items r part binding
               → PLe (Lo key) (Lo part) → PLt (Lo part) (Hi key)
               → (range_cmp order key part ≡ Equal) × (value ≡ binding)
           same_piece key part (Some w) (Some v) chain inside h known piece from upto =
               let cmp = position_cmp order.cmp in
               let total = position_total order.cmp lawful.total in
-              let good = (nonempty_good order lawful part known).0 piece.0 in
+              let good = (nonempty_good lawful part known).0 piece.0 in
               let held = common_held (Lo part) key w inside.0 h from upto in
               let other =
               common_held (Lo part) part v known piece.1
@@ -546,7 +542,7 @@ module _ {K : Type 0} (order : KeyOrder K) (lawful : IsLawful order) where
           same_piece key part None (Some v) chain inside h known piece from upto =
               let cmp = position_cmp order.cmp in
               let total = position_total order.cmp lawful.total in
-              let good = (nonempty_good order lawful part known).0 piece.0 in
+              let good = (nonempty_good lawful part known).0 piece.0 in
               absurd (common_place_is_not_clear (Lo part) part key v known piece.1
               (le_refl cmp total (Lo part)) good h.free from upto)
           same_piece key part None None chain inside h known piece from upto =
@@ -571,12 +567,12 @@ module _ {K : Type 0} (order : KeyOrder K) (lawful : IsLawful order) where
           let within = common_within r i.key part known_r f.0 known c.0 in (
             within.0,
             lt_le_trans (position_cmp order.cmp) (position_total order.cmp lawful.total) (Lo part)
-                (Hi part) (Hi r) ((nonempty_good order lawful part known).0 piece.0) within.2,
+                (Hi part) (Hi r) ((nonempty_good lawful part known).0 piece.0) within.2,
           ))
 
       -- parts up to the end of the range are its pieces
       pub cut_all : (same : V → V → Bool) (equal : IsEquivalence same) (full : Every IsFull items)
-          → Chained order lawful same equal items → (m : Position K) (answers : List (Answered K V))
+          → Chained lawful equal items → (m : Position K) (answers : List (Answered K V))
           → IsCutUpTo m answers → PLe (Hi r) m → AreAnswersTo order items r answers
       cut_all same equal full chain m answers was upto =
           let cmp = position_cmp order.cmp in
@@ -595,8 +591,8 @@ module _ {K : Type 0} (order : KeyOrder K) (lawful : IsLawful order) where
                 next_map piece_of (λ a b. PLe (Hi a.key) (Lo b.key))
                 (λ p q. LiesBefore order p.key q.key)
                 (λ a. IsInside a.key × IsRight a.key a.value) answers
-                (λ a b h k le. (before_is order lawful a.key.end b.key.start h.0.0.1 k.0.0.0).1 le)
-                each was.rising;
+                (λ a b h k le. (before_is lawful a.key.end b.key.start h.0.0.1 k.0.0.0).1 le) each
+                was.rising;
             all = λ part binding known piece.
                 let at = piece_inside full part binding known piece in
                 any_map piece_of (λ p. (range_cmp order p.key part ≡ Equal) × (p.value ≡ binding))
@@ -605,7 +601,6 @@ module _ {K : Type 0} (order : KeyOrder K) (lawful : IsLawful order) where
                 (λ a. (range_cmp order a.key part ≡ Equal) × (a.value ≡ binding)) answers
                 (was.covered (Lo part) at.0 at.1
                 (lt_le_trans cmp total (Lo part) (Hi r) m at.1 upto)) each
-                (λ a h k.
-                same_piece full same equal a.key part a.value binding chain k.0 k.1 known piece
+                (λ a h k. same_piece full equal a.key part a.value binding chain k.0 k.1 known piece
                 h.0 h.1));
           }

@@ -31,8 +31,8 @@ use Rattle.range_change.proofs.MergedItems.{crossing_meets}
 use Rattle.range_change.proofs.BoundEdits.{upto_end}
 use Rattle.range_change.proofs.JoinedMiddle.{seam_count, Crosses, TakesStartOf, IsLeftFill, IsRightFill, left_fill, right_fill}
 
-module _ {K : Type 0} (order : KeyOrder K) (lawful : IsLawful order) {V : Type 0}
-    (same : V → V → Bool) (equal : IsEquivalence same) {P : Type 0} (is_good : P → Type 0)
+module _ {K : Type 0} {order : KeyOrder K} (lawful : IsLawful order) {V : Type 0}
+    {same : V → V → Bool} (equal : IsEquivalence same) {P : Type 0} (is_good : P → Type 0)
     (rank : P → ℕ) (items : List (Item (AnyRange K) V)) (r : AnyRange K) (place count : ℕ) where
   value_left : (run more middle made : List (Item (AnyRange K) V))
       → Every (λ j. HasValue order same run j.value ⊎ HasValue order same middle j.value) made
@@ -51,25 +51,23 @@ module _ {K : Type 0} (order : KeyOrder K) (lawful : IsLawful order) {V : Type 0
       all
 
   within_pieces : (rest body beyond : List (Item (AnyRange K) V)) (B : Item (AnyRange K) V → Type 0)
-      (i : Item (AnyRange K) V) → IsKnownRange order r → Known order lawful same equal body
-      → Any (λ j. B j × Crosses order lawful same equal is_good rank items r place count j
-      × IsTrue (same i.value j.value)) body
+      (i : Item (AnyRange K) V) → IsKnownRange order r → Known lawful equal body
+      → Any (λ j. B j × Crosses lawful equal is_good rank items r place count j × IsTrue
+      (same i.value j.value)) body
       → Any (λ j. B j × Overlap order j.key r × IsTrue (same i.value j.value))
       (rest ++ body ++ beyond)
   within_pieces rest body beyond B i known all h =
       any_left _ (rest ++ body) beyond
       (any_right _ rest body (any_with _ _
       (λ j. B j × Overlap order j.key r × IsTrue (same i.value j.value)) body h all
-      (λ j g own. (g.0, crossing_meets order lawful j.key r own known g.1.0 g.1.1, g.2))))
+      (λ j g own. (g.0, crossing_meets lawful j.key r own known g.1.0 g.1.1, g.2))))
 
   pub replacement_is_made : (new middle : List (Item (AnyRange K) V)) (first last : Option P)
       (border behind : Border K P) (from : Option P) → IsStored order same items
       → IsStored order same middle → IsKnownRange order r
       → Every (λ i. Overlap order i.key r) (take count (drop place items)) →
-      (left : IsLeftFill order lawful same equal is_good rank items r place count middle first
-      border
-      from)
-      → (right : IsRightFill order lawful same equal is_good rank items r place count middle
+      (left : IsLeftFill lawful equal is_good rank items r place count middle first border from)
+      → (right : IsRightFill lawful equal is_good rank items r place count middle
       (take left.at items ++ option_items left.rest) left.start last behind) →
       new ≡ take left.at items ++ option_items left.rest
       ++ with_last_end right.finish (with_first_start left.start middle)
@@ -86,8 +84,8 @@ module _ {K : Type 0} (order : KeyOrder K) (lawful : IsLawful order) {V : Type 0
       let run = left.extra ++ met ++ right.extra in
       let whole = (front ++ rest ++ body) ++ (beyond ++ tail) in
       let list : new ≡ whole = changed ∙ append_assoc (front ++ rest ++ body) beyond tail in
-      let all = stored_known order lawful same equal items stored in
-      let known_middle = stored_known order lawful same equal middle others in
+      let all = stored_known lawful equal items stored in
+      let known_middle = stored_known lawful equal middle others in
       let regroup : run ≡ left.extra ++ (met ++ right.extra) =
       append_assoc left.extra met right.extra in
       let own =
@@ -104,25 +102,21 @@ module _ {K : Type 0} (order : KeyOrder K) (lawful : IsLawful order) {V : Type 0
       every_right _ (front ++ rest) body
       (every_left _ (front ++ rest ++ body) (beyond ++ tail) right.known) in
       let took_start =
-      λ (i : Item (AnyRange K) V)
-      (h : TakesStartOf order lawful same equal is_good rank items r place count i
+      λ (i : Item (AnyRange K) V) (h : TakesStartOf lawful equal is_good rank items r place count i
       (with_first_start left.start middle)). any_ended
-      (λ j. (j.key.start ≡ i.key.start)
-      × Crosses order lawful same equal is_good rank items r place count j
+      (λ j. (j.key.start ≡ i.key.start) × Crosses lawful equal is_good rank items r place count j
       × IsTrue (same i.value j.value)) right.finish (with_first_start left.start middle)
       (λ j b is g. (g.0, (g.1.0, right.reaches b is), g.2)) h in
       record {
-        stored =
-            rw list (chain_stored order lawful same equal whole right.known right.spliced.chain);
+        stored = rw list (chain_stored lawful equal whole right.known right.spliced.chain);
         held = λ k key h b. let within =
             (held_between order lawful r k known key).0 h in rw list
-            (same_binds order lawful same equal middle whole k known_middle right.known key
+            (same_binds lawful equal middle whole k known_middle right.known key
             (λ W alike. right.spliced.inside (Beside k At) W alike within.0 within.1) b);
         others =
-            λ k key h b.
-            rw list (same_binds order lawful same equal items whole k all right.known key
+            λ k key h b. rw list (same_binds lawful equal items whole k all right.known key
             (λ W alike. right.spliced.outside (Beside k At) W alike
-            (unheld_lies_outside order lawful same equal r k known key h)) b);
+            (unheld_lies_outside lawful equal r k known key h)) b);
         frame = record {
           front = front;
           run = run;
@@ -165,9 +159,9 @@ module _ {K : Type 0} (order : KeyOrder K) (lawful : IsLawful order) {V : Type 0
   -- both sides of what is planned, and the run between them
   pub record IsReplacement (middle : List (Item (AnyRange K) V))
       (first last joined other from : Option P) : Type 0 where
-    pub left : IsLeftFill order lawful same equal is_good rank items r place count middle first
+    pub left : IsLeftFill lawful equal is_good rank items r place count middle first
         (seam_border joined first (flipped_bound r.start)) from
-    pub right : IsRightFill order lawful same equal is_good rank items r place count middle
+    pub right : IsRightFill lawful equal is_good rank items r place count middle
         (take left.at items ++ option_items left.rest) left.start last
         (seam_border other last (flipped_bound r.end))
     pub upto : left.begin + (length (option_items joined) +
@@ -185,35 +179,32 @@ module _ {K : Type 0} (order : KeyOrder K) (lawful : IsLawful order) {V : Type 0
       ((b : Bound K) (at : Option P) → IsKnownBound order b
       → SameBound order (flipped_bound r.start) b
       → IsRunStart is_good rank (length items) place first joined at
-      → IsLeftSeam order same lawful equal is_good rank items r place count next first
+      → IsLeftSeam lawful equal is_good rank items r place count next first
       (seam_border joined first b) at) →
       ((b : Bound K) → IsKnownBound order b → SameBound order (flipped_bound r.end) b
-      → IsRightSeam order same lawful equal is_good rank items r place count previous last
+      → IsRightSeam lawful equal is_good rank items r place count previous last
       (seam_border other last b)) →
       IsReplacement middle first last joined other from
   plans_replacement middle first last joined other from next previous stored others within known
       full in_range apart is_first is_last begins on_left on_right =
       let before = flipped_bound r.start in
       let behind = flipped_bound r.end in
-      let good = (nonempty_good order lawful r known).0 full in
+      let good = (nonempty_good lawful r known).0 full in
       let left =
-      left_fill order lawful same equal is_good rank items r place count middle first
+      left_fill lawful equal is_good rank items r place count middle first
       (seam_border joined first before) from good stored others
-      (subst (λ o.
-      IsLeftSeam order same lawful equal is_good rank items r place count o first
+      (subst (λ o. IsLeftSeam lawful equal is_good rank items r place count o first
       (seam_border joined first before) from) is_first
-      (on_left before from (known_turned order lawful r.start known.0)
-      (same_turned order lawful r.start) begins)) in
+      (on_left before from (known_turned lawful r.start known.0) (same_turned lawful r.start)
+      begins)) in
       let right =
-      right_fill order lawful same equal is_good rank items r place count middle
+      right_fill lawful equal is_good rank items r place count middle
       (take left.at items ++ option_items left.rest) left.start last
       (seam_border other last behind) stored others within good in_range left.filled
       left.known
-      (subst (λ o.
-      IsRightSeam order same lawful equal is_good rank items r place count o last
-      (seam_border other last behind)) is_last
-      (on_right behind (known_turned order lawful r.end known.1)
-      (same_turned order lawful r.end))) in
+      (subst (λ o. IsRightSeam lawful equal is_good rank items r place count o last
+      (seam_border other last behind)) is_last (on_right behind (known_turned lawful r.end known.1)
+      (same_turned lawful r.end))) in
       let least =
       upto_end is_good is_good rank rank items items (λ p h. (h, refl)) refl
       (seam_border other last behind) right.upto right.end right.rest right.finish right.shape

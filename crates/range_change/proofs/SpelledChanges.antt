@@ -56,17 +56,17 @@ module _ {K : Type 0} (order : KeyOrder K) {V : Type 0} (items : List (Item (Any
 module _ {K : Type 0} {order : KeyOrder K} (lawful : IsLawful order) {V : Type 0}
     {same : V → V → Bool} (equal : IsEquivalence same) {items : List (Item (AnyRange K) V)}
     (stored : IsStored order same items) where
-  known : Known order lawful same equal items
-  known = stored_known order lawful same equal items stored
+  known : Known lawful equal items
+  known = stored_known lawful equal items stored
 
-  chain : Chained order lawful same equal items
-  chain = stored_chain order lawful same equal items stored
+  chain : Chained lawful equal items
+  chain = stored_chain lawful equal items stored
 
   abbrev IsSpelled : Item (AnyRange K) V → Type 0
   IsSpelled j = IsSpelledAsIn order items j.key
 
   pub list_keeps_spelling : KeepsSpelling order items items
-  list_keeps_spelling = own_spelling order lawful same equal items known chain
+  list_keeps_spelling = own_spelling lawful equal items known chain
 
   one_is_spelled : (k : ℕ) (x : Item (AnyRange K) V) → k < length items
       → x ≡ get_or items k x → IsSpelled x
@@ -94,13 +94,12 @@ module _ {K : Type 0} {order : KeyOrder K} (lawful : IsLawful order) {V : Type 0
         let x_is : x ≡ get_or items place x = read ∙ ap (λ n. get_or items n x) at_is in
         let above = rw (drop_more items place x within) at found.window.above in
         let ends =
-        subst (λ y. Lt (places order lawful) (lower order r) (item_upper order y)) (sym x_is)
-        above.0 in
+        subst (λ y. Lt (places lawful) (lower order r) (item_upper order y)) (sym x_is) above.0 in
         let spelled = one_is_spelled place x within x_is in (
           rw is (
             (
               spelled.0,
-              cut_end_is_kept order lawful same equal items known chain (take place items)
+              cut_end_is_kept lawful equal items known chain (take place items)
                   (drop (place + 1) items) x (listed_at items place x within x_is) r
                   found.window.known (before.3 x x_is) ends (flipped_bound r.start)
                   (same_itself order lawful (flipped_bound r.start)),
@@ -136,12 +135,12 @@ module _ {K : Type 0} {order : KeyOrder K} (lawful : IsLawful order) {V : Type 0
         let x_is : x ≡ get_or items (place + count - 1) x =
         read ∙ ap (λ n. get_or items n x) at_is in
         let starts =
-        subst (λ y. Lt (places order lawful) (item_lower order y) (upper order r)) (sym x_is)
+        subst (λ y. Lt (places lawful) (item_lower order y) (upper order r)) (sym x_is)
         (found.window.meets x after.2) in
         let spelled = one_is_spelled upto x within read in (
           rw is (
             (
-              cut_start_is_kept order lawful same equal items known chain (take upto items)
+              cut_start_is_kept lawful equal items known chain (take upto items)
                   (drop (upto + 1) items) x (listed_at items upto x within read) r
                   found.window.known starts (after.3 x x_is) (flipped_bound r.end)
                   (same_itself order lawful (flipped_bound r.end)),
@@ -215,51 +214,50 @@ module _ {K : Type 0} {order : KeyOrder K} (lawful : IsLawful order) {V : Type 0
     known_x : IsKnownRange order x.key
     known_x = item_at (λ i. IsKnownRange order i.key) items place x known is_listed here
 
-    some : Lt (places order lawful) (lower order r) (upper order r)
-    some = (nonempty_good order lawful r within.window.known).0 within.window.nonempty
+    some : Lt (places lawful) (lower order r) (upper order r)
+    some = (nonempty_good lawful r within.window.known).0 within.window.nonempty
 
-    starts : Lt (places order lawful) (lower order x.key) (lower order r)
+    starts : Lt (places lawful) (lower order x.key) (lower order r)
     starts = within.starts x here
 
-    ends : Lt (places order lawful) (upper order r) (upper order x.key)
+    ends : Lt (places lawful) (upper order r) (upper order x.key)
     ends = within.ends x here
 
-    starts_before_end : Lt (places order lawful) (lower order x.key) (upper order r)
+    starts_before_end : Lt (places lawful) (lower order x.key) (upper order r)
     starts_before_end =
-        lt_trans (places order lawful) (position_total order.cmp lawful.total)
-        (lower order x.key) (lower order r) (upper order r) starts some
+        lt_trans (places lawful) (position_total order.cmp lawful.total) (lower order x.key)
+        (lower order r) (upper order r) starts some
 
-    ends_after_start : Lt (places order lawful) (lower order r) (upper order x.key)
+    ends_after_start : Lt (places lawful) (lower order r) (upper order x.key)
     ends_after_start =
-        lt_trans (places order lawful) (position_total order.cmp lawful.total)
-        (lower order r) (upper order r) (upper order x.key) some ends
+        lt_trans (places lawful) (position_total order.cmp lawful.total) (lower order r)
+        (upper order r) (upper order x.key) some ends
 
     start_within : IsStartAsIn order items r.start
     start_within =
         let known_r = within.window.known in
-        start_is_kept order lawful same equal items known chain (take place items)
-        (drop (place + 1) items) x list r.start r.start (same_itself order lawful r.start)
-        (lt_le (places order lawful) (position_total order.cmp lawful.total)
-        (lower order x.key) (lower order r) starts)
+        start_is_kept lawful equal items known chain (take place items) (drop (place + 1) items) x
+        list r.start r.start (same_itself order lawful r.start)
+        (lt_le (places lawful) (position_total order.cmp lawful.total) (lower order x.key)
+        (lower order r) starts)
         ((reaching_is_before_past order lawful r.start x.key.end known_r.0 known_x.1).1
-        ends_after_start) (λ e. absurd (lt_not_le (places order lawful)
+        ends_after_start) (λ e. absurd (lt_not_le (places lawful)
         (position_total order.cmp lawful.total) (lower order x.key) (lower order r) starts
-        (eq_ge (places order lawful) (position_total order.cmp lawful.total) (lower order x.key)
+        (eq_ge (places lawful) (position_total order.cmp lawful.total) (lower order x.key)
         (lower order r) e)))
 
     end_within : IsEndAsIn order items r.end
     end_within =
-        let cmp = places order lawful in
+        let cmp = places lawful in
         let total = position_total order.cmp lawful.total in
         let known_r = within.window.known in
-        end_is_kept order lawful same equal items known chain (take place items)
-        (drop (place + 1) items) x list r.end r.end (same_itself order lawful r.end)
+        end_is_kept lawful equal items known chain (take place items) (drop (place + 1) items) x
+        list r.end r.end (same_itself order lawful r.end)
         ((reaching_is_before_past order lawful x.key.start r.end known_x.0 known_r.1).1
-        starts_before_end)
-        (end_le order lawful r.end x.key.end known_r.1 known_x.1
+        starts_before_end) (end_le lawful r.end x.key.end known_r.1 known_x.1
         (lt_le cmp total (upper order r) (upper order x.key) ends))
         (λ e. absurd (lt_not_le cmp total (upper order r) (upper order x.key) ends
-        (past_le order lawful x.key.end r.end known_x.1 known_r.1
+        (past_le lawful x.key.end r.end known_x.1 known_r.1
         (eq_le cmp total (end_position order x.key.end) (end_position order r.end) e))))
 
     module _ (run : List (Item (AnyRange K) V)) (all : KeepsSpelling order items run)
@@ -270,7 +268,7 @@ module _ {K : Type 0} {order : KeyOrder K} (lawful : IsLawful order) {V : Type 0
           any_use (λ i. b ≡ i.key.start) IsSpelled run one all
           (λ i is s. subst (IsStartAsIn order items) (sym is) s.0)
       start_of (inr (inr turned)) =
-          cut_start_is_kept order lawful same equal items known chain (take place items)
+          cut_start_is_kept lawful equal items known chain (take place items)
           (drop (place + 1) items) x list r within.window.known starts_before_end ends b turned
 
       end_of : IsEndOf order run r b → IsEndAsIn order items b
@@ -279,8 +277,8 @@ module _ {K : Type 0} {order : KeyOrder K} (lawful : IsLawful order) {V : Type 0
           any_use (λ i. b ≡ i.key.end) IsSpelled run one all
           (λ i is s. subst (IsEndAsIn order items) (sym is) s.1)
       end_of (inr (inr turned)) =
-          cut_end_is_kept order lawful same equal items known chain (take place items)
-          (drop (place + 1) items) x list r within.window.known starts ends_after_start b turned
+          cut_end_is_kept lawful equal items known chain (take place items) (drop (place + 1) items)
+          x list r within.window.known starts ends_after_start b turned
 
     run_keeps_spelling : (new front run others behind : List (Item (AnyRange K) V))
         → items ≡ front ++ run ++ behind → new ≡ front ++ others ++ behind

@@ -36,25 +36,24 @@ every_set P [] k y all own = tt
 every_set P (x ∷ xs) zero y all own = (own, all.1)
 every_set P (x ∷ xs) (suc k) y all own = (all.0, every_set P xs k y all.1 own)
 
-module _ {K : Type 0} (order : KeyOrder K) (lawful : IsLawful order) where
+module _ {K : Type 0} {order : KeyOrder K} (lawful : IsLawful order) where
   -- the range neither starts nor ends at the place
   abbrev IsOff : Position K → AnyRange K → Type 0
   IsOff p s =
-      (places order lawful (start_position order s.start) p ≡ Equal → ⊥)
-      × (places order lawful (end_position order s.end) p ≡ Equal → ⊥)
+      (places lawful (start_position order s.start) p ≡ Equal → ⊥)
+      × (places lawful (end_position order s.end) p ≡ Equal → ⊥)
 
   -- a known range starts below the place past its end
-  abbrev IsOpen : AnyRange K → Type 0
-  IsOpen s = IsKnownRange order s × Lt (places order lawful) (lower order s) (upper order s)
+  abbrev IsOpen : AnyRange K → Type 0 IsOpen s = IsKnownRange order s × Lt (places lawful)
+  (lower order s) (upper order s)
 
   reaches : (s : AnyRange K) → IsOpen s
-      → Le (places order lawful) (start_position order s.start) (end_position order s.end)
+      → Le (places lawful) (start_position order s.start) (end_position order s.end)
   reaches s h = (reaching_is_before_past order lawful s.start s.end h.0.0 h.0.1).1 h.1
 
   module _ (s : AnyRange K) (p : Position K) (whole : IsOpen s) where
-    off_above : Lt (places order lawful) (end_position order s.end) p → IsOff p s
-    off_above l =
-        let cmp = places order lawful in
+    off_above : Lt (places lawful) (end_position order s.end) p → IsOff p s off_above l =
+        let cmp = places lawful in
         let total = position_total order.cmp lawful.total in
         let start = start_position order s.start in
         let end = end_position order s.end in (
@@ -63,9 +62,8 @@ module _ {K : Type 0} (order : KeyOrder K) (lawful : IsLawful order) where
           λ e. lt_not_le cmp total end p l (eq_ge cmp total end p e),
         )
 
-    off_below : Lt (places order lawful) p (start_position order s.start) → IsOff p s
-    off_below l =
-        let cmp = places order lawful in
+    off_below : Lt (places lawful) p (start_position order s.start) → IsOff p s off_below l =
+        let cmp = places lawful in
         let total = position_total order.cmp lawful.total in
         let start = start_position order s.start in
         let end = end_position order s.end in (
@@ -76,42 +74,41 @@ module _ {K : Type 0} (order : KeyOrder K) (lawful : IsLawful order) where
 
     -- what lies apart from a range is off each place of it
     off_apart : (x : AnyRange K) → IsKnownRange order x
-        → Le (places order lawful) (upper order s) (lower order x) ⊎ Le (places order lawful)
-        (upper order x) (lower order s)
-        → Le (places order lawful) (start_position order x.start) p
-        → Le (places order lawful) p (end_position order x.end) → IsOff p s
+        → Le (places lawful) (upper order s) (lower order x) ⊎ Le (places lawful) (upper order x)
+        (lower order s) → Le (places lawful) (start_position order x.start) p
+        → Le (places lawful) p (end_position order x.end) → IsOff p s
     off_apart x known (inl le) low high =
-        off_above (lt_le_trans (places order lawful) (position_total order.cmp lawful.total)
+        off_above (lt_le_trans (places lawful) (position_total order.cmp lawful.total)
         (end_position order s.end) (start_position order x.start) p
-        ((before_is order lawful s.end x.start whole.0.1 known.0).1 le) low)
+        ((before_is lawful s.end x.start whole.0.1 known.0).1 le) low)
     off_apart x known (inr le) low high =
-        off_below (le_lt_trans (places order lawful) (position_total order.cmp lawful.total) p
+        off_below (le_lt_trans (places lawful) (position_total order.cmp lawful.total) p
         (end_position order x.end) (start_position order s.start) high
-        ((before_is order lawful x.end s.start known.1 whole.0.0).1 le))
+        ((before_is lawful x.end s.start known.1 whole.0.0).1 le))
 
-  same_place : (s a b : Position K) → places order lawful a b ≡ Equal
-      → places order lawful s b ≡ Equal → places order lawful s a ≡ Equal
+  same_place : (s a b : Position K) → places lawful a b ≡ Equal → places lawful s b ≡ Equal
+      → places lawful s a ≡ Equal
   same_place s a b same e = let total = position_total order.cmp lawful.total in
       total.congr s b a e ∙ tied_back total a b same
 
-  module _ {V : Type 0} (same : V → V → Bool) (equal : IsEquivalence same) where
-    open_each : (xs : List (Item (AnyRange K) V)) → Known order lawful same equal xs
-        → Chained order lawful same equal xs → Every (λ i. IsOpen i.key) xs
+  module _ {V : Type 0} {same : V → V → Bool} (equal : IsEquivalence same) where
+    open_each : (xs : List (Item (AnyRange K) V)) → Known lawful equal xs → Chained lawful equal xs
+        → Every (λ i. IsOpen i.key) xs
     open_each [] known chain = tt
     open_each (x ∷ []) known chain = ((known.0, chain.0), tt)
     open_each (x ∷ y ∷ ys) known chain =
         ((known.0, chain.0), open_each (y ∷ ys) known.1 chain.1.1)
 
-    module _ (items : List (Item (AnyRange K) V)) (known : Known order lawful same equal items)
-        (chain : Chained order lawful same equal items) where
+    module _ (items : List (Item (AnyRange K) V)) (known : Known lawful equal items)
+        (chain : Chained lawful equal items) where
       abbrev StartsAs : Bound K → Item (AnyRange K) V → Type 0
       StartsAs b i =
-          places order lawful (start_position order i.key.start) (start_position order b) ≡ Equal
+          places lawful (start_position order i.key.start) (start_position order b) ≡ Equal
           → SameBound order i.key.start b
 
       abbrev EndsAs : Bound K → Item (AnyRange K) V → Type 0
       EndsAs b i =
-          places order lawful (end_position order i.key.end) (end_position order b) ≡ Equal
+          places lawful (end_position order i.key.end) (end_position order b) ≡ Equal
           → SameBound order i.key.end b
 
       off_starts : (a b : Bound K) → SameBound order a b → (xs : List (Item (AnyRange K) V))
@@ -131,15 +128,13 @@ module _ {K : Type 0} (order : KeyOrder K) (lawful : IsLawful order) where
 
       -- a range that no item meets
       module _ (gap : AnyRange K) (whole : IsOpen gap)
-          (free : Every (λ i. Le (places order lawful) (upper order i.key) (lower order gap)
-          ⊎ Le (places order lawful) (upper order gap) (lower order i.key)) items) where
-        off_all : (p : Position K) → Le (places order lawful) (start_position order gap.start) p
-            → Le (places order lawful) p (end_position order gap.end)
-            → Every (λ i. IsOff p i.key) items
+          (free : Every (λ i. Le (places lawful) (upper order i.key) (lower order gap)
+          ⊎ Le (places lawful) (upper order gap) (lower order i.key)) items) where
+        off_all : (p : Position K) → Le (places lawful) (start_position order gap.start) p
+            → Le (places lawful) p (end_position order gap.end) → Every (λ i. IsOff p i.key) items
         off_all p low high =
-            every_with (λ i. IsOpen i.key) (λ i.
-            Le (places order lawful) (upper order i.key) (lower order gap)
-            ⊎ Le (places order lawful) (upper order gap) (lower order i.key))
+            every_with (λ i. IsOpen i.key) (λ i. Le (places lawful) (upper order i.key)
+            (lower order gap) ⊎ Le (places lawful) (upper order gap) (lower order i.key))
             (λ i. IsOff p i.key) items (open_each items known chain) free
             (λ i f apart. off_apart i.key p f gap whole.0 apart low high)
 
@@ -147,14 +142,14 @@ module _ {K : Type 0} (order : KeyOrder K) (lawful : IsLawful order) where
             → IsStartAsIn order items b
         gap_start_is_kept b clone =
             off_starts gap.start b clone items (off_all (start_position order gap.start)
-            (le_refl (places order lawful) (position_total order.cmp lawful.total)
+            (le_refl (places lawful) (position_total order.cmp lawful.total)
             (start_position order gap.start)) (reaches gap whole))
 
         pub gap_end_is_kept : (b : Bound K) → SameBound order gap.end b → IsEndAsIn order items b
         gap_end_is_kept b clone =
-            off_ends gap.end b clone items (off_all (end_position order gap.end)
-            (reaches gap whole) (le_refl (places order lawful)
-            (position_total order.cmp lawful.total) (end_position order gap.end)))
+            off_ends gap.end b clone items (off_all (end_position order gap.end) (reaches gap whole)
+            (le_refl (places lawful) (position_total order.cmp lawful.total)
+            (end_position order gap.end)))
 
       -- an item of the list
       module _ (done rest : List (Item (AnyRange K) V)) (x : Item (AnyRange K) V)
@@ -164,12 +159,11 @@ module _ {K : Type 0} (order : KeyOrder K) (lawful : IsLawful order) where
             let all = rw list at (open_each items known chain) in
             (every_right (λ i. IsOpen i.key) done (x ∷ rest) all).0
 
-        off_others : (p : Position K)
-            → Le (places order lawful) (start_position order x.key.start) p
-            → Le (places order lawful) p (end_position order x.key.end)
+        off_others : (p : Position K) → Le (places lawful) (start_position order x.key.start) p
+            → Le (places lawful) p (end_position order x.key.end)
             → Every (λ i. IsOff p i.key) done × Every (λ i. IsOff p i.key) rest
         off_others p low high =
-            let line = line_of order lawful same equal in
+            let line = line_of lawful equal in
             let all = rw list at (open_each items known chain) in
             let whole = rw list at chain in
             let before = chain_before line done x rest whole in
@@ -184,10 +178,10 @@ module _ {K : Type 0} (order : KeyOrder K) (lawful : IsLawful order) where
 
         -- a start within its range, which is its own where it lies at its own
         pub start_is_kept : (a b : Bound K) → SameBound order a b
-            → Le (places order lawful) (start_position order x.key.start) (start_position order a)
-            → Le (places order lawful) (start_position order a) (end_position order x.key.end)
-            → (places order lawful (start_position order x.key.start) (start_position order a)
-            ≡ Equal → a ≡ x.key.start) → IsStartAsIn order items b
+            → Le (places lawful) (start_position order x.key.start) (start_position order a)
+            → Le (places lawful) (start_position order a) (end_position order x.key.end)
+            → (places lawful (start_position order x.key.start) (start_position order a) ≡ Equal → a
+            ≡ x.key.start) → IsStartAsIn order items b
         start_is_kept a b clone low high is_own =
             let off = off_others (start_position order a) low high in
             rw list (every_append (StartsAs b) done (x ∷ rest) (off_starts a b clone done off.0) (
@@ -198,10 +192,10 @@ module _ {K : Type 0} (order : KeyOrder K) (lawful : IsLawful order) where
             ))
 
         pub end_is_kept : (a b : Bound K) → SameBound order a b
-            → Le (places order lawful) (start_position order x.key.start) (end_position order a)
-            → Le (places order lawful) (end_position order a) (end_position order x.key.end)
-            → (places order lawful (end_position order x.key.end) (end_position order a)
-            ≡ Equal → a ≡ x.key.end) → IsEndAsIn order items b
+            → Le (places lawful) (start_position order x.key.start) (end_position order a)
+            → Le (places lawful) (end_position order a) (end_position order x.key.end)
+            → (places lawful (end_position order x.key.end) (end_position order a) ≡ Equal → a
+            ≡ x.key.end) → IsEndAsIn order items b
         end_is_kept a b clone low high is_own =
             let off = off_others (end_position order a) low high in
             rw list (every_append (EndsAs b) done (x ∷ rest) (off_ends a b clone done off.0) (
@@ -215,28 +209,26 @@ module _ {K : Type 0} (order : KeyOrder K) (lawful : IsLawful order) where
             → IsStartAsIn order items b
         own_start_is_kept b clone =
             start_is_kept x.key.start b clone
-            (le_refl (places order lawful) (position_total order.cmp lawful.total)
+            (le_refl (places lawful) (position_total order.cmp lawful.total)
             (start_position order x.key.start)) (reaches x.key own) (λ e. refl)
 
         pub own_end_is_kept : (b : Bound K) → SameBound order x.key.end b
             → IsEndAsIn order items b
         own_end_is_kept b clone =
             end_is_kept x.key.end b clone (reaches x.key own)
-            (le_refl (places order lawful) (position_total order.cmp lawful.total)
+            (le_refl (places lawful) (position_total order.cmp lawful.total)
             (end_position order x.key.end)) (λ e. refl)
 
         -- what it has in common with a range
         module _ (r : AnyRange K) (known_r : IsKnownRange order r)
-            (starts : Lt (places order lawful) (lower order x.key) (upper order r))
-            (ends : Lt (places order lawful) (lower order r) (upper order x.key))
-            (b : Bound K) where
-          common_start_by : (o : Ordering)
-              → places order lawful (start_position order x.key.start)
+            (starts : Lt (places lawful) (lower order x.key) (upper order r))
+            (ends : Lt (places lawful) (lower order r) (upper order x.key)) (b : Bound K) where
+          common_start_by : (o : Ordering) → places lawful (start_position order x.key.start)
               (start_position order r.start) ≡ o
               → SameBound order (if is_lt o then r.start else x.key.start) b
               → IsStartAsIn order items b
           common_start_by Less e h =
-              start_is_kept r.start b h (lt_le (places order lawful)
+              start_is_kept r.start b h (lt_le (places lawful)
               (position_total order.cmp lawful.total) (start_position order x.key.start)
               (start_position order r.start) e)
               ((reaching_is_before_past order lawful r.start x.key.end known_r.0 own.0.1).1 ends)
@@ -247,11 +239,11 @@ module _ {K : Type 0} (order : KeyOrder K) (lawful : IsLawful order) where
           pub common_start_is_kept : SameBound order (common order x.key r).start b
               → IsStartAsIn order items b
           common_start_is_kept h =
-              common_start_by (places order lawful (start_position order x.key.start)
+              common_start_by (places lawful (start_position order x.key.start)
               (start_position order r.start)) refl h
 
           common_end_by : (o : Ordering)
-              → places order lawful (end_position order x.key.end) (end_position order r.end) ≡ o
+              → places lawful (end_position order x.key.end) (end_position order r.end) ≡ o
               → SameBound order (if is_gt o then r.end else x.key.end) b
               → IsEndAsIn order items b
           common_end_by Less e h = own_end_is_kept b h
@@ -259,36 +251,35 @@ module _ {K : Type 0} (order : KeyOrder K) (lawful : IsLawful order) where
           common_end_by Greater e h =
               end_is_kept r.end b h
               ((reaching_is_before_past order lawful x.key.start r.end own.0.0 known_r.1).1 starts)
-              (gt_le (places order lawful) (position_total order.cmp lawful.total)
+              (gt_le (places lawful) (position_total order.cmp lawful.total)
               (end_position order x.key.end) (end_position order r.end) e) (λ eq. absurd (cc))
 
           pub common_end_is_kept : SameBound order (common order x.key r).end b
               → IsEndAsIn order items b
           common_end_is_kept h =
-              common_end_by (places order lawful (end_position order x.key.end)
+              common_end_by (places lawful (end_position order x.key.end)
               (end_position order r.end)) refl h
 
         -- an end just before the start of a range that it reaches from before
         pub cut_end_is_kept : (r : AnyRange K) → IsKnownRange order r
-            → Lt (places order lawful) (lower order x.key) (lower order r)
-            → Lt (places order lawful) (lower order r) (upper order x.key) → (b : Bound K)
+            → Lt (places lawful) (lower order x.key) (lower order r)
+            → Lt (places lawful) (lower order r) (upper order x.key) → (b : Bound K)
             → SameBound order (flipped_bound r.start) b → IsEndAsIn order items b
         cut_end_is_kept r known_r starts ends b clone =
-            let cmp = places order lawful in
+            let cmp = places lawful in
             let total = position_total order.cmp lawful.total in
             let a = flipped_bound r.start in
-            let known_a = known_turned order lawful r.start known_r.0 in
+            let known_a = known_turned lawful r.start known_r.0 in
             let past_a = past order (end_position order a) in
             let at =
-            cut_end order lawful x.key.start r.start a own.0.0 starts
-            (same_turned order lawful r.start) in
+            cut_end lawful x.key.start r.start a own.0.0 starts (same_turned lawful r.start) in
             let low =
             (reaching_is_before_past order lawful x.key.start a own.0.0 known_a).1
             (lt_le_trans cmp total (lower order x.key) (lower order r) past_a starts
             (eq_ge cmp total past_a (lower order r) at)) in
             let high =
             lt_le_trans cmp total (end_position order a) (start_position order r.start)
-            (end_position order x.key.end) ((before_is order lawful a r.start known_a known_r.0).1
+            (end_position order x.key.end) ((before_is lawful a r.start known_a known_r.0).1
             (eq_le cmp total past_a (lower order r) at))
             ((reaching_is_before_past order lawful r.start x.key.end known_r.0 own.0.1).1 ends) in
             end_is_kept a b clone low
@@ -299,18 +290,17 @@ module _ {K : Type 0} (order : KeyOrder K) (lawful : IsLawful order) where
 
         -- a start just after the end of a range out of which it reaches
         pub cut_start_is_kept : (r : AnyRange K) → IsKnownRange order r
-            → Lt (places order lawful) (lower order x.key) (upper order r)
-            → Lt (places order lawful) (upper order r) (upper order x.key) → (b : Bound K)
+            → Lt (places lawful) (lower order x.key) (upper order r)
+            → Lt (places lawful) (upper order r) (upper order x.key) → (b : Bound K)
             → SameBound order (flipped_bound r.end) b → IsStartAsIn order items b
         cut_start_is_kept r known_r starts ends b clone =
-            let cmp = places order lawful in
+            let cmp = places lawful in
             let total = position_total order.cmp lawful.total in
             let a = flipped_bound r.end in
-            let known_a = known_turned order lawful r.end known_r.1 in
+            let known_a = known_turned lawful r.end known_r.1 in
             let p = start_position order a in
             let at =
-            cut_start order lawful x.key.end r.end a own.0.1 ends
-            (same_turned order lawful r.end) in
+            cut_start lawful x.key.end r.end a own.0.1 ends (same_turned lawful r.end) in
             let low =
             lt_le_trans cmp total (lower order x.key) (upper order r) p starts
             (eq_ge cmp total p (upper order r) at) in

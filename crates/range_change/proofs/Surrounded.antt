@@ -232,36 +232,34 @@ module _ {K : Type 0} {order : KeyOrder K} (lawful : IsLawful order) {V : Type 0
   split : items ≡ take place items ++ x ∷ drop (place + 1) items
   split = listed_at items place x within_list here
 
-  chain : Chained order lawful same equal items
-  chain = stored_chain order lawful same equal items within.window.stored
+  chain : Chained lawful equal items
+  chain = stored_chain lawful equal items within.window.stored
 
-  full : Every (IsFull order lawful items r) items
+  full : Every (IsFull lawful items r) items
   full =
-      all_full order lawful same equal r items
-      (stored_known order lawful same equal items within.window.stored) chain
+      all_full lawful equal r items (stored_known lawful equal items within.window.stored) chain
 
-  good : Lt (places order lawful) (lower order r) (upper order r)
-  good = (nonempty_good order lawful r within.window.known).0 within.window.nonempty
+  good : Lt (places lawful) (lower order r) (upper order r)
+  good = (nonempty_good lawful r within.window.known).0 within.window.nonempty
 
   -- no other item touches the range
   pub alone : Every (λ i. IsConnectedTo order i.key r → Overlap order i.key r) items
   alone =
-      surrounded_alone order lawful same equal items r within.window.known good full chain
-      (take place items) (drop (place + 1) items) x split (within.starts x here)
-      (within.ends x here)
+      surrounded_alone lawful equal items r within.window.known good full chain (take place items)
+      (drop (place + 1) items) x split (within.starts x here) (within.ends x here)
 
   -- the whole range is one piece
   pub piece : IsPiece order items r r (Some x.value)
   piece =
-      whole_piece order lawful same equal items r within.window.known full chain good
-      (take place items) (drop (place + 1) items) x split
-      (item_at (IsFull order lawful items r) items place x full within_list here).0
-      (within.starts x here) (within.ends x here)
+      whole_piece lawful equal items r within.window.known full chain good (take place items)
+      (drop (place + 1) items) x split
+      (item_at (IsFull lawful items r) items place x full within_list here).0 (within.starts x here)
+      (within.ends x here)
 
   pub answer_is_to_piece : (answer : Option V)
       → AreAnswersTo order items r (record { key = r; value = Some x.value; answer = answer } ∷ [])
   answer_is_to_piece answer =
-      whole_answer order lawful same equal items r within.window.known full chain good
-      (take place items) (drop (place + 1) items) x split
-      (item_at (IsFull order lawful items r) items place x full within_list here).0
-      (within.starts x here) (within.ends x here) answer
+      whole_answer lawful equal items r within.window.known full chain good (take place items)
+      (drop (place + 1) items) x split
+      (item_at (IsFull lawful items r) items place x full within_list here).0 (within.starts x here)
+      (within.ends x here) answer

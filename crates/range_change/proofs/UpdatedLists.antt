@@ -25,7 +25,7 @@ use Rattle.range_change.proofs.Extents.{end_le}
 use Rattle.range_change.proofs.Forms.{Chained}
 use Rattle.range_change.proofs.MergedItems.{rest_stands, way_follows}
 
-module _ {K : Type 0} (order : KeyOrder K) {V : Type 0} (same : V → V → Bool)
+module _ {K : Type 0} (order : KeyOrder K) {V : Type 0} {same : V → V → Bool}
     (equal : IsEquivalence same) {F E : Type 0}
     (calls : Shared F (Option (Bor V) × Unit {0}) (Result (Option V) E)) (f : F)
     (items new : List (Item (AnyRange K) V)) (r : AnyRange K) where
@@ -171,22 +171,20 @@ module _ {K : Type 0} (order : KeyOrder K) {V : Type 0} (same : V → V → Bool
     }
 
 -- a range that one item surrounds is one piece
-module _ {K : Type 0} (order : KeyOrder K) (lawful : IsLawful order) {V : Type 0}
-    (same : V → V → Bool) (equal : IsEquivalence same) (items : List (Item (AnyRange K) V))
-    (r : AnyRange K) (known : IsKnownRange order r)
-    (full : Every (IsFull order lawful items r) items)
-    (chain : Chained order lawful same equal items)
-    (some : PLt order lawful (Lo order lawful r) (Hi order lawful r))
+module _ {K : Type 0} {order : KeyOrder K} (lawful : IsLawful order) {V : Type 0}
+    {same : V → V → Bool} (equal : IsEquivalence same) (items : List (Item (AnyRange K) V))
+    (r : AnyRange K) (known : IsKnownRange order r) (full : Every (IsFull lawful items r) items)
+    (chain : Chained lawful equal items) (some : PLt lawful (Lo lawful r) (Hi lawful r))
     (done rest : List (Item (AnyRange K) V)) (x : Item (AnyRange K) V)
     (list : items ≡ done ++ x ∷ rest) (known_x : IsKnownRange order x.key)
-    (starts : PLt order lawful (Lo order lawful x.key) (Lo order lawful r))
-    (ends : PLt order lawful (Hi order lawful r) (Hi order lawful x.key)) where
-  whole_inside : IsInside order lawful items r r
+    (starts : PLt lawful (Lo lawful x.key) (Lo lawful r))
+    (ends : PLt lawful (Hi lawful r) (Hi lawful x.key)) where
+  whole_inside : IsInside lawful items r r
   whole_inside = (
     known,
-    le_refl (position_cmp order.cmp) (position_total order.cmp lawful.total) (Lo order lawful r),
+    le_refl (position_cmp order.cmp) (position_total order.cmp lawful.total) (Lo lawful r),
     some,
-    le_refl (position_cmp order.cmp) (position_total order.cmp lawful.total) (Hi order lawful r),
+    le_refl (position_cmp order.cmp) (position_total order.cmp lawful.total) (Hi lawful r),
   )
 
   whole_common : IsCommonPart order r x.key r
@@ -198,38 +196,35 @@ module _ {K : Type 0} (order : KeyOrder K) (lawful : IsLawful order) {V : Type 0
       let u = end_position order r.end in
       let v = end_position order x.key.end in
       let under =
-      end_le order lawful r.end x.key.end known.1 known_x.1
-      (lt_le cmp total (Hi order lawful r) (Hi order lawful x.key) ends) in
+      end_le lawful r.end x.key.end known.1 known_x.1
+      (lt_le cmp total (Hi lawful r) (Hi lawful x.key) ends) in
       record {
         starts =
-            both cmp total p (later order p q) (later_over order lawful p q).0
-            (either_choice_holds order lawful (λ y. PLe order lawful y p) (is_gt (cmp p q)) p q
+            both cmp total p (later order p q) (later_over lawful p q).0
+            (either_choice_holds lawful (λ y. PLe lawful y p) (is_gt (cmp p q)) p q
             (le_refl cmp total p) (lt_le cmp total q p starts));
         ends =
-            both cmp total u (earlier order u v)
-            (either_choice_holds order lawful (λ y. PLe order lawful u y)
-            (is_gt (cmp u v)) v u under (le_refl cmp total u)) (earlier_under order lawful u v).0;
+            both cmp total u (earlier order u v) (either_choice_holds lawful (λ y. PLe lawful u y)
+            (is_gt (cmp u v)) v u under (le_refl cmp total u)) (earlier_under lawful u v).0;
       }
 
-  whole_right : IsRight order lawful items r r (Some x.value)
+  whole_right : IsRight lawful items r r (Some x.value)
   whole_right =
       rw list (any_right (λ i. IsCommonPart order r i.key r × (i.value ≡ x.value)) done (x ∷ rest)
       (inl (whole_common, refl)))
 
   pub whole_piece : IsPiece order items r r (Some x.value)
-  whole_piece = a_piece order lawful items r known full r (Some x.value) whole_inside whole_right
+  whole_piece = a_piece lawful items r known full r (Some x.value) whole_inside whole_right
 
   pub whole_answer : (answer : Option V)
       → AreAnswersTo order items r (record { key = r; value = Some x.value; answer = answer } ∷ [])
   whole_answer answer =
       let cmp = position_cmp order.cmp in
       let total = position_total order.cmp lawful.total in
-      let lo = Lo order lawful r in
-      let hi = Hi order lawful r in
+      let lo = Lo lawful r in
+      let hi = Hi lawful r in
       let a : Answered K V = record { key = r; value = Some x.value; answer = answer } in
       let cut =
-      cut_more order lawful items r lo hi [] a
-      (cut_none order lawful items r) whole_inside whole_right (le_refl cmp total lo)
-      (le_refl cmp total hi) (λ p low high before. inr (low, high)) in
-      cut_all order lawful items r known same equal full chain hi (a ∷ []) cut
-      (le_refl cmp total hi)
+      cut_more lawful items r lo hi [] a (cut_none lawful items r) whole_inside whole_right
+      (le_refl cmp total lo) (le_refl cmp total hi) (λ p low high before. inr (low, high)) in
+      cut_all lawful items r known same equal full chain hi (a ∷ []) cut (le_refl cmp total hi)

@@ -24,19 +24,17 @@ pub every_both : {X : Type 0} (P Q : X → Type 0) (xs : List X) → Every P xs 
 every_both P Q [] h k = tt
 every_both P Q (x ∷ xs) h k = ((h.0, k.0), every_both P Q xs h.1 k.1)
 
-module _ {K : Type 0} (order : KeyOrder K) (lawful : IsLawful order) {V : Type 0}
-    (same : V → V → Bool) (equal : IsEquivalence same) where
+module _ {K : Type 0} {order : KeyOrder K} (lawful : IsLawful order) {V : Type 0}
+    {same : V → V → Bool} (equal : IsEquivalence same) where
   rest_starts_after_range : (e : Position K) (r : AnyRange K) (ys : List (Item (AnyRange K) V))
-      → e ≡ end_position order r.end → IsKnownRange order r → Known order lawful same equal ys
-      → Chained order lawful same equal ys
-      → ((d : Item (AnyRange K) V) → 0 < length ys
-      → Lt (places order lawful) e (start_position order (get_or ys 0 d).key.start))
-      → Every (λ i. Le (places order lawful) (upper order r) (item_lower order i)) ys
+      → e ≡ end_position order r.end → IsKnownRange order r → Known lawful equal ys
+      → Chained lawful equal ys → ((d : Item (AnyRange K) V) → 0 < length ys
+      → Lt (places lawful) e (start_position order (get_or ys 0 d).key.start))
+      → Every (λ i. Le (places lawful) (upper order r) (item_lower order i)) ys
   rest_starts_after_range e r [] at known others chain h = tt
   rest_starts_after_range e r (y ∷ ys) at known others chain h =
-      chain_above (line_of order lawful same equal) (upper order r) y ys chain
-      ((before_is order lawful r.end y.key.start known.1 others.0.0).0
-      (rw at at (h y (omega arith))))
+      chain_above (line_of lawful equal) (upper order r) y ys chain
+      ((before_is lawful r.end y.key.start known.1 others.0.0).0 (rw at at (h y (omega arith))))
 
   pub window_is : {P : Type 0} (is_good : P → Type 0) (rank : P → ℕ)
       (items : List (Item (AnyRange K) V)) (r : AnyRange K) (p e : Position K)
@@ -50,13 +48,13 @@ module _ {K : Type 0} (order : KeyOrder K) (lawful : IsLawful order) {V : Type 0
       (place_before rank (length items) from)
   window_is is_good rank items r p e before from last after count known nonempty stored at_start
       at_end found walk =
-      let cmp = places order lawful in
+      let cmp = places lawful in
       let place = place_before rank (length items) from in
-      let all = stored_known order lawful same equal items stored in
-      let chain = stored_chain order lawful same equal items stored in
-      let known_parts : (n : ℕ) → Known order lawful same equal (take n items ++ drop n items) =
+      let all = stored_known lawful equal items stored in
+      let chain = stored_chain lawful equal items stored in
+      let known_parts : (n : ℕ) → Known lawful equal (take n items ++ drop n items) =
       λ n. rw (list_is_take_and_drop items n) at all in
-      let chain_parts : (n : ℕ) → Chained order lawful same equal (take n items ++ drop n items) =
+      let chain_parts : (n : ℕ) → Chained lawful equal (take n items ++ drop n items) =
       λ n. rw (list_is_take_and_drop items n) at chain in
       record {
         stored = stored;
@@ -69,7 +67,7 @@ module _ {K : Type 0} (order : KeyOrder K) (lawful : IsLawful order) {V : Type 0
         after_is = walk.after_is;
         below =
             every_weaker _ _ (take place items)
-            (λ i h. (before_is order lawful i.key.end r.start h.0.1 known.0).0 (rw at_start at h.1))
+            (λ i h. (before_is lawful i.key.end r.start h.0.1 known.0).0 (rw at_start at h.1))
             (every_both (λ i. IsKnownRange order i.key) _ (take place items)
             (every_left _ (take place items) (drop place items) (known_parts place)) found.below);
         above =
@@ -86,7 +84,7 @@ module _ {K : Type 0} (order : KeyOrder K) (lawful : IsLawful order) {V : Type 0
             rest_starts_after_range e r (drop (place + count) items) at_end known
             (every_right _ (take (place + count) items) (drop (place + count) items)
             (known_parts (place + count)))
-            (chain_right (line_of order lawful same equal) (take (place + count) items)
+            (chain_right (line_of lawful equal) (take (place + count) items)
             (drop (place + count) items) (chain_parts (place + count)))
             (λ d some. let index : place + count + 0
             ≡ place + count =

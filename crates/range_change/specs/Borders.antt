@@ -29,7 +29,7 @@ use Rattle.range_algebra.specs.Relations.{Touches}
 use Rattle.range_change.specs.Reach.{inner_count}
 use Rattle.range_change.specs.Window.{option_items}
 
-module _ {K : Type 0} (order : KeyOrder K) {V : Type 0} (same : V → V → Bool) where
+module _ {K : Type 0} (order : KeyOrder K) where
   -- where a range starts that has another start bound in the place of its own
   abbrev pub border_start : Option (Bound K) → AnyRange K → Position K
   border_start None r = lower order r
@@ -39,6 +39,7 @@ module _ {K : Type 0} (order : KeyOrder K) {V : Type 0} (same : V → V → Bool
   border_end None r = upper order r
   border_end (Some b) r = past order (end_position order b)
 
+module _ {K : Type 0} (order : KeyOrder K) {V : Type 0} (same : V → V → Bool) where
   -- no item just before the place touches the range with an equal value
   abbrev pub TouchesNoneBefore : List (Item (AnyRange K) V) → ℕ → AnyRange K → V → Type 0
   TouchesNoneBefore items place r v = (d : Item (AnyRange K) V) → 0 < place
@@ -61,45 +62,46 @@ module _ {K : Type 0} (order : KeyOrder K) {V : Type 0} (same : V → V → Bool
       → Touches order r (slice_index_or items place d).key
       × (same v (slice_index_or items place d).value ≡ true)
 
-  module _ (lawful : IsLawful order) (equal : IsEquivalence same) where
-    -- what stands before the range when it is cut out
-    pub record IsLeftRest (items : List (Item (AnyRange K) V)) (r : AnyRange K) (place : ℕ)
-        (rest : Option (Item (AnyRange K) V)) : Type 0 where
-      pub left : IsLeft (line_of order lawful same equal) items
-          (take place items ++ option_items rest) (lower order r)
-      pub known : Every (λ i. IsKnownRange order i.key) (option_items rest)
-      pub reaches : (y : Item (AnyRange K) V) → rest ≡ Some y
-          → Le (position_cmp order.cmp) (lower order r) (item_upper order y)
+module _ {K : Type 0} {order : KeyOrder K} (lawful : IsLawful order) {V : Type 0}
+    {same : V → V → Bool} (equal : IsEquivalence same) where
+  -- what stands before the range when it is cut out
+  pub record IsLeftRest (items : List (Item (AnyRange K) V)) (r : AnyRange K) (place : ℕ)
+      (rest : Option (Item (AnyRange K) V)) : Type 0 where
+    pub left : IsLeft (line_of lawful equal) items (take place items ++ option_items rest)
+        (lower order r)
+    pub known : Every (λ i. IsKnownRange order i.key) (option_items rest)
+    pub reaches : (y : Item (AnyRange K) V) → rest ≡ Some y
+        → Le (position_cmp order.cmp) (lower order r) (item_upper order y)
 
-    pub record IsRightRest (items : List (Item (AnyRange K) V)) (r : AnyRange K) (end : ℕ)
-        (rest : Option (Item (AnyRange K) V)) : Type 0 where
-      pub right : IsRight (line_of order lawful same equal) items
-          (option_items rest ++ drop end items) (upper order r)
-      pub known : Every (λ i. IsKnownRange order i.key) (option_items rest)
-      pub reaches : (y : Item (AnyRange K) V) → rest ≡ Some y
-          → Le (position_cmp order.cmp) (item_lower order y) (upper order r)
+  pub record IsRightRest (items : List (Item (AnyRange K) V)) (r : AnyRange K) (end : ℕ)
+      (rest : Option (Item (AnyRange K) V)) : Type 0 where
+    pub right : IsRight (line_of lawful equal) items (option_items rest ++ drop end items)
+        (upper order r)
+    pub known : Every (λ i. IsKnownRange order i.key) (option_items rest)
+    pub reaches : (y : Item (AnyRange K) V) → rest ≡ Some y
+        → Le (position_cmp order.cmp) (item_lower order y) (upper order r)
 
-    -- what stands before the range when it is bound to v: the first `at` items and a rest, after
-    -- which the range starts at `start`
-    pub record IsLeftBorder (items : List (Item (AnyRange K) V)) (r : AnyRange K) (v : V) (at : ℕ)
-        (rest : Option (Item (AnyRange K) V)) (start : Option (Bound K)) : Type 0 where
-      pub s : Position K
-      pub starts : position_cmp order.cmp (border_start start r) s ≡ Equal
-      pub left : IsLeftOf (line_of order lawful same equal) items
-          (take at items ++ option_items rest) (lower order r) s v
-      pub known : Every (λ i. IsKnownRange order i.key) (option_items rest)
-      pub known_start : IsKnownBound order (unwrap_or start r.start)
+  -- what stands before the range when it is bound to v: the first `at` items and a rest, after
+  -- which the range starts at `start`
+  pub record IsLeftBorder (items : List (Item (AnyRange K) V)) (r : AnyRange K) (v : V) (at : ℕ)
+      (rest : Option (Item (AnyRange K) V)) (start : Option (Bound K)) : Type 0 where
+    pub s : Position K
+    pub starts : position_cmp order.cmp (border_start order start r) s ≡ Equal
+    pub left : IsLeftOf (line_of lawful equal) items (take at items ++ option_items rest)
+        (lower order r) s v
+    pub known : Every (λ i. IsKnownRange order i.key) (option_items rest)
+    pub known_start : IsKnownBound order (unwrap_or start r.start)
 
-    -- what stands after it
-    pub record IsRightBorder (items : List (Item (AnyRange K) V)) (r : AnyRange K) (v : V) (end : ℕ)
-        (rest : Option (Item (AnyRange K) V)) (finish : Option (Bound K)) : Type 0 where
-      pub in_range : end ≤ length items
-      pub e : Position K
-      pub ends : position_cmp order.cmp (border_end finish r) e ≡ Equal
-      pub right : IsRightOf (line_of order lawful same equal) items
-          (option_items rest ++ drop end items) (upper order r) e v
-      pub known : Every (λ i. IsKnownRange order i.key) (option_items rest)
-      pub known_end : IsKnownBound order (unwrap_or finish r.end)
+  -- what stands after it
+  pub record IsRightBorder (items : List (Item (AnyRange K) V)) (r : AnyRange K) (v : V) (end : ℕ)
+      (rest : Option (Item (AnyRange K) V)) (finish : Option (Bound K)) : Type 0 where
+    pub in_range : end ≤ length items
+    pub e : Position K
+    pub ends : position_cmp order.cmp (border_end order finish r) e ≡ Equal
+    pub right : IsRightOf (line_of lawful equal) items (option_items rest ++ drop end items)
+        (upper order r) e v
+    pub known : Every (λ i. IsKnownRange order i.key) (option_items rest)
+    pub known_end : IsKnownBound order (unwrap_or finish r.end)
 
 -- the bounds that a run joins, and the list before the run and after it
 pub record IsOpened {K V : Type 0} (items new : List (Item (AnyRange K) V))

@@ -111,9 +111,9 @@ module _ {L V X : Type 0} (line : Line L V X) where
         → Has W p new ↔ Has W p items
 
 -- the line of positions on which stored items lie
-abbrev pub line_of : {K : Type 0} (order : KeyOrder K) (lawful : IsLawful order) {V : Type 0}
-    (same : V → V → Bool) (equal : IsEquivalence same) → Line (Position K) V (Item (AnyRange K) V)
-line_of order lawful same equal =
+abbrev pub line_of : {K : Type 0} {order : KeyOrder K} (lawful : IsLawful order) {V : Type 0}
+    {same : V → V → Bool} (equal : IsEquivalence same) → Line (Position K) V (Item (AnyRange K) V)
+line_of {K} {order} lawful {V} {same} equal =
     record {
       cmp = position_cmp order.cmp;
       total = position_total order.cmp lawful.total;

@@ -47,7 +47,7 @@ module _ {K : Type 0} (order : KeyOrder K) {V : Type 0} (same : V → V → Bool
     pub apart : Every (λ i. ¬ IsTrue (same i.value v)) (option_items rest)
     pub whole : take count (drop place items) ++ extra ≡ [] → (rest ≡ None) × (finish ≡ None)
 
-module _ {K : Type 0} (order : KeyOrder K) {V : Type 0} (same : V → V → Bool)
+module _ {K : Type 0} {order : KeyOrder K} {V : Type 0} {same : V → V → Bool}
     (lawful : IsLawful order) (equal : IsEquivalence same) {P : Type 0} (is_good : P → Type 0)
     (rank : P → ℕ) (items : List (Item (AnyRange K) V)) (r : AnyRange K) (v : V) where
   -- before the range: `first` is the item that reaches out of it
@@ -58,7 +58,7 @@ module _ {K : Type 0} (order : KeyOrder K) {V : Type 0} (same : V → V → Bool
     pub rest : Option (Item (AnyRange K) V)
     pub start : Option (Bound K)
     pub shape : IsLeftShape is_good rank items border at begin rest start
-    pub side : IsLeftBorder order same lawful equal items r v at rest start
+    pub side : IsLeftBorder lawful equal items r v at rest start
     pub run : IsAt is_good rank (length items) from begin
     pub frame : IsLeftFrame order same items r v place count at rest start
     pub few : length (option_items rest) ≤ length (option_items first)
@@ -71,7 +71,7 @@ module _ {K : Type 0} (order : KeyOrder K) {V : Type 0} (same : V → V → Bool
     pub rest : Option (Item (AnyRange K) V)
     pub finish : Option (Bound K)
     pub shape : IsRightShape is_good rank items border upto end rest finish
-    pub side : IsRightBorder order same lawful equal items r v end rest finish
+    pub side : IsRightBorder lawful equal items r v end rest finish
     pub frame : IsRightFrame order same items r v place count end rest finish
     pub few : length (option_items rest) ≤ length (option_items last)
     pub ends : upto + length (option_items last) ≡ place + count + joined_count border
@@ -88,13 +88,13 @@ module _ {K : Type 0} (order : KeyOrder K) {V : Type 0} (same : V → V → Bool
       → (equal : IsEquivalence same) → (b : Bound K) (at : Option P) → IsKnownBound order b
       → SameBound order (flipped_bound r.start) b
       → IsRunStart (is_good stored) (rank stored) (length (items stored)) place reach.first found at
-      → IsLeftPlan order same lawful equal (is_good stored) (rank stored)
-      (items stored) r v place reach.window.count reach.first (seam_border found reach.first b) at
+      → IsLeftPlan lawful equal (is_good stored) (rank stored) (items stored) r v place
+      reach.window.count reach.first (seam_border found reach.first b) at
 
   -- the one that it joins where it ends
   abbrev pub JoinsAfter : Option P → Type 0
   JoinsAfter found = (lawful : IsLawful order) → (equal : IsEquivalence same) → (b : Bound K)
       → IsKnownBound order b → SameBound order (flipped_bound r.end) b
-      → IsRightPlan order same lawful equal (is_good stored) (rank stored) (items stored) r v
+      → IsRightPlan lawful equal (is_good stored) (rank stored) (items stored) r v
       (place_before (rank stored) (length (items stored)) reach.window.from) reach.window.count
       reach.last (seam_border found reach.last b)

@@ -37,7 +37,7 @@ module _ {K V : Type 0} where
   with_last_end (Some b) (i ∷ []) = with_end i b ∷ []
   with_last_end (Some b) (i ∷ j ∷ rest) = i ∷ with_last_end (Some b) (j ∷ rest)
 
-module _ {K : Type 0} (order : KeyOrder K) {V : Type 0} (same : V → V → Bool)
+module _ {K : Type 0} {order : KeyOrder K} {V : Type 0} {same : V → V → Bool}
     (lawful : IsLawful order) (equal : IsEquivalence same) {P : Type 0} (is_good : P → Type 0)
     (rank : P → ℕ) (items : List (Item (AnyRange K) V)) (r : AnyRange K) (place count : ℕ) where
   -- nothing joins the range from before: `first`, which reaches out of it, is cut
@@ -45,7 +45,7 @@ module _ {K : Type 0} (order : KeyOrder K) {V : Type 0} (same : V → V → Bool
     pub rest : Option (Item (AnyRange K) V)
     pub shape : IsLeftShape is_good rank items border place
         (place + length (option_items first)) rest None
-    pub side : IsLeftRest order same lawful equal items r place rest
+    pub side : IsLeftRest lawful equal items r place rest
     pub run : IsAt is_good rank (length items) from (place + length (option_items first))
     pub valued : Every (λ j. HasValue order same (take count (drop place items)) j.value)
         (option_items rest)
@@ -55,7 +55,7 @@ module _ {K : Type 0} (order : KeyOrder K) {V : Type 0} (same : V → V → Bool
     pub upto : ℕ
     pub rest : Option (Item (AnyRange K) V)
     pub shape : IsRightShape is_good rank items border upto (place + count) rest None
-    pub side : IsRightRest order same lawful equal items r (place + count) rest
+    pub side : IsRightRest lawful equal items r (place + count) rest
     pub valued : Every (λ j. HasValue order same (take count (drop place items)) j.value)
         (option_items rest)
     pub ends : upto + length (option_items last) ≡ place + count
@@ -64,9 +64,8 @@ module _ {K : Type 0} (order : KeyOrder K) {V : Type 0} (same : V → V → Bool
   abbrev pub IsLeftSeam : Option (Item (AnyRange K) V) → Option P → Border K P → Option P → Type 0
   IsLeftSeam next first border from =
       ((m : Item (AnyRange K) V) × (next ≡ Some m)
-      × (position_cmp order.cmp (item_lower order m) (lower order r) ≡ Equal)
-      × IsLeftPlan order same lawful equal is_good rank items r m.value place count first border
-      from)
+      × (position_cmp order.cmp (item_lower order m) (lower order r) ≡ Equal) × IsLeftPlan lawful
+      equal is_good rank items r m.value place count first border from)
       ⊎ (((m : Item (AnyRange K) V) → next ≡ Some m
       → Lt (position_cmp order.cmp) (lower order r) (item_lower order m))
       × IsLeftCutting first border from)
@@ -74,8 +73,8 @@ module _ {K : Type 0} (order : KeyOrder K) {V : Type 0} (same : V → V → Bool
   abbrev pub IsRightSeam : Option (Item (AnyRange K) V) → Option P → Border K P → Type 0
   IsRightSeam previous last border =
       ((m : Item (AnyRange K) V) × (previous ≡ Some m)
-      × (position_cmp order.cmp (item_upper order m) (upper order r) ≡ Equal)
-      × IsRightPlan order same lawful equal is_good rank items r m.value place count last border)
+      × (position_cmp order.cmp (item_upper order m) (upper order r) ≡ Equal) × IsRightPlan lawful
+      equal is_good rank items r m.value place count last border)
       ⊎ (((m : Item (AnyRange K) V) → previous ≡ Some m
       → Lt (position_cmp order.cmp) (item_upper order m) (upper order r))
       × IsRightCutting last border)
@@ -91,9 +90,8 @@ module _ {K : Type 0} (order : KeyOrder K) {V : Type 0} (same : V → V → Bool
       → (equal : IsEquivalence same) → (b : Bound K) (at : Option P) → IsKnownBound order b
       → SameBound order (flipped_bound r.start) b
       → IsRunStart (is_good stored) (rank stored) (length (items stored)) place reach.first found at
-      → IsLeftSeam order same lawful equal (is_good stored) (rank stored)
-      (items stored) r place reach.window.count next reach.first (seam_border found reach.first b)
-      at
+      → IsLeftSeam lawful equal (is_good stored) (rank stored) (items stored) r place
+      reach.window.count next reach.first (seam_border found reach.first b) at
 
   -- the item that the last of a run is to join, where there is one
   abbrev pub IsJoiningLast : Option (Item (AnyRange K) V) → Option P → Type 0
@@ -102,5 +100,5 @@ module _ {K : Type 0} (order : KeyOrder K) {V : Type 0} (same : V → V → Bool
       (length (items stored)) reach.window.from in (lawful : IsLawful order)
       → (equal : IsEquivalence same) → (b : Bound K) → IsKnownBound order b
       → SameBound order (flipped_bound r.end) b
-      → IsRightSeam order same lawful equal (is_good stored) (rank stored)
-      (items stored) r place reach.window.count previous reach.last (seam_border found reach.last b)
+      → IsRightSeam lawful equal (is_good stored) (rank stored) (items stored) r place
+      reach.window.count previous reach.last (seam_border found reach.last b)

@@ -46,47 +46,43 @@ module _ {K V : Type 0} (order : KeyOrder K) (lawful : IsLawful order) (same : V
     (equal : IsEquivalence same) where
   -- a range that touches another ends where that starts
   touching_at : (e : Bound K) (s : AnyRange K) → IsTrue (starts_at_end order e (lower order s))
-      → Le (places order lawful) (past order (end_position order e)) (lower order s)
+      → Le (places lawful) (past order (end_position order e)) (lower order s)
   touching_at (Included a) s h =
       let total = position_total order.cmp lawful.total in
-      le_trans (places order lawful) total (past order (end_position order (Included a)))
+      le_trans (places lawful) total (past order (end_position order (Included a)))
       (start_position order (Excluded a)) (lower order s)
-      (eq_le (places order lawful) total (past order (end_position order (Included a)))
+      (eq_le (places lawful) total (past order (end_position order (Included a)))
       (start_position order (Excluded a))
       (flipped_bound_is_past order lawful (Included a) (Excluded a) refl))
-      (eq_le (places order lawful) total (start_position order (Excluded a)) (lower order s)
-      ((eq_is_equal (places order lawful (start_position order (Excluded a)) (lower order s))).0
-      h))
+      (eq_le (places lawful) total (start_position order (Excluded a)) (lower order s)
+      ((eq_is_equal (places lawful (start_position order (Excluded a)) (lower order s))).0 h))
   touching_at (Excluded a) s h =
       let total = position_total order.cmp lawful.total in
-      le_trans (places order lawful) total (past order (end_position order (Excluded a)))
+      le_trans (places lawful) total (past order (end_position order (Excluded a)))
       (start_position order (Included a)) (lower order s)
-      (eq_le (places order lawful) total (past order (end_position order (Excluded a)))
+      (eq_le (places lawful) total (past order (end_position order (Excluded a)))
       (start_position order (Included a))
       (flipped_bound_is_past order lawful (Excluded a) (Included a) refl))
-      (eq_le (places order lawful) total (start_position order (Included a)) (lower order s)
-      ((eq_is_equal (places order lawful (start_position order (Included a)) (lower order s))).0
-      h))
+      (eq_le (places lawful) total (start_position order (Included a)) (lower order s)
+      ((eq_is_equal (places lawful (start_position order (Included a)) (lower order s))).0 h))
   touching_at Unbounded s h = absurd (cc)
 
-  abbrev LeadsTo : Item (AnyRange K) V → Item (AnyRange K) V → Type 0
-  LeadsTo i x = Leads (line_of order lawful same equal) i (item_lower order x) x.value
+  abbrev LeadsTo : Item (AnyRange K) V → Item (AnyRange K) V → Type 0 LeadsTo i x = Leads
+  (line_of lawful equal) i (item_lower order x) x.value
 
   -- what lies before x, and touches it only beside another value, does not join it
   not_joined : (i x : Item (AnyRange K) V) → IsKnownRange order i.key → IsKnownRange order x.key
-      → Lt (places order lawful) (item_lower order i) (item_upper order i)
-      → Lt (places order lawful) (item_lower order x) (item_upper order x) → LeadsTo i x
+      → Lt (places lawful) (item_lower order i) (item_upper order i)
+      → Lt (places lawful) (item_lower order x) (item_upper order x) → LeadsTo i x
       → ¬ JoinsOrMeets order same x.key x.value i
   not_joined i x known known_x good good_x leads h =
-      let cmp = places order lawful in
+      let cmp = places lawful in
       let total = position_total order.cmp lawful.total in
       elim h [
-        | inl meets ↦
-            meets.0 ((before_is order lawful i.key.end x.key.start known.1 known_x.0).1 leads.0)
+        | inl meets ↦ meets.0 ((before_is lawful i.key.end x.key.start known.1 known_x.0).1 leads.0)
         | inr joins ↦ elim joins.0 [
-          | inl touches ↦
-              leads.1 ((touches_is order lawful i.key.end x.key known_x good_x leads.0).0 touches)
-              joins.1
+          | inl touches ↦ leads.1
+              ((touches_is lawful i.key.end x.key known_x good_x leads.0).0 touches) joins.1
           | inr touches ↦
               let at : Le cmp (upper order x.key) (lower order i.key) =
               touching_at x.key.end i.key touches in
@@ -99,21 +95,19 @@ module _ {K V : Type 0} (order : KeyOrder K) (lawful : IsLawful order) (same : V
 
   abbrev Goods : List (Item (AnyRange K) V) → Type 0
   Goods =
-      Every (λ i. IsKnownRange order i.key
-      × Lt (places order lawful) (item_lower order i) (item_upper order i))
+      Every (λ i. IsKnownRange order i.key × Lt (places lawful) (item_lower order i)
+      (item_upper order i))
 
-  chained_items_have_places : (xs : List (Item (AnyRange K) V)) → Known order lawful same equal xs
-      → Chained order lawful same equal xs → Goods xs
+  chained_items_have_places : (xs : List (Item (AnyRange K) V)) → Known lawful equal xs
+      → Chained lawful equal xs → Goods xs
   chained_items_have_places [] known chain = tt
   chained_items_have_places (x ∷ xs) known chain = (
     (known.0, chain.0),
-    chained_items_have_places xs known.1
-        (chain_right (line_of order lawful same equal) (x ∷ []) xs chain),
+    chained_items_have_places xs known.1 (chain_right (line_of lawful equal) (x ∷ []) xs chain),
   )
 
   none_joined : (xs : List (Item (AnyRange K) V)) (x : Item (AnyRange K) V) → Goods xs
-      → IsKnownRange order x.key
-      → Lt (places order lawful) (item_lower order x) (item_upper order x)
+      → IsKnownRange order x.key → Lt (places lawful) (item_lower order x) (item_upper order x)
       → Every (λ i. LeadsTo i x) xs → Every (λ i. ¬ JoinsOrMeets order same x.key x.value i) xs
   none_joined [] x good known_x good_x leads = tt
   none_joined (i ∷ xs) x good known_x good_x leads = (
@@ -123,14 +117,13 @@ module _ {K V : Type 0} (order : KeyOrder K) (lawful : IsLawful order) (same : V
 
   -- nothing stands after an item that all others lead to
   none_behind : (front behind : List (Item (AnyRange K) V)) (x : Item (AnyRange K) V) → Goods behind
-      → Lt (places order lawful) (item_lower order x) (item_upper order x)
-      → Every (λ i. LeadsTo i x) behind → Chained order lawful same equal (front ++ x ∷ behind)
-      → behind ≡ []
+      → Lt (places lawful) (item_lower order x) (item_upper order x)
+      → Every (λ i. LeadsTo i x) behind → Chained lawful equal (front ++ x ∷ behind) → behind ≡ []
   none_behind front [] x good good_x leads chain = refl
   none_behind front (b ∷ behind) x good good_x leads chain =
-      let cmp = places order lawful in
+      let cmp = places lawful in
       let total = position_total order.cmp lawful.total in
-      let own = chain_right (line_of order lawful same equal) front (x ∷ b ∷ behind) chain in
+      let own = chain_right (line_of lawful equal) front (x ∷ b ∷ behind) chain in
       let after : Le cmp (item_upper order x) (item_lower order b) = own.1.0.0 in
       absurd (lt_not_le cmp total (item_lower order x) (item_upper order x) good_x
       (le_trans cmp total (item_upper order x) (item_lower order b) (item_lower order x) after
@@ -142,16 +135,16 @@ module _ {K V : Type 0} (order : KeyOrder K) (lawful : IsLawful order) (same : V
       → IsStored order same (xs ++ x ∷ [])
       → Every (λ i. ¬ JoinsOrMeets order same x.key x.value i) xs
   apart_from_last xs x whole =
-      let cmp = places order lawful in
+      let cmp = places lawful in
       let total = position_total order.cmp lawful.total in
-      let chain = stored_chain order lawful same equal (xs ++ x ∷ []) whole in
-      let known = stored_known order lawful same equal (xs ++ x ∷ []) whole in
-      let leads = chain_before (line_of order lawful same equal) xs x [] chain in
-      let last = chain_right (line_of order lawful same equal) xs (x ∷ []) chain in
+      let chain = stored_chain lawful equal (xs ++ x ∷ []) whole in
+      let known = stored_known lawful equal (xs ++ x ∷ []) whole in
+      let leads = chain_before (line_of lawful equal) xs x [] chain in
+      let last = chain_right (line_of lawful equal) xs (x ∷ []) chain in
       let good =
       chained_items_have_places xs
       (every_left (λ i. IsKnownRange order i.key) xs (x ∷ []) known)
-      (chain_left (line_of order lawful same equal) xs (x ∷ []) chain) in
+      (chain_left (line_of lawful equal) xs (x ∷ []) chain) in
       none_joined xs x good (every_right (λ i. IsKnownRange order i.key) xs (x ∷ []) known).0 last.0
       leads
 
@@ -160,16 +153,16 @@ module _ {K V : Type 0} (order : KeyOrder K) (lawful : IsLawful order) (same : V
       → IsStored order same (xs ++ x ∷ []) → IsStored order same new
       → IsInsertionFrame order same xs new x.key x.value → new ≡ xs ++ x ∷ []
   stands_last xs new x whole stored frame =
-      let cmp = places order lawful in
+      let cmp = places lawful in
       let total = position_total order.cmp lawful.total in
-      let chain = stored_chain order lawful same equal (xs ++ x ∷ []) whole in
-      let known = stored_known order lawful same equal (xs ++ x ∷ []) whole in
-      let leads = chain_before (line_of order lawful same equal) xs x [] chain in
-      let last = chain_right (line_of order lawful same equal) xs (x ∷ []) chain in
+      let chain = stored_chain lawful equal (xs ++ x ∷ []) whole in
+      let known = stored_known lawful equal (xs ++ x ∷ []) whole in
+      let leads = chain_before (line_of lawful equal) xs x [] chain in
+      let last = chain_right (line_of lawful equal) xs (x ∷ []) chain in
       let good =
       chained_items_have_places xs
       (every_left (λ i. IsKnownRange order i.key) xs (x ∷ []) known)
-      (chain_left (line_of order lawful same equal) xs (x ∷ []) chain) in
+      (chain_left (line_of lawful equal) xs (x ∷ []) chain) in
       let apart = apart_from_last xs x whole in
       let empty : frame.run ≡ [] =
       no_item (JoinsOrMeets order same x.key x.value) frame.front frame.run frame.behind
@@ -187,9 +180,8 @@ module _ {K V : Type 0} (order : KeyOrder K) (lawful : IsLawful order) (same : V
       × Lt cmp (item_lower order i) (item_upper order i)) frame.front frame.behind
       (subst Goods split good)) last.0
       (every_right (λ i. LeadsTo i x) frame.front frame.behind
-      (subst (λ is. Every (λ i. LeadsTo i x) is) split leads))
-      (subst (Chained order lawful same equal) after
-      (stored_chain order lawful same equal new stored)) in
+      (subst (λ is. Every (λ i. LeadsTo i x) is) split leads)) (subst (Chained lawful equal) after
+      (stored_chain lawful equal new stored)) in
       after ∙ ap (λ is. frame.front ++ x ∷ is) behind
       ∙ ap (λ is. is ++ x ∷ [])
       (sym (split ∙ ap (λ is. frame.front ++ is) behind ∙ append-nil frame.front))
@@ -198,11 +190,9 @@ module _ {K V : Type 0} (order : KeyOrder K) (lawful : IsLawful order) (same : V
   pub stored_front : (xs ys : List (Item (AnyRange K) V)) → IsStored order same (xs ++ ys)
       → IsStored order same xs
   stored_front xs ys whole =
-      chain_stored order lawful same equal xs
-      (every_left (λ i. IsKnownRange order i.key) xs ys
-      (stored_known order lawful same equal (xs ++ ys) whole))
-      (chain_left (line_of order lawful same equal) xs ys
-      (stored_chain order lawful same equal (xs ++ ys) whole))
+      chain_stored lawful equal xs (every_left (λ i. IsKnownRange order i.key) xs ys
+      (stored_known lawful equal (xs ++ ys) whole)) (chain_left (line_of lawful equal) xs ys
+      (stored_chain lawful equal (xs ++ ys) whole))
 
   -- the list before the last is in the form
   pub stored_before : (xs : List (Item (AnyRange K) V)) (x : Item (AnyRange K) V)

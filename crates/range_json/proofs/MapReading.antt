@@ -119,8 +119,8 @@ module _ {K V : Type 0} (order : KeyOrder K) where
       module _ (old new earlier : List (Item (AnyRange K) V)) (x : Item (AnyRange K) V)
           (alike : BindAlike order same old earlier) (put : IsPut order same old new x) (k : K)
           (key : order.is_key k) where
-        free : Holds order x.key k → ¬ IsBound order old k
-        free held bound = put.apart (binding_meets order lawful old x.key (k, key, held, bound))
+        free : Holds order x.key k → ¬ IsBound order old k free held bound = put.apart
+        (binding_meets lawful old x.key (k, key, held, bound))
 
         held_alike : Holds order x.key k → (b : Option V) → Binds order same new k b
             ↔ Binds order same (earlier ++ x ∷ []) k b

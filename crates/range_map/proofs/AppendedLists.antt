@@ -58,52 +58,50 @@ module _ {K : Type 0} {order : KeyOrder K} (lawful : IsLawful order) {V : Type 0
     {same : V → V → Bool} (equal : IsEquivalence same) where
   -- a list in its form, which holds what another does
   record IsAs (list other : List (Item (AnyRange K) V)) : Type 0 where
-    known : Known order lawful same equal list
-    chain : Chained order lawful same equal list
-    holds : (W : V → Bool) (p : Position K) → Respects (line_of order lawful same equal) W
-        → Hold order lawful same equal W p list ↔ Hold order lawful same equal W p other
+    known : Known lawful equal list
+    chain : Chained lawful equal list
+    holds : (W : V → Bool) (p : Position K) → Respects (line_of lawful equal) W
+        → Hold lawful equal W p list ↔ Hold lawful equal W p other
 
-  as_it_is : (list : List (Item (AnyRange K) V)) → Known order lawful same equal list
-      → Chained order lawful same equal list → IsAs list list
+  as_it_is : (list : List (Item (AnyRange K) V)) → Known lawful equal list
+      → Chained lawful equal list → IsAs list list
   as_it_is list known chain =
       record { known = known; chain = chain; holds = λ W p respects. (λ h. h, λ h. h) }
 
   -- items that are to be one meet at one place, with equal values
   module _ (i j : Item (AnyRange K) V) (known : IsKnownRange order i.key)
       (other_known : IsKnownRange order j.key)
-      (good : Lt (places order lawful) (item_lower order i) (item_upper order i))
-      (other_good : Lt (places order lawful) (item_lower order j) (item_upper order j))
+      (good : Lt (places lawful) (item_lower order i) (item_upper order i))
+      (other_good : Lt (places lawful) (item_lower order j) (item_upper order j))
       (before : LiesBefore order i.key j.key) where
-    upto : Le (places order lawful) (item_upper order i) (item_lower order j)
-    upto = (before_is order lawful i.key.end j.key.start known.1 other_known.0).0 before
+    upto : Le (places lawful) (item_upper order i) (item_lower order j)
+    upto = (before_is lawful i.key.end j.key.start known.1 other_known.0).0 before
 
     meets : are_one order same i j ≡ true
-        → Le (places order lawful) (item_lower order j) (item_upper order i)
+        → Le (places lawful) (item_lower order j) (item_upper order i)
     meets one =
-        (touches_is order lawful i.key.end j.key other_known other_good upto).0
-        (and_parts _ _ one).0
+        (touches_is lawful i.key.end j.key other_known other_good upto).0 (and_parts _ _ one).0
 
     alike : are_one order same i j ≡ true → same i.value j.value ≡ true
     alike one = (and_parts _ _ one).1
 
     leads : are_one order same i j ≡ false
-        → Leads (line_of order lawful same equal) i (item_lower order j) j.value
+        → Leads (line_of lawful equal) i (item_lower order j) j.value
     leads apart = (
       upto,
       λ reaches s.
-          let touch =
-          (touches_is order lawful i.key.end j.key other_known other_good upto).1 reaches in
+          let touch = (touches_is lawful i.key.end j.key other_known other_good upto).1 reaches in
           let clash : true ≡ false = sym (and_from _ _ touch s) ∙ apart in cc,
     )
 
     one_as : (b : Bool) → are_one order same i j ≡ b → (rest : List (Item (AnyRange K) V))
-        → Known order lawful same equal rest → Follows (line_of order lawful same equal) j rest
+        → Known lawful equal rest → Follows (line_of lawful equal) j rest
         → IsAs ((if b then joined i j ∷ [] else i ∷ j ∷ []) ++ rest) (i ∷ j ∷ rest)
     one_as false apart rest rest_known follows =
         as_it_is (i ∷ j ∷ rest) (known, (other_known, rest_known))
         (good, (leads apart, (other_good, follows)))
     one_as true one rest rest_known follows =
-        let line = line_of order lawful same equal in
+        let line = line_of lawful equal in
         let same_end = le_refl lawful _ in
         record {
           known = ((known.0, other_known.1), rest_known);
@@ -144,25 +142,23 @@ module _ {K : Type 0} {order : KeyOrder K} (lawful : IsLawful order) {V : Type 0
 
   -- an item that leads to the first of the one list leads to what it begins with then
   follows_one : (i k j : Item (AnyRange K) V) (rest : List (Item (AnyRange K) V)) (b : Bool)
-      → Leads (line_of order lawful same equal) i (item_lower order k) k.value
-      → Chained order lawful same equal ((if b then joined k j ∷ [] else k ∷ j ∷ []) ++ rest)
-      → Follows (line_of order lawful same equal) i
-      ((if b then joined k j ∷ [] else k ∷ j ∷ []) ++ rest)
+      → Leads (line_of lawful equal) i (item_lower order k) k.value
+      → Chained lawful equal ((if b then joined k j ∷ [] else k ∷ j ∷ []) ++ rest)
+      → Follows (line_of lawful equal) i ((if b then joined k j ∷ [] else k ∷ j ∷ []) ++ rest)
   follows_one i k j rest true leads chain = (leads, chain)
   follows_one i k j rest false leads chain = (leads, chain)
 
   follows_appended : (i k : Item (AnyRange K) V) (items others : List (Item (AnyRange K) V))
-      → Leads (line_of order lawful same equal) i (item_lower order k) k.value
-      → Chained order lawful same equal (appended order same (k ∷ items) others)
-      → Follows (line_of order lawful same equal) i (appended order same (k ∷ items) others)
+      → Leads (line_of lawful equal) i (item_lower order k) k.value
+      → Chained lawful equal (appended order same (k ∷ items) others)
+      → Follows (line_of lawful equal) i (appended order same (k ∷ items) others)
   follows_appended i k [] (j ∷ others) leads chain =
       follows_one i k j others (are_one order same k j) leads chain
   follows_appended i k items others leads chain = (leads, chain)
 
-  appended_as : (items others : List (Item (AnyRange K) V)) → Known order lawful same equal items
-      → Known order lawful same equal others → Chained order lawful same equal items
-      → Chained order lawful same equal others → LieBefore order items others
-      → IsAs (appended order same items others) (items ++ others)
+  appended_as : (items others : List (Item (AnyRange K) V)) → Known lawful equal items
+      → Known lawful equal others → Chained lawful equal items → Chained lawful equal others
+      → LieBefore order items others → IsAs (appended order same items others) (items ++ others)
   appended_as [] others known others_known chain others_chain before =
       as_it_is others others_known others_chain
   appended_as (i ∷ []) [] known others_known chain others_chain before =
@@ -187,35 +183,32 @@ module _ {K : Type 0} {order : KeyOrder K} (lawful : IsLawful order) {V : Type 0
       (others_form : IsStored order same others) (before : LieBefore order items others) where
     both_as : IsAs (appended order same items others) (items ++ others)
     both_as =
-        appended_as items others (stored_known order lawful same equal items form)
-        (stored_known order lawful same equal others others_form)
-        (stored_chain order lawful same equal items form)
-        (stored_chain order lawful same equal others others_form) before
+        appended_as items others (stored_known lawful equal items form)
+        (stored_known lawful equal others others_form) (stored_chain lawful equal items form)
+        (stored_chain lawful equal others others_form) before
 
     -- where all of the one lie before all of the other, what comes of them is in the map's form
     pub appended_stored : IsStored order same (appended order same items others)
     appended_stored =
-        chain_stored order lawful same equal (appended order same items others) both_as.known
-        both_as.chain
+        chain_stored lawful equal (appended order same items others) both_as.known both_as.chain
 
     -- it binds what they bind
     pub appended_binds : BindAlike order same (appended order same items others) (items ++ others)
     appended_binds k key b =
-        same_binds order lawful same equal (items ++ others) (appended order same items others) k
-        (every_append _ items others (stored_known order lawful same equal items form)
-        (stored_known order lawful same equal others others_form)) both_as.known key
+        same_binds lawful equal (items ++ others) (appended order same items others) k
+        (every_append _ items others (stored_known lawful equal items form)
+        (stored_known lawful equal others others_form)) both_as.known key
         (λ W respects. both_as.holds W _ respects) b
 
   -- what leads up to a place lies before all that start there at least
   pub lie_before_from : (p : Position K) (items others : List (Item (AnyRange K) V))
-      → Known order lawful same equal items → Known order lawful same equal others
-      → Every (λ i. Le (places order lawful) (item_upper order i) p) items
-      → Every (λ j. Le (places order lawful) p (item_lower order j)) others
-      → LieBefore order items others
+      → Known lawful equal items → Known lawful equal others
+      → Every (λ i. Le (places lawful) (item_upper order i) p) items
+      → Every (λ j. Le (places lawful) p (item_lower order j)) others → LieBefore order items others
   lie_before_from p [] others known others_known ends starts = tt
   lie_before_from p (i ∷ items) others known others_known ends starts = (
     every_with _ _ _ others others_known starts (λ j known_j le.
-        (before_is order lawful i.key.end j.key.start known.0.1 known_j.0).1
+        (before_is lawful i.key.end j.key.start known.0.1 known_j.0).1
         (le_trans lawful _ _ _ ends.0 le)),
     lie_before_from p items others known.1 others_known ends.1 starts,
   )
@@ -225,11 +218,11 @@ module _ {K : Type 0} {order : KeyOrder K} (lawful : IsLawful order) {V : Type 0
       → IsStored order same (front ++ i ∷ []) → IsStored order same (j ∷ rest)
       → LiesBefore order i.key j.key ↔ LieBefore order (front ++ i ∷ []) (j ∷ rest)
   ends_tell front rest i j form others_form =
-      let line = line_of order lawful same equal in
-      let known = stored_known order lawful same equal (front ++ i ∷ []) form in
-      let others_known = stored_known order lawful same equal (j ∷ rest) others_form in
-      let chain = stored_chain order lawful same equal (front ++ i ∷ []) form in
-      let others_chain = stored_chain order lawful same equal (j ∷ rest) others_form in
+      let line = line_of lawful equal in
+      let known = stored_known lawful equal (front ++ i ∷ []) form in
+      let others_known = stored_known lawful equal (j ∷ rest) others_form in
+      let chain = stored_chain lawful equal (front ++ i ∷ []) form in
+      let others_chain = stored_chain lawful equal (j ∷ rest) others_form in
       let last_known = (every_right _ front (i ∷ []) known).0 in
       let last = chain_right line front (i ∷ []) chain in
       let hi = item_upper order i in
@@ -239,7 +232,6 @@ module _ {K : Type 0} {order : KeyOrder K} (lawful : IsLawful order) {V : Type 0
       (le_refl lawful _, tt) in (
         λ before. lie_before_from hi (front ++ i ∷ []) (j ∷ rest) known others_known ends
             (chain_above line hi j rest others_chain
-            ((before_is order lawful i.key.end j.key.start last_known.1 others_known.0.0).0
-            before)),
+            ((before_is lawful i.key.end j.key.start last_known.1 others_known.0.0).0 before)),
         λ all. (every_right _ front (i ∷ []) all).0.0,
       )

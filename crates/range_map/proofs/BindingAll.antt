@@ -10,10 +10,8 @@ pub common_lies_in : {K : Type 0} (order : KeyOrder K) (lawful : IsLawful order)
 common_lies_in order lawful r s part common =
     let start = eq_ge lawful _ _ common.starts in
     let end = eq_le lawful _ _ common.ends in
-    let over =
-    later_over order lawful (start_position order r.start) (start_position order s.start) in
-    let under =
-    earlier_under order lawful (end_position order r.end) (end_position order s.end) in
+    let over = later_over lawful (start_position order r.start) (start_position order s.start) in
+    let under = earlier_under lawful (end_position order r.end) (end_position order s.end) in
     let onward = le_trans lawful in (
       record { starts = onward _ _ _ over.0 start; ends = onward _ _ _ end under.0 },
       record { starts = onward _ _ _ over.1 start; ends = onward _ _ _ end under.1 },
@@ -86,7 +84,7 @@ module _ {K : Type 0} {order : KeyOrder K} (lawful : IsLawful order) {V : Type 0
       let found =
       nonempty_holds order lawful complete part free.known (not_greater _ free.nonempty) in
       let held = lies_in_holds lawful found.0 found.1 part r free.within found.2 in
-      any_none _ _ items free.free (λ i none h. none h) (binding_meets order lawful items part
+      any_none _ _ items free.free (λ i none h. none h) (binding_meets lawful items part
       (found.0, found.1, found.2, bound found.0 found.1 held)).1
 
   -- a list of all gaps that has one shows a free part

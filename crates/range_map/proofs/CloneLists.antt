@@ -57,16 +57,15 @@ module _ {K : Type 0} {order : KeyOrder K} (lawful : IsLawful order) where
       → range_cmp order r r' ≡ Equal → range_cmp order s s' ≡ Equal → Touches order r s
       → Touches order r' s'
   same_touches r s r' s' known others known' others' full full' before before' e f h =
-      let le = (before_is order lawful r.end s.start known.1 others.0).0 before in
-      let le' = (before_is order lawful r'.end s'.start known'.1 others'.0).0 before' in
+      let le = (before_is lawful r.end s.start known.1 others.0).0 before in
+      let le' = (before_is lawful r'.end s'.start known'.1 others'.0).0 before' in
       let back =
-      (touches_is order lawful r.end s others
-      ((nonempty_good order lawful s others).0 full) le).0 h in
+      (touches_is lawful r.end s others ((nonempty_good lawful s others).0 full) le).0 h in
       let start = eq_ge lawful _ _ (starts_same s s' f) in
       let end =
-      past_le order lawful r.end r'.end known.1 known'.1 (eq_le lawful _ _ (ends_same r r' e)) in
-      (touches_is order lawful r'.end s' others' ((nonempty_good order lawful s' others').0 full')
-      le').1 (le_trans lawful _ _ _ start (le_trans lawful _ _ _ back end))
+      past_le lawful r.end r'.end known.1 known'.1 (eq_le lawful _ _ (ends_same r r' e)) in
+      (touches_is lawful r'.end s' others' ((nonempty_good lawful s' others').0 full') le').1
+      (le_trans lawful _ _ _ start (le_trans lawful _ _ _ back end))
 
   module _ {V : Type 0} {same : V → V → Bool} (equal : IsEquivalence same) where
     same_values : (v w v' w' : V) → same v v' ≡ true → same w w' ≡ true → same v w ≡ true
@@ -82,8 +81,8 @@ module _ {K : Type 0} {order : KeyOrder K} (lawful : IsLawful order) where
     copy_listed : (copy items : List (Item (AnyRange K) V)) → IsCopyOf order same copy items
         → AllByRecursion (λ i. IsKnownRange order i.key) copy
         → AllByRecursion (λ i. IsKnownRange order i.key) items
-        → AllByRecursion (λ i. ¬ IsEmptyRange order i.key) items
-        → IsListed order lawful same items → IsListed order lawful same copy
+        → AllByRecursion (λ i. ¬ IsEmptyRange order i.key) items → IsListed lawful same items
+        → IsListed lawful same copy
     copy_listed [] items zip known known' full h = tt
     copy_listed (i ∷ []) (j ∷ others) zip known known' full h =
         (known.0, copy_full i j zip.0.0 full.0)
@@ -106,9 +105,9 @@ module _ {K : Type 0} {order : KeyOrder K} (lawful : IsLawful order) where
         → All (λ i. IsKnownRange order i.key) copy → IsStored order same items
         → IsStored order same copy
     copy_stored copy items zip known h =
-        stored_by order lawful same copy (copy_listed copy items zip
+        stored_by lawful same copy (copy_listed copy items zip
         (recursion_from_All (λ i. IsKnownRange order i.key) copy known) h.known h.nonempty
-        (stored_list_is_listed order lawful same items h))
+        (stored_list_is_listed lawful same items h))
 
     pub equal_items_are_copy : (items copy : List (Item (AnyRange K) V))
         → AllZip (λ x y. (is_eq (range_cmp order y.key x.key) && same y.value x.value) ≡ true) items

@@ -77,13 +77,12 @@ module _ {K : Type 0} {order : KeyOrder K} (lawful : IsLawful order) {V : Type 0
   }
 
   all_known : Every (λ i. IsKnownRange order i.key) items
-  all_known = stored_known order lawful same equal items stored
+  all_known = stored_known lawful equal items stored
 
   nonempty : Every (λ i. Le (position_cmp order.cmp) (start_position order i.key.start)
       (end_position order i.key.end)) items
   nonempty =
-      every_nonempty order lawful same items
-      (stored_list_is_listed order lawful same items stored)
+      every_nonempty lawful same items (stored_list_is_listed lawful same items stored)
 
   overlapping : AreOverlapping order items full_range items
   overlapping = record {

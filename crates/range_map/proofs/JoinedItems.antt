@@ -67,7 +67,7 @@ module _ {K : Type 0} {order : KeyOrder K} (lawful : IsLawful order) {V : Type 0
     up.0,
     from.0,
     rises_from (item_upper order i) rest known.1 up.2 (every_with _ _ _ rest known.1 up.1
-        (λ j known_j l. (before_is order lawful i.key.end j.key.start known.0.1 known_j.0).0 l)),
+        (λ j known_j l. (before_is lawful i.key.end j.key.start known.0.1 known_j.0).0 l)),
   )
 
   -- known ranges that ascend rise from the least place
@@ -82,8 +82,7 @@ module _ {K : Type 0} {order : KeyOrder K} (lawful : IsLawful order) {V : Type 0
       → (items : List (Item (AnyRange K) V)) → IsStored order same items
       → RisesFrom order (lower order full_range) items
   stored_rises {same = same} equal items stored =
-      ascending_rises items (stored_known order lawful same equal items stored)
-      (stored_ascends lawful stored)
+      ascending_rises items (stored_known lawful equal items stored) (stored_ascends lawful stored)
 
 module _ {K : Type 0} {order : KeyOrder K} (lawful : IsLawful order) {V : Type 0}
     {same : V → V → Bool} (equal : IsEquivalence same) where
@@ -115,11 +114,11 @@ module _ {K : Type 0} {order : KeyOrder K} (lawful : IsLawful order) {V : Type 0
       let last = j ∷ [] in
       let form : IsStored order same last =
       record { known = (known, tt); nonempty = (nonempty, tt); rising = (tt, tt) } in
-      let good = lt_le lawful _ _ ((nonempty_good order lawful j.key known).0 nonempty) in
+      let good = lt_le lawful _ _ ((nonempty_good lawful j.key known).0 nonempty) in
       let later : Le cmp m n = le_trans lawful _ _ _ from (le_trans lawful _ _ _ good upto) in
       let before : LieBefore order built last =
-      lie_before_from lawful equal m built last
-      (stored_known order lawful same equal built was.stored) (known, tt) was.upto (from, tt) in
+      lie_before_from lawful equal m built last (stored_known lawful equal built was.stored)
+      (known, tt) was.upto (from, tt) in
       record {
         stored = appended_stored lawful equal built last was.stored form before;
         upto =
@@ -140,7 +139,7 @@ module _ {K : Type 0} {order : KeyOrder K} (lawful : IsLawful order) {V : Type 0
       let at = (held_between order lawful x.key k rises.0 key).0 held in
       lt_not_le lawful _ _ before (le_trans lawful _ _ _ rises.2 at.0)
   none_before k key m (x ∷ xs) rises before (inr later) =
-      let good = lt_le lawful _ _ ((nonempty_good order lawful x.key rises.0).0 rises.1) in
+      let good = lt_le lawful _ _ ((nonempty_good lawful x.key rises.0).0 rises.1) in
       none_before k key (item_upper order x) xs rises.3
       (lt_le_trans lawful (Beside k At) m (item_upper order x) before
       (le_trans lawful _ _ _ rises.2 good)) later

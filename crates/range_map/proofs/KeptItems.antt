@@ -46,10 +46,9 @@ module _ {K : Type 0} {order : KeyOrder K} (lawful : IsLawful order) {V : Type 0
   pub kept_stored : (bs : List Bool) (items : List (Item (AnyRange K) V))
       → IsStored order same items → IsStored order same (items_where_true bs items)
   kept_stored bs items form =
-      chain_stored order lawful same equal (items_where_true bs items)
-      (every_kept _ bs items (stored_known order lawful same equal items form))
-      (chain_kept (line_of order lawful same equal) bs items
-      (stored_chain order lawful same equal items form))
+      chain_stored lawful equal (items_where_true bs items)
+      (every_kept _ bs items (stored_known lawful equal items form))
+      (chain_kept (line_of lawful equal) bs items (stored_chain lawful equal items form))
 
   kept_binds : (bs : List Bool) (items : List (Item (AnyRange K) V)) (k : K) (v : V)
       → BindsTo order same (items_where_true bs items) k v → BindsTo order same items k v

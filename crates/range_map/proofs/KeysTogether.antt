@@ -30,7 +30,7 @@ module _ {K : Type 0} {order : KeyOrder K} (lawful : IsLawful order) where
         → MeetNowhere order items others → ShareNoKey order items others
     apart_share_none [] others apart k key bound other = bound
     apart_share_none (i ∷ items) others apart k key (inl held) other =
-        apart.0 (binding_meets order lawful others i.key (k, key, held, other)).1
+        apart.0 (binding_meets lawful others i.key (k, key, held, other)).1
     apart_share_none (i ∷ items) others apart k key (inr bound) other =
         apart_share_none items others apart.1 k key bound other
 
@@ -126,16 +126,14 @@ module _ {K : Type 0} {order : KeyOrder K} (lawful : IsLawful order) where
 
         -- the first starts after the range does
         starts_late : (y : Item (AnyRange K) W) (ys : List (Item (AnyRange K) W))
-            → Known order lawful any_same all_same (y ∷ ys)
-            → Chained order lawful any_same all_same (y ∷ ys) → Each (y ∷ ys)
+            → Known lawful all_same (y ∷ ys) → Chained lawful all_same (y ∷ ys) → Each (y ∷ ys)
             → Lt cmp (Lo i.key) (Lo y.key) → ⊥
         unfolding IsBefore
         starts_late y ys known_ys chain each late =
             before_start (Lo i.key) y.key.start
             (λ k key from upto held. below_all order lawful (y ∷ ys) (Lo y.key) k key upto known_ys
-            (chain_above (line_of order lawful any_same all_same) (Lo y.key) y ys chain
-            (le_refl lawful _)) (each k key held))
-            (from_bound i.key i.key.start known known.0 (le_refl lawful _) full)
+            (chain_above (line_of lawful all_same) (Lo y.key) y ys chain (le_refl lawful _)) (each k
+            key held)) (from_bound i.key i.key.start known known.0 (le_refl lawful _) full)
             (key_from order lawful complete (Lo i.key) (Lo y.key)
             (starts_lie_at_starts order lawful i.key.start known.0)
             (starts_lie_at_starts order lawful y.key.start known_ys.0.0) late) (le_refl lawful _)
@@ -150,8 +148,7 @@ module _ {K : Type 0} {order : KeyOrder K} (lawful : IsLawful order) where
 
         -- the first ends within the range
         ends_early : (y : Item (AnyRange K) W) (ys : List (Item (AnyRange K) W))
-            → Known order lawful any_same all_same (y ∷ ys)
-            → Chained order lawful any_same all_same (y ∷ ys) → Each (y ∷ ys)
+            → Known lawful all_same (y ∷ ys) → Chained lawful all_same (y ∷ ys) → Each (y ∷ ys)
             → Le cmp (Lo i.key) (Hi y.key) → Lt cmp (Hi y.key) (Hi i.key) → ⊥
         unfolding IsBefore
         ends_early y [] known_ys chain each from early =
@@ -162,8 +159,7 @@ module _ {K : Type 0} {order : KeyOrder K} (lawful : IsLawful order) where
             not_le lawful _ _ (λ le. chain.1.0.1 le refl) in
             before_start (Hi y.key) z.key.start
             (λ k key over upto held. below_all order lawful (z ∷ zs) (Lo z.key) k key upto
-            known_ys.1
-            (chain_above (line_of order lawful any_same all_same) (Lo z.key) z zs chain.1.1
+            known_ys.1 (chain_above (line_of lawful all_same) (Lo z.key) z zs chain.1.1
             (le_refl lawful _)) (not_by_first y (z ∷ zs) k known_ys.0 key over (each k key held)))
             (past_end i.key y.key.end known known_ys.0.1 from early)
             (key_from order lawful complete (Hi y.key) (Lo z.key)
@@ -172,15 +168,13 @@ module _ {K : Type 0} {order : KeyOrder K} (lawful : IsLawful order) where
             (starts_lie_at_starts order lawful z.key.start known_ys.1.0.0) apart) from
 
         chain_rest : (y : Item (AnyRange K) W) (ys : List (Item (AnyRange K) W))
-            → Chained order lawful any_same all_same (y ∷ ys)
-            → Chained order lawful any_same all_same ys
+            → Chained lawful all_same (y ∷ ys) → Chained lawful all_same ys
         chain_rest y [] chain = tt
         chain_rest y (z ∷ zs) chain = chain.1.1
 
         -- a range whose keys are all bound lies in one range of the list
-        inside_some : (ys : List (Item (AnyRange K) W)) → Known order lawful any_same all_same ys
-            → Chained order lawful any_same all_same ys → Each ys
-            → Any (λ y. LiesIn order i.key y.key) ys
+        inside_some : (ys : List (Item (AnyRange K) W)) → Known lawful all_same ys
+            → Chained lawful all_same ys → Each ys → Any (λ y. LiesIn order i.key y.key) ys
         inside_some [] known_ys chain each =
             let found = from_bound i.key i.key.start known known.0 (le_refl lawful _) full in
             each found.0 found.1 found.2
@@ -196,7 +190,7 @@ module _ {K : Type 0} {order : KeyOrder K} (lawful : IsLawful order) where
                 | inr from ↦ elim (cases lawful (Hi y.key) (Hi i.key)) [
                   | inl early ↦
                       absurd (ends_early y ys known_ys chain each (lt_le lawful _ _ reaches) early)
-                  | inr upto ↦ inl (lies_in order lawful i.key y.key known known_ys.0 from upto)
+                  | inr upto ↦ inl (lies_in lawful i.key y.key known known_ys.0 from upto)
                 ]
               ]
             ]
@@ -211,7 +205,7 @@ module _ {K : Type 0} {order : KeyOrder K} (lawful : IsLawful order) {V W : Type
   share_none_apart same (i ∷ items) others stored complete same_other stored_other none = (
     λ meets.
         let found =
-        meeting_binds order lawful same_other others i.key complete stored_other stored.known.0
+        meeting_binds lawful same_other others i.key complete stored_other stored.known.0
         stored.nonempty.0 meets in
         none found.0 found.1 (inl found.2) found.3,
     share_none_apart same items others (tail_is_stored lawful stored) complete same_other
@@ -226,10 +220,9 @@ module _ {K : Type 0} {order : KeyOrder K} (lawful : IsLawful order) {V W : Type
   binds_inside same [] others stored complete stored_other binds = tt
   binds_inside same (i ∷ items) others stored complete stored_other binds = (
     inside_some lawful complete i stored.known.0
-        ((nonempty_good order lawful i.key stored.known.0).0 stored.nonempty.0) others
-        (stored_known order lawful any_same all_same others stored_other)
-        (stored_chain order lawful any_same all_same others stored_other)
-        (λ k key held. binds k key (inl held)),
+        ((nonempty_good lawful i.key stored.known.0).0 stored.nonempty.0) others
+        (stored_known lawful all_same others stored_other)
+        (stored_chain lawful all_same others stored_other) (λ k key held. binds k key (inl held)),
     binds_inside same items others (tail_is_stored lawful stored) complete stored_other
         (λ k key bound. binds k key (inr bound)),
   )

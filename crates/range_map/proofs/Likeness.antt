@@ -20,18 +20,18 @@ module _ {K : Type 0} {order : KeyOrder K} (lawful : IsLawful order) where
   equal_itself : (p : Position K) → position_cmp order.cmp p p ≡ Equal
   equal_itself p = tied_itself (position_total order.cmp lawful.total) p
 
-  later_under : (p q u : Position K) → PLe order lawful q p
-      → PLe order lawful (later order q u) (later order p u)
+  later_under : (p q u : Position K) → PLe lawful q p
+      → PLe lawful (later order q u) (later order p u)
   later_under p q u le =
-      let over = later_over order lawful p u in
-      either_choice_holds order lawful (λ y. PLe order lawful y (later order p u))
+      let over = later_over lawful p u in
+      either_choice_holds lawful (λ y. PLe lawful y (later order p u))
       (is_gt (position_cmp order.cmp q u)) q u (le_trans lawful _ _ _ le over.0) over.1
 
-  earlier_over : (p q u : Position K) → PLe order lawful p q
-      → PLe order lawful (earlier order p u) (earlier order q u)
+  earlier_over : (p q u : Position K) → PLe lawful p q
+      → PLe lawful (earlier order p u) (earlier order q u)
   earlier_over p q u le =
-      let under = earlier_under order lawful p u in
-      either_choice_holds order lawful (λ y. PLe order lawful (earlier order p u) y)
+      let under = earlier_under lawful p u in
+      either_choice_holds lawful (λ y. PLe lawful (earlier order p u) y)
       (is_gt (position_cmp order.cmp q u)) u q under.1 (le_trans lawful _ _ _ under.0 le)
 
   module _ (r s : AnyRange K)

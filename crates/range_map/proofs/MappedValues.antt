@@ -49,11 +49,11 @@ module _ {K : Type 0} (order : KeyOrder K) {F V W E : Type 0}
         same_start order lawful i.key.start j.key.start
         (bound_clone order lawful is_clone keys i.key.start j.key.start clone.0) in
         let ends : cmp hi (item_upper order j) ≡ Equal =
-        same_past order lawful i.key.end j.key.end
+        same_past lawful i.key.end j.key.end
         (bound_clone order lawful is_clone keys i.key.end j.key.end clone.1) in
         let good =
         lt_le_trans lawful _ _ _ (le_lt_trans lawful _ _ _ (eq_ge lawful _ _ starts)
-        ((nonempty_good order lawful i.key was.rises.0).0 was.rises.1)) (eq_le lawful _ _ ends) in
+        ((nonempty_good lawful i.key was.rises.0).0 was.rises.1)) (eq_le lawful _ _ ends) in
         record {
           done = was.done ++ i ∷ [];
           answers = was.answers ++ j ∷ [];
@@ -68,7 +68,7 @@ module _ {K : Type 0} (order : KeyOrder K) {F V W E : Type 0}
               );
           form =
               built_more lawful equal was.place hi was.answers built j known
-              ((nonempty_good order lawful j.key known).1 good)
+              ((nonempty_good lawful j.key known).1 good)
               (le_trans lawful _ _ _ was.rises.2 (eq_le lawful _ _ starts)) (eq_ge lawful _ _ ends)
               was.form;
           rises = was.rises.3;

@@ -151,7 +151,7 @@ module _ {K : Type 0} {order : KeyOrder K} (lawful : IsLawful order) (len : K �
         (list_measure_is_number order len distance counts (item_ranges items) h)
 
 module _ {K V : Type 0} {order : KeyOrder K} (lawful : IsLawful order) (same : V → V → Bool) where
-  listed_in_order : (items : List (Item (AnyRange K) V)) → IsListed order lawful same items
+  listed_in_order : (items : List (Item (AnyRange K) V)) → IsListed lawful same items
       → AreInOrder order (item_ranges items)
   listed_in_order [] h = tt
   listed_in_order (i ∷ []) h = (h.0, h.1)
@@ -159,5 +159,4 @@ module _ {K V : Type 0} {order : KeyOrder K} (lawful : IsLawful order) (same : V
 
   pub stored_in_order : (items : List (Item (AnyRange K) V)) → IsStored order same items
       → AreInOrder order (item_ranges items)
-  stored_in_order items h =
-      listed_in_order items (stored_list_is_listed order lawful same items h)
+  stored_in_order items h = listed_in_order items (stored_list_is_listed lawful same items h)

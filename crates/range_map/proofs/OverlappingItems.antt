@@ -37,20 +37,20 @@ module _ {K : Type 0} {order : KeyOrder K} (lawful : IsLawful order) where
   -- the end of all keys is the last
   pub ends_full : (e : Bound K) → IsKnownBound order e
       → PLe (end_position order e) (end_position order Unbounded)
-  ends_full e known = end_le order lawful e Unbounded known tt (unbounded_end order lawful e known)
+  ends_full e known = end_le lawful e Unbounded known tt (unbounded_end order lawful e known)
 
   module _ {V : Type 0} (same : V → V → Bool) where
     first_starts_first : (i : Item (AnyRange K) V) (rest : List (Item (AnyRange K) V)) (n : ℕ)
-        (y : Item (AnyRange K) V) → IsListed order lawful same (i ∷ rest) → n < length rest
+        (y : Item (AnyRange K) V) → IsListed lawful same (i ∷ rest) → n < length rest
         → y ≡ get_or rest n y → PLt (Start i) (Start y)
     first_starts_first i rest n y h within read =
-        rw read (le_lt_trans lawful _ _ _ (every_nonempty order lawful same (i ∷ rest) h).0
-        (every_at _ rest n y (starts_rise order lawful same i rest h) within))
+        rw read (le_lt_trans lawful _ _ _ (every_nonempty lawful same (i ∷ rest) h).0
+        (every_at _ rest n y (starts_rise lawful same i rest h) within))
 
     -- the one item starts before the other just where it stands before it
     listed_order : (items : List (Item (AnyRange K) V)) (m n : ℕ) (x y : Item (AnyRange K) V)
-        → IsListed order lawful same items → m < length items → n < length items
-        → x ≡ get_or items m x → y ≡ get_or items n y
+        → IsListed lawful same items → m < length items → n < length items → x ≡ get_or items m x
+        → y ≡ get_or items n y
         → (m < n → PLt (Start x) (Start y)) × (n ≤ m → PLe (Start y) (Start x))
     listed_order [] m n x y h in_m in_n read read' = absurd (omega (arith, in_m))
     listed_order (i ∷ rest) zero zero x y h in_m in_n read read' =
@@ -70,7 +70,7 @@ module _ {K : Type 0} {order : KeyOrder K} (lawful : IsLawful order) where
         )
     listed_order (i ∷ rest) (suc m) (suc n) x y h in_m in_n read read' =
         let next =
-        listed_order rest m n x y (stored_tail order lawful same i rest h) (omega (arith, in_m))
+        listed_order rest m n x y (stored_tail lawful same i rest h) (omega (arith, in_m))
         (omega (arith, in_n)) read read' in
         (λ l. next.0 (omega (arith, l)), λ l. next.1 (omega (arith, l)))
 
@@ -81,7 +81,7 @@ module _ {K : Type 0} {order : KeyOrder K} (lawful : IsLawful order) where
         × (is_gt (position_cmp order.cmp (Start y) (Start x)) ≡ false → n ≤ m)
     stored_order {items = items} {m = m} {n = n} {x = x} {y = y} stored in_m in_n read read' =
         let placed =
-        listed_order items m n x y (stored_list_is_listed order lawful same items stored) in_m in_n
+        listed_order items m n x y (stored_list_is_listed lawful same items stored) in_m in_n
         read read' in (
           λ e. let never : n ≤ m → ⊥ = λ l. not_both (placed.1 l) e in omega (arith, never),
           λ e.
@@ -167,9 +167,8 @@ module _ {K : Type 0} {order : KeyOrder K} (lawful : IsLawful order) {V : Type 0
   found_from k key before first last found is_last =
       let upper : Position K = end_position order Unbounded in
       let all : Every (λ i. PLe lawful (Start lawful i) upper) items =
-      every_with _ _ _ items (every_nonempty order lawful same items
-      (stored_list_is_listed order lawful same items stored))
-      (stored_known order lawful same equal items stored)
+      every_with _ _ _ items (every_nonempty lawful same items
+      (stored_list_is_listed lawful same items stored)) (stored_known lawful equal items stored)
       (λ i own known. le_trans lawful _ _ _ own (ends_full lawful i.key.end known.1)) in
       let b = place_after rank last in
       overlapping_are lawful (with_bounds (Included k) Unbounded) items

@@ -39,28 +39,25 @@ module _ {K : Type 0} {order : KeyOrder K} (lawful : IsLawful order) {V : Type 0
     {same : V → V → Bool} (equal : IsEquivalence same) (items : List (Item (AnyRange K) V))
     (r : AnyRange K) (stored : IsStored order same items) (known : IsKnownRange order r)
     (nonempty : IsEmptyRange order r → ⊥) where
-  abbrev Le' : Position K → Position K → Type 0
-  Le' p q = PLe order lawful p q
+  abbrev Le' : Position K → Position K → Type 0 Le' p q = PLe lawful p q
 
-  abbrev Lt' : Position K → Position K → Type 0
-  Lt' p q = PLt order lawful p q
+  abbrev Lt' : Position K → Position K → Type 0 Lt' p q = PLt lawful p q
 
   abbrev Low : AnyRange K → Position K
-  Low = Lo order lawful
+  Low = Lo lawful
 
   abbrev High : AnyRange K → Position K
-  High = Hi order lawful
+  High = Hi lawful
 
-  abbrev IsGood : Item (AnyRange K) (Option V) → Type 0
-  IsGood p = IsInside order lawful items r p.key × IsRight order lawful items r p.key p.value
+  abbrev IsGood : Item (AnyRange K) (Option V) → Type 0 IsGood p = IsInside lawful items r p.key
+  × IsRight lawful items r p.key p.value
 
-  chained : Chained order lawful same equal items
-  chained = stored_chain order lawful same equal items stored
+  chained : Chained lawful equal items
+  chained = stored_chain lawful equal items stored
 
-  full : Every (IsFull order lawful items r) items
+  full : Every (IsFull lawful items r) items
   full =
-      all_full order lawful same equal r items
-      (stored_known order lawful same equal items stored) chained
+      all_full lawful equal r items (stored_known lawful equal items stored) chained
 
   -- all pieces of the range from two places on
   record IsCut (from to : Position K) (pieces : List (Item (AnyRange K) (Option V))) : Type 0 where
@@ -207,11 +204,11 @@ module _ {K : Type 0} {order : KeyOrder K} (lawful : IsLawful order) {V : Type 0
   -- an item that the range meets, after those so far
   module _ {done rest : List (Item (AnyRange K) V)} {x : Item (AnyRange K) V} {from : Position K}
       (ready : IsReady done (x ∷ rest) from) (meets : Overlap order x.key r) where
-    good : IsFull order lawful items r x
+    good : IsFull lawful items r x
     good = (every_right _ done _ (rw ready.list at full)).0
 
-    chain_here : Chained order lawful same equal (x ∷ rest)
-    chain_here = chain_right (line_of order lawful same equal) done _ (rw ready.list at chained)
+    chain_here : Chained lawful equal (x ∷ rest)
+    chain_here = chain_right (line_of lawful equal) done _ (rw ready.list at chained)
 
     among : (P : Item (AnyRange K) V → Type 0) → P x → Any P items
     among P h = rw ready.list (any_right P done _ (inl h))
@@ -219,12 +216,12 @@ module _ {K : Type 0} {order : KeyOrder K} (lawful : IsLawful order) {V : Type 0
     starts : Lt' (Low x.key) (High r)
     starts =
         not_le lawful _ _
-        (λ le. meets.1 ((before_is order lawful r.end x.key.start known.1 good.0.0).1 le))
+        (λ le. meets.1 ((before_is lawful r.end x.key.start known.1 good.0.0).1 le))
 
     ends : Lt' (Low r) (High x.key)
     ends =
         not_le lawful _ _
-        (λ le. meets.0 ((before_is order lawful x.key.end r.start good.0.1 known.0).1 le))
+        (λ le. meets.0 ((before_is lawful x.key.end r.start good.0.1 known.0).1 le))
 
     abbrev Part : AnyRange K
     Part = common order r x.key
@@ -232,8 +229,8 @@ module _ {K : Type 0} {order : KeyOrder K} (lawful : IsLawful order) {V : Type 0
     part_within : Le' (Low r) (Low Part) × Le' (Low x.key) (Low Part) × Le' (High Part) (High r)
         × Le' (High Part) (High x.key)
     part_within =
-        common_within order lawful r x.key Part known good.0
-        (common_known order lawful r x.key known good.0) (shared_is order lawful r x.key)
+        common_within lawful r x.key Part known good.0
+        (common_known order lawful r x.key known good.0) (shared_is lawful r x.key)
 
     -- what lies in both lies in the part
     part_starts : (m : Position K) → Le' (Low r) m → Le' (Low x.key) m → Le' (Low Part) m
@@ -250,11 +247,11 @@ module _ {K : Type 0} {order : KeyOrder K} (lawful : IsLawful order) {V : Type 0
         common_known order lawful r x.key known good.0,
         part_within.0,
         later_is order lawful r.start x.key.start (λ b. Lt' (start_position order b) (High Part))
-            (part_ends (Low r) ((nonempty_good order lawful r known).0 nonempty) ends)
+            (part_ends (Low r) ((nonempty_good lawful r known).0 nonempty) ends)
             (part_ends (Low x.key) starts good.1),
         part_within.2,
       ),
-      among _ (shared_is order lawful r x.key, refl),
+      among _ (shared_is lawful r x.key, refl),
     )
 
     part_after : Le' from (Low Part)
@@ -271,7 +268,7 @@ module _ {K : Type 0} {order : KeyOrder K} (lawful : IsLawful order) {V : Type 0
     with_item start opens was =
         let own = le_refl lawful (Low x.key) in
         with_gap ready (lt_le lawful _ _ starts)
-        (chain_above (line_of order lawful same equal) (Low x.key) x rest chain_here own)
+        (chain_above (line_of lawful equal) (Low x.key) x rest chain_here own)
         (inr (among _ (own, own))) (add (bound_piece order r x) part_after part_within.1 part_good
         part_within.3 (λ m h k before. elim (cases lawful m (High x.key)) [
           | inl l ↦
@@ -295,7 +292,7 @@ module _ {K : Type 0} {order : KeyOrder K} (lawful : IsLawful order) {V : Type 0
           edge =
               inr (
                 among _ (own, own),
-                follows_above (line_of order lawful same equal) x rest chain_here.1,
+                follows_above (line_of lawful equal) x rest chain_here.1,
               );
         }
 
@@ -303,7 +300,7 @@ module _ {K : Type 0} {order : KeyOrder K} (lawful : IsLawful order) {V : Type 0
     abbrev Pieces : List (Item (AnyRange K) (Option V))
     Pieces = pieces_from order r (Some r.start) (Some r.end) met
 
-    parts : Every (IsFull order lawful items r) (are.before ++ (met ++ are.after))
+    parts : Every (IsFull lawful items r) (are.before ++ (met ++ are.after))
     parts = rw are.split at full
 
     pieces_cut : (left : List (Item (AnyRange K) V)) {done : List (Item (AnyRange K) V)}
@@ -314,7 +311,7 @@ module _ {K : Type 0} {order : KeyOrder K} (lawful : IsLawful order) {V : Type 0
         let own = le_refl lawful (High r) in
         rw append-nil at (with_gap {rest = []} ready own (every_with _ _ _ are.after are.above
         (every_right _ met are.after (every_right _ are.before (met ++ are.after) parts))
-        (λ i l k. (before_is order lawful r.end i.key.start known.1 k.0.0).0 l)) (inl own)
+        (λ i l k. (before_is lawful r.end i.key.start known.1 k.0.0).0 l)) (inl own)
         (record {
           each = tt;
           rising = tt;
@@ -333,14 +330,14 @@ module _ {K : Type 0} {order : KeyOrder K} (lawful : IsLawful order) {V : Type 0
           at_least = own;
           below =
               every_with _ _ _ are.before are.below (every_left _ are.before _ parts)
-              (λ i l k. (before_is order lawful i.key.end r.start k.0.1 known.0).0 l);
+              (λ i l k. (before_is lawful i.key.end r.start k.0.1 known.0).0 l);
           edge = inl own;
         }) (known.0, tied_itself (position_total order.cmp lawful.total) (Low r))
 
     -- the list has all pieces of the range
     pub pieces_are : ArePieces order items r Pieces
     pieces_are =
-        rw (told_back Pieces) at (cut_all order lawful items r known same equal full chained
+        rw (told_back Pieces) at (cut_all lawful items r known same equal full chained
         (High r) (map told Pieces) (record {
           inside =
               every_map told _ Pieces
@@ -352,18 +349,18 @@ module _ {K : Type 0} {order : KeyOrder K} (lawful : IsLawful order) {V : Type 0
 
     module _ (part : AnyRange K) (free : IsFreePart order items r part) where
       none_by : (key : AnyRange K) (v : Option V) → IsKnownRange order key → IsOver order key part
-          → IsRight order lawful items r key v → v ≡ None
+          → IsRight lawful items r key v → v ≡ None
       none_by key None known_key over right = refl
       none_by key (Some v) known_key over right =
-          absurd (common_place_is_not_clear order lawful items r known full same equal (Low part)
-          key part v known_key right over.0 over.1 (every_weaker _ _ items (λ i b. b.1)
-          (free_apart order lawful items r known full part free)) (le_refl lawful _)
-          (free_inside order lawful items r known full part free).2)
+          absurd (common_place_is_not_clear lawful items r known full equal (Low part) key part v
+          known_key right over.0 over.1 (every_weaker _ _ items (λ i b. b.1)
+          (free_apart lawful items r known full part free)) (le_refl lawful _)
+          (free_inside lawful items r known full part free).2)
 
       -- where a part of the range is free, a free piece is over it
       pub free_shows : Any (λ p. IsOver order p.key part × (p.value ≡ None)) Pieces
       free_shows =
-          let inside = free_inside order lawful items r known full part free in
+          let inside = free_inside lawful items r known full part free in
           any_with _ _ _ Pieces (cut.covered (Low part) inside.1 inside.1
           (lt_le_trans lawful _ _ _ inside.2 inside.3)) cut.each
           (λ p over h. (over, none_by p.key p.value h.2.0.0 over h.2.1))

@@ -15,7 +15,7 @@ module _ {K : Type 0} {order : KeyOrder K} (lawful : IsLawful order) where
   none_past e s turns known true is = refl
   none_past e s turns known false is =
       absurd (lt_not_le lawful _ _
-      ((before_is order lawful e s known (flipped_known order lawful e s turns known)).1
+      ((before_is lawful e s known (flipped_known order lawful e s turns known)).1
       (eq_le lawful _ _ (flipped_bound_is_past order lawful e s turns))) is)
 
   none_after_end : (e : Bound K) (s : Option (Bound K)) → flipped e ≡ s → IsKnownBound order e

@@ -30,43 +30,41 @@ module _ {K : Type 0} {order : KeyOrder K} (lawful : IsLawful order) {V : Type 0
     abbrev cut : Position K
     cut = start_position order (Included key)
 
-    abbrev Front : List (Item (AnyRange K) V) → Type 0
-    Front items = Every (λ i. Le (places order lawful) (item_upper order i) cut) items
+    abbrev Front : List (Item (AnyRange K) V) → Type 0 Front items = Every
+    (λ i. Le (places lawful) (item_upper order i) cut) items
 
-    abbrev Back : List (Item (AnyRange K) V) → Type 0
-    Back items = Every (λ i. Le (places order lawful) cut (item_lower order i)) items
+    abbrev Back : List (Item (AnyRange K) V) → Type 0 Back items = Every
+    (λ i. Le (places lawful) cut (item_lower order i)) items
 
-    below_lies : (k : K) → Below order k key → Lt (places order lawful) (Beside k At) cut
-    below_lies k h = then_equal (order.cmp k key) ∙ h
+    below_lies : (k : K) → Below order k key → Lt (places lawful) (Beside k At) cut below_lies k
+    h = then_equal (order.cmp k key) ∙ h
 
-    from_lies : (k : K) → NotAbove order key k → Le (places order lawful) cut (Beside k At)
-    from_lies k h = rw (then_equal (order.cmp key k)) h
+    from_lies : (k : K) → NotAbove order key k → Le (places lawful) cut (Beside k At) from_lies k
+    h = rw (then_equal (order.cmp key k)) h
 
     -- the items below the place of the key, and those from it on
-    divided : (items front back : List (Item (AnyRange K) V)) → Known order lawful same equal items
-        → Known order lawful same equal front → Known order lawful same equal back
-        → IsLeft (line_of order lawful same equal) items front cut
-        → IsRight (line_of order lawful same equal) items back cut
+    divided : (items front back : List (Item (AnyRange K) V)) → Known lawful equal items
+        → Known lawful equal front → Known lawful equal back
+        → IsLeft (line_of lawful equal) items front cut
+        → IsRight (line_of lawful equal) items back cut
         → length front + length back ≤ length items + 1 → IsDivided order same key items front back
     divided items front back known front_known back_known left right few =
-        let line = line_of order lawful same equal in
+        let line = line_of lawful equal in
         record {
           split = record {
-            below = λ k is_key h b.
-                same_binds order lawful same equal items front k known front_known is_key
+            below = λ k is_key h b. same_binds lawful equal items front k known front_known is_key
                 (λ W respects. left.holds (Beside k At) W respects (below_lies k h)) b;
-            from = λ k is_key h b.
-                same_binds order lawful same equal items back k known back_known is_key
+            from = λ k is_key h b. same_binds lawful equal items back k known back_known is_key
                 (λ W respects. right.holds (Beside k At) W respects (from_lies k h)) b;
             none_from = λ k is_key h bound.
                 none_above line (Beside k At) cut (λ u. true) front (from_lies k h) left.ends
-                ((bound_hold order lawful same equal front k front_known is_key).0 bound);
+                ((bound_hold lawful equal front k front_known is_key).0 bound);
             none_below = λ k is_key h bound.
                 none_below line (Beside k At) cut (λ u. true) back (below_lies k h) right.starts
-                ((bound_hold order lawful same equal back k back_known is_key).0 bound);
+                ((bound_hold lawful equal back k back_known is_key).0 bound);
           };
-          front_form = chain_stored order lawful same equal front front_known left.chain;
-          back_form = chain_stored order lawful same equal back back_known right.chain;
+          front_form = chain_stored lawful equal front front_known left.chain;
+          back_form = chain_stored lawful equal back back_known right.chain;
           few = few;
         }
 
@@ -74,9 +72,9 @@ module _ {K : Type 0} {order : KeyOrder K} (lawful : IsLawful order) {V : Type 0
     pub parted : (front back : List (Item (AnyRange K) V)) → IsStored order same (front ++ back)
         → Front front → Back back → IsDivided order same key (front ++ back) front back
     parted front back form ends starts =
-        let line = line_of order lawful same equal in
-        let known = stored_known order lawful same equal (front ++ back) form in
-        let chain = stored_chain order lawful same equal (front ++ back) form in
+        let line = line_of lawful equal in
+        let known = stored_known lawful equal (front ++ back) form in
+        let chain = stored_chain lawful equal (front ++ back) form in
         let sum = length-append front back in
         divided (front ++ back) front back known (every_left _ front back known)
         (every_right _ front back known) (left_whole line front back cut chain ends starts)
@@ -84,7 +82,7 @@ module _ {K : Type 0} {order : KeyOrder K} (lawful : IsLawful order) {V : Type 0
 
     module _ (front rest : List (Item (AnyRange K) V)) (x : Item (AnyRange K) V)
         (form : IsStored order same ((front ++ x ∷ []) ++ rest))
-        (low : Lt (places order lawful) (item_lower order x) cut) (starts : Back rest) where
+        (low : Lt (places lawful) (item_lower order x) cut) (starts : Back rest) where
       together : (front ++ x ∷ []) ++ rest ≡ front ++ x ∷ rest
       together = append_assoc front (x ∷ []) rest
 
@@ -92,13 +90,13 @@ module _ {K : Type 0} {order : KeyOrder K} (lawful : IsLawful order) {V : Type 0
       pub last_parted : (Holds order x.key key → ⊥)
           → IsDivided order same key ((front ++ x ∷ []) ++ rest) (front ++ x ∷ []) rest
       last_parted out =
-          let line = line_of order lawful same equal in
+          let line = line_of lawful equal in
           let whole = subst (IsStored order same) together form in
-          let known = stored_known order lawful same equal (front ++ x ∷ rest) whole in
+          let known = stored_known lawful equal (front ++ x ∷ rest) whole in
           let x_known = (every_right _ front _ known).0 in
-          let chain = stored_chain order lawful same equal (front ++ x ∷ rest) whole in
+          let chain = stored_chain lawful equal (front ++ x ∷ rest) whole in
           let at = held_between order lawful x.key key x_known key_known in
-          let ends : Le (places order lawful) (item_upper order x) cut =
+          let ends : Le (places lawful) (item_upper order x) cut =
           not_lt lawful _ _ (λ reaches. out (at.1 (lt_le lawful _ _ low, reaches))) in
           parted (front ++ x ∷ []) rest form (every_append _ front (x ∷ [])
           (every_weaker _ _ front (λ z h.
@@ -112,20 +110,20 @@ module _ {K : Type 0} {order : KeyOrder K} (lawful : IsLawful order) {V : Type 0
           (front ++ (record { key = record { start = x.key.start; end = b }; value = v }) ∷ [])
           (with_start x (Included key) ∷ rest)
       last_cut b v b_known same_b alike held =
-          let line = line_of order lawful same equal in
+          let line = line_of lawful equal in
           let whole = subst (IsStored order same) together form in
-          let known = stored_known order lawful same equal (front ++ x ∷ rest) whole in
+          let known = stored_known lawful equal (front ++ x ∷ rest) whole in
           let front_known = every_left _ front _ known in
           let x_known = (every_right _ front _ known).0 in
           let rest_known = (every_right _ front _ known).1 in
-          let chain = stored_chain order lawful same equal (front ++ x ∷ rest) whole in
+          let chain = stored_chain lawful equal (front ++ x ∷ rest) whole in
           let at = (held_between order lawful x.key key x_known key_known).0 held in
           let y : Item (AnyRange K) V =
           record { key = record { start = x.key.start; end = b }; value = v } in
           let z = with_start x (Included key) in
-          let own : (p : Position K) → places order lawful p p ≡ Equal =
+          let own : (p : Position K) → places lawful p p ≡ Equal =
           λ p. both lawful _ _ (le_refl lawful _) (le_refl lawful _) in
-          let at_end = cut_end order lawful x.key.start (Included key) b x_known.0 low same_b in
+          let at_end = cut_end lawful x.key.start (Included key) b x_known.0 low same_b in
           let sum = length-append front (x ∷ rest) in
           let sum_front = length-append front (y ∷ []) in
           subst (λ items. IsDivided order same key items (front ++ y ∷ []) (z ∷ rest))

@@ -108,7 +108,7 @@ module _ {K : Type 0} {order : KeyOrder K} (lawful : IsLawful order) where
         )
 
     listed_ascends : (same : V → V → Bool) (items : List (Item (AnyRange K) V))
-        → IsListed order lawful same items → IsAscending order items
+        → IsListed lawful same items → IsAscending order items
     listed_ascends same [] h = tt
     listed_ascends same (i ∷ []) h = (h.1, tt, tt)
     listed_ascends same (i ∷ j ∷ rest) h =
@@ -118,7 +118,7 @@ module _ {K : Type 0} {order : KeyOrder K} (lawful : IsLawful order) where
     pub stored_ascends : {same : V → V → Bool} {items : List (Item (AnyRange K) V)}
         → IsStored order same items → IsAscending order items
     stored_ascends {same = same} {items = items} h =
-        listed_ascends same items (stored_list_is_listed order lawful same items h)
+        listed_ascends same items (stored_list_is_listed lawful same items h)
 
   module _ {V W : Type 0} where
     -- at first both lists are left

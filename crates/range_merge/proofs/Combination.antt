@@ -46,9 +46,9 @@ module _ {K : Type 0} {order : KeyOrder K} (lawful : IsLawful order) {V W X : Ty
   Answer = Combined K V W X
 
   -- a list holds the place as the answer says
-  abbrev IsHeldAs : Position K → List (Item (AnyRange K) X) → Option X → Type 0
-  IsHeldAs p new answer = (U : X → Bool) → Alike order lawful same equal full_range U
-      → Hold order lawful same equal U p new ↔ Gives order lawful same equal full_range U answer
+  abbrev IsHeldAs : Position K → List (Item (AnyRange K) X) → Option X → Type 0 IsHeldAs p new
+  answer = (U : X → Bool) → Alike lawful equal full_range U → Hold lawful equal U p new
+      ↔ Gives lawful equal full_range U answer
 
   -- some answer is to a range that holds the place
   abbrev IsDone : List Answer → Position K → Type 0
@@ -69,11 +69,10 @@ module _ {K : Type 0} {order : KeyOrder K} (lawful : IsLawful order) {V W X : Ty
     pub below : Every (λ c. PLe order (upper order c.key) upto) answers
     pub given : Every (λ c. may c.left c.right (Ok c.answer)) answers
     pub answered : List (Answered K X)
-    pub filled : IsFilledUpTo order lawful same equal full_range upto answered middle
+    pub filled : IsFilledUpTo lawful equal full_range upto answered middle
     pub held : (p : Position K) → IsDone answers p
         → Any (λ c. HoldsAt order p c.key × IsHeldAs p middle c.answer) answers
-    pub free : (p : Position K) → Hold order lawful same equal (λ u. true) p middle
-        → IsDone answers p
+    pub free : (p : Position K) → Hold lawful equal (λ u. true) p middle → IsDone answers p
 
   -- at first all is left
   pub combined_none : {same_left : V → V → Bool} → IsEquivalence same_left
@@ -92,7 +91,7 @@ module _ {K : Type 0} {order : KeyOrder K} (lawful : IsLawful order) {V W X : Ty
     below = tt;
     given = tt;
     answered = [];
-    filled = filled_none order lawful same equal full_range (lower order full_range);
+    filled = filled_none lawful equal full_range (lower order full_range);
     held = λ p h. h;
     free = λ p h. h;
   }
@@ -136,7 +135,7 @@ module _ {K : Type 0} {order : KeyOrder K} (lawful : IsLawful order) {V W X : Ty
     is_shared = record {
       part = record {
         known = piece.placed.known;
-        nonempty = (nonempty_good order lawful key piece.placed.known).1 piece.placed.good;
+        nonempty = (nonempty_good lawful key piece.placed.known).1 piece.placed.good;
         first = constant_on lawful was.first value piece.placed took not_done;
         second = constant_on lawful was.second other piece.placed took_other not_done;
         bound = piece.bound;
@@ -157,10 +156,10 @@ module _ {K : Type 0} {order : KeyOrder K} (lawful : IsLawful order) {V W X : Ty
     module _ (answer : Option X) (new : List (Item (AnyRange K) X)) {is_clone : K → K → Type 0}
         (clones : (a b : Bound K) → IsBoundClone is_clone a b → SameBound order a b)
         (put : IsPut order same is_clone middle new key answer) where
-      filled_more : IsFilledUpTo order lawful same equal full_range (upper order key)
+      filled_more : IsFilledUpTo lawful equal full_range (upper order key)
           (was.answered ++ record { key = key; value = None; answer = answer } ∷ []) new
       filled_more =
-          fill_more order lawful same equal full_range was.upto (upper order key) _ key (
+          fill_more lawful equal full_range was.upto (upper order key) _ key (
             piece.placed.known,
             unbounded_start order lawful key.start piece.placed.known.0,
             piece.placed.good,
@@ -168,10 +167,9 @@ module _ {K : Type 0} {order : KeyOrder K} (lawful : IsLawful order) {V W X : Ty
           ) starts_after (le_refl lawful _) is_clone clones None answer middle new was.filled put
 
       -- the piece is put after what the list holds already
-      hold_more : (p : Position K) (U : X → Bool) → Alike order lawful same equal full_range U
-          → Hold order lawful same equal U p new
-          ↔ (Hold order lawful same equal U p middle
-          ⊎ (HoldsAt order p key × Gives order lawful same equal full_range U answer))
+      hold_more : (p : Position K) (U : X → Bool) → Alike lawful equal full_range U
+          → Hold lawful equal U p new ↔ (Hold lawful equal U p middle
+          ⊎ (HoldsAt order p key × Gives lawful equal full_range U answer))
       hold_more p U same_as =
           told (filled_more.has p U same_as) (any_last _ was.answered _)
           (was.filled.has p U same_as)
@@ -214,8 +212,7 @@ module _ {K : Type 0} {order : KeyOrder K} (lawful : IsLawful order) {V W X : Ty
             rising =
                 next_last _ was.answers _ was.rising
                 (every_with _ _ _ was.answers was.each was.below (λ c part below.
-                (before_is order lawful c.key.end key.start part.part.known.1
-                piece.placed.known.0).1
+                (before_is lawful c.key.end key.start part.part.known.1 piece.placed.known.0).1
                 (le_trans lawful _ _ _ below starts_after)));
             below =
                 every_append _ was.answers _
@@ -226,28 +223,28 @@ module _ {K : Type 0} {order : KeyOrder K} (lawful : IsLawful order) {V W X : Ty
             filled = filled_more;
             held = held_more;
             free = λ p h. (any_last _ was.answers _).1 (elim ((hold_more p (λ u. true)
-                (respects_any order lawful same equal)).0 h) [
+                (respects_any lawful equal)).0 h) [
                   | inl before ↦ inl (was.free p before)
                   | inr here ↦ inr here.0
                 ]);
           }
 
-  as_answered : (new : List (Item (AnyRange K) X)) (k : K) → Known order lawful same equal new
-      → order.is_key k → (answer b : Option X) → IsHeldAs (Beside k At) new answer
-      → Binds order same new k b ↔ IsAsAnswered same answer b
+  as_answered : (new : List (Item (AnyRange K) X)) (k : K) → Known lawful equal new → order.is_key k
+      → (answer b : Option X) → IsHeldAs (Beside k At) new answer → Binds order same new k b
+      ↔ IsAsAnswered same answer b
   as_answered new k known key None None held =
-      let bound = bound_hold order lawful same equal new k known key in
+      let bound = bound_hold lawful equal new k known key in
       (λ _. refl, λ _ is. (held (λ u. true) (λ a b s t. t)).0 (bound.0 is))
   as_answered new k known key (Some v) None held =
-      let bound = bound_hold order lawful same equal new k known key in
+      let bound = bound_hold lawful equal new k known key in
       (λ unbound. unbound (bound.1 ((held (λ u. true) (λ a b s t. t)).1 refl)), λ e. absurd e)
   as_answered new k known key None (Some w) held =
       let own = held (λ u. same u w) (λ a b s t. sym (equal.congr a b w s) ∙ t) in
-      let here = binds_hold order lawful same equal new k w known key in
+      let here = binds_hold lawful equal new k w known key in
       (λ bound. absurd (own.0 (here.0 bound)), λ e. absurd (cc))
   as_answered new k known key (Some v) (Some w) held =
       let own = held (λ u. same u w) (λ a b s t. sym (equal.congr a b w s) ∙ t) in
-      let here = binds_hold order lawful same equal new k w known key in
+      let here = binds_hold lawful equal new k w known key in
       (λ bound. own.0 (here.0 bound), λ e. here.1 (own.1 e))
 
   constant_bound : {U : Type 0} (xs : List (Item (AnyRange K) U)) (r : AnyRange K) (v : Option U)
@@ -272,14 +269,14 @@ module _ {K : Type 0} {order : KeyOrder K} (lawful : IsLawful order) {V W X : Ty
       → left ≡ [] → right ≡ []
       → IsStored order same new × IsCombination order same_left same_right same may items others new
   combined_all {new} was no_left no_right = (
-    chain_stored order lawful same equal new was.filled.known was.filled.chain,
+    chain_stored lawful equal new was.filled.known was.filled.chain,
     record {
       answers = was.answers;
       each = was.each;
       rising = was.rising;
       all = λ piece left right is.
           let part = is.part in
-          let good = (nonempty_good order lawful piece part.known).0 part.nonempty in
+          let good = (nonempty_good lawful piece part.known).0 part.nonempty in
           let at : HoldsAt order (lower order piece) piece = (le_refl lawful _, good) in
           let done : IsDone was.answers (lower order piece) =
           elim (some_of left right part.bound) [
@@ -304,8 +301,7 @@ module _ {K : Type 0} {order : KeyOrder K} (lawful : IsLawful order) {V W X : Ty
           ));
       free = λ k key unbound unbound_other bound.
           any_use _ _ was.answers (was.free (Beside k At)
-          ((bound_hold order lawful same equal new k was.filled.known key).0 bound)) was.each
-          (λ c at part.
+          ((bound_hold lawful equal new k was.filled.known key).0 bound)) was.each (λ c at part.
           let shared = part.part in
           let held = (held_between order lawful c.key k shared.known key).1 at in
           elim (some_of c.left c.right shared.bound) [
@@ -333,7 +329,7 @@ module _ {K : Type 0} {order : KeyOrder K} (lawful : IsLawful order) where
       → (xs : List (Item (AnyRange K) U)) (r : AnyRange K) (v : Option U) (k : K) → order.is_key k
       → Holds order r k → IsConstantOn order xs r v → Binds order same xs k v
   constant_binds equal xs r None k key held none =
-      λ bound. none (binding_meets order lawful xs r (k, key, held, bound)).1
+      λ bound. none (binding_meets lawful xs r (k, key, held, bound)).1
   constant_binds equal xs r (Some v) k key held inside =
       inside_binds_to equal xs r v k key held inside
 

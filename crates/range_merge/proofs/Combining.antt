@@ -177,8 +177,7 @@ module _ {K : Type 0} {order : KeyOrder K} (lawful : IsLawful order) {V : Type 0
         → Done (Beside k At)
     side_all none k key bound =
         let at : SomeHoldsAt order (Beside k At) items =
-        any_over _ _ items (λ i h. h.0)
-        ((bound_hold order lawful alike one_class items k known key).0 bound) in
+        any_over _ _ items (λ i h. h.0) ((bound_hold lawful one_class items k known key).0 bound) in
         elim (was.seen (Beside k At) at) [
           | inl later ↦ absurd (rw none at later)
           | inr done ↦ done
@@ -211,8 +210,8 @@ module _ {K : Type 0} {order : KeyOrder K} (lawful : IsLawful order) {V : Type 0
       constant_on None placed taken new =
           λ met.
           let at =
-          met_range_is_covered order lawful alike one_class key items placed.known placed.good
-          known (every_weaker _ _ items (λ i placed. placed.good) was.placed) met in
+          met_range_is_covered lawful one_class key items placed.known placed.good known
+          (every_weaker _ _ items (λ i placed. placed.good) was.placed) met in
           elim (was.seen at.place (any_over _ _ items (λ i h. h.0) at.held)) [
             | inl later ↦ elim (taken.places at.place later) [
               | inl here ↦ here.1 refl
@@ -222,15 +221,14 @@ module _ {K : Type 0} {order : KeyOrder K} (lawful : IsLawful order) {V : Type 0
           ]
       constant_on (Some v) placed taken new =
           any_with _ _ _ items taken.inside was.placed (λ i part within. (
-            lies_in order lawful key i.key placed.known within.known part.1 part.2,
+            lies_in lawful key i.key placed.known within.known part.1 part.2,
             part.0,
           ))
 
 module _ {K : Type 0} {order : KeyOrder K} (lawful : IsLawful order) {V : Type 0}
     {same : V → V → Bool} (equal : IsEquivalence same) (items : List (Item (AnyRange K) V)) where
-  all_left : (xs : List (Item (AnyRange K) V)) (m : Position K)
-      → Known order lawful same equal xs → Chained order lawful same equal xs
-      → Every (λ x. PLe order m (lower order x.key)) xs
+  all_left : (xs : List (Item (AnyRange K) V)) (m : Position K) → Known lawful equal xs
+      → Chained lawful equal xs → Every (λ x. PLe order m (lower order x.key)) xs
       → ((x : Item (AnyRange K) V) → Any (λ i. i ≡ x) xs → Any (λ i. i ≡ x) items)
       → IsLeftFrom order items m xs
   all_left [] m known chain from within = tt
@@ -239,26 +237,23 @@ module _ {K : Type 0} {order : KeyOrder K} (lawful : IsLawful order) {V : Type 0
     record { known = known.0; good = chain.0 },
     any_over _ _ items (λ i e. rw e (refl, le_refl lawful _, le_refl lawful _))
         (within x (inl refl)),
-    all_left xs (upper order x.key) known.1
-        (chain_tail (line_of order lawful same equal) x xs chain.1)
-        (follows_above (line_of order lawful same equal) x xs chain.1)
-        (λ y h. within y (inr h)),
+    all_left xs (upper order x.key) known.1 (chain_tail (line_of lawful equal) x xs chain.1)
+        (follows_above (line_of lawful equal) x xs chain.1) (λ y h. within y (inr h)),
   )
 
   -- at first all is left
   pub side_none : IsStored order same items → (Done : Position K → Type 0)
       → IsSideUpTo order items (lower order full_range) items Done
   side_none stored Done =
-      let known = stored_known order lawful same equal items stored in
-      let chain = stored_chain order lawful same equal items stored in
+      let known = stored_known lawful equal items stored in
+      let chain = stored_chain lawful equal items stored in
       let all =
       all_left items (lower order full_range) known chain
       (every_weaker _ _ items (λ i k. unbounded_start order lawful i.key.start k.0) known)
       (λ x h. h) in
       record {
         placed =
-            every_with _ _ _ items known
-            (chained_items_have_places order lawful same equal items chain)
+            every_with _ _ _ items known (chained_items_have_places lawful equal items chain)
             (λ i known good. record { known = known; good = good });
         apart = all;
         from = all;

@@ -27,8 +27,8 @@ module _ {K : Type 0} {order : KeyOrder K} (lawful : IsLawful order) where
   pub past_same : (e f : Bound K) → IsKnownBound order e → IsKnownBound order f
       → cmp (end_position order e) (end_position order f) ≡ Equal → cmp (Past e) (Past f) ≡ Equal
   past_same e f known others same =
-      both lawful _ _ (past_le order lawful e f known others (eq_le lawful _ _ same))
-      (past_le order lawful f e others known (eq_ge lawful _ _ same))
+      both lawful _ _ (past_le lawful e f known others (eq_le lawful _ _ same))
+      (past_le lawful f e others known (eq_ge lawful _ _ same))
 
   -- a start that lies past another is not unbounded
   pub later_has_end : (r : AnyRange K) (s : Bound K) → IsPlaced order r
@@ -42,7 +42,7 @@ module _ {K : Type 0} {order : KeyOrder K} (lawful : IsLawful order) where
   pub earlier_has_start : (r : AnyRange K) (e : Bound K) → IsPlaced order r
       → Lt cmp (end_position order e) (end_position order r.end) → flipped e ≡ None → ⊥
   earlier_has_start r Unbounded placed less is =
-      lt_not_le lawful _ _ less (end_le order lawful r.end Unbounded placed.known.1 tt
+      lt_not_le lawful _ _ less (end_le lawful r.end Unbounded placed.known.1 tt
       (unbounded_end order lawful r.end placed.known.1))
   earlier_has_start r (Included a) placed less is = cc
   earlier_has_start r (Excluded a) placed less is = cc
@@ -69,8 +69,7 @@ module _ {K : Type 0} {order : KeyOrder K} (lawful : IsLawful order) where
         let at = flipped_bound_is_past order lawful e s turns in
         left_from (Past e) s (flipped_known order lawful e s turns known) at
         (le_lt_trans lawful _ _ _ (eq_ge lawful _ _ at) (not_le lawful (Past e) (upper order i.key)
-        (λ le. lt_not_le lawful _ _ less
-        (end_le order lawful i.key.end e placed.known.1 known le))))
+        (λ le. lt_not_le lawful _ _ less (end_le lawful i.key.end e placed.known.1 known le))))
 
   module _ {V W : Type 0} (i : Item (AnyRange K) V) (j : Item (AnyRange K) W)
       (placed : IsPlaced order i.key) (placed_j : IsPlaced order j.key) where

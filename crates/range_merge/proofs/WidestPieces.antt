@@ -84,7 +84,7 @@ module _ {K : Type 0} {order : KeyOrder K} (lawful : IsLawful order) where
             (
               le_trans lawful _ _ _ within.0.starts at.0,
               lt_le_trans lawful _ _ _ at.1
-                  (past_le order lawful r.end x.key.end known.1 own.known.1 within.0.ends),
+                  (past_le lawful r.end x.key.end known.1 own.known.1 within.0.ends),
             ),
             within.1,
           ))
@@ -99,8 +99,8 @@ module _ {K : Type 0} {order : KeyOrder K} (lawful : IsLawful order) where
       not_inside : (r : AnyRange K) → IsKnownRange order r → IsConstantOn order items r None
           → (p : Position K) → HoldsAt order p r → SomeHoldsAt order p items → ⊥
       not_inside r known constant p at held =
-          constant (any_with _ _ _ items held was.placed (λ i own placed.
-          shared_place_is_overlap order lawful i.key r p placed.known known own.0 own.1 at.0 at.1))
+          constant (any_with _ _ _ items held was.placed (λ i own placed. shared_place_is_overlap
+          lawful i.key r p placed.known known own.0 own.1 at.0 at.1))
 
       -- two ranges that share a place have one value
       one_value : (r s : AnyRange K) → IsKnownRange order r → IsKnownRange order s
@@ -133,7 +133,7 @@ module _ {K : Type 0} {order : KeyOrder K} (lawful : IsLawful order) where
       held_alike (Some v) constant p q at_p at_q z placed in_z held =
           any_use _ _ items constant (every_both _ _ items was.placed (members items))
           (λ x in_r own.
-          let ends = past_le order lawful r.end x.key.end known.1 own.0.known.1 in_r.0.ends in
+          let ends = past_le lawful r.end x.key.end known.1 own.0.known.1 in_r.0.ends in
           let within : (s : Position K) → HoldsAt order s r → HoldsAt order s x.key =
           λ s at. (
             le_trans lawful _ _ _ in_r.0.starts at.0,
@@ -196,9 +196,9 @@ module _ {K : Type 0} {order : KeyOrder K} (lawful : IsLawful order) where
         → IsSharedPart order items others r value other_value → LiesIn order key r
         → LiesIn order r key
     widest key placed ends value other_value r part within =
-        let upto = past_le order lawful key.end r.end placed.known.1 part.known.1 within.ends in
+        let upto = past_le lawful key.end r.end placed.known.1 part.known.1 within.ends in
         let good = lt_le_trans lawful _ _ _ placed.good upto in
-        lies_in order lawful r key part.known placed.known
+        lies_in lawful r key part.known placed.known
         (not_lt lawful (lower order key) (lower order r) (λ less.
         no_end r value other_value part (lower order r) (lower order key)
         (le_refl lawful _, le_lt_trans lawful _ _ _ (lt_le lawful _ _ less) good)
@@ -224,7 +224,7 @@ module _ {K : Type 0} {order : KeyOrder K} (lawful : IsLawful order) where
         one_value second key piece shared.known part.known other_value w shared.second part.second _
         at first_at in
         let within : LiesIn order piece key =
-        lies_in order lawful piece key part.known shared.known at.0
+        lies_in lawful piece key part.known shared.known at.0
         (not_lt lawful (upper order piece) (upper order key) (λ less.
         no_end piece v w part (lower order piece) (upper order key) first_at
         (lt_le lawful _ _ at.1, less) at.1 end)) in

@@ -122,8 +122,7 @@ module _ {K : Type 0} (order : KeyOrder K) (lawful : IsLawful order) where
 
     full_items : Every (λ i. IsFull order lawful i.key) items
     full_items =
-        all_full order lawful items (stored_known order lawful (λ _ _. true) all_equal items form)
-        up
+        all_full order lawful items (stored_known lawful all_equal items form) up
 
     pairs : Pairs (λ i j. LiesBefore order i.key j.key) items
     pairs = ascending_pairs order lawful items up
@@ -150,7 +149,7 @@ module _ {K : Type 0} (order : KeyOrder K) (lawful : IsLawful order) where
     free_range_is_within_item r free =
         let full = free_full r free in
         missing_gaps_is_within_item order lawful (Some Unbounded) items r
-        (stored_list_is_listed order lawful (λ _ _. true) items form) full
+        (stored_list_is_listed lawful (λ _ _. true) items form) full
         (unbounded_start order lawful r.start full.0.0) (free_range_misses_gaps r free)
 
     item_free : (i : Stored) → IsFull order lawful i.key

@@ -60,12 +60,12 @@ module _ {K : Type 0} (order : KeyOrder K) (lawful : IsLawful order) where
   none_between i g h known full known_g known_h full_h before touching l m =
       let cmp = position_cmp order.cmp in
       let total = position_total order.cmp lawful.total in
-      let le = (before_is order lawful g.end h.start known_g.1 known_h.0).0 before in
+      let le = (before_is lawful g.end h.start known_g.1 known_h.0).0 before in
       let back =
-      (touches_is order lawful g.end h known_h
-      ((nonempty_good order lawful h known_h).0 full_h) le).0 touching in
+      (touches_is lawful g.end h known_h ((nonempty_good lawful h known_h).0 full_h) le).0
+      touching in
       let under : PLe (upper order g) (Start i) =
-      (before_is order lawful g.end i.start known_g.1 known.0).0 l in
+      (before_is lawful g.end i.start known_g.1 known.0).0 l in
       let within : PLe (Start i) (End i) = not_greater (cmp (Start i) (End i)) full in
       let low : PLe (Start h) (End i) =
       le_trans cmp total (Start h) (upper order g) (End i) back
@@ -141,7 +141,7 @@ module _ {K : Type 0} (order : KeyOrder K) (lawful : IsLawful order) where
 
     gaps_listed : (items : List (Item (AnyRange K) V)) (gaps : List (AnyRange K))
         → Every IsFullItem items → Every (λ g. IsPiece order items full_range g None) gaps
-        → EachNext (LiesBefore order) gaps → IsListed order lawful (λ _ _. true) (set_items gaps)
+        → EachNext (LiesBefore order) gaps → IsListed lawful (λ _ _. true) (set_items gaps)
     gaps_listed items [] full each rising = tt
     gaps_listed items (g ∷ []) full each rising = (each.0.0.known, each.0.0.nonempty)
     gaps_listed items (g ∷ h ∷ rest) full each rising = (
@@ -157,12 +157,12 @@ module _ {K : Type 0} (order : KeyOrder K) (lawful : IsLawful order) where
         (gaps : List (AnyRange K)) → IsStored order same items → AreGaps order items gaps
         → IsStoredSet order (set_items gaps)
     gaps_stored same items gaps form are =
-        stored_by order lawful (λ _ _. true) (set_items gaps)
+        stored_by lawful (λ _ _. true) (set_items gaps)
         (gaps_listed items gaps (every_full items form.known form.nonempty) are.each are.rising)
 
   front_listed : (front behind : List (AnyRange K))
-      → IsListed order lawful (λ _ _. true) (set_items (front ++ behind))
-      → IsListed order lawful (λ _ _. true) (set_items front)
+      → IsListed lawful (λ _ _. true) (set_items (front ++ behind))
+      → IsListed lawful (λ _ _. true) (set_items front)
   front_listed [] behind h = tt
   front_listed (g ∷ []) [] h = h
   front_listed (g ∷ []) (k ∷ behind) h = (h.0, h.1)
@@ -172,6 +172,5 @@ module _ {K : Type 0} (order : KeyOrder K) (lawful : IsLawful order) where
   pub front_stored : (front behind : List (AnyRange K))
       → IsStoredSet order (set_items (front ++ behind)) → IsStoredSet order (set_items front)
   front_stored front behind h =
-      stored_by order lawful (λ _ _. true) (set_items front)
-      (front_listed front behind
-      (stored_list_is_listed order lawful (λ _ _. true) (set_items (front ++ behind)) h))
+      stored_by lawful (λ _ _. true) (set_items front) (front_listed front behind
+      (stored_list_is_listed lawful (λ _ _. true) (set_items (front ++ behind)) h))

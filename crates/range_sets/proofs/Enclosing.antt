@@ -86,7 +86,7 @@ module _ {K : Type 0} (order : KeyOrder K) (lawful : IsLawful order) where
       let at = flipped_bound_is_past order lawful b x (flipped_back order lawful x b turns) in
       le_trans cmp total (Start x) (past order (End b)) (Start p)
       (eq_ge cmp total (past order (End b)) (Start x) at)
-      ((before_is order lawful b p (flipped_known order lawful x b turns known_x) known).0 l)
+      ((before_is lawful b p (flipped_known order lawful x b turns known_x) known).0 l)
 
   -- what ends after an end reaches the start just past it
   end_reaches : (e a q : Bound K) → IsKnownBound order e → IsKnownBound order q
@@ -174,8 +174,8 @@ module _ {K : Type 0} (order : KeyOrder K) (lawful : IsLawful order) where
       (ends_full order lawful r.end full.0.1))
 
   module _ {V : Type 0} where
-    abbrev IsSetList : List (Item (AnyRange K) V) → Type 0
-    IsSetList items = IsListed order lawful (λ _ _. true) items
+    abbrev IsSetList : List (Item (AnyRange K) V) → Type 0 IsSetList items = IsListed lawful
+    (λ _ _. true) items
 
     rest_listed : (i : Item (AnyRange K) V) (rest : List (Item (AnyRange K) V))
         → IsSetList (i ∷ rest) → IsSetList rest
@@ -200,10 +200,9 @@ module _ {K : Type 0} (order : KeyOrder K) (lawful : IsLawful order) where
     end_is_not_past_item i (j ∷ rest) r h full all starts l =
         let known = first_known j rest h.4 in
         let some = next_known j rest h.4 in
-        let le = (before_is order lawful i.key.end j.key.start h.0.1 known.0).0 h.2 in
+        let le = (before_is lawful i.key.end j.key.start h.0.1 known.0).0 h.2 in
         let touching =
-        touches_is order lawful i.key.end j.key known
-        ((nonempty_good order lawful j.key known).0 some) le in
+        touches_is lawful i.key.end j.key known ((nonempty_good lawful j.key known).0 some) le in
         over_next i.key.end j.key r h.0.1 full known some h.2 (λ back. h.3 (touching.1 back) refl)
         (every_left (λ g. ¬ Overlap order g r)
         (between order (flipped i.key.end) (flipped j.key.start))

@@ -51,7 +51,7 @@ module _ {K : Type 0} (order : KeyOrder K) (lawful : IsLawful order) where
   -- every end is at most at that of the full range
   pub ends_full : (e : Bound K) → IsKnownBound order e
       → Le (position_cmp order.cmp) (end_position order e) (end_position order Unbounded)
-  ends_full e known = end_le order lawful e Unbounded known tt (unbounded_end order lawful e known)
+  ends_full e known = end_le lawful e Unbounded known tt (unbounded_end order lawful e known)
 
   -- an end before a start lies at most at the end that is just before it
   pub ends_before : (e s i : Bound K) → IsKnownBound order e → IsKnownBound order i
@@ -63,8 +63,8 @@ module _ {K : Type 0} (order : KeyOrder K) (lawful : IsLawful order) where
       let total = position_total order.cmp lawful.total in
       let back = flipped_back order lawful s i turns in
       let known_s = flipped_known order lawful i s back known_i in
-      end_le order lawful e i known known_i
-      (le_trans cmp total _ _ _ ((before_is order lawful e s known known_s).0 l)
+      end_le lawful e i known known_i
+      (le_trans cmp total _ _ _ ((before_is lawful e s known known_s).0 l)
       (eq_ge cmp total _ _ (flipped_bound_is_past order lawful i s back)))
 
   module _ {V : Type 0} where

@@ -167,9 +167,8 @@ module _ {K : Type 0} {order : KeyOrder K} (lawful : IsLawful order) where
   rises_later m r None rest none rises first = rw (none refl) tt
   rises_later m r (Some s) rest none rises first = (rises.0, first, rises.2)
 
-  follows_rise : (x : Item (AnyRange K) (Unit {0})) (xs : Items order)
-      → Known order lawful one_value one_class xs
-      → Follows (line_of order lawful one_value one_class) x xs
+  follows_rise : (x : Item (AnyRange K) (Unit {0})) (xs : Items order) → Known lawful one_class xs
+      → Follows (line_of lawful one_class) x xs
       → RisesFrom order (item_upper order x) (item_ranges xs)
   follows_rise x [] known follows = tt
   follows_rise x (y ∷ ys) known follows = (
@@ -178,8 +177,7 @@ module _ {K : Type 0} {order : KeyOrder K} (lawful : IsLawful order) where
     follows_rise y ys known.1 follows.1.1,
   )
 
-  chain_rises : (xs : Items order) → Known order lawful one_value one_class xs
-      → Chained order lawful one_value one_class xs
+  chain_rises : (xs : Items order) → Known lawful one_class xs → Chained lawful one_class xs
       → RisesFrom order (lower order full_range) (item_ranges xs)
   chain_rises [] known chain = tt
   chain_rises (x ∷ xs) known chain = (
@@ -191,13 +189,13 @@ module _ {K : Type 0} {order : KeyOrder K} (lawful : IsLawful order) where
   set_rises : (xs : Items order) → IsStoredSet order xs
       → RisesFrom order (lower order full_range) (item_ranges xs)
   set_rises xs stored =
-      chain_rises xs (stored_known order lawful one_value one_class xs stored)
-      (stored_chain order lawful one_value one_class xs stored)
+      chain_rises xs (stored_known lawful one_class xs stored)
+      (stored_chain lawful one_class xs stored)
 
   -- ranges in stored form, all of which end before the last one without touching it
   pub record StandBefore (built : Items order) (last : AnyRange K) : Type 0 where
-    pub known : Known order lawful one_value one_class built
-    pub chain : Chained order lawful one_value one_class built
+    pub known : Known lawful one_class built
+    pub chain : Chained lawful one_class built
     pub before : Every (λ i. Lt (cmp order) (item_upper order i) (lower order last)) built
 
   -- where the later of two ends lies
@@ -208,11 +206,11 @@ module _ {K : Type 0} {order : KeyOrder K} (lawful : IsLawful order) where
   later_known last r e known others (inl h) = rw h.0 (
     known.1,
     le_refl lawful _,
-    past_le order lawful r.end last.end others.1 known.1 h.1,
+    past_le lawful r.end last.end others.1 known.1 h.1,
   )
   later_known last r e known others (inr h) = rw h.0 (
     others.1,
-    past_le order lawful last.end r.end known.1 others.1 h.1,
+    past_le lawful last.end r.end known.1 others.1 h.1,
     le_refl lawful _,
   )
 
@@ -298,8 +296,8 @@ module _ {K : Type 0} {order : KeyOrder K} (lawful : IsLawful order) where
 
     -- those that stand before the last range, and it after them
     pub record ArePushed (built new : Items order) (last : AnyRange K) : Type 0 where
-      pub known : Known order lawful one_value one_class new
-      pub chain : Chained order lawful one_value one_class new
+      pub known : Known lawful one_class new
+      pub chain : Chained lawful one_class new
       pub upto : Every (λ i. Le (cmp order) (item_upper order i) (upper order last)) new
       pub holds : (k : K) → order.is_key k
           → HoldsKey order new k ↔ (HoldsKey order built k ⊎ Holds order last k)
@@ -308,7 +306,7 @@ module _ {K : Type 0} {order : KeyOrder K} (lawful : IsLawful order) where
         → StandBefore built last → IsKnownRange order copy → IsRangeClone is_clone last copy
         → ArePushed built (built ++ record { key = copy; value = tt } ∷ []) last
     push_copy built last copy placed stand copied clone =
-        let line = line_of order lawful one_value one_class in
+        let line = line_of lawful one_class in
         let i : Item (AnyRange K) (Unit {0}) = record { key = copy; value = tt } in
         let lies = copy_lies last copy placed.known copied clone in
         let good =
@@ -503,7 +501,7 @@ module _ {K : Type 0} {order : KeyOrder K} (lawful : IsLawful order) where
       end_all built new last was pushed =
           let now = are_pushed is_clone clones built new last was.placed was.stand pushed in (
             λ k key. all_held (was.held k key) (now.holds k key),
-            chain_stored order lawful one_value one_class new now.known now.chain,
+            chain_stored lawful one_class new now.known now.chain,
           )
 
       -- nothing is left

@@ -21,7 +21,7 @@ returns g c =
     record {
       ok =
           on_ok _ _ c.put.result
-          (inserted_apart order lawful same equal items item.key c.requires.stored c.known.ensures
+          (inserted_apart lawful equal items item.key c.requires.stored c.known.ensures
           c.requires.nonempty place apart new item.value) c.put.ensures.put;
       put =
           on_ok _ _ c.put.result (λ done. (place, apart.in_range, done)) c.put.ensures.put;
@@ -29,8 +29,8 @@ returns g c =
           on_ok _ _ c.put.result (one_longer items new place item apart.in_range)
           c.put.ensures.put;
       unconnected =
-          free_not order lawful same equal items item.key c.requires.stored c.known.ensures
-          c.requires.nonempty place apart.before apart.behind;
+          free_not lawful equal items item.key c.requires.stored c.known.ensures c.requires.nonempty
+          place apart.before apart.behind;
       given = search rules;
       refused = search rules;
       succeeds = search rules;

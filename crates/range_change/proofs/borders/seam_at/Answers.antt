@@ -12,9 +12,8 @@ returns-in-Some-default-clause-seam g c =
     record {
       cut = flipped_bound bound;
       at = rw c.in-Some-default.is-0 refl;
-      known = known_turned order lawful bound c.known_bound.ensures;
-      flipped =
-          same_turned order lawful bound;
+      known = known_turned lawful bound c.known_bound.ensures;
+      flipped = same_turned lawful bound;
     }
 
 pub returns-in-None-None-clause-seam : goal.returns-in-None-None-clause-seam
@@ -25,9 +24,8 @@ returns-in-None-None-clause-seam g c =
     record {
       cut = flipped_bound bound;
       at = rw (c.in-None-None.is-0, c.in-None-None.is-1) refl;
-      known = known_turned order lawful bound c.known_bound.ensures;
-      flipped =
-          same_turned order lawful bound;
+      known = known_turned lawful bound c.known_bound.ensures;
+      flipped = same_turned lawful bound;
     }
 
 pub returns-in_ok-cut-in-None-Some-clause-seam : goal.returns-in_ok-cut-in-None-Some-clause-seam

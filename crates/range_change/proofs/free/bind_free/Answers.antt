@@ -34,13 +34,13 @@ put_merged-requires g c =
       left = record {
         cut = flipped_bound r.start;
         at = rw none.0 (c.seam-left.ensures ∙ seam_alike c.joins_before-before.result _ _);
-        known = known_turned order lawful r.start known.0;
-        flipped = same_turned order lawful r.start;
+        known = known_turned lawful r.start known.0;
+        flipped = same_turned lawful r.start;
       };
       right = record {
         cut = flipped_bound r.end;
         at = rw none.1 (c.seam-right.ensures ∙ seam_alike c.joins_after-after.result _ _);
-        known = known_turned order lawful r.end known.1;
-        flipped = same_turned order lawful r.end;
+        known = known_turned lawful r.end known.1;
+        flipped = same_turned lawful r.end;
       };
     }

@@ -25,11 +25,11 @@ returns g c =
     let plus : place + 0 ≡ place = omega arith in
     let left =
     rw none.0 at (c.requires.before lawful equal (flipped_bound r.start) w.from
-    (known_turned order lawful r.start window.known.0) (same_turned order lawful r.start)
+    (known_turned lawful r.start window.known.0) (same_turned lawful r.start)
     (rw (none.0, plus) window.position)) in
     let right =
     rw none.1 at (c.requires.after lawful equal (flipped_bound r.end)
-    (known_turned order lawful r.end window.known.1) (same_turned order lawful r.end)) in
+    (known_turned lawful r.end window.known.1) (same_turned lawful r.end)) in
     record {
       ok =
           on_ok _ _ c.put.result

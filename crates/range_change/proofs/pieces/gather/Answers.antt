@@ -28,8 +28,7 @@ loop-met-init g c =
       spelled = rw c.new-middle.ensures.items tt;
       underway =
           λ lawful equal before h.
-          rw (none, h, c.new-middle.ensures.items)
-          (underway_none g.K.MaybeBounded.order lawful g.V.PartialEq.eq equal g.F.Fn c.args.f.now
+          rw (none, h, c.new-middle.ensures.items) (underway_none lawful equal g.F.Fn c.args.f.now
           items c.args.range.now (take place items) window.below);
     }
 

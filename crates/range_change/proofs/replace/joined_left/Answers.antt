@@ -25,7 +25,7 @@ pub returns-then-starts_before : goal.returns-then-starts_before
 returns-then-starts_before g c = λ lawful equal b at known_b same_b start.
     let order = g.K.MaybeBounded.order in
     let Later =
-    λ (m : Item (AnyRange g.row.K.Denot) g.row.V.Denot). Lt (places order lawful)
+    λ (m : Item (AnyRange g.row.K.Denot) g.row.V.Denot). Lt (places lawful)
     (lower order c.args.range.now) (item_lower order m) in
     inr (
       got_only Later c.args.next c.in-Some.item c.in-Some.is (c.if-starts_before.ensures.0 refl),
@@ -36,7 +36,7 @@ returns-then-starts_before g c = λ lawful equal b at known_b same_b start.
 pub returns : goal.returns
 returns g c = λ lawful equal b at known_b same_b start.
     let order = g.K.MaybeBounded.order in
-    let cmp = places order lawful in
+    let cmp = places lawful in
     let total = position_total order.cmp lawful.total in
     let m = c.in-Some.item.now in
     let lo = lower order c.args.range.now in

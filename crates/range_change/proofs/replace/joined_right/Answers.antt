@@ -25,8 +25,8 @@ pub returns-then-ends_after : goal.returns-then-ends_after
 returns-then-ends_after g c = λ lawful equal b known_b same_b.
     let order = g.K.MaybeBounded.order in
     let Earlier =
-    λ (m : Item (AnyRange g.row.K.Denot) g.row.V.Denot). Lt (places order lawful)
-    (item_upper order m) (upper order c.args.range.now) in
+    λ (m : Item (AnyRange g.row.K.Denot) g.row.V.Denot). Lt (places lawful) (item_upper order m)
+    (upper order c.args.range.now) in
     inr (
       got_only Earlier c.args.previous c.in-Some.item c.in-Some.is
           (c.if-ends_after.ensures.0 refl),
@@ -37,14 +37,14 @@ returns-then-ends_after g c = λ lawful equal b known_b same_b.
 pub returns : goal.returns
 returns g c = λ lawful equal b known_b same_b.
     let order = g.K.MaybeBounded.order in
-    let cmp = places order lawful in
+    let cmp = places lawful in
     let total = position_total order.cmp lawful.total in
     let m = c.in-Some.item.now in
     let r = c.args.range.now in
     let within = rw c.in-Some.is at c.requires.within in
     let here : cmp (item_upper order m) (upper order r) ≡ Equal =
     both cmp total (item_upper order m) (upper order r)
-    (within_end order lawful m.key r c.known.ensures c.requires.reach.window.known within)
+    (within_end lawful m.key r c.known.ensures c.requires.reach.window.known within)
     (not_lt cmp total (upper order r) (item_upper order m)
     (λ l. false≢true (c.if-ends_after.ensures.1 l))) in
     inl (

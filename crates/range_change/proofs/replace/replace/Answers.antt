@@ -17,8 +17,7 @@ use Rattle.range_change.proofs.replace.replace.Goals.{After-run_start}
 use Rattle.range_change.proofs.replace.replace.Goals as goal
 
 -- how the run is divided between the items that join and those that are cut
-plan_is_replacement : (g : Over) (c : After-run_start g)
-    → IsReplacement g.K.MaybeBounded.order g.met.K.PartialEnum.lawful g.V.PartialEq.eq
+plan_is_replacement : (g : Over) (c : After-run_start g) → IsReplacement g.met.K.PartialEnum.lawful
     g.met.V.Eq.laws (g.C.Storage.is_good c.args.stored.now) (g.C.Storage.rank c.args.stored.now)
     (g.C.Storage.items c.args.stored.now) c.args.range
     (place_before (g.C.Storage.rank c.args.stored.now)
@@ -46,9 +45,8 @@ plan_is_replacement g c =
     let is_last =
     c.last.ensures.value
     ∙ ap (λ xs. slice_get xs (length xs - 1)) c.deref-2.ensures.value in
-    plans_replacement order lawful equal_values equal (storage.is_good stored)
-    (storage.rank stored) items r place w.count middle first last joined other
-    from (option_copied c.first.result)
+    plans_replacement lawful equal (storage.is_good stored) (storage.rank stored) items r place
+    w.count middle first last joined other from (option_copied c.first.result)
     (option_copied c.last.result) c.requires.reach.window.stored c.requires.middle
     c.requires.within c.requires.reach.window.known c.requires.reach.window.nonempty
     c.requires.reach.window.in_range c.requires.apart is_first is_last c.run_start.ensures
@@ -148,9 +146,8 @@ returns g c =
     let window = c.requires.reach.window in
     record {
       ok =
-          replacement_is_made order lawful g.V.PartialEq.eq equal (g.C.Storage.is_good stored)
-          (g.C.Storage.rank stored) items r
-          (place_before (g.C.Storage.rank stored) (length items) reach.window.from)
+          replacement_is_made lawful equal (g.C.Storage.is_good stored) (g.C.Storage.rank stored)
+          items r (place_before (g.C.Storage.rank stored) (length items) reach.window.from)
           reach.window.count (g.C.Storage.items c.change_to.new.stored) c.args.middle.items
           reach.first reach.last border behind c.run_start.result window.stored c.requires.middle
           window.known (all_meet lawful equal window) left right

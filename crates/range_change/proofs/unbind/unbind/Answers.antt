@@ -21,8 +21,7 @@ returns-then-window-eq0 g c =
             apart = none_meets lawful equal window c.if-window-eq0.true;
             frame = not_cut lawful equal window;
             unbound =
-                unmet_is_unbound g.K.MaybeBounded.order lawful g.V.PartialEq.eq equal window
-                c.if-window-eq0.true;
+                unmet_is_unbound lawful equal window c.if-window-eq0.true;
           };
       most =
           grind (arith, common_steps);

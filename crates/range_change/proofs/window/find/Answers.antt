@@ -5,7 +5,7 @@ use Rattle.range_change.proofs.window.find.Goals as goal
 
 pub search-found-requires : goal.search-found-requires
 search-found-requires g c =
-    found_partitions g.K.MaybeBounded.order g.met.K.PartialEnum.lawful g.V.PartialEq.eq
+    found_partitions g.met.K.PartialEnum.lawful g.V.PartialEq.eq
     (g.C.Storage.items c.args.stored.now)
     (reference_position g.K.MaybeBounded.order c.args.bound.now) c.requires
 
@@ -16,8 +16,8 @@ returns-in-None g c =
       found =
           let storage = g.C.Storage in
           let stored = c.args.stored.now in
-          found_at g.K.MaybeBounded.order g.met.K.PartialEnum.lawful g.V.PartialEq.eq
-          (storage.is_good stored) (storage.rank stored) (storage.items stored)
+          found_at g.met.K.PartialEnum.lawful g.V.PartialEq.eq (storage.is_good stored)
+          (storage.rank stored) (storage.items stored)
           (reference_position g.K.MaybeBounded.order c.args.bound.now) _ c.first.result 0
           c.first.ensures refl c.in-None.ensures.found;
       idle =
@@ -31,8 +31,8 @@ returns-in-Some g c =
       found =
           let storage = g.C.Storage in
           let stored = c.args.stored.now in
-          found_at g.K.MaybeBounded.order g.met.K.PartialEnum.lawful g.V.PartialEq.eq
-          (storage.is_good stored) (storage.rank stored) (storage.items stored)
+          found_at g.met.K.PartialEnum.lawful g.V.PartialEq.eq (storage.is_good stored)
+          (storage.rank stored) (storage.items stored)
           (reference_position g.K.MaybeBounded.order c.args.bound.now) _ c.next.result
           (storage.rank stored c.in-Some.p + 1) c.next.ensures
           (c.in-Some.ensures.found.0, refl) c.in-Some.ensures.found.1;

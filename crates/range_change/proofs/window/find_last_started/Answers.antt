@@ -5,7 +5,7 @@ use Rattle.range_change.proofs.window.find_last_started.Goals as goal
 
 pub search-found-requires : goal.search-found-requires
 search-found-requires g c =
-    started_partitions g.K.MaybeBounded.order g.met.K.PartialEnum.lawful g.V.PartialEq.eq
+    started_partitions g.met.K.PartialEnum.lawful g.V.PartialEq.eq
     (g.C.Storage.items c.args.stored.now)
     (reference_position g.K.MaybeBounded.order c.args.bound.now) c.requires
 
@@ -16,8 +16,8 @@ returns g c =
       found =
           let storage = g.C.Storage in
           let stored = c.args.stored.now in
-          last_started g.K.MaybeBounded.order g.met.K.PartialEnum.lawful g.V.PartialEq.eq
-          (storage.is_good stored) (storage.rank stored) (storage.items stored)
+          last_started g.met.K.PartialEnum.lawful g.V.PartialEq.eq (storage.is_good stored)
+          (storage.rank stored) (storage.items stored)
           (reference_position g.K.MaybeBounded.order c.args.bound.now) c.search-found.result
           c.search-found.ensures.found;
       idle =

@@ -9,7 +9,7 @@ loop-low-preserved-then-is_before g c =
       in_range = omega arith;
       reached = c.loop-low.invariant.reached;
       behind =
-          before_from g.T.MaybeBounded.order g.met.T.PartialEnum.lawful c.args.items.now
+          before_from g.met.T.PartialEnum.lawful c.args.items.now
           (g.U.AsRange.range c.args.element.now) c.args.connected
           (c.loop-low.low + (c.loop-low.high - c.loop-low.low) / 2) c.index-items-middle.result
           c.known_range.ensures c.known_range-in-loop-low.ensures c.requires.nonempty

@@ -4,9 +4,9 @@ use Rattle.range_map.proofs.inner.scan.scan.Goals as goal
 
 pub returns-then-holds : goal.returns-then-holds
 returns-then-holds g c =
-    bound_at g.K.MaybeBounded.order g.met.K.PartialEnum.lawful g.V.PartialEq.eq c.args.items.now
-    c.args.key.now c.loop-item.item-index c.item-item.result g.met.V.Eq.laws
-    c.loop-item-test.true c.item-item.is (c.holds.ensures.held.0 c.if-holds.true)
+    bound_at g.met.K.PartialEnum.lawful g.V.PartialEq.eq c.args.items.now c.args.key.now
+    c.loop-item.item-index c.item-item.result g.met.V.Eq.laws c.loop-item-test.true c.item-item.is
+    (c.holds.ensures.held.0 c.if-holds.true)
 
 pub loop-item-preserved : goal.loop-item-preserved
 loop-item-preserved g c =

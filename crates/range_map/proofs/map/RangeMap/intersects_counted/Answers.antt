@@ -6,15 +6,14 @@ returns-in-None-clause-meets g c =
     let order = g.K.MaybeBounded.order in
     let range = g.R.AsRange.range c.args.range in
     let none =
-    apart_meets order g.met.K.PartialEnum.lawful _ range (start_position order range.start) _ 0 refl
+    apart_meets g.met.K.PartialEnum.lawful _ range (start_position order range.start) _ 0 refl
     (ap (end_position order) c.end.ensures) tt
     (rw c.in-None.is at c.find_last_started-last.ensures.found.past) in
     rw (← c.self.view_is) (λ h. absurd (false≢true h), λ h. absurd (none h.1))
 
 pub returns-in-None-clause-bound : goal.returns-in-None-clause-bound
 returns-in-None-clause-bound g c = λ h.
-    (returns-in-None-clause-meets g c).1
-    (binding_meets g.K.MaybeBounded.order g.met.K.PartialEnum.lawful _ _ h)
+    (returns-in-None-clause-meets g c).1 (binding_meets g.met.K.PartialEnum.lawful _ _ h)
 
 pub returns-clause-meets : goal.returns-clause-meets
 returns-clause-meets g c =
@@ -23,22 +22,21 @@ returns-clause-meets g c =
     let position = rw c.in-Some.is at found.position in
     let full : IsEmptyRange order (g.R.AsRange.range c.args.range) → ⊥ =
     λ h. not_both c.if-is_empty.false (c.is_empty.ensures.by_position.1 h) in
-    rw (← c.self.view_is) (last_started_decides order g.met.K.PartialEnum.lawful g.V.PartialEq.eq
-    _ _ _ _ _ c.get.result.now c.ends_before.result (ap (start_position order) c.start.ensures)
+    rw (← c.self.view_is) (last_started_decides g.met.K.PartialEnum.lawful g.V.PartialEq.eq _ _ _ _
+    _ c.get.result.now c.ends_before.result (ap (start_position order) c.start.ensures)
     (ap (end_position order) c.end.ensures) c.self.invariant full
     (g.met.C.Storage.good_is_in_range c.self.inside.stored c.in-Some.p position.0) c.get.ensures
     (rw c.in-Some.is at found.upto) (rw c.in-Some.is at found.past) c.ends_before.ensures.before)
 
 pub returns-clause-bound : goal.returns-clause-bound
 returns-clause-bound g c = λ h.
-    (returns-clause-meets g c).1
-    (binding_meets g.K.MaybeBounded.order g.met.K.PartialEnum.lawful _ _ h)
+    (returns-clause-meets g c).1 (binding_meets g.met.K.PartialEnum.lawful _ _ h)
 
 pub returns-clause-complete : goal.returns-clause-complete
 returns-clause-complete g c = λ complete h.
     let meets = (returns-clause-meets g c).0 h in
-    meeting_binds g.K.MaybeBounded.order g.met.K.PartialEnum.lawful g.V.PartialEq.eq _ _ complete
-    c.in_form.ensures c.known_range.ensures meets.0 meets.1
+    meeting_binds g.met.K.PartialEnum.lawful g.V.PartialEq.eq _ _ complete c.in_form.ensures
+    c.known_range.ensures meets.0 meets.1
 
 pub returns-clause-none : goal.returns-clause-none
 returns-clause-none g c =

@@ -15,7 +15,7 @@ returns-clause-none g c = λ none binds.
     let lawful = g.met.K.PartialEnum.lawful in
     let items = g.C.Storage.items c.args.self.now in
     let range = g.R.AsRange.range c.args.range.now in
-    let met = binding_meets g.K.MaybeBounded.order lawful items range binds in
+    let met = binding_meets lawful items range binds in
     none_shown lawful items range c.new-2.result (returns-clause-items g c met.0) none met.1
 
 pub returns-clause-complete : goal.returns-clause-complete
@@ -27,5 +27,5 @@ returns-clause-complete g c = λ complete unbound.
     let full : IsEmptyRange order range → ⊥ =
     λ h. not_both c.if-is_empty.false (c.is_empty.ensures.by_position.1 h) in
     all_shown lawful items range c.new-2.result (returns-clause-items g c full) (λ meets. unbound
-    (meeting_binds order lawful g.V.PartialEq.eq items range complete c.in_form.ensures
+    (meeting_binds lawful g.V.PartialEq.eq items range complete c.in_form.ensures
     c.known_range.ensures full meets))

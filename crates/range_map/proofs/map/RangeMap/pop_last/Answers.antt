@@ -6,10 +6,8 @@ module _ {K : Type 0} {order : KeyOrder K} (lawful : IsLawful order) {V : Type 0
   stored_front : (items rest : List (Item (AnyRange K) V)) → IsStored order same (items ++ rest)
       → IsStored order same items
   stored_front items rest form =
-      chain_stored order lawful same equal items
-      (every_left _ items rest (stored_known order lawful same equal _ form))
-      (chain_left (line_of order lawful same equal) items rest
-      (stored_chain order lawful same equal _ form))
+      chain_stored lawful equal items (every_left _ items rest (stored_known lawful equal _ form))
+      (chain_left (line_of lawful equal) items rest (stored_chain lawful equal _ form))
 
   stored_without_last : (old new : List (Item (AnyRange K) V)) (last : Option (Item (AnyRange K) V))
       → IsStored order same old

@@ -3,8 +3,8 @@ use Rattle.range_map.proofs.map.RangeMap.stored_for.Goals as goal
 
 pub returns-in-None-clause-value : goal.returns-in-None-clause-value
 returns-in-None-clause-value g c =
-    rw (← c.self.view_is) (apart_bound g.K.MaybeBounded.order g.met.K.PartialEnum.lawful
-    g.V.PartialEq.eq (g.C.Storage.items c.self.inside.stored) c.args.key 0 c.known.ensures tt
+    rw (← c.self.view_is) (apart_bound g.met.K.PartialEnum.lawful g.V.PartialEq.eq
+    (g.C.Storage.items c.self.inside.stored) c.args.key 0 c.known.ensures tt
     (rw c.in-None.is at c.find_last_started-last.ensures.found.past))
 
 pub returns-then-ends_before-clause-value : goal.returns-then-ends_before-clause-value
@@ -15,9 +15,9 @@ returns-then-ends_before-clause-value g c =
     let found = c.find_last_started-last.ensures.found in
     let position = rw c.in-Some.is at found.position in
     let within = g.met.C.Storage.good_is_in_range stored c.in-Some.p position.0 in
-    rw (← c.self.view_is) (apart_bound order lawful g.V.PartialEq.eq (g.C.Storage.items stored)
-    c.args.key (g.C.Storage.rank stored c.in-Some.p + 1) c.known.ensures
-    (ends_upto order lawful g.V.PartialEq.eq _ _ _ c.get-item.result.now c.self.invariant within
+    rw (← c.self.view_is) (apart_bound lawful g.V.PartialEq.eq (g.C.Storage.items stored) c.args.key
+    (g.C.Storage.rank stored c.in-Some.p + 1) c.known.ensures
+    (ends_upto lawful g.V.PartialEq.eq _ _ _ c.get-item.result.now c.self.invariant within
     c.get-item.ensures c.if-ends_before.ensures.before) (rw c.in-Some.is at found.past))
 
 pub returns : goal.returns
@@ -30,15 +30,14 @@ returns g c =
     let position = rw c.in-Some.is at found.position in
     let within = g.met.C.Storage.good_is_in_range c.self.inside.stored c.in-Some.p position.0 in
     let held =
-    holds_at order lawful same _ c.args.key _ item c.known.ensures within c.get-item.ensures
+    holds_at lawful same _ c.args.key _ item c.known.ensures within c.get-item.ensures
     (rw c.in-Some.is at found.upto) c.if-ends_before.ensures.before in
     record {
       value =
-          rw (← c.self.view_is) (bound_at order lawful same _ c.args.key _ item g.met.V.Eq.laws
-          within c.get-item.ensures held);
+          rw (← c.self.view_is) (bound_at lawful same _ c.args.key _ item g.met.V.Eq.laws within
+          c.get-item.ensures held);
       stored =
-          rw (← c.self.view_is)
-          (held, item_at order lawful same _ _ item within c.get-item.ensures);
+          rw (← c.self.view_is) (held, item_at lawful same _ _ item within c.get-item.ensures);
       counted = grind (arith, common_steps);
       none = grind (arith, common_steps);
     }

@@ -40,7 +40,7 @@ returns g c =
           (update_rebinds lawful g.met.V.Eq.laws g.F.Fn c.args.f items new r) done);
       kept =
           rw (← c.self.view_is) (on_ok _ _ c.update_pieces.result
-          (updated_stands order same g.met.V.Eq.laws g.F.Fn c.args.f items new r) done);
+          (updated_stands order g.met.V.Eq.laws g.F.Fn c.args.f items new r) done);
       spelled = rw (← c.self.view_is) c.update_pieces.ensures.spelled;
       form = c.update_pieces.ensures.form;
       coarse = stored_coarse lawful _ c.update_pieces.ensures.form;

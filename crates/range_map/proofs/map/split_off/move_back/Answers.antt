@@ -58,10 +58,10 @@ returns-then-starts_before g c =
       from = c.loop-last.invariant.from;
       below =
           let order = g.K.MaybeBounded.order in
-          λ rest x ends. last_such (λ i. Lt (places order g.met.K.PartialEnum.lawful)
-          (item_lower order i) (start_position order (Included c.args.key.now))) _ _ rest
-          c.in-Some.last x c.insert_at-position.ensures.list
-          (c.starts_before.ensures.0 c.if-starts_before.true) ends;
+          λ rest x ends. last_such (λ i. Lt (places g.met.K.PartialEnum.lawful) (item_lower order i)
+          (start_position order (Included c.args.key.now))) _ _ rest c.in-Some.last x
+          c.insert_at-position.ensures.list (c.starts_before.ensures.0 c.if-starts_before.true)
+          ends;
     }
 
 pub returns-then-is_err : goal.returns-then-is_err
@@ -109,9 +109,9 @@ loop-last-preserved g c =
           (storage.room c.pop_last.new.self) same put c.loop-last.invariant.room
           c.in-Some.ensures.space;
       from =
-          first_such (λ i. Le (places order lawful) key (item_lower order i))
-          (items c.loop-last.others) (items others) (items c.insert_at-position-in-Some.new.self)
-          last same put (not_lt lawful _ _ (λ h. let told = c.starts_before.ensures.1 h in let not =
+          first_such (λ i. Le (places lawful) key (item_lower order i)) (items c.loop-last.others)
+          (items others) (items c.insert_at-position-in-Some.new.self) last same put
+          (not_lt lawful _ _ (λ h. let told = c.starts_before.ensures.1 h in let not =
           c.if-starts_before.false in absurd (cc))) c.loop-last.invariant.from;
     }
 

@@ -6,7 +6,7 @@ use Rattle.range_map.proofs.map.update.update_pieces.Goals as goal
 
 pub returns-clause-ok : goal.returns-clause-ok
 returns-clause-ok g c =
-    by_middle g.K.MaybeBounded.order g.V.PartialEq.eq g.met.V.Eq.laws g.F.Fn c.args.f.now _ _ _ _
+    by_middle g.K.MaybeBounded.order g.met.V.Eq.laws g.F.Fn c.args.f.now _ _ _ _
     c.in_ok-middle.ensures.ok c.in_ok-replace.ensures.ok
 
 pub returns-in_err-middle-clause-closure : goal.returns-in_err-middle-clause-closure

@@ -13,8 +13,8 @@ returns-in_ok-bind_inside-in-Ok-Some g c =
     let says : MayAnswer g.F.Fn c.args.f.now (Some x.value) (Ok (Some v)) = search rules in
     record {
       ok =
-          by_insertion g.K.MaybeBounded.order g.V.PartialEq.eq equal g.F.Fn c.args.f.now _ _ _
-          x.value v (alone lawful equal c.requires.within x c.get.ensures)
+          by_insertion g.K.MaybeBounded.order equal g.F.Fn c.args.f.now _ _ _ x.value v
+          (alone lawful equal c.requires.within x c.get.ensures)
           (answer_is_to_piece lawful equal c.requires.within x c.get.ensures (Some v)) says done;
       spelled =
           inserted_keeps_spelling lawful equal c.requires.within.window.stored c.requires.within x
@@ -33,7 +33,7 @@ returns-in_ok-unbind_inside-in-Ok-None g c =
     let says : MayAnswer g.F.Fn c.args.f.now (Some x.value) (Ok None) = search rules in
     record {
       ok =
-          by_removal g.K.MaybeBounded.order g.V.PartialEq.eq equal g.F.Fn c.args.f.now _ _ _ x.value
+          by_removal g.K.MaybeBounded.order equal g.F.Fn c.args.f.now _ _ _ x.value
           (answer_is_to_piece g.met.K.PartialEnum.lawful equal c.requires.within x c.get.ensures
           None) says done;
       spelled =
