@@ -41,7 +41,8 @@ typedef enum {
     BRM_OPEN = 6,       /* the handle is open already */
     BRM_NO_ROOM = 7,    /* the buffer is too short */
     BRM_NOT_JSON = 8,   /* the text is no JSON */
-    BRM_NOT_READ = 9    /* the JSON is no collection of the kind that the handle holds */
+    BRM_NOT_READ = 9,   /* the JSON is no collection of the kind that the handle holds */
+    BRM_OCCUPIED = 10   /* the range meets a stored one */
 } brm_status;
 
 /* What a status says, for a message. */
@@ -57,6 +58,7 @@ static inline const char *brm_status_text(brm_status status) {
     case BRM_NO_ROOM: return "the buffer is too short";
     case BRM_NOT_JSON: return "the text is not JSON";
     case BRM_NOT_READ: return "the JSON is no collection of this kind";
+    case BRM_OCCUPIED: return "the range meets a stored one";
     }
     return "no status";
 }
@@ -108,6 +110,7 @@ brm_status brm_load(brm_handle *handle, const uint8_t *text, size_t size);
 brm_status brm_map_u64_create(brm_handle *map);
 brm_status brm_map_u64_insert(brm_handle *map, const brm_range_u64 *range, uint64_t value);
 brm_status brm_map_u64_insert_disconnected(brm_handle *map, const brm_range_u64 *range, uint64_t value);
+brm_status brm_map_u64_try_insert(brm_handle *map, const brm_range_u64 *range, uint64_t value);
 brm_status brm_map_u64_remove(brm_handle *map, const brm_range_u64 *range);
 brm_status brm_map_u64_get(const brm_handle *map, uint64_t key, brm_entry_u64 *entry);
 brm_status brm_map_u64_contains(const brm_handle *map, uint64_t key);
@@ -123,11 +126,15 @@ brm_status brm_map_u64_pop_last(brm_handle *map, brm_entry_u64 *entry);
  * takes. Fewer than that are written where there are no more. */
 brm_status brm_map_u64_read(const brm_handle *map, uint64_t from, brm_entry_u64 *entries, size_t capacity, size_t *count);
 brm_status brm_map_u64_read_back(const brm_handle *map, uint64_t upto, brm_entry_u64 *entries, size_t capacity, size_t *count);
+/* Write the stored ranges that meet the range, whole, or the parts of it that hold no bound key, in the same way. */
+brm_status brm_map_u64_overlapping(const brm_handle *map, const brm_range_u64 *range, brm_entry_u64 *entries, size_t capacity, size_t *count);
+brm_status brm_map_u64_gaps(const brm_handle *map, const brm_range_u64 *range, brm_range_u64 *ranges, size_t capacity, size_t *count);
 
 /* Maps of int64_t keys to uint64_t values. */
 brm_status brm_map_i64_create(brm_handle *map);
 brm_status brm_map_i64_insert(brm_handle *map, const brm_range_i64 *range, uint64_t value);
 brm_status brm_map_i64_insert_disconnected(brm_handle *map, const brm_range_i64 *range, uint64_t value);
+brm_status brm_map_i64_try_insert(brm_handle *map, const brm_range_i64 *range, uint64_t value);
 brm_status brm_map_i64_remove(brm_handle *map, const brm_range_i64 *range);
 brm_status brm_map_i64_get(const brm_handle *map, int64_t key, brm_entry_i64 *entry);
 brm_status brm_map_i64_contains(const brm_handle *map, int64_t key);
@@ -143,6 +150,9 @@ brm_status brm_map_i64_pop_last(brm_handle *map, brm_entry_i64 *entry);
  * takes. Fewer than that are written where there are no more. */
 brm_status brm_map_i64_read(const brm_handle *map, int64_t from, brm_entry_i64 *entries, size_t capacity, size_t *count);
 brm_status brm_map_i64_read_back(const brm_handle *map, int64_t upto, brm_entry_i64 *entries, size_t capacity, size_t *count);
+/* Write the stored ranges that meet the range, whole, or the parts of it that hold no bound key, in the same way. */
+brm_status brm_map_i64_overlapping(const brm_handle *map, const brm_range_i64 *range, brm_entry_i64 *entries, size_t capacity, size_t *count);
+brm_status brm_map_i64_gaps(const brm_handle *map, const brm_range_i64 *range, brm_range_i64 *ranges, size_t capacity, size_t *count);
 
 /* Sets of uint64_t keys. */
 brm_status brm_set_u64_create(brm_handle *set);
@@ -162,11 +172,16 @@ brm_status brm_set_u64_pop_last(brm_handle *set, brm_range_u64 *range);
  * takes. Fewer than that are written where there are no more. */
 brm_status brm_set_u64_read(const brm_handle *set, uint64_t from, brm_range_u64 *entries, size_t capacity, size_t *count);
 brm_status brm_set_u64_read_back(const brm_handle *set, uint64_t upto, brm_range_u64 *entries, size_t capacity, size_t *count);
+/* Write the stored ranges that meet the range, whole, or the parts of it that hold no key of the set, in the same way. */
+brm_status brm_set_u64_overlapping(const brm_handle *set, const brm_range_u64 *range, brm_range_u64 *entries, size_t capacity, size_t *count);
+brm_status brm_set_u64_gaps(const brm_handle *set, const brm_range_u64 *range, brm_range_u64 *ranges, size_t capacity, size_t *count);
 
 /* The calls that the functions below are made of. They owe that no pointer is NULL, and that no handle is given twice. */
 void brm_raw_destroy(brm_handle *handle);
 brm_status brm_raw_clone(const brm_handle *handle, brm_handle *made);
 brm_status brm_raw_equal(const brm_handle *handle, const brm_handle *other);
+brm_status brm_raw_map_u64_split_off(brm_handle *map, uint64_t key, brm_handle *other);
+brm_status brm_raw_map_i64_split_off(brm_handle *map, int64_t key, brm_handle *other);
 brm_status brm_raw_set_u64_union(const brm_handle *set, const brm_handle *other, brm_handle *made);
 brm_status brm_raw_set_u64_intersection(const brm_handle *set, const brm_handle *other, brm_handle *made);
 brm_status brm_raw_set_u64_difference(const brm_handle *set, const brm_handle *other, brm_handle *made);
@@ -190,6 +205,27 @@ static inline brm_status brm_clone(const brm_handle *handle, brm_handle *made) {
 static inline brm_status brm_equal(const brm_handle *handle, const brm_handle *other) {
     if (handle == other) return handle->is_open ? BRM_DONE : BRM_CLOSED;
     return brm_raw_equal(handle, other);
+}
+
+/* Open the closed handle `made` on what the map binds from the key on, the key with it, and take that from the map. */
+static inline brm_status brm_map_u64_split_off(brm_handle *map, uint64_t key, brm_handle *made) {
+    if (made->is_open) return BRM_OPEN;
+    if (made == map) return BRM_CLOSED;
+    brm_status status = brm_map_u64_create(made);
+    if (status != BRM_DONE) return status;
+    status = brm_raw_map_u64_split_off(map, key, made);
+    if (status != BRM_DONE) brm_raw_destroy(made);
+    return status;
+}
+
+static inline brm_status brm_map_i64_split_off(brm_handle *map, int64_t key, brm_handle *made) {
+    if (made->is_open) return BRM_OPEN;
+    if (made == map) return BRM_CLOSED;
+    brm_status status = brm_map_i64_create(made);
+    if (status != BRM_DONE) return status;
+    status = brm_raw_map_i64_split_off(map, key, made);
+    if (status != BRM_DONE) brm_raw_destroy(made);
+    return status;
 }
 
 /* What is wrong with a set that is given twice, or BRM_DONE. */

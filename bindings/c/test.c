@@ -443,6 +443,90 @@ static void texts(void) {
     brm_destroy(&set);
 }
 
+/* What lies in a range is read in batches of two, each from where the one before ended. */
+static void in_ranges(void) {
+    brm_handle map = BRM_HANDLE_CLOSED, rest = BRM_HANDLE_CLOSED, set = BRM_HANDLE_CLOSED;
+    brm_entry_u64 e[2];
+    brm_range_u64 gaps[2], within = through(5, 44), all = {0, 0, BRM_START_UNBOUNDED | BRM_END_UNBOUNDED};
+    size_t n = 9;
+    memset(e, 0, sizeof e);
+    memset(gaps, 0, sizeof gaps);
+    EXPECT(brm_map_u64_overlapping(&map, &within, e, 2, &n) == BRM_CLOSED && n == 9);
+    EXPECT(brm_map_u64_gaps(&map, &within, gaps, 2, &n) == BRM_CLOSED && n == 9);
+    EXPECT(brm_map_u64_create(&map) == BRM_DONE);
+    for (uint64_t i = 0; i < 5; i++) EXPECT(put(&map, upto(10 * i, 10 * i + 6), i) == BRM_DONE);
+    EXPECT(brm_map_u64_overlapping(&map, &within, e, 2, &n) == BRM_DONE && n == 2);
+    EXPECT(is_entry(e[0], upto(0, 6), 0) && is_entry(e[1], upto(10, 16), 1));
+    within.start = 16;
+    EXPECT(brm_map_u64_overlapping(&map, &within, e, 2, &n) == BRM_DONE && n == 2);
+    EXPECT(is_entry(e[0], upto(20, 26), 2) && is_entry(e[1], upto(30, 36), 3));
+    within.start = 36;
+    EXPECT(brm_map_u64_overlapping(&map, &within, e, 2, &n) == BRM_DONE && n == 1 && is_entry(e[0], upto(40, 46), 4));
+    within = upto(6, 10);
+    EXPECT(brm_map_u64_overlapping(&map, &within, e, 2, &n) == BRM_DONE && n == 0);
+    within = upto(8, 3);
+    EXPECT(brm_map_u64_overlapping(&map, &within, e, 2, &n) == BRM_DONE && n == 0);
+    EXPECT(brm_map_u64_gaps(&map, &within, gaps, 2, &n) == BRM_DONE && n == 0);
+    within = through(5, 22);
+    EXPECT(brm_map_u64_gaps(&map, &within, gaps, 2, &n) == BRM_DONE && n == 2);
+    EXPECT(gaps[0].start == 6 && gaps[0].end == 10 && gaps[0].flags == BRM_END_EXCLUDED);
+    EXPECT(gaps[1].start == 16 && gaps[1].end == 20 && gaps[1].flags == BRM_END_EXCLUDED);
+    EXPECT(brm_map_u64_gaps(&map, &all, gaps, 2, &n) == BRM_DONE && n == 2);
+    EXPECT(gaps[0].start == 6 && gaps[0].end == 10 && gaps[1].start == 16);
+    within = (brm_range_u64){46, 0, BRM_END_UNBOUNDED};
+    EXPECT(brm_map_u64_gaps(&map, &within, gaps, 2, &n) == BRM_DONE && n == 1);
+    EXPECT(gaps[0].start == 46 && gaps[0].flags == BRM_END_UNBOUNDED);
+
+    brm_range_u64 touching = upto(6, 8), meeting = through(5, 6), none = upto(8, 3);
+    EXPECT(brm_map_u64_try_insert(&map, &meeting, 7) == BRM_OCCUPIED && brm_count(&map) == 5);
+    EXPECT(brm_map_u64_try_insert(&map, &touching, 0) == BRM_DONE && brm_count(&map) == 5);
+    EXPECT(brm_map_u64_try_insert(&map, &none, 7) == BRM_DONE && brm_count(&map) == 5);
+    granted = 0;
+    brm_range_u64 far = upto(100, 110);
+    EXPECT(brm_map_u64_split_off(&map, 22, &rest) == BRM_NO_MEMORY && brm_count(&map) == 5 && !rest.is_open);
+    granted = 1;
+    EXPECT(brm_map_u64_split_off(&map, 22, &rest) == BRM_NO_MEMORY && brm_count(&map) == 5 && !rest.is_open);
+    granted = -1;
+    EXPECT(brm_map_u64_split_off(&map, 22, &map) == BRM_OPEN);
+    EXPECT(brm_map_u64_split_off(&map, 22, &rest) == BRM_DONE && brm_count(&map) == 3 && brm_count(&rest) == 3);
+    EXPECT(brm_map_u64_last(&map, &e[0]) == BRM_DONE && is_entry(e[0], upto(20, 22), 2));
+    EXPECT(brm_map_u64_first(&rest, &e[0]) == BRM_DONE && is_entry(e[0], upto(22, 26), 2));
+    EXPECT(brm_map_u64_split_off(&map, 22, &rest) == BRM_OPEN);
+    EXPECT(brm_map_u64_try_insert(&rest, &far, 7) == BRM_DONE && brm_count(&rest) == 4);
+    brm_destroy(&rest);
+    brm_destroy(&map);
+    EXPECT(brm_map_u64_split_off(&map, 22, &rest) == BRM_CLOSED && !rest.is_open);
+    EXPECT(brm_map_u64_try_insert(&map, &far, 7) == BRM_CLOSED);
+
+    EXPECT(brm_set_u64_create(&set) == BRM_DONE);
+    EXPECT(brm_map_u64_overlapping(&set, &far, e, 2, &n) == BRM_OTHER_KIND);
+    EXPECT(brm_map_u64_try_insert(&set, &far, 7) == BRM_OTHER_KIND);
+    EXPECT(brm_map_u64_split_off(&set, 22, &rest) == BRM_OTHER_KIND && !rest.is_open);
+    EXPECT(brm_set_u64_insert(&set, &far) == BRM_DONE);
+    EXPECT(brm_set_u64_overlapping(&set, &all, gaps, 2, &n) == BRM_DONE && n == 1 && gaps[0].start == 100);
+    EXPECT(brm_set_u64_gaps(&set, &all, gaps, 2, &n) == BRM_DONE && n == 2 && gaps[1].start == 110);
+    brm_destroy(&set);
+}
+
+static void in_signed_ranges(void) {
+    brm_handle map = BRM_HANDLE_CLOSED, rest = BRM_HANDLE_CLOSED;
+    brm_entry_i64 e[2];
+    brm_range_i64 gaps[2], low = {-9, -5, 0}, high = {5, 9, 0}, within = {-7, 7, 0};
+    size_t n = 0;
+    memset(e, 0, sizeof e);
+    memset(gaps, 0, sizeof gaps);
+    EXPECT(brm_map_i64_create(&map) == BRM_DONE);
+    EXPECT(brm_map_i64_try_insert(&map, &low, 1) == BRM_DONE && brm_map_i64_try_insert(&map, &high, 2) == BRM_DONE);
+    EXPECT(brm_map_i64_try_insert(&map, &within, 3) == BRM_OCCUPIED);
+    EXPECT(brm_map_i64_overlapping(&map, &within, e, 2, &n) == BRM_DONE && n == 2 && e[0].value == 1 && e[1].value == 2);
+    EXPECT(brm_map_i64_gaps(&map, &within, gaps, 2, &n) == BRM_DONE && n == 1);
+    EXPECT(gaps[0].start == -5 && gaps[0].end == 5 && gaps[0].flags == (BRM_START_EXCLUDED | BRM_END_EXCLUDED));
+    EXPECT(brm_map_i64_split_off(&map, -6, &rest) == BRM_DONE && brm_count(&map) == 1 && brm_count(&rest) == 2);
+    EXPECT(brm_map_i64_first(&rest, &e[0]) == BRM_DONE && e[0].range.start == -6 && e[0].range.end == -5);
+    brm_destroy(&rest);
+    brm_destroy(&map);
+}
+
 int main(void) {
     maps();
     many();
@@ -454,6 +538,8 @@ int main(void) {
     clones();
     keys_of_two_sets();
     batches();
+    in_ranges();
+    in_signed_ranges();
     status_texts();
     texts();
     printf("C: %s\n", failures ? "FAILED" : "passed");

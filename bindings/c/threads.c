@@ -25,6 +25,7 @@ static void fill(brm_handle *map, job *it) {
 static void read_all(const brm_handle *map, job *it) {
     brm_range_u64 every = {0, 0, BRM_START_UNBOUNDED | BRM_END_UNBOUNDED};
     brm_entry_u64 entry = {{0, 0, 0}, 0}, entries[10];
+    brm_range_u64 gaps[10];
     size_t read = 0;
     brm_key_count count = {0, 0};
     uint8_t text[8];
@@ -39,8 +40,11 @@ static void read_all(const brm_handle *map, job *it) {
     it->wrong += brm_map_u64_len(map, &count) != BRM_DONE || count.low != 5 * RANGES;
     it->wrong += brm_map_u64_first(map, &entry) != BRM_DONE || brm_map_u64_last(map, &entry) != BRM_DONE;
     memset(entries, 0, sizeof entries);
+    memset(gaps, 0, sizeof gaps);
     it->wrong += brm_map_u64_read(map, 0, entries, 10, &read) != BRM_DONE || entries[9].value != 9;
     it->wrong += brm_map_u64_read_back(map, 99, entries, 10, &read) != BRM_DONE || read != 10;
+    it->wrong += brm_map_u64_overlapping(map, &every, entries, 10, &read) != BRM_DONE || entries[9].value != 9;
+    it->wrong += brm_map_u64_gaps(map, &every, gaps, 10, &read) != BRM_DONE || gaps[9].start != 95;
     it->wrong += brm_save(map, text, sizeof text, &size) != BRM_NO_ROOM;
 }
 

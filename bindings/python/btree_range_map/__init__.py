@@ -25,6 +25,7 @@ import contextlib
 import copy as _copy
 import ctypes
 import json
+import struct
 import threading
 from typing import Any, Generic, Hashable, Iterable, Iterator, TypeVar
 
@@ -196,10 +197,9 @@ class _Collection:
     def _shown(self, *entry: int) -> Any:
         raise NotImplementedError
 
-    def _entries(self, first: int | None = None, last: int | None = None) -> Iterator[tuple[int, ...]]:
-        """What is stored from the key of this number on, as the library has it, ascending. Reads a batch at a time."""
-        key = self._keys.least + self._offset if first is None else first
-        last = self._keys.greatest + self._offset if last is None else last
+    def _entries(self) -> Iterator[tuple[int, ...]]:
+        """What is stored, as the library has it, ascending. Reads a batch at a time."""
+        key, last = self._keys.least + self._offset, self._keys.greatest + self._offset
         size, count = self._kind.form.size, ctypes.c_size_t(0)
         buffer = ctypes.create_string_buffer(size * _c.BATCH)
         while key <= last:
@@ -227,15 +227,30 @@ class _Collection:
                 return
             key = entry[0] - (not entry[2] & _c.START_EXCLUDED)
 
+    def _within(self, call: Any, form: struct.Struct, keys: Any) -> Iterator[tuple[int, ...]]:
+        """What the call finds in the range, as the library has it, ascending. Reads a batch at a time."""
+        raw, size, count = self._raw(keys), form.size, ctypes.c_size_t(0)
+        buffer = ctypes.create_string_buffer(size * _c.BATCH)
+        while True:
+            with self._lock:
+                _check(call(self._handle, raw, buffer, _c.BATCH, count))
+            found = list(form.iter_unpack(memoryview(buffer)[: size * count.value]))
+            yield from found
+            if len(found) < _c.BATCH or found[-1][2] & _c.END_UNBOUNDED:
+                return
+            # the part of the range past the last that was found
+            _, end, flags = self._kind.range_form.unpack(raw)
+            start_flag = 0 if found[-1][2] & _c.END_EXCLUDED else _c.START_EXCLUDED
+            flags = flags & (_c.END_EXCLUDED | _c.END_UNBOUNDED) | start_flag
+            raw = self._kind.range_form.pack(found[-1][1], end, flags)
+
     def _spans(self, keys: Any) -> Iterator[tuple[int, int, tuple[int, ...]]]:
         """The bound parts of the range by the numbers of their first and last keys, with the stored entry, ascending."""
         first, last = self._ends(keys)
-        for entry in self._entries(first, last):
+        for entry in self._within(self._kind.overlapping, self._kind.form, keys):
             start, end, flags = entry[:3]
             low = first if flags & _c.START_UNBOUNDED else max(first, start + bool(flags & _c.START_EXCLUDED))
             high = last if flags & _c.END_UNBOUNDED else min(last, end - bool(flags & _c.END_EXCLUDED))
-            if low > last:
-                return
             yield low, high, entry
 
     def _opened(self) -> Any:
@@ -292,12 +307,10 @@ class _Collection:
 
     def gaps(self, keys: Any = slice(None)) -> Iterator[Range]:
         """The parts of the range, or of all keys, of which no key is there, ascending."""
-        first, last = self._ends(keys)
-        for low, high, _ in self._spans(keys):
-            if first < low:
-                yield self._between(first, low - 1)
-            first = high + 1
-        if first <= last:
+        least, greatest = self._ends(keys)
+        for start, end, flags in self._within(self._kind.gaps, self._kind.range_form, keys):
+            first = least if flags & _c.START_UNBOUNDED else start + bool(flags & _c.START_EXCLUDED)
+            last = greatest if flags & _c.END_UNBOUNDED else end - bool(flags & _c.END_EXCLUDED)
             yield self._between(first, last)
 
     def clear(self) -> None:
@@ -539,9 +552,10 @@ class RangeMap(_Collection, Generic[V]):
 
     def split_off(self, key: Any) -> RangeMap[V]:
         """Keeps what lies before the key, and returns a map of the rest."""
+        rest: RangeMap[V] = RangeMap(keys=self._keys.name)
         with self._lock:
-            rest: RangeMap[V] = RangeMap(self.pieces(slice(key, None)), keys=self._keys.name)
-            del self[key:]
+            self._call("split_off", self._number(key), rest._handle)
+            rest._values = self._values.copied()
             return rest
 
     def copy(self) -> RangeMap[V]:

@@ -11,7 +11,7 @@ import os
 import pathlib
 import struct
 
-DONE, NO_MEMORY, CLOSED, NONE, CONNECTED, OTHER_KIND, OPEN, NO_ROOM, NOT_JSON, NOT_READ = range(10)
+DONE, NO_MEMORY, CLOSED, NONE, CONNECTED, OTHER_KIND, OPEN, NO_ROOM, NOT_JSON, NOT_READ, OCCUPIED = range(11)
 START_EXCLUDED, START_UNBOUNDED, END_EXCLUDED, END_UNBOUNDED = 1, 2, 4, 8
 
 #: How many ranges a batch has at most.
@@ -64,14 +64,18 @@ class Kind:
             "pop_last": [handle, buffer],
             "read": [handle, of_key, buffer, size, sized],
             "read_back": [handle, of_key, buffer, size, sized],
+            "overlapping": [handle, buffer, buffer, size, sized],
+            "gaps": [handle, buffer, buffer, size, sized],
         }
         if has_values:
-            parameters["insert_disconnected"] = parameters["insert"]
+            parameters["insert_disconnected"] = parameters["try_insert"] = parameters["insert"]
+            parameters["split_off"] = [handle, of_key, handle]
         else:
             for call in ("union", "intersection", "difference", "symmetric_difference"):
                 parameters[call] = [handle, handle, handle]
             parameters |= {"complement": [handle, handle], "is_subset": [handle, handle], "is_disjoint": [handle, handle]}
         raw = {"union", "intersection", "difference", "symmetric_difference", "complement", "is_subset", "is_disjoint"}
+        raw |= {"split_off"}
         for call, kinds in parameters.items():
             function = getattr(library, f"brm_{'raw_' if call in raw else ''}{name}_{call}")
             function.argtypes, function.restype = kinds, ctypes.c_uint32

@@ -196,6 +196,18 @@ class Maps(unittest.TestCase):
         self.assertEqual(list(reversed(keys)), list(keys)[::-1])
         self.assertEqual(list(zip(keys.keys(), keys.values())), list(keys.items()))
 
+    def test_many_parts_of_a_range_are_read_in_batches(self):
+        for kind, least in (("u64", 0), ("i64", -3000), ("i16", -3000), ("u16", 0)):
+            held = RangeMap(((slice(least + 10 * at, least + 10 * at + 6), at) for at in range(600)), keys=kind)
+            for first, last in ((0, 599), (1, 256), (1, 257), (300, 300)):
+                span = slice(least + 10 * first + 5, least + 10 * last + 1 if first < last else least + 10 * last + 6)
+                self.assertEqual([at for _, at in held.overlapping(span)], list(range(first, last + 1)))
+                gaps = [keys_of(gap) for gap in held.gaps(span)]
+                wanted = [range(least + 10 * at + 6, least + 10 * at + 10) for at in range(first, last)]
+                self.assertEqual(gaps, wanted if first < last else [])
+            rest = held.split_off(least + 3003)
+            self.assertEqual((len(held), len(rest), held.last(), rest.first()[1]), (301, 300, (Range(least + 3000, least + 3003), 300), 300))
+
     def test_many_ranges_are_read_in_batches(self):
         for count in (0, 1, 255, 256, 257, 512, 1000):
             keys = RangeMap((slice(10 * at, 10 * at + 5), at) for at in range(count))

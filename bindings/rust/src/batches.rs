@@ -1,5 +1,7 @@
 //! What is stored, read in batches from both ends.
-use crate::ffi::{Calls, END_EXCLUDED, Handle, RawHandle, RawRange, START_EXCLUDED};
+use crate::ffi::{
+    Calls, END_EXCLUDED, END_UNBOUNDED, Handle, RawHandle, RawRange, ReadsWithin, START_EXCLUDED,
+};
 
 /// How many ranges a batch has at most.
 const BATCH: usize = 128;
@@ -105,4 +107,59 @@ impl<'a, N: Copy, E: Stored<N>> Batches<'a, N, E> {
         self.left -= 1;
         Some(shown)
     }
+}
+
+/// What a call finds in a range of one collection, in ascending order.
+#[derive(Clone)]
+pub struct Within<'a, N, E> {
+    handle: &'a Handle,
+    reads: ReadsWithin<N, E>,
+    /// What is left of the range where more may be found in it.
+    range: Option<RawRange<N>>,
+    read: Vec<E>,
+    shown: usize,
+}
+
+/// How many ranges the first batch of a range has at most. Most callers want few.
+const FIRST: usize = 4;
+
+impl<'a, N: Copy, E: Stored<N>> Within<'a, N, E> {
+    pub fn new(handle: &'a Handle, reads: ReadsWithin<N, E>, range: RawRange<N>) -> Self {
+        Within { handle, reads, range: Some(range), read: Vec::new(), shown: 0 }
+    }
+
+    pub fn next(&mut self) -> Option<E> {
+        if self.shown == self.read.len() {
+            self.refill()?;
+        }
+        let shown = self.read.get(self.shown).copied();
+        self.shown += usize::from(shown.is_some());
+        shown
+    }
+
+    /// Reads the next batch, if the range may have more.
+    fn refill(&mut self) -> Option<()> {
+        let range = self.range.take()?;
+        let capacity = if self.read.is_empty() { FIRST } else { BATCH };
+        self.read.resize(capacity, E::default());
+        let mut count = 0;
+        // SAFETY: the buffer is as many ranges as is said, and the handle is not written while it is borrowed
+        unsafe { (self.reads)(self.handle.get(), &range, self.read.as_mut_ptr(), capacity, &mut count) };
+        self.read.truncate(count);
+        self.shown = 0;
+        if count == capacity {
+            self.range = rest_past(range, self.read[count - 1].range());
+        }
+        Some(())
+    }
+}
+
+/// The part of the range past another, where there is one.
+fn rest_past<N: Copy>(range: RawRange<N>, shown: &RawRange<N>) -> Option<RawRange<N>> {
+    if shown.flags & END_UNBOUNDED != 0 {
+        return None;
+    }
+    let start_flag = if shown.flags & END_EXCLUDED != 0 { 0 } else { START_EXCLUDED };
+    let flags = range.flags & (END_EXCLUDED | END_UNBOUNDED) | start_flag;
+    Some(RawRange { start: shown.end, flags, ..range })
 }

@@ -7,6 +7,7 @@ pub const CONNECTED: u32 = 4;
 pub const NO_ROOM: u32 = 7;
 pub const NOT_JSON: u32 = 8;
 pub const NOT_READ: u32 = 9;
+pub const OCCUPIED: u32 = 10;
 
 pub const START_EXCLUDED: u32 = 1;
 pub const START_UNBOUNDED: u32 = 2;
@@ -63,12 +64,20 @@ pub struct Calls<K, E> {
     pub pop_last: unsafe extern "C" fn(*mut RawHandle, &mut E) -> u32,
     pub read: unsafe extern "C" fn(*const RawHandle, K, *mut E, usize, &mut usize) -> u32,
     pub read_back: unsafe extern "C" fn(*const RawHandle, K, *mut E, usize, &mut usize) -> u32,
+    pub overlapping: ReadsWithin<K, E>,
+    pub gaps: ReadsWithin<K, RawRange<K>>,
 }
+
+/// A call that writes to an array what it finds in a range.
+pub type ReadsWithin<K, E> =
+    unsafe extern "C" fn(*const RawHandle, &RawRange<K>, *mut E, usize, &mut usize) -> u32;
 
 /// The calls that bind keys to values.
 pub struct Binds<K> {
     pub insert: unsafe extern "C" fn(*mut RawHandle, &RawRange<K>, u64) -> u32,
     pub insert_disconnected: unsafe extern "C" fn(*mut RawHandle, &RawRange<K>, u64) -> u32,
+    pub try_insert: unsafe extern "C" fn(*mut RawHandle, &RawRange<K>, u64) -> u32,
+    pub split_off: unsafe extern "C" fn(*mut RawHandle, K, *mut RawHandle) -> u32,
 }
 
 macro_rules! calls {
@@ -117,6 +126,22 @@ macro_rules! calls {
                     capacity: usize,
                     count: &mut usize,
                 ) -> u32;
+                #[link_name = concat!($prefix, "overlapping")]
+                fn overlapping(
+                    at: *const RawHandle,
+                    range: &RawRange<$key>,
+                    to: *mut $entry,
+                    capacity: usize,
+                    count: &mut usize,
+                ) -> u32;
+                #[link_name = concat!($prefix, "gaps")]
+                fn gaps(
+                    at: *const RawHandle,
+                    range: &RawRange<$key>,
+                    to: *mut RawRange<$key>,
+                    capacity: usize,
+                    count: &mut usize,
+                ) -> u32;
             }
 
             pub static CALLS: Calls<$key, $entry> = Calls {
@@ -134,13 +159,15 @@ macro_rules! calls {
                 pop_last,
                 read,
                 read_back,
+                overlapping,
+                gaps,
             };
         }
     };
 }
 
 macro_rules! binds {
-    ($module:ident, $prefix:literal, $key:ty) => {
+    ($module:ident, $prefix:literal, $raw:literal, $key:ty) => {
         pub mod $module {
             use super::*;
 
@@ -149,9 +176,13 @@ macro_rules! binds {
                 fn insert(map: *mut RawHandle, range: &RawRange<$key>, value: u64) -> u32;
                 #[link_name = concat!($prefix, "insert_disconnected")]
                 fn insert_disconnected(map: *mut RawHandle, range: &RawRange<$key>, value: u64) -> u32;
+                #[link_name = concat!($prefix, "try_insert")]
+                fn try_insert(map: *mut RawHandle, range: &RawRange<$key>, value: u64) -> u32;
+                #[link_name = concat!($raw, "split_off")]
+                fn split_off(map: *mut RawHandle, key: $key, other: *mut RawHandle) -> u32;
             }
 
-            pub static BINDS: Binds<$key> = Binds { insert, insert_disconnected };
+            pub static BINDS: Binds<$key> = Binds { insert, insert_disconnected, try_insert, split_off };
         }
     };
 }
@@ -159,8 +190,8 @@ macro_rules! binds {
 calls!(unsigned, "brm_map_u64_", u64, RawEntry<u64>);
 calls!(signed, "brm_map_i64_", i64, RawEntry<i64>);
 calls!(set, "brm_set_u64_", u64, RawRange<u64>);
-binds!(unsigned_binds, "brm_map_u64_", u64);
-binds!(signed_binds, "brm_map_i64_", i64);
+binds!(unsigned_binds, "brm_map_u64_", "brm_raw_map_u64_", u64);
+binds!(signed_binds, "brm_map_i64_", "brm_raw_map_i64_", i64);
 
 /// A call that opens the last handle on a set made of the first two.
 pub type TwoSets = unsafe extern "C" fn(*const RawHandle, *const RawHandle, *mut RawHandle) -> u32;

@@ -27,7 +27,7 @@ mod set;
 mod values;
 
 pub use map::{Iter as MapIter, RangeMap};
-pub use numbers::{Iter as NumberIter, NumberMap};
+pub use numbers::{Gaps as NumberGaps, Iter as NumberIter, NumberMap, Overlapping as NumberOverlapping};
 pub use range::{Key, Range};
 pub use set::{Iter as SetIter, RangeSet};
 
@@ -68,11 +68,13 @@ impl fmt::Display for NotLoaded {
 
 impl std::error::Error for NotLoaded {}
 
-/// Why a range was not inserted apart from the stored ones. Nothing was changed.
+/// Why a range was not inserted. Nothing was changed.
 #[derive(Clone, Copy, Debug, PartialEq, Eq)]
 pub enum NotInserted {
     /// The range meets or touches a stored one.
     Connected,
+    /// The range meets a stored one, where it may touch some.
+    Occupied,
     /// There was not enough memory.
     NoMemory,
 }
@@ -81,6 +83,7 @@ impl fmt::Display for NotInserted {
     fn fmt(&self, f: &mut fmt::Formatter<'_>) -> fmt::Result {
         f.write_str(match self {
             NotInserted::Connected => "the range meets or touches a stored one",
+            NotInserted::Occupied => "the range meets a stored one",
             NotInserted::NoMemory => "out of memory",
         })
     }

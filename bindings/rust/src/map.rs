@@ -151,14 +151,7 @@ impl<K: Key, V: Eq + Hash> RangeMap<K, V> {
         &'a self,
         range: impl RangeBounds<K> + 'a,
     ) -> impl Iterator<Item = (Range<K>, &'a V)> + 'a {
-        let ends = Range { start: range.start_bound().cloned(), end: range.end_bound().cloned() }.ends();
-        let mut from = ends.map(|(first, _)| first);
-        std::iter::from_fn(move || {
-            let (found, number) = self.numbers.next(from?)?;
-            common(found, &range)?;
-            from = found.ends().and_then(|(_, last)| last.successor());
-            Some((found, self.values.get(number)))
-        })
+        self.numbers.overlapping(range).map(|(found, number)| (found, self.values.get(number)))
     }
 
     /// The parts of the range that are bound, each with its value, in ascending order.
@@ -171,27 +164,8 @@ impl<K: Key, V: Eq + Hash> RangeMap<K, V> {
     }
 
     /// The parts of the range of which no key is bound, in ascending order.
-    pub fn gaps<'a>(
-        &'a self,
-        range: impl RangeBounds<K> + Clone + 'a,
-    ) -> impl Iterator<Item = Range<K>> + 'a {
-        let ends = Range { start: range.start_bound().cloned(), end: range.end_bound().cloned() }.ends();
-        let mut rest = ends;
-        let mut bound = self.pieces(range);
-        std::iter::from_fn(move || {
-            while let Some((first, last)) = rest {
-                let Some((found, _)) = bound.next() else {
-                    rest = None;
-                    return Some(through((first, last)));
-                };
-                let (start, end) = found.ends()?;
-                rest = end.successor().filter(|next| *next <= last).map(|next| (next, last));
-                if first < start {
-                    return Some(through((first, start.predecessor()?)));
-                }
-            }
-            None
-        })
+    pub fn gaps<'a>(&'a self, range: impl RangeBounds<K> + 'a) -> impl Iterator<Item = Range<K>> + 'a {
+        self.numbers.gaps(range).filter_map(|gap| gap.ends()).map(through)
     }
 
     /// Keeps of the map what lies before the key, and returns the rest.
@@ -199,9 +173,8 @@ impl<K: Key, V: Eq + Hash> RangeMap<K, V> {
     where
         V: Clone,
     {
-        let rest = self.pieces(key..).map(|(range, value)| (range, value.clone())).collect();
-        self.remove(key..);
-        rest
+        let numbers = self.numbers.split_off(key).expect(NO_MEMORY);
+        RangeMap { numbers, values: self.values.clone() }
     }
 
     /// Moves all bindings of the other map into this one, where they replace those of the same keys.

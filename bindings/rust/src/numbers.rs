@@ -1,5 +1,5 @@
 //! Maps from ranges of keys to numbers: the library's maps as they are.
-use crate::batches::Batches;
+use crate::batches::{Batches, Within};
 use crate::ffi::{self, Handle, RawEntry, RawLength, RawRange, done};
 use crate::range::sealed::{Native, Numbered};
 use crate::range::{Key, Range, range_of, raw_range};
@@ -68,6 +68,15 @@ impl<K: Key> NumberMap<K> {
         match unsafe { (K::Native::BINDS.insert_disconnected)(self.handle.get_mut(), &raw(&range), number) } {
             ffi::DONE => Ok(()),
             ffi::CONNECTED => Err(NotInserted::Connected),
+            _ => Err(NotInserted::NoMemory),
+        }
+    }
+
+    /// Binds each key of a range that meets no stored one. It may touch stored ranges.
+    pub fn try_insert(&mut self, range: impl RangeBounds<K>, number: u64) -> Result<(), NotInserted> {
+        match unsafe { (K::Native::BINDS.try_insert)(self.handle.get_mut(), &raw(&range), number) } {
+            ffi::DONE => Ok(()),
+            ffi::OCCUPIED => Err(NotInserted::Occupied),
             _ => Err(NotInserted::NoMemory),
         }
     }
@@ -154,6 +163,25 @@ impl<K: Key> NumberMap<K> {
         Iter { batches: Batches::new(&self.handle, calls::<K>(), (K::LEAST.number(), K::GREATEST.number())) }
     }
 
+    /// The stored ranges that meet the range, whole, with their numbers, in ascending order.
+    pub fn overlapping(&self, range: impl RangeBounds<K>) -> Overlapping<'_, K> {
+        Overlapping { found: Within::new(&self.handle, calls::<K>().overlapping, raw(&range)) }
+    }
+
+    /// The parts of the range that hold no bound key, in ascending order.
+    pub fn gaps(&self, range: impl RangeBounds<K>) -> Gaps<'_, K> {
+        Gaps { found: Within::new(&self.handle, calls::<K>().gaps, raw(&range)) }
+    }
+
+    /// Keeps of the map what lies before the key, and returns the rest. After an error the map is as it was.
+    pub fn split_off(&mut self, key: K) -> Result<NumberMap<K>, NoMemory> {
+        let mut rest = NumberMap::new()?;
+        done(unsafe {
+            (K::Native::BINDS.split_off)(self.handle.get_mut(), key.number(), rest.handle.get_mut())
+        })?;
+        Ok(rest)
+    }
+
     /// A map with the same ranges and numbers.
     pub fn try_clone(&self) -> Result<NumberMap<K>, NoMemory> {
         Ok(NumberMap { handle: self.handle.copied()?, _keys: PhantomData })
@@ -224,3 +252,35 @@ impl<'a, K: Key> IntoIterator for &'a NumberMap<K> {
         self.iter()
     }
 }
+
+/// The stored ranges of a [`NumberMap`] that meet a range, with their numbers, in ascending order.
+#[derive(Clone)]
+pub struct Overlapping<'a, K: Key> {
+    found: Within<'a, <K as Numbered>::Native, RawEntry<<K as Numbered>::Native>>,
+}
+
+impl<K: Key> Iterator for Overlapping<'_, K> {
+    type Item = (Range<K>, u64);
+
+    fn next(&mut self) -> Option<(Range<K>, u64)> {
+        self.found.next().map(shown::<K>)
+    }
+}
+
+impl<K: Key> FusedIterator for Overlapping<'_, K> {}
+
+/// The parts of a range that hold no bound key of a [`NumberMap`], in ascending order.
+#[derive(Clone)]
+pub struct Gaps<'a, K: Key> {
+    found: Within<'a, <K as Numbered>::Native, RawRange<<K as Numbered>::Native>>,
+}
+
+impl<K: Key> Iterator for Gaps<'_, K> {
+    type Item = Range<K>;
+
+    fn next(&mut self) -> Option<Range<K>> {
+        self.found.next().map(|range| range_of(&range, K::of_number))
+    }
+}
+
+impl<K: Key> FusedIterator for Gaps<'_, K> {}

@@ -1,5 +1,5 @@
 //! Sets of keys.
-use crate::batches::Batches;
+use crate::batches::{Batches, Within};
 use crate::ffi::{self, Handle, RawLength, RawRange, TwoSets, done};
 use crate::range::{Key, Range, range_of, raw_range};
 use crate::{NoMemory, ffi::set::CALLS};
@@ -143,6 +143,12 @@ impl<K: Key> RangeSet<K> {
             batches: Batches::new(&self.handle, &CALLS, (K::LEAST.place(), K::GREATEST.place())),
             _keys: PhantomData,
         }
+    }
+
+    /// The stored ranges that meet the range, whole, in ascending order.
+    pub fn overlapping(&self, range: impl RangeBounds<K>) -> impl Iterator<Item = Range<K>> {
+        let mut found = Within::new(&self.handle, CALLS.overlapping, raw(&range));
+        std::iter::from_fn(move || found.next().map(|range| range_of(&range, K::of_place)))
     }
 
     /// A set of the keys that are in either set.

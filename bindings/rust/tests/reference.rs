@@ -159,6 +159,31 @@ fn ranges_keep_their_bounds() {
     assert_eq!(format!("{map:?}"), "{..-5: 7, 5..: 7}");
 }
 
+/// What lies in a range comes in batches, of which the first has four ranges.
+#[test]
+fn ranges_within_a_range_come_whole() {
+    let mut map: NumberMap<i64> = NumberMap::new().unwrap();
+    (0..600).for_each(|at| map.insert(10 * at..10 * at + 6, at as u64).unwrap());
+    for (first, last) in [(0, 599), (3, 3), (5, 8), (2, 400), (590, 599)] {
+        let met = map.overlapping(10 * first + 5..=10 * last + 5).map(|(_, number)| number);
+        assert!(met.eq(first as u64..=last as u64));
+        let gaps = map.gaps(10 * first..10 * last);
+        assert!(gaps.eq((first..last).map(|at| Range::from(10 * at + 6..10 * at + 10))));
+    }
+    assert_eq!((map.overlapping(6..10).count(), map.overlapping(..).count()), (0, 600));
+    let mut gaps = map.gaps(..);
+    assert_eq!((gaps.next(), gaps.clone().count()), (Some(Range::from(..0)), 600));
+    assert_eq!(gaps.last(), Some(Range::from(5996..)));
+    assert_eq!(map.try_insert(4..7, 1), Err(NotInserted::Occupied));
+    assert_eq!((map.try_insert(6..10, 0), map.range_count()), (Ok(()), 600));
+    let rest = map.split_off(3003).unwrap();
+    assert_eq!((map.range_count(), rest.range_count()), (301, 300));
+    assert_eq!(map.last_range_value(), Some((Range::from(3000..3003), 300)));
+    assert_eq!(rest.first_range_value(), Some((Range::from(3003..3006), 300)));
+    let set: RangeSet<i64> = (0..50).map(|at| 10 * at..10 * at + 6).collect();
+    assert_eq!((set.overlapping(5..=100).count(), set.overlapping(6..10).count()), (11, 0));
+}
+
 /// Values by each key of a `u16`, as a map of ranges with strings answers for them.
 #[test]
 fn values_of_any_type_answer_as_a_reference() {
@@ -239,7 +264,7 @@ fn maps_do_what_collections_do() {
     let rest = other.split_off(35);
     assert_eq!(
         (other.last_range_value(), rest.first_range_value()),
-        (Some(((5..35).into(), &"c")), Some(((35..=39).into(), &"b")))
+        (Some(((5..35).into(), &"c")), Some(((35..40).into(), &"b")))
     );
     let over = map.overlay(&other);
     assert_eq!((over.get(4), over.get(7), over.get(36)), (Some(&"a"), Some(&"c"), Some(&"b")));

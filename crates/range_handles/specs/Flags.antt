@@ -63,6 +63,13 @@ signed_entry_item e = record { key = signed_range_of e.range; value = e.value }
 abbrev pub bounds_item : Bounds → Item (AnyRange ℕ) (Unit {0})
 bounds_item b = record { key = range_of b; value = tt }
 
+abbrev pub signed_bounds_item : SignedBounds → Item (AnyRange ℤ) (Unit {0})
+signed_bounds_item b = record { key = signed_range_of b; value = tt }
+
+-- the range of what says an item
+abbrev pub said_range : {E K V : Type 0} → (E → Item (AnyRange K) V) → E → AnyRange K
+said_range said e = (said e).key
+
 -- the number of keys that the parts say
 abbrev pub number_of : Length → ℕ
 number_of n = n.high * 2 ^ 64 + n.low

@@ -5,17 +5,18 @@ ghost use Rattle.btree_range_map.specs.Holding.{box_items};
 ghost use Rattle.btree_range_map.specs.JsonError.TheVariants.{Memory};
 ghost use Rattle.btree_range_map.specs.Keys.{unsigned_shape};
 ghost use Rattle.btree_range_map.specs.ListOrder.{IsCopyOf};
-ghost use Rattle.btree_range_map.specs.Lookups.{IsConnectedToSome};
+ghost use Rattle.btree_range_map.specs.Lookups.{IsConnectedToSome, MeetsSome};
 ghost use Rattle.btree_range_map.specs.MapFaults.{IsMapRead, IsMapFault};
 ghost use Rattle.btree_range_map.specs.Range.{IsEmptyRange, ClonesAreEqual};
 ghost use Rattle.btree_range_map.specs.Shapes.{map_shape};
+ghost use Rattle.btree_range_map.specs.Splitting.{IsSplitAt};
 ghost use Rattle.serde_json.specs.View.{view};
 ghost use Rattle.serde_json.specs.Written.{compact_text, has_float};
 ghost use Rattle.range_handles.specs.Texts.{reads_unsigned, IsUnsignedRead};
 
 use crate::batch::Shown;
 use crate::key::Key;
-use crate::status::{CONNECTED, DONE, NO_MEMORY, NONE, of_refusal};
+use crate::status::{CONNECTED, DONE, NO_MEMORY, NONE, OCCUPIED, of_obstacle, of_refusal};
 use btree_range_map::json::{Json, JsonError, map_from_json, map_to_json};
 use btree_range_map::range::traits::PartialEnum;
 use btree_range_map::{AnyRange, RangeMap};
@@ -124,6 +125,41 @@ impl<K: Key> KeptMap<K> {
         match self.map.insert_disconnected(range, value) {
             Ok(()) => DONE,
             Err(refusal) => of_refusal(&refusal),
+        }
+    }
+
+    /// Binds each key of a range that meets no stored one.
+    pub fn try_insert(&mut self, range: AnyRange<K>, value: u64) -> u32
+        ensures bound { result ≡ DONE
+            → IsBoundAfter K.order nat_eq self.old self.new range value }
+        ensures occupied { result ≡ OCCUPIED
+            ↔ (¬ IsEmptyRange K.order range) × MeetsSome K.order self.old range }
+        ensures empty { IsEmptyRange K.order range → result ≡ DONE }
+        ensures empty_unchanged { IsEmptyRange K.order range
+            → self.new ≡ self.old }
+        ensures refused { result ≢ DONE → self.new ≡ self.old }
+        ensures answer { (result ≡ DONE) ⊎ ((result ≡ NO_MEMORY) ⊎ (result ≡ OCCUPIED)) }
+    {
+        match self.map.try_insert(range, value) {
+            Ok(()) => DONE,
+            Err(refusal) => of_obstacle(&refusal),
+        }
+    }
+
+    /// Moves what lies from the key on to the other map, in place of what that held.
+    pub fn split_off(&mut self, key: K, rest: &mut KeptMap<K>) -> u32
+        requires keys { ClonesAreEqual K.is_clone K.eq }
+        ensures split { result ≡ DONE
+            → IsSplitAt K.order nat_eq key self.old self.new rest.new }
+        ensures refused { result ≢ DONE → (self.new ≡ self.old) × (rest.new ≡ rest.old) }
+        ensures answer { (result ≡ DONE) ⊎ (result ≡ NO_MEMORY) }
+    {
+        match self.map.split_off(key) {
+            Ok(map) => {
+                *rest = KeptMap { map };
+                DONE
+            }
+            Err(_) => NO_MEMORY,
         }
     }
 

@@ -7,9 +7,11 @@ ghost use Rattle.btree_range_map.specs.Item.{Item};
 ghost use Rattle.btree_range_map.specs.Lookups.{BindsKeyOf};
 ghost use Rattle.btree_range_map.specs.Numbers.{IsNumberOfKeys};
 ghost use Rattle.btree_range_map.specs.Overlapping.{AreOverlapping};
-ghost use Rattle.range_handles.specs.Flags.{number_of, from_key, upto_key};
+ghost use Rattle.btree_range_map.specs.PieceLists.{AreGapsWithin};
+ghost use Rattle.btree_range_map.specs.Range.{IsEmptyRange};
+ghost use Rattle.range_handles.specs.Flags.{number_of, from_key, upto_key, said_range};
 
-use crate::batch::{Shown, fill, fill_back};
+use crate::batch::{Shown, fill, fill_back, fill_gaps};
 use crate::bounds::Length;
 use crate::key::Key;
 use crate::status::{DONE, NONE, answer};
@@ -197,5 +199,54 @@ pub fn read_back<K: Key, V: Eq + Drop, E: Shown<K, V>>(
     key.known();
     let mut items = stored.overlapping(..=key);
     *count = fill_back(&mut items, entries);
+    DONE
+}
+
+/// Writes the stored ranges that meet the range, in ascending order, as many as the array takes,
+/// and how many.
+///
+/// Fewer than the array takes are written where there are no more. What lies behind them in the
+/// array stays as it was.
+pub fn overlapping<K: Key, V: Eq + Drop, E: Shown<K, V>>(
+    stored: &RangeMap<K, V>,
+    range: AnyRange<K>,
+    entries: &mut [E],
+    count: &mut usize,
+) -> u32
+    ensures read { ¬ IsEmptyRange K.order range → (rest : List (Item (AnyRange K) V))
+        × AreOverlapping K.order (box_items stored.now) range
+        (map E.said (take count.new entries.new) ++ rest)
+        × (count.new < length entries.old → rest ≡ []) }
+    ensures empty { IsEmptyRange K.order range → count.new ≡ 0 }
+    ensures within { count.new ≤ length entries.old }
+    ensures behind { drop count.new entries.new ≡ drop count.new entries.old }
+    ensures done { result ≡ DONE }
+{
+    let mut items = stored.overlapping(range);
+    *count = fill(&mut items, entries);
+    DONE
+}
+
+/// Writes the parts of the range that hold no bound key, in ascending order, as many as the array
+/// takes, and how many.
+///
+/// Fewer than the array takes are written where there are no more. What lies behind them in the
+/// array stays as it was.
+pub fn gaps<K: Key, V: Eq + Drop, E: Shown<K, ()>>(
+    stored: &RangeMap<K, V>,
+    range: AnyRange<K>,
+    ranges: &mut [E],
+    count: &mut usize,
+) -> u32
+    ensures gaps { (rest : List (AnyRange K))
+        × AreGapsWithin K.order (box_items stored.now) range
+        (map (said_range E.said) (take count.new ranges.new) ++ rest)
+        × (count.new < length ranges.old → rest ≡ []) }
+    ensures within { count.new ≤ length ranges.old }
+    ensures behind { drop count.new ranges.new ≡ drop count.new ranges.old }
+    ensures done { result ≡ DONE }
+{
+    let mut gaps = stored.gaps_within(&range);
+    *count = fill_gaps(&mut gaps, ranges);
     DONE
 }

@@ -1,8 +1,9 @@
 //! What a call answers.
 ghost use Rattle.std.specs.Prelude.{◌≡◌, ◌≢◌, ◌↔◌, ◌⊎◌, IsTrue};
 ghost use Rattle.btree_range_map.specs.Apart.{IsConnectedError};
+ghost use Rattle.btree_range_map.specs.Freeing.{IsOccupied};
 
-use btree_range_map::NotInserted;
+use btree_range_map::{NotFree, NotInserted};
 
 /// The call did what it is for; to a question, yes.
 pub const DONE: u32 = 0;
@@ -34,6 +35,9 @@ pub const NOT_JSON: u32 = 8;
 /// The JSON is no collection of the kind that is held, and nothing was changed.
 pub const NOT_READ: u32 = 9;
 
+/// The range meets a stored one, and nothing was changed.
+pub const OCCUPIED: u32 = 10;
+
 /// The status that says yes or no.
 pub fn answer(yes: bool) -> u32
     ensures yes { result ≡ DONE ↔ IsTrue yes }
@@ -51,5 +55,17 @@ pub fn of_refusal<K, V>(refusal: &NotInserted<K, V>) -> u32
     match refusal {
         NotInserted::Connected(_, _) => CONNECTED,
         NotInserted::Memory(_, _) => NO_MEMORY,
+    }
+}
+
+/// The status that says why a range was not inserted where none was to be in its way.
+pub fn of_obstacle<K, V>(refusal: &NotFree<K, V>) -> u32
+    ensures occupied { result ≡ OCCUPIED ↔ IsOccupied refusal.now }
+    ensures answer { (result ≡ NO_MEMORY) ⊎ (result ≡ OCCUPIED) }
+    ensures not_done { result ≢ DONE }
+{
+    match refusal {
+        NotFree::Occupied(_, _) => OCCUPIED,
+        NotFree::Memory(_, _) => NO_MEMORY,
     }
 }

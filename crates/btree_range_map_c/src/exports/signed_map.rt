@@ -1,10 +1,13 @@
 //! The calls on maps of `i64` keys to `u64` values.
-ghost use Rattle.std.specs.Prelude.{◌<◌, ◌≤◌, map, take, drop, reverse, length, ◌≡◌, ◌≢◌, ◌⊎◌, ◌↔◌, [], ◌∷◌, ◌++◌, IsSome, Some, None, true, false, nat_eq};
+ghost use Rattle.std.specs.Prelude.{◌<◌, ◌≤◌, map, take, drop, reverse, length, ◌≡◌, ◌≢◌, ◌⊎◌, ◌↔◌, [], ◌∷◌, ◌++◌, Some, None, true, false, nat_eq, List, ℤ};
+ghost use Rattle.btree_range_map.specs.AnyRange.{AnyRange};
 ghost use Rattle.btree_range_map.specs.Bindings.{Binds, IsBound, IsItemFor, IsBoundAfter, IsUnboundAfter};
-ghost use Rattle.btree_range_map.specs.Lookups.{BindsKeyOf, IsConnectedToSome};
+ghost use Rattle.btree_range_map.specs.Lookups.{BindsKeyOf, IsConnectedToSome, MeetsSome};
 ghost use Rattle.btree_range_map.specs.Numbers.{IsNumberOfKeys};
 ghost use Rattle.btree_range_map.specs.Range.{IsEmptyRange};
 ghost use Rattle.btree_range_map.specs.Overlapping.{AreOverlapping};
+ghost use Rattle.btree_range_map.specs.PieceLists.{AreGapsWithin};
+ghost use Rattle.btree_range_map.specs.Splitting.{IsSplitAt};
 ghost use Rattle.range_handles.specs.Flags.{signed_range_of, signed_entry_item, number_of, from_key, upto_key};
 ghost use Rattle.range_handles.specs.Held.{HoldsSignedMap, signed_items};
 ghost use Rattle.range_handles.specs.Lists.{signed_keys, SignedRanges};
@@ -14,7 +17,7 @@ use range_handles::collection::Collection;
 use range_handles::handle::Handle;
 use range_handles::kept_map::KeptMap;
 use range_handles::reads;
-use range_handles::status::{CLOSED, CONNECTED, DONE, NO_MEMORY, NONE, OPEN, OTHER_KIND};
+use range_handles::status::{CLOSED, CONNECTED, DONE, NO_MEMORY, NONE, OCCUPIED, OPEN, OTHER_KIND};
 use std::alloc::Global;
 
 /// Opens a closed handle, on an empty map. Allocates one block.
@@ -89,6 +92,39 @@ pub extern "C" fn brm_map_i64_insert_disconnected(
     }
     match handle.seal.as_mut() {
         Collection::Signed(kept) => kept.insert_disconnected(range.range(), value),
+        _ => OTHER_KIND,
+    }
+}
+
+/// Binds each key of a range that meets no stored one. It may touch stored ranges.
+#[unsafe(no_mangle)]
+pub extern "C" fn brm_map_i64_try_insert(
+    handle: &mut Handle,
+    range: &SignedBounds,
+    value: u64,
+) -> u32
+    ensures bound { result ≡ DONE
+        → IsBoundAfter signed_keys nat_eq (signed_items handle.old.seal.held)
+        (signed_items handle.new.seal.held) (signed_range_of range.now) value }
+    ensures occupied { HoldsSignedMap handle.old.seal.held → (result ≡ OCCUPIED
+        ↔ (¬ IsEmptyRange signed_keys (signed_range_of range.now))
+        × MeetsSome signed_keys (signed_items handle.old.seal.held) (signed_range_of range.now)) }
+    ensures empty { IsEmptyRange signed_keys (signed_range_of range.now)
+        → HoldsSignedMap handle.old.seal.held → result ≡ DONE }
+    ensures empty_unchanged { IsEmptyRange signed_keys (signed_range_of range.now)
+        → handle.new.seal.held ≡ handle.old.seal.held }
+    ensures kind { HoldsSignedMap handle.old.seal.held → HoldsSignedMap handle.new.seal.held }
+    ensures refused { result ≢ DONE → handle.new.seal.held ≡ handle.old.seal.held }
+    ensures answer { HoldsSignedMap handle.old.seal.held → (result ≡ DONE) ⊎ ((result ≡ NO_MEMORY) ⊎ (result ≡ OCCUPIED)) }
+    ensures closed { handle.old.is_open ≡ false → result ≡ CLOSED }
+    ensures other { handle.old.is_open ≡ true → (¬ HoldsSignedMap handle.old.seal.held)
+        → result ≡ OTHER_KIND }
+{
+    if !handle.is_open {
+        return CLOSED;
+    }
+    match handle.seal.as_mut() {
+        Collection::Signed(kept) => kept.try_insert(range.range(), value),
         _ => OTHER_KIND,
     }
 }
@@ -423,5 +459,117 @@ pub extern "C" fn brm_map_i64_read_back(
     match handle.seal.as_mut() {
         Collection::Signed(kept) => reads::read_back(kept.as_map(), key, entries, count),
         _ => OTHER_KIND,
+    }
+}
+
+/// Writes the stored ranges that meet the range, whole, in ascending order, as many as the array
+/// takes, and how many.
+///
+/// Fewer than the array takes are written where there are no more. What lies behind them in the
+/// array stays as it was. Costs two searches, and a step for each range.
+#[unsafe(no_mangle)]
+pub extern "C" fn brm_map_i64_overlapping(
+    handle: &mut Handle,
+    range: &SignedBounds,
+    entries: &mut [SignedEntry],
+    count: &mut usize,
+) -> u32
+    ensures unchanged { handle.new.seal.held ≡ handle.old.seal.held }
+    ensures read { result ≡ DONE → ¬ IsEmptyRange signed_keys (signed_range_of range.now)
+        → (rest : SignedRanges)
+        × AreOverlapping signed_keys (signed_items handle.old.seal.held) (signed_range_of range.now)
+        (map signed_entry_item (take count.new entries.new) ++ rest)
+        × (count.new < length entries.old → rest ≡ []) }
+    ensures empty { result ≡ DONE → IsEmptyRange signed_keys (signed_range_of range.now)
+        → count.new ≡ 0 }
+    ensures within { result ≡ DONE → count.new ≤ length entries.old }
+    ensures behind { result ≡ DONE → drop count.new entries.new ≡ drop count.new entries.old }
+    ensures unwritten { result ≢ DONE
+        → (entries.new ≡ entries.old) × (count.new ≡ count.old) }
+    ensures answer { HoldsSignedMap handle.old.seal.held → result ≡ DONE }
+    ensures closed { handle.old.is_open ≡ false → result ≡ CLOSED }
+    ensures other { handle.old.is_open ≡ true → (¬ HoldsSignedMap handle.old.seal.held)
+        → result ≡ OTHER_KIND }
+{
+    if !handle.is_open {
+        return CLOSED;
+    }
+    match handle.seal.as_mut() {
+        Collection::Signed(kept) => reads::overlapping(
+            kept.as_map(),
+            range.range(),
+            entries,
+            count,
+        ),
+        _ => OTHER_KIND,
+    }
+}
+
+/// Writes the parts of the range that hold no bound key, in ascending order, as many as the array
+/// takes, and how many.
+///
+/// Fewer than the array takes are written where there are no more. What lies behind them in the
+/// array stays as it was. Costs two searches, and a few steps for each stored range that meets the
+/// range.
+#[unsafe(no_mangle)]
+pub extern "C" fn brm_map_i64_gaps(
+    handle: &mut Handle,
+    range: &SignedBounds,
+    ranges: &mut [SignedBounds],
+    count: &mut usize,
+) -> u32
+    ensures unchanged { handle.new.seal.held ≡ handle.old.seal.held }
+    ensures gaps { result ≡ DONE → (rest : List (AnyRange ℤ))
+        × AreGapsWithin signed_keys (signed_items handle.old.seal.held) (signed_range_of range.now)
+        (map signed_range_of (take count.new ranges.new) ++ rest)
+        × (count.new < length ranges.old → rest ≡ []) }
+    ensures within { result ≡ DONE → count.new ≤ length ranges.old }
+    ensures behind { result ≡ DONE → drop count.new ranges.new ≡ drop count.new ranges.old }
+    ensures unwritten { result ≢ DONE
+        → (ranges.new ≡ ranges.old) × (count.new ≡ count.old) }
+    ensures answer { HoldsSignedMap handle.old.seal.held → result ≡ DONE }
+    ensures closed { handle.old.is_open ≡ false → result ≡ CLOSED }
+    ensures other { handle.old.is_open ≡ true → (¬ HoldsSignedMap handle.old.seal.held)
+        → result ≡ OTHER_KIND }
+{
+    if !handle.is_open {
+        return CLOSED;
+    }
+    match handle.seal.as_mut() {
+        Collection::Signed(kept) => reads::gaps(kept.as_map(), range.range(), ranges, count),
+        _ => OTHER_KIND,
+    }
+}
+
+/// Moves what lies from the key on, the key with it, to the other map, in place of what that held.
+///
+/// A stored range that holds the key is cut there. Allocates what the other map needs. Costs a step
+/// for each range that is moved.
+#[unsafe(no_mangle)]
+pub extern "C" fn brm_raw_map_i64_split_off(
+    handle: &mut Handle,
+    key: i64,
+    other: &mut Handle,
+) -> u32
+    ensures split { result ≡ DONE → IsSplitAt signed_keys nat_eq key (signed_items handle.old.seal.held)
+        (signed_items handle.new.seal.held) (signed_items other.new.seal.held) }
+    ensures kind { result ≡ DONE
+        → HoldsSignedMap handle.new.seal.held × HoldsSignedMap other.new.seal.held }
+    ensures refused { result ≢ DONE → (handle.new.seal.held ≡ handle.old.seal.held)
+        × (other.new.seal.held ≡ other.old.seal.held) }
+    ensures answer { HoldsSignedMap handle.old.seal.held → HoldsSignedMap other.old.seal.held
+        → (result ≡ DONE) ⊎ (result ≡ NO_MEMORY) }
+    ensures closed { (handle.old.is_open ≡ false) ⊎ (other.old.is_open ≡ false)
+        → result ≡ CLOSED }
+    ensures other { handle.old.is_open ≡ true → other.old.is_open ≡ true
+        → (¬ HoldsSignedMap handle.old.seal.held) ⊎ (¬ HoldsSignedMap other.old.seal.held)
+        → result ≡ OTHER_KIND }
+{
+    if !handle.is_open || !other.is_open {
+        return CLOSED;
+    }
+    match (handle.seal.as_mut(), other.seal.as_mut()) {
+        (Collection::Signed(kept), Collection::Signed(rest)) => kept.split_off(key, rest),
+        (_, _) => OTHER_KIND,
     }
 }
