@@ -11,32 +11,41 @@ use std::time::Instant;
 struct Reference(BTreeMap<u64, (u64, u64)>);
 
 impl Reference {
-    /// Inserts as a program does that keeps ranges itself: looks at both neighbours, and joins.
-    fn insert(&mut self, first: u64, last: u64, value: u64) {
-        let (mut first, mut last) = (first, last);
-        while let Some((&start, &(end, other))) = self.0.range(..=last).next_back() {
+    /// Takes the keys away, and cuts a range where it stands. Returns the value of a range that ends right before them.
+    fn remove(&mut self, first: u64, last: u64) -> Option<(u64, u64)> {
+        while let Some((&start, held)) = self.0.range_mut(..=last).next_back() {
+            let (end, value) = *held;
             if end < first {
-                if end + 1 == first && other == value {
-                    self.0.remove(&start);
-                    first = start;
-                }
-                break;
+                return (end + 1 == first).then_some((start, value));
             }
-            self.0.remove(&start);
             if start < first {
-                self.0.insert(start, (first - 1, other));
+                held.0 = first - 1;
+            } else {
+                self.0.remove(&start);
             }
             if last < end {
-                self.0.insert(last + 1, (end, other));
+                self.0.insert(last + 1, (end, value));
+            }
+            if start < first {
+                return Some((start, value));
             }
         }
+        None
+    }
+
+    /// Inserts as a program does that keeps ranges itself: looks at both neighbours, and joins.
+    fn insert(&mut self, first: u64, mut last: u64, value: u64) {
+        let before = self.remove(first, last);
         if let Some(&(end, other)) = self.0.get(&(last + 1)) {
             if other == value {
                 self.0.remove(&(last + 1));
                 last = end;
             }
         }
-        self.0.insert(first, (last, value));
+        match before {
+            Some((start, other)) if other == value => self.0.insert(start, (last, value)),
+            _ => self.0.insert(first, (last, value)),
+        };
     }
 
     fn get(&self, key: u64) -> Option<u64> {
@@ -60,10 +69,16 @@ fn mixed(n: u64) -> Vec<u64> {
 
 /// The least time of five runs, in nanoseconds a call.
 fn best(calls: u64, mut run: impl FnMut()) -> u128 {
+    best_of(calls, || (), |()| run())
+}
+
+/// The same, of runs that each have something made before the time begins, and dropped after it ends.
+fn best_of<T>(calls: u64, make: impl Fn() -> T, mut run: impl FnMut(&mut T)) -> u128 {
     (0..5)
         .map(|_| {
+            let mut made = make();
             let before = Instant::now();
-            run();
+            run(&mut made);
             before.elapsed().as_nanos() / u128::from(calls)
         })
         .min()
@@ -104,12 +119,48 @@ fn main() {
     println!("| ranges | call | proved | over `BTreeMap` |\n|---|---|---|---|");
     for n in sizes {
         let (order, ascending) = (mixed(n), (0..n).collect::<Vec<_>>());
+        let descending = ascending.iter().rev().copied().collect::<Vec<_>>();
         let row = |what, ours, theirs| println!("| {n} | {what} | {ours} | {theirs} |");
         row("insertion, no order", best(n, || drop(proved(&order))), best(n, || drop(reference(&order))));
         row(
             "insertion, ascending",
             best(n, || drop(proved(&ascending))),
             best(n, || drop(reference(&ascending))),
+        );
+        row(
+            "insertion, descending",
+            best(n, || drop(proved(&descending))),
+            best(n, || drop(reference(&descending))),
+        );
+        row(
+            "insertion that cuts a range in three",
+            best_of(
+                n,
+                || proved(&order),
+                |map| order.iter().for_each(|i| map.insert(20 * i + 3..20 * i + 5, n + i).unwrap()),
+            ),
+            best_of(
+                n,
+                || reference(&order),
+                |map| order.iter().for_each(|i| map.insert(20 * i + 3, 20 * i + 4, n + i)),
+            ),
+        );
+        row(
+            "removal of a middle",
+            best_of(
+                n,
+                || proved(&order),
+                |map| order.iter().for_each(|i| map.remove(20 * i + 3..20 * i + 5).unwrap()),
+            ),
+            best_of(
+                n,
+                || reference(&order),
+                |map| {
+                    order.iter().for_each(|i| {
+                        map.remove(20 * i + 3, 20 * i + 4);
+                    })
+                },
+            ),
         );
         let (ours, theirs) = (proved(&order), reference(&order));
         row(

@@ -1,5 +1,5 @@
 //! What a caller in C keeps.
-ghost use Rattle.std.specs.Prelude.{◌≡◌, ◌≢◌, ◌⊎◌, ◌↔◌, Option, Some, None, IsSome, IsTrue, true, false};
+ghost use Rattle.std.specs.Prelude.{◌≡◌, ◌≢◌, ◌⊎◌, ◌↔◌, Some, None, IsSome, IsTrue, true, false};
 
 use crate::collection::Collection;
 use crate::seal::Seal;

@@ -1,5 +1,5 @@
 //! The calls on a handle of any kind.
-ghost use Rattle.std.specs.Prelude.{◌≡◌, ◌≢◌, ◌⊎◌, ◌++◌, ◌<◌, ℕ, List, length, drop, Some, None, true, false, IsUtf8};
+ghost use Rattle.std.specs.Prelude.{◌≡◌, ◌≢◌, ◌⊎◌, ◌++◌, ◌<◌, ℕ, List, length, drop, None, true, false, IsUtf8};
 ghost use Rattle.serde_json.specs.Read.{read};
 ghost use Rattle.range_handles.specs.Alike.{AreAlike, IsCopy};
 ghost use Rattle.range_handles.specs.Fewest.{IsLeastRangeCount};

@@ -1,4 +1,4 @@
-use Rattle.std.proofs.Common.{◌∙◌, ◌++◌, ◌+◌, ap, refl, sym, rules, arith, map, take}
+use Rattle.std.proofs.Common.{◌∙◌, ◌++◌, ap, refl, sym, rules, arith, map, take}
 use Rattle.std.proofs.lemmas.List.{drop-set-lt}
 use Rattle.range_handles.proofs.Fills.{one_more}
 use Rattle.range_handles.proofs.batch.fill.Goals as goal

@@ -1,4 +1,4 @@
-use Rattle.std.proofs.Common.{◌∙◌, ◌++◌, ◌+◌, ap, refl, sym, rules, arith, map, take, reverse}
+use Rattle.std.proofs.Common.{◌∙◌, ◌++◌, ap, refl, sym, rules, arith, map, take, reverse}
 use Rattle.std.proofs.lemmas.List.{drop-set-lt, append-nil}
 use Rattle.range_handles.proofs.Fills.{one_more_back}
 use Rattle.range_handles.proofs.batch.fill_back.Goals as goal
