@@ -42,7 +42,8 @@ typedef enum {
     BRM_NO_ROOM = 7,    /* the buffer is too short */
     BRM_NOT_JSON = 8,   /* the text is no JSON */
     BRM_NOT_READ = 9,   /* the JSON is no collection of the kind that the handle holds */
-    BRM_OCCUPIED = 10   /* the range meets a stored one */
+    BRM_OCCUPIED = 10,  /* the range meets a stored one */
+    BRM_OUT_OF_ORDER = 11 /* some range does not lie after all others */
 } brm_status;
 
 /* What a status says, for a message. */
@@ -59,6 +60,7 @@ static inline const char *brm_status_text(brm_status status) {
     case BRM_NOT_JSON: return "the text is not JSON";
     case BRM_NOT_READ: return "the JSON is no collection of this kind";
     case BRM_OCCUPIED: return "the range meets a stored one";
+    case BRM_OUT_OF_ORDER: return "some range does not lie after all others";
     }
     return "no status";
 }
@@ -182,6 +184,8 @@ brm_status brm_raw_clone(const brm_handle *handle, brm_handle *made);
 brm_status brm_raw_equal(const brm_handle *handle, const brm_handle *other);
 brm_status brm_raw_map_u64_split_off(brm_handle *map, uint64_t key, brm_handle *other);
 brm_status brm_raw_map_i64_split_off(brm_handle *map, int64_t key, brm_handle *other);
+brm_status brm_raw_map_u64_append(brm_handle *map, brm_handle *other);
+brm_status brm_raw_map_i64_append(brm_handle *map, brm_handle *other);
 brm_status brm_raw_set_u64_union(const brm_handle *set, const brm_handle *other, brm_handle *made);
 brm_status brm_raw_set_u64_intersection(const brm_handle *set, const brm_handle *other, brm_handle *made);
 brm_status brm_raw_set_u64_difference(const brm_handle *set, const brm_handle *other, brm_handle *made);
@@ -226,6 +230,21 @@ static inline brm_status brm_map_i64_split_off(brm_handle *map, int64_t key, brm
     status = brm_raw_map_i64_split_off(map, key, made);
     if (status != BRM_DONE) brm_raw_destroy(made);
     return status;
+}
+
+/* Move all ranges of the other map, each of which lies after all of the first, to its end, and leave the other empty. */
+static inline brm_status brm_map_u64_append(brm_handle *map, brm_handle *other) {
+    if (map != other) return brm_raw_map_u64_append(map, other);
+    brm_status found = brm_map_u64_contains(map, 0);
+    if (found != BRM_DONE && found != BRM_NONE) return found;
+    return brm_count(map) > 0 ? BRM_OUT_OF_ORDER : BRM_DONE;
+}
+
+static inline brm_status brm_map_i64_append(brm_handle *map, brm_handle *other) {
+    if (map != other) return brm_raw_map_i64_append(map, other);
+    brm_status found = brm_map_i64_contains(map, 0);
+    if (found != BRM_DONE && found != BRM_NONE) return found;
+    return brm_count(map) > 0 ? BRM_OUT_OF_ORDER : BRM_DONE;
 }
 
 /* What is wrong with a set that is given twice, or BRM_DONE. */

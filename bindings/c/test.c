@@ -383,7 +383,7 @@ static void batches(void) {
 }
 
 static void status_texts(void) {
-    for (int i = BRM_DONE; i <= BRM_NOT_READ; i++) EXPECT(strlen(brm_status_text((brm_status)i)) > 3);
+    for (int i = BRM_DONE; i <= BRM_OUT_OF_ORDER; i++) EXPECT(strlen(brm_status_text((brm_status)i)) > 3);
     EXPECT(strcmp(brm_status_text(BRM_NO_ROOM), "the buffer is too short") == 0);
 }
 
@@ -493,6 +493,11 @@ static void in_ranges(void) {
     EXPECT(brm_map_u64_first(&rest, &e[0]) == BRM_DONE && is_entry(e[0], upto(22, 26), 2));
     EXPECT(brm_map_u64_split_off(&map, 22, &rest) == BRM_OPEN);
     EXPECT(brm_map_u64_try_insert(&rest, &far, 7) == BRM_DONE && brm_count(&rest) == 4);
+    EXPECT(brm_map_u64_append(&rest, &map) == BRM_OUT_OF_ORDER && brm_count(&rest) == 4 && brm_count(&map) == 3);
+    EXPECT(brm_map_u64_append(&map, &map) == BRM_OUT_OF_ORDER && brm_map_u64_append(&set, &set) == BRM_CLOSED);
+    /* 20..22 and 22..26 become one again */
+    EXPECT(brm_map_u64_append(&map, &rest) == BRM_DONE && brm_count(&map) == 6 && brm_count(&rest) == 0);
+    EXPECT(brm_map_u64_append(&rest, &rest) == BRM_DONE && brm_map_u64_append(&rest, &set) == BRM_CLOSED);
     brm_destroy(&rest);
     brm_destroy(&map);
     EXPECT(brm_map_u64_split_off(&map, 22, &rest) == BRM_CLOSED && !rest.is_open);
@@ -502,6 +507,7 @@ static void in_ranges(void) {
     EXPECT(brm_map_u64_overlapping(&set, &far, e, 2, &n) == BRM_OTHER_KIND);
     EXPECT(brm_map_u64_try_insert(&set, &far, 7) == BRM_OTHER_KIND);
     EXPECT(brm_map_u64_split_off(&set, 22, &rest) == BRM_OTHER_KIND && !rest.is_open);
+    EXPECT(brm_map_u64_append(&set, &set) == BRM_OTHER_KIND);
     EXPECT(brm_set_u64_insert(&set, &far) == BRM_DONE);
     EXPECT(brm_set_u64_overlapping(&set, &all, gaps, 2, &n) == BRM_DONE && n == 1 && gaps[0].start == 100);
     EXPECT(brm_set_u64_gaps(&set, &all, gaps, 2, &n) == BRM_DONE && n == 2 && gaps[1].start == 110);
@@ -523,6 +529,8 @@ static void in_signed_ranges(void) {
     EXPECT(gaps[0].start == -5 && gaps[0].end == 5 && gaps[0].flags == (BRM_START_EXCLUDED | BRM_END_EXCLUDED));
     EXPECT(brm_map_i64_split_off(&map, -6, &rest) == BRM_DONE && brm_count(&map) == 1 && brm_count(&rest) == 2);
     EXPECT(brm_map_i64_first(&rest, &e[0]) == BRM_DONE && e[0].range.start == -6 && e[0].range.end == -5);
+    EXPECT(brm_map_i64_append(&rest, &map) == BRM_OUT_OF_ORDER && brm_map_i64_append(&map, &map) == BRM_OUT_OF_ORDER);
+    EXPECT(brm_map_i64_append(&map, &rest) == BRM_DONE && brm_count(&map) == 2 && brm_count(&rest) == 0);
     brm_destroy(&rest);
     brm_destroy(&map);
 }

@@ -54,7 +54,7 @@ def _check(status: int) -> bool:
     """Whether the answer is yes. Raises what the other statuses say."""
     if status == _c.DONE:
         return True
-    if status == _c.NONE:
+    if status in (_c.NONE, _c.OCCUPIED):
         return False
     if status == _c.NO_MEMORY:
         raise MemoryError("no memory, and nothing was changed")
@@ -446,12 +446,12 @@ class RangeMap(_Collection, Generic[V]):
     def __setitem__(self, keys: Any, value: V) -> None:
         self._insert("insert", keys, value)
 
-    def _insert(self, call: str, keys: Any, value: V) -> None:
+    def _insert(self, call: str, keys: Any, value: V) -> bool:
         raw = self._raw(keys)
         with self._lock:
             if self._values.given > 64 + len(self):
                 self._values.keep({entry[3] for entry in self._entries()})
-            _check(getattr(self._kind, call)(self._handle, raw, self._values.number(value)))
+            return _check(getattr(self._kind, call)(self._handle, raw, self._values.number(value)))
 
     def __delitem__(self, keys: Any) -> None:
         """Binds no key of the range, whether or not one is bound."""
@@ -463,11 +463,7 @@ class RangeMap(_Collection, Generic[V]):
 
     def try_insert(self, keys: Any, value: V) -> bool:
         """Binds the keys of the range where none of them is bound, and tells whether it did."""
-        with self._lock:
-            if self.intersects(keys):
-                return False
-            self[keys] = value
-            return True
+        return self._insert("try_insert", keys, value)
 
     def entry(self, key: Any) -> tuple[Range, V] | None:
         """The stored range that holds the key, with its value; `None` where the key is not bound."""

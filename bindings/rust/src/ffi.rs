@@ -8,6 +8,7 @@ pub const NO_ROOM: u32 = 7;
 pub const NOT_JSON: u32 = 8;
 pub const NOT_READ: u32 = 9;
 pub const OCCUPIED: u32 = 10;
+pub const OUT_OF_ORDER: u32 = 11;
 
 pub const START_EXCLUDED: u32 = 1;
 pub const START_UNBOUNDED: u32 = 2;
@@ -78,6 +79,7 @@ pub struct Binds<K> {
     pub insert_disconnected: unsafe extern "C" fn(*mut RawHandle, &RawRange<K>, u64) -> u32,
     pub try_insert: unsafe extern "C" fn(*mut RawHandle, &RawRange<K>, u64) -> u32,
     pub split_off: unsafe extern "C" fn(*mut RawHandle, K, *mut RawHandle) -> u32,
+    pub append: unsafe extern "C" fn(*mut RawHandle, *mut RawHandle) -> u32,
 }
 
 macro_rules! calls {
@@ -180,9 +182,12 @@ macro_rules! binds {
                 fn try_insert(map: *mut RawHandle, range: &RawRange<$key>, value: u64) -> u32;
                 #[link_name = concat!($raw, "split_off")]
                 fn split_off(map: *mut RawHandle, key: $key, other: *mut RawHandle) -> u32;
+                #[link_name = concat!($raw, "append")]
+                fn append(map: *mut RawHandle, other: *mut RawHandle) -> u32;
             }
 
-            pub static BINDS: Binds<$key> = Binds { insert, insert_disconnected, try_insert, split_off };
+            pub static BINDS: Binds<$key> =
+                Binds { insert, insert_disconnected, try_insert, split_off, append };
         }
     };
 }

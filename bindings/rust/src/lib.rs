@@ -68,13 +68,15 @@ impl fmt::Display for NotLoaded {
 
 impl std::error::Error for NotLoaded {}
 
-/// Why a range was not inserted. Nothing was changed.
+/// Why ranges were not inserted. Nothing was changed.
 #[derive(Clone, Copy, Debug, PartialEq, Eq)]
 pub enum NotInserted {
     /// The range meets or touches a stored one.
     Connected,
     /// The range meets a stored one, where it may touch some.
     Occupied,
+    /// Some range does not lie after all others.
+    OutOfOrder,
     /// There was not enough memory.
     NoMemory,
 }
@@ -84,6 +86,7 @@ impl fmt::Display for NotInserted {
         f.write_str(match self {
             NotInserted::Connected => "the range meets or touches a stored one",
             NotInserted::Occupied => "the range meets a stored one",
+            NotInserted::OutOfOrder => "some range does not lie after all others",
             NotInserted::NoMemory => "out of memory",
         })
     }

@@ -182,6 +182,16 @@ impl<K: Key> NumberMap<K> {
         Ok(rest)
     }
 
+    /// Moves all ranges of the other map, each of which lies after all of this one, to its end. After an error both
+    /// maps are as they were.
+    pub fn append(&mut self, other: &mut NumberMap<K>) -> Result<(), NotInserted> {
+        match unsafe { (K::Native::BINDS.append)(self.handle.get_mut(), other.handle.get_mut()) } {
+            ffi::DONE => Ok(()),
+            ffi::OUT_OF_ORDER => Err(NotInserted::OutOfOrder),
+            _ => Err(NotInserted::NoMemory),
+        }
+    }
+
     /// A map with the same ranges and numbers.
     pub fn try_clone(&self) -> Result<NumberMap<K>, NoMemory> {
         Ok(NumberMap { handle: self.handle.copied()?, _keys: PhantomData })

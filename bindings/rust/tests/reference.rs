@@ -176,10 +176,12 @@ fn ranges_within_a_range_come_whole() {
     assert_eq!(gaps.last(), Some(Range::from(5996..)));
     assert_eq!(map.try_insert(4..7, 1), Err(NotInserted::Occupied));
     assert_eq!((map.try_insert(6..10, 0), map.range_count()), (Ok(()), 600));
-    let rest = map.split_off(3003).unwrap();
+    let mut rest = map.split_off(3003).unwrap();
     assert_eq!((map.range_count(), rest.range_count()), (301, 300));
     assert_eq!(map.last_range_value(), Some((Range::from(3000..3003), 300)));
     assert_eq!(rest.first_range_value(), Some((Range::from(3003..3006), 300)));
+    assert_eq!(rest.append(&mut map), Err(NotInserted::OutOfOrder));
+    assert_eq!((map.append(&mut rest), map.range_count(), rest.range_count()), (Ok(()), 600, 0));
     let set: RangeSet<i64> = (0..50).map(|at| 10 * at..10 * at + 6).collect();
     assert_eq!((set.overlapping(5..=100).count(), set.overlapping(6..10).count()), (11, 0));
 }

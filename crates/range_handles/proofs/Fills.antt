@@ -1,6 +1,18 @@
 -- One more item is written behind those that were.
-use Rattle.std.proofs.Common.{◌≡◌, ◌∙◌, ap, ℕ, ◌+◌, ◌<◌, ◌++◌, List, [], ◌∷◌, map, reverse, take, length, slice_set, sym}
-use Rattle.std.proofs.lemmas.List.{take_more_set, map_push, append_assoc, reverse-append}
+use Rattle.std.proofs.Common.{◌≡◌, ◌∙◌, ap, arith, ℕ, ◌+◌, ◌<◌, ◌≤◌, ◌++◌, List, [], ◌∷◌, map, reverse, take, length, slice_set, sym}
+use Rattle.std.proofs.lemmas.List.{take_more_set, map_push, append_assoc, reverse-append, length-append, length-map, length-take-le}
+
+-- of nothing, nothing is written
+pub none_filled : {X E : Type 0} (said : E → X) (slots : List E) (n : ℕ) (rest : List X)
+    → n ≤ length slots → [] ≡ map said (take n slots) ++ rest → n ≡ 0
+none_filled said slots n rest within is =
+    let lengths : 0 ≡ n + length rest =
+    ap length is
+    ∙ (length-append (map said (take n slots)) rest
+    ∙ ap (λ m. m + length rest)
+    (length-map (take n slots) said ∙ length-take-le n slots within))
+    in
+    omega arith
 
 module _ {X E : Type 0} (said : E → X) (slots : List E) (n : ℕ) (e : E) where
   pub one_more : (all : List X) (x : X) (left : List X) → n < length slots

@@ -1,5 +1,6 @@
 //! Maps to `u64` values, which a contract sees as lists.
 ghost use Rattle.std.specs.Prelude.{◌≡◌, ◌≢◌, ◌⊎◌, ◌↔◌, [], ◌∷◌, ◌++◌, false, length, nat_eq, IsTrue, IfOk, IfErr};
+ghost use Rattle.btree_range_map.specs.Appending.{LieBefore};
 ghost use Rattle.btree_range_map.specs.Bindings.{IsBoundAfter, IsUnboundAfter, IsLeastCount, BindAlike};
 ghost use Rattle.btree_range_map.specs.Holding.{box_items};
 ghost use Rattle.btree_range_map.specs.JsonError.TheVariants.{Memory};
@@ -16,7 +17,9 @@ ghost use Rattle.range_handles.specs.Texts.{reads_unsigned, IsUnsignedRead};
 
 use crate::batch::Shown;
 use crate::key::Key;
-use crate::status::{CONNECTED, DONE, NO_MEMORY, NONE, OCCUPIED, of_obstacle, of_refusal};
+use crate::status::{
+    CONNECTED, DONE, NO_MEMORY, NONE, OCCUPIED, OUT_OF_ORDER, of_disorder, of_obstacle, of_refusal,
+};
 use btree_range_map::json::{Json, JsonError, map_from_json, map_to_json};
 use btree_range_map::range::traits::PartialEnum;
 use btree_range_map::{AnyRange, RangeMap};
@@ -160,6 +163,22 @@ impl<K: Key> KeptMap<K> {
                 DONE
             }
             Err(_) => NO_MEMORY,
+        }
+    }
+
+    /// Moves all ranges of the other map, each of which lies after all of this one, to its end.
+    pub fn append(&mut self, other: &mut KeptMap<K>) -> u32
+        ensures bound { result ≡ DONE
+            → BindAlike K.order nat_eq self.new (self.old ++ other.old) }
+        ensures emptied { result ≡ DONE → other.new ≡ [] }
+        ensures out_of_order { result ≡ OUT_OF_ORDER
+            ↔ ¬ LieBefore K.order self.old other.old }
+        ensures refused { result ≢ DONE → (self.new ≡ self.old) × (other.new ≡ other.old) }
+        ensures answer { (result ≡ DONE) ⊎ ((result ≡ NO_MEMORY) ⊎ (result ≡ OUT_OF_ORDER)) }
+    {
+        match self.map.append(&mut other.map) {
+            Ok(()) => DONE,
+            Err(refusal) => of_disorder(&refusal),
         }
     }
 

@@ -1,9 +1,10 @@
 //! What a call answers.
 ghost use Rattle.std.specs.Prelude.{◌≡◌, ◌≢◌, ◌↔◌, ◌⊎◌, IsTrue};
 ghost use Rattle.btree_range_map.specs.Apart.{IsConnectedError};
+ghost use Rattle.btree_range_map.specs.Appending.{IsOutOfOrder};
 ghost use Rattle.btree_range_map.specs.Freeing.{IsOccupied};
 
-use btree_range_map::{NotFree, NotInserted};
+use btree_range_map::{NotAppended, NotFree, NotInserted};
 
 /// The call did what it is for; to a question, yes.
 pub const DONE: u32 = 0;
@@ -38,6 +39,9 @@ pub const NOT_READ: u32 = 9;
 /// The range meets a stored one, and nothing was changed.
 pub const OCCUPIED: u32 = 10;
 
+/// Some range does not lie after all others, and nothing was changed.
+pub const OUT_OF_ORDER: u32 = 11;
+
 /// The status that says yes or no.
 pub fn answer(yes: bool) -> u32
     ensures yes { result ≡ DONE ↔ IsTrue yes }
@@ -67,5 +71,17 @@ pub fn of_obstacle<K, V>(refusal: &NotFree<K, V>) -> u32
     match refusal {
         NotFree::Occupied(_, _) => OCCUPIED,
         NotFree::Memory(_, _) => NO_MEMORY,
+    }
+}
+
+/// The status that says why ranges were not put after others.
+pub fn of_disorder(refusal: &NotAppended) -> u32
+    ensures out_of_order { result ≡ OUT_OF_ORDER ↔ IsOutOfOrder refusal.now }
+    ensures answer { (result ≡ NO_MEMORY) ⊎ (result ≡ OUT_OF_ORDER) }
+    ensures not_done { result ≢ DONE }
+{
+    match refusal {
+        NotAppended::OutOfOrder => OUT_OF_ORDER,
+        NotAppended::Memory => NO_MEMORY,
     }
 }

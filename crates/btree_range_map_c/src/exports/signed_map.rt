@@ -1,7 +1,8 @@
 //! The calls on maps of `i64` keys to `u64` values.
 ghost use Rattle.std.specs.Prelude.{◌<◌, ◌≤◌, map, take, drop, reverse, length, ◌≡◌, ◌≢◌, ◌⊎◌, ◌↔◌, [], ◌∷◌, ◌++◌, Some, None, true, false, nat_eq, List, ℤ};
 ghost use Rattle.btree_range_map.specs.AnyRange.{AnyRange};
-ghost use Rattle.btree_range_map.specs.Bindings.{Binds, IsBound, IsItemFor, IsBoundAfter, IsUnboundAfter};
+ghost use Rattle.btree_range_map.specs.Appending.{LieBefore};
+ghost use Rattle.btree_range_map.specs.Bindings.{BindAlike, Binds, IsBound, IsItemFor, IsBoundAfter, IsUnboundAfter};
 ghost use Rattle.btree_range_map.specs.Lookups.{BindsKeyOf, IsConnectedToSome, MeetsSome};
 ghost use Rattle.btree_range_map.specs.Numbers.{IsNumberOfKeys};
 ghost use Rattle.btree_range_map.specs.Range.{IsEmptyRange};
@@ -17,7 +18,9 @@ use range_handles::collection::Collection;
 use range_handles::handle::Handle;
 use range_handles::kept_map::KeptMap;
 use range_handles::reads;
-use range_handles::status::{CLOSED, CONNECTED, DONE, NO_MEMORY, NONE, OCCUPIED, OPEN, OTHER_KIND};
+use range_handles::status::{
+    CLOSED, CONNECTED, DONE, NO_MEMORY, NONE, OCCUPIED, OPEN, OTHER_KIND, OUT_OF_ORDER,
+};
 use std::alloc::Global;
 
 /// Opens a closed handle, on an empty map. Allocates one block.
@@ -570,6 +573,39 @@ pub extern "C" fn brm_raw_map_i64_split_off(
     }
     match (handle.seal.as_mut(), other.seal.as_mut()) {
         (Collection::Signed(kept), Collection::Signed(rest)) => kept.split_off(key, rest),
+        (_, _) => OTHER_KIND,
+    }
+}
+
+/// Moves all ranges of the other map, with their values, to the end of this one.
+///
+/// Each of them lies after all ranges of this map, or the call answers `OUT_OF_ORDER`. The first may
+/// become one with the last of this map. Costs a step for each range that is moved, and no search.
+#[unsafe(no_mangle)]
+pub extern "C" fn brm_raw_map_i64_append(handle: &mut Handle, other: &mut Handle) -> u32
+    ensures bound { result ≡ DONE → BindAlike signed_keys nat_eq (signed_items handle.new.seal.held)
+        (signed_items handle.old.seal.held ++ signed_items other.old.seal.held) }
+    ensures emptied { result ≡ DONE → signed_items other.new.seal.held ≡ [] }
+    ensures kind { result ≡ DONE
+        → HoldsSignedMap handle.new.seal.held × HoldsSignedMap other.new.seal.held }
+    ensures out_of_order { HoldsSignedMap handle.old.seal.held → HoldsSignedMap other.old.seal.held
+        → (result ≡ OUT_OF_ORDER
+        ↔ ¬ LieBefore signed_keys (signed_items handle.old.seal.held) (signed_items other.old.seal.held)) }
+    ensures refused { result ≢ DONE → (handle.new.seal.held ≡ handle.old.seal.held)
+        × (other.new.seal.held ≡ other.old.seal.held) }
+    ensures answer { HoldsSignedMap handle.old.seal.held → HoldsSignedMap other.old.seal.held
+        → (result ≡ DONE) ⊎ ((result ≡ NO_MEMORY) ⊎ (result ≡ OUT_OF_ORDER)) }
+    ensures closed { (handle.old.is_open ≡ false) ⊎ (other.old.is_open ≡ false)
+        → result ≡ CLOSED }
+    ensures other { handle.old.is_open ≡ true → other.old.is_open ≡ true
+        → (¬ HoldsSignedMap handle.old.seal.held) ⊎ (¬ HoldsSignedMap other.old.seal.held)
+        → result ≡ OTHER_KIND }
+{
+    if !handle.is_open || !other.is_open {
+        return CLOSED;
+    }
+    match (handle.seal.as_mut(), other.seal.as_mut()) {
+        (Collection::Signed(kept), Collection::Signed(rest)) => kept.append(rest),
         (_, _) => OTHER_KIND,
     }
 }
