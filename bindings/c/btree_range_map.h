@@ -186,6 +186,9 @@ brm_status brm_raw_map_u64_split_off(brm_handle *map, uint64_t key, brm_handle *
 brm_status brm_raw_map_i64_split_off(brm_handle *map, int64_t key, brm_handle *other);
 brm_status brm_raw_map_u64_append(brm_handle *map, brm_handle *other);
 brm_status brm_raw_map_i64_append(brm_handle *map, brm_handle *other);
+brm_status brm_raw_overlay(const brm_handle *map, const brm_handle *other, brm_handle *made);
+brm_status brm_raw_restrict(const brm_handle *map, const brm_handle *keys, brm_handle *made);
+brm_status brm_raw_without(const brm_handle *map, const brm_handle *keys, brm_handle *made);
 brm_status brm_raw_set_u64_union(const brm_handle *set, const brm_handle *other, brm_handle *made);
 brm_status brm_raw_set_u64_intersection(const brm_handle *set, const brm_handle *other, brm_handle *made);
 brm_status brm_raw_set_u64_difference(const brm_handle *set, const brm_handle *other, brm_handle *made);
@@ -245,6 +248,40 @@ static inline brm_status brm_map_i64_append(brm_handle *map, brm_handle *other) 
     brm_status found = brm_map_i64_contains(map, 0);
     if (found != BRM_DONE && found != BRM_NONE) return found;
     return brm_count(map) > 0 ? BRM_OUT_OF_ORDER : BRM_DONE;
+}
+
+/* What is wrong with a map of either kind that is given twice, or BRM_DONE. */
+static inline brm_status brm_map_twice(const brm_handle *map) {
+    brm_status found = brm_map_u64_contains(map, 0);
+    if (found == BRM_OTHER_KIND) found = brm_map_i64_contains(map, 0);
+    return found == BRM_NONE ? BRM_DONE : found;
+}
+
+/* Two maps of one kind: opens the closed handle `made` on a map that binds each key as the other does, or else as the
+ * first does. */
+static inline brm_status brm_overlay(const brm_handle *map, const brm_handle *other, brm_handle *made) {
+    if (made->is_open) return BRM_OPEN;
+    if (made == map || made == other) return BRM_CLOSED;
+    if (map != other) return brm_raw_overlay(map, other, made);
+    brm_status found = brm_map_twice(map);
+    return found == BRM_DONE ? brm_raw_clone(map, made) : found;
+}
+
+/* Open the closed handle `made` on a map of those bindings of the map whose keys the other has, or has not. The other is a
+ * map of the same kind or, of uint64_t keys, a set. */
+static inline brm_status brm_restrict(const brm_handle *map, const brm_handle *keys, brm_handle *made) {
+    if (map == keys) return brm_overlay(map, keys, made);
+    if (made->is_open) return BRM_OPEN;
+    return made == map || made == keys ? BRM_CLOSED : brm_raw_restrict(map, keys, made);
+}
+
+static inline brm_status brm_without(const brm_handle *map, const brm_handle *keys, brm_handle *made) {
+    if (made->is_open) return BRM_OPEN;
+    if (made == map || made == keys) return BRM_CLOSED;
+    if (map != keys) return brm_raw_without(map, keys, made);
+    brm_status found = brm_map_twice(map);
+    if (found == BRM_DONE) found = brm_raw_clone(map, made);
+    return found == BRM_DONE ? brm_clear(made) : found;
 }
 
 /* What is wrong with a set that is given twice, or BRM_DONE. */

@@ -535,6 +535,63 @@ static void in_signed_ranges(void) {
     brm_destroy(&map);
 }
 
+/* Maps of two maps, and of a map and a set; refused allocations leave no handle open. */
+static void maps_of_two(void) {
+    brm_handle map = BRM_HANDLE_CLOSED, other = BRM_HANDLE_CLOSED, set = BRM_HANDLE_CLOSED, made = BRM_HANDLE_CLOSED;
+    brm_handle low = BRM_HANDLE_CLOSED, high = BRM_HANDLE_CLOSED;
+    brm_entry_u64 e = {{0, 0, 0}, 0};
+    brm_key_count n = {0, 0};
+    brm_range_u64 keys = upto(4, 8);
+    brm_range_i64 below = {-8, -4, 0}, above = {-4, 8, 0};
+    EXPECT(brm_overlay(&map, &other, &made) == BRM_CLOSED);
+    EXPECT(brm_map_u64_create(&map) == BRM_DONE && brm_map_u64_create(&other) == BRM_DONE);
+    EXPECT(brm_set_u64_create(&set) == BRM_DONE && brm_set_u64_insert(&set, &keys) == BRM_DONE);
+    EXPECT(put(&map, upto(0, 6), 1) == BRM_DONE && put(&other, upto(4, 9), 2) == BRM_DONE);
+    for (granted = 0; brm_overlay(&map, &other, &made) == BRM_NO_MEMORY; granted = 1 + (long)n.high++) EXPECT(!made.is_open);
+    granted = -1;
+    EXPECT(n.high > 1 && brm_count(&made) == 2 && brm_map_u64_get(&made, 5, &e) == BRM_DONE && e.value == 2);
+    EXPECT(brm_map_u64_len(&made, &n) == BRM_DONE && n.low == 9);
+    EXPECT(brm_overlay(&map, &other, &made) == BRM_OPEN && brm_restrict(&map, &set, &made) == BRM_OPEN);
+    brm_destroy(&made);
+    EXPECT(brm_overlay(&map, &other, &map) == BRM_OPEN && brm_without(&map, &made, &made) == BRM_CLOSED);
+    EXPECT(brm_restrict(&map, &other, &made) == BRM_DONE && brm_map_u64_len(&made, &n) == BRM_DONE && n.low == 2);
+    brm_destroy(&made);
+    EXPECT(brm_without(&map, &other, &made) == BRM_DONE && brm_map_u64_first(&made, &e) == BRM_DONE);
+    EXPECT(is_entry(e, upto(0, 4), 1));
+    brm_destroy(&made);
+    EXPECT(brm_restrict(&other, &set, &made) == BRM_DONE && brm_map_u64_first(&made, &e) == BRM_DONE);
+    EXPECT(is_entry(e, upto(4, 8), 2));
+    brm_destroy(&made);
+    EXPECT(brm_without(&other, &set, &made) == BRM_DONE && brm_map_u64_first(&made, &e) == BRM_DONE);
+    EXPECT(e.range.start == 8 && e.range.end == 9 && brm_count(&made) == 1);
+    brm_destroy(&made);
+    EXPECT(brm_overlay(&map, &map, &made) == BRM_DONE && brm_equal(&map, &made) == BRM_DONE);
+    brm_destroy(&made);
+    EXPECT(brm_restrict(&map, &map, &made) == BRM_DONE && brm_equal(&map, &made) == BRM_DONE);
+    brm_destroy(&made);
+    EXPECT(brm_without(&map, &map, &made) == BRM_DONE && brm_count(&made) == 0 && brm_map_u64_contains(&made, 0) == BRM_NONE);
+    brm_destroy(&made);
+
+    EXPECT(brm_map_i64_create(&low) == BRM_DONE && brm_map_i64_create(&high) == BRM_DONE);
+    EXPECT(brm_map_i64_insert(&low, &below, 1) == BRM_DONE && brm_map_i64_insert(&high, &above, 2) == BRM_DONE);
+    EXPECT(brm_overlay(&low, &high, &made) == BRM_DONE && brm_map_i64_len(&made, &n) == BRM_DONE && n.low == 17);
+    brm_destroy(&made);
+    EXPECT(brm_restrict(&low, &high, &made) == BRM_DONE && brm_map_i64_len(&made, &n) == BRM_DONE && n.low == 1);
+    brm_destroy(&made);
+    EXPECT(brm_without(&low, &high, &made) == BRM_DONE && brm_map_i64_len(&made, &n) == BRM_DONE && n.low == 4);
+    brm_destroy(&made);
+    EXPECT(brm_overlay(&low, &map, &made) == BRM_OTHER_KIND && brm_overlay(&map, &set, &made) == BRM_OTHER_KIND);
+    EXPECT(brm_restrict(&low, &set, &made) == BRM_OTHER_KIND && brm_without(&set, &map, &made) == BRM_OTHER_KIND);
+    EXPECT(brm_overlay(&set, &set, &made) == BRM_OTHER_KIND && brm_without(&set, &set, &made) == BRM_OTHER_KIND);
+    EXPECT(!made.is_open);
+    brm_destroy(&low);
+    brm_destroy(&high);
+    brm_destroy(&set);
+    brm_destroy(&other);
+    brm_destroy(&map);
+    EXPECT(brm_overlay(&map, &map, &made) == BRM_CLOSED && brm_without(&map, &map, &made) == BRM_CLOSED);
+}
+
 int main(void) {
     maps();
     many();
@@ -548,6 +605,7 @@ int main(void) {
     batches();
     in_ranges();
     in_signed_ranges();
+    maps_of_two();
     status_texts();
     texts();
     printf("C: %s\n", failures ? "FAILED" : "passed");

@@ -198,8 +198,8 @@ calls!(set, "brm_set_u64_", u64, RawRange<u64>);
 binds!(unsigned_binds, "brm_map_u64_", "brm_raw_map_u64_", u64);
 binds!(signed_binds, "brm_map_i64_", "brm_raw_map_i64_", i64);
 
-/// A call that opens the last handle on a set made of the first two.
-pub type TwoSets = unsafe extern "C" fn(*const RawHandle, *const RawHandle, *mut RawHandle) -> u32;
+/// A call that opens the last handle on a collection made of the first two.
+pub type OfTwo = unsafe extern "C" fn(*const RawHandle, *const RawHandle, *mut RawHandle) -> u32;
 
 /// A call that answers a question of two handles.
 pub type Asks = unsafe extern "C" fn(*const RawHandle, *const RawHandle) -> u32;
@@ -213,6 +213,9 @@ unsafe extern "C" {
     pub fn brm_save(handle: *const RawHandle, buffer: *mut u8, capacity: usize, size: &mut usize) -> u32;
     pub fn brm_load(handle: *mut RawHandle, text: *const u8, size: usize) -> u32;
     pub fn brm_set_u64_insert(set: *mut RawHandle, range: &RawRange<u64>) -> u32;
+    pub fn brm_raw_overlay(map: *const RawHandle, other: *const RawHandle, made: *mut RawHandle) -> u32;
+    pub fn brm_raw_restrict(map: *const RawHandle, keys: *const RawHandle, made: *mut RawHandle) -> u32;
+    pub fn brm_raw_without(map: *const RawHandle, keys: *const RawHandle, made: *mut RawHandle) -> u32;
     pub fn brm_raw_set_u64_union(set: *const RawHandle, other: *const RawHandle, made: *mut RawHandle)
     -> u32;
     pub fn brm_raw_set_u64_intersection(

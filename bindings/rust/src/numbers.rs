@@ -1,6 +1,6 @@
 //! Maps from ranges of keys to numbers: the library's maps as they are.
 use crate::batches::{Batches, Within};
-use crate::ffi::{self, Handle, RawEntry, RawLength, RawRange, done};
+use crate::ffi::{self, Handle, OfTwo, RawEntry, RawLength, RawRange, done};
 use crate::range::sealed::{Native, Numbered};
 use crate::range::{Key, Range, range_of, raw_range};
 use crate::{NoMemory, NotInserted, NotLoaded};
@@ -190,6 +190,26 @@ impl<K: Key> NumberMap<K> {
             ffi::OUT_OF_ORDER => Err(NotInserted::OutOfOrder),
             _ => Err(NotInserted::NoMemory),
         }
+    }
+
+    /// A map that binds each key as the other does, or else as this one does.
+    pub fn overlay(&self, other: &NumberMap<K>) -> Result<NumberMap<K>, NoMemory> {
+        if std::ptr::eq(self, other) { self.try_clone() } else { self.with(other, ffi::brm_raw_overlay) }
+    }
+
+    /// A map that binds those keys of this one that the other binds too, each as this one does.
+    pub fn restrict(&self, other: &NumberMap<K>) -> Result<NumberMap<K>, NoMemory> {
+        if std::ptr::eq(self, other) { self.try_clone() } else { self.with(other, ffi::brm_raw_restrict) }
+    }
+
+    /// A map that binds those keys of this one that the other does not bind, each as this one does.
+    pub fn without(&self, other: &NumberMap<K>) -> Result<NumberMap<K>, NoMemory> {
+        if std::ptr::eq(self, other) { NumberMap::new() } else { self.with(other, ffi::brm_raw_without) }
+    }
+
+    fn with(&self, other: &NumberMap<K>, call: OfTwo) -> Result<NumberMap<K>, NoMemory> {
+        let handle = Handle::opened(|made| unsafe { call(self.handle.get(), other.handle.get(), made) })?;
+        Ok(NumberMap { handle, _keys: PhantomData })
     }
 
     /// A map with the same ranges and numbers.

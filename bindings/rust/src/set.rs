@@ -1,6 +1,6 @@
 //! Sets of keys.
 use crate::batches::{Batches, Within};
-use crate::ffi::{self, Handle, RawLength, RawRange, TwoSets, done};
+use crate::ffi::{self, Handle, OfTwo, RawLength, RawRange, done};
 use crate::range::{Key, Range, range_of, raw_range};
 use crate::{NoMemory, ffi::set::CALLS};
 use std::fmt;
@@ -183,7 +183,7 @@ impl<K: Key> RangeSet<K> {
         }
     }
 
-    fn with(&self, other: &RangeSet<K>, call: TwoSets) -> RangeSet<K> {
+    fn with(&self, other: &RangeSet<K>, call: OfTwo) -> RangeSet<K> {
         RangeSet::opened(|made| unsafe { call(self.handle.get(), other.handle.get(), made) })
             .expect(NO_MEMORY)
     }

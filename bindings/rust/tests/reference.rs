@@ -182,6 +182,14 @@ fn ranges_within_a_range_come_whole() {
     assert_eq!(rest.first_range_value(), Some((Range::from(3003..3006), 300)));
     assert_eq!(rest.append(&mut map), Err(NotInserted::OutOfOrder));
     assert_eq!((map.append(&mut rest), map.range_count(), rest.range_count()), (Ok(()), 600, 0));
+    let mut other: NumberMap<i64> = NumberMap::new().unwrap();
+    other.insert(-5..15, 9).unwrap();
+    let overlay = map.overlay(&other).unwrap();
+    assert_eq!((overlay.get(14), overlay.get(15), overlay.get(-6)), (Some(9), Some(1), None));
+    assert_eq!(map.restrict(&other).unwrap().key_count(), 15);
+    assert_eq!(map.without(&other).unwrap().first_range_value(), Some((Range::from(15..16), 1)));
+    assert_eq!(map.overlay(&map).as_ref(), Ok(&map));
+    assert_eq!((map.restrict(&map).as_ref(), map.without(&map).unwrap().is_empty()), (Ok(&map), true));
     let set: RangeSet<i64> = (0..50).map(|at| 10 * at..10 * at + 6).collect();
     assert_eq!((set.overlapping(5..=100).count(), set.overlapping(6..10).count()), (11, 0));
 }

@@ -4,5 +4,6 @@ pub mod Flags
 pub mod Held
 pub mod Lending
 pub mod Lists
+pub mod MapKinds
 pub mod Seals
 pub mod Texts

@@ -8,12 +8,15 @@ ghost use Rattle.btree_range_map.specs.Keys.{unsigned_shape};
 ghost use Rattle.btree_range_map.specs.ListOrder.{IsCopyOf};
 ghost use Rattle.btree_range_map.specs.Lookups.{IsConnectedToSome, MeetsSome};
 ghost use Rattle.btree_range_map.specs.MapFaults.{IsMapRead, IsMapFault};
+ghost use Rattle.btree_range_map.specs.Overlays.{IsOverlaid, IsRestricted, IsWithout};
 ghost use Rattle.btree_range_map.specs.Range.{IsEmptyRange, ClonesAreEqual};
 ghost use Rattle.btree_range_map.specs.Shapes.{map_shape};
 ghost use Rattle.btree_range_map.specs.Splitting.{IsSplitAt};
 ghost use Rattle.serde_json.specs.View.{view};
 ghost use Rattle.serde_json.specs.Written.{compact_text, has_float};
 ghost use Rattle.range_handles.specs.Texts.{reads_unsigned, IsUnsignedRead};
+
+pub mod together;
 
 use crate::batch::Shown;
 use crate::key::Key;
@@ -22,7 +25,7 @@ use crate::status::{
 };
 use btree_range_map::json::{Json, JsonError, map_from_json, map_to_json};
 use btree_range_map::range::traits::PartialEnum;
-use btree_range_map::{AnyRange, RangeMap};
+use btree_range_map::{AnyRange, MapError, RangeMap};
 use serde_json::Value;
 use std::alloc::{AllocError, Global};
 use std::marker::Model;
@@ -92,6 +95,38 @@ impl<K: Key> KeptMap<K> {
         ensures { IsTrue result ↔ BindAlike K.order nat_eq self.now other.now }
     {
         self.map.eq_across(&other.map)
+    }
+
+    /// A map that binds each key as the other does, or else as this one does.
+    pub fn overlay(&self, other: &KeptMap<K>) -> Result<KeptMap<K>, MapError>
+        requires keys { ClonesAreEqual K.is_clone K.eq }
+        ensures { IfOk result (λ new. IsOverlaid K.order nat_eq self.now other.now new) }
+    {
+        Ok(KeptMap {
+            map: self.map.overlay(&other.map)?,
+        })
+    }
+
+    /// A map that binds those keys of this one that the other binds too, each as this one does.
+    pub fn restrict<W: Eq + Drop>(&self, other: &RangeMap<K, W>) -> Result<KeptMap<K>, MapError>
+        requires keys { ClonesAreEqual K.is_clone K.eq }
+        ensures { IfOk result
+            (λ new. IsRestricted K.order nat_eq self.now (box_items other.now) new) }
+    {
+        Ok(KeptMap {
+            map: self.map.restrict(other)?,
+        })
+    }
+
+    /// A map that binds those keys of this one that the other does not bind, each as this one does.
+    pub fn without<W: Eq + Drop>(&self, other: &RangeMap<K, W>) -> Result<KeptMap<K>, MapError>
+        requires keys { ClonesAreEqual K.is_clone K.eq }
+        ensures { IfOk result
+            (λ new. IsWithout K.order nat_eq self.now (box_items other.now) new) }
+    {
+        Ok(KeptMap {
+            map: self.map.without(other)?,
+        })
     }
 
     /// Binds each key of the range to the value.

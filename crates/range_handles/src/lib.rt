@@ -11,7 +11,8 @@
 //!   `src/seal/lend.rt`, `specs/Lending.antt`; what it holds in `specs/Held.antt`, that no fewer
 //!   ranges would do in `specs/Fewest.antt`
 //! - what is done to a map or a set of any kind of keys, each call said once:
-//!   `src/{kept_map,kept_set,reads}.rt`; what two sets are asked in `src/kept_set/algebra.rt`
+//!   `src/{kept_map,kept_set,reads}.rt`; what is made of two maps in `src/kept_map/together.rt`,
+//!   `specs/MapKinds.antt`; what two sets are asked in `src/kept_set/algebra.rt`
 //! - ranges as two keys and flags, and what a call returns: `src/{bounds,status}.rt`,
 //!   `specs/Flags.antt`; many at once in `src/batch.rt`, `proofs/Fills.antt`
 //! - what a handle of any kind is saved as and loaded from: `src/collection.rt`,

@@ -118,7 +118,8 @@ pub extern "C" fn brm_map_i64_try_insert(
         → handle.new.seal.held ≡ handle.old.seal.held }
     ensures kind { HoldsSignedMap handle.old.seal.held → HoldsSignedMap handle.new.seal.held }
     ensures refused { result ≢ DONE → handle.new.seal.held ≡ handle.old.seal.held }
-    ensures answer { HoldsSignedMap handle.old.seal.held → (result ≡ DONE) ⊎ ((result ≡ NO_MEMORY) ⊎ (result ≡ OCCUPIED)) }
+    ensures answer { HoldsSignedMap handle.old.seal.held
+        → (result ≡ DONE) ⊎ ((result ≡ NO_MEMORY) ⊎ (result ≡ OCCUPIED)) }
     ensures closed { handle.old.is_open ≡ false → result ≡ CLOSED }
     ensures other { handle.old.is_open ≡ true → (¬ HoldsSignedMap handle.old.seal.held)
         → result ≡ OTHER_KIND }
@@ -554,7 +555,8 @@ pub extern "C" fn brm_raw_map_i64_split_off(
     key: i64,
     other: &mut Handle,
 ) -> u32
-    ensures split { result ≡ DONE → IsSplitAt signed_keys nat_eq key (signed_items handle.old.seal.held)
+    ensures split { result ≡ DONE
+        → IsSplitAt signed_keys nat_eq key (signed_items handle.old.seal.held)
         (signed_items handle.new.seal.held) (signed_items other.new.seal.held) }
     ensures kind { result ≡ DONE
         → HoldsSignedMap handle.new.seal.held × HoldsSignedMap other.new.seal.held }
@@ -579,8 +581,8 @@ pub extern "C" fn brm_raw_map_i64_split_off(
 
 /// Moves all ranges of the other map, with their values, to the end of this one.
 ///
-/// Each of them lies after all ranges of this map, or the call answers `OUT_OF_ORDER`. The first may
-/// become one with the last of this map. Costs a step for each range that is moved, and no search.
+/// Each of them lies after all ranges of this map, or the call answers `OUT_OF_ORDER`. The first
+/// may become one with the last of this map. Costs a step for each range that is moved.
 #[unsafe(no_mangle)]
 pub extern "C" fn brm_raw_map_i64_append(handle: &mut Handle, other: &mut Handle) -> u32
     ensures bound { result ≡ DONE → BindAlike signed_keys nat_eq (signed_items handle.new.seal.held)
@@ -590,7 +592,8 @@ pub extern "C" fn brm_raw_map_i64_append(handle: &mut Handle, other: &mut Handle
         → HoldsSignedMap handle.new.seal.held × HoldsSignedMap other.new.seal.held }
     ensures out_of_order { HoldsSignedMap handle.old.seal.held → HoldsSignedMap other.old.seal.held
         → (result ≡ OUT_OF_ORDER
-        ↔ ¬ LieBefore signed_keys (signed_items handle.old.seal.held) (signed_items other.old.seal.held)) }
+        ↔ ¬ LieBefore signed_keys (signed_items handle.old.seal.held)
+        (signed_items other.old.seal.held)) }
     ensures refused { result ≢ DONE → (handle.new.seal.held ≡ handle.old.seal.held)
         × (other.new.seal.held ≡ other.old.seal.held) }
     ensures answer { HoldsSignedMap handle.old.seal.held → HoldsSignedMap other.old.seal.held

@@ -113,7 +113,8 @@ pub extern "C" fn brm_map_u64_try_insert(handle: &mut Handle, range: &Bounds, va
         → handle.new.seal.held ≡ handle.old.seal.held }
     ensures kind { HoldsMap handle.old.seal.held → HoldsMap handle.new.seal.held }
     ensures refused { result ≢ DONE → handle.new.seal.held ≡ handle.old.seal.held }
-    ensures answer { HoldsMap handle.old.seal.held → (result ≡ DONE) ⊎ ((result ≡ NO_MEMORY) ⊎ (result ≡ OCCUPIED)) }
+    ensures answer { HoldsMap handle.old.seal.held
+        → (result ≡ DONE) ⊎ ((result ≡ NO_MEMORY) ⊎ (result ≡ OCCUPIED)) }
     ensures closed { handle.old.is_open ≡ false → result ≡ CLOSED }
     ensures other { handle.old.is_open ≡ true → (¬ HoldsMap handle.old.seal.held)
         → result ≡ OTHER_KIND }
@@ -544,7 +545,8 @@ pub extern "C" fn brm_raw_map_u64_split_off(
     key: u64,
     other: &mut Handle,
 ) -> u32
-    ensures split { result ≡ DONE → IsSplitAt unsigned_keys nat_eq key (map_items handle.old.seal.held)
+    ensures split { result ≡ DONE
+        → IsSplitAt unsigned_keys nat_eq key (map_items handle.old.seal.held)
         (map_items handle.new.seal.held) (map_items other.new.seal.held) }
     ensures kind { result ≡ DONE
         → HoldsMap handle.new.seal.held × HoldsMap other.new.seal.held }
@@ -569,8 +571,8 @@ pub extern "C" fn brm_raw_map_u64_split_off(
 
 /// Moves all ranges of the other map, with their values, to the end of this one.
 ///
-/// Each of them lies after all ranges of this map, or the call answers `OUT_OF_ORDER`. The first may
-/// become one with the last of this map. Costs a step for each range that is moved, and no search.
+/// Each of them lies after all ranges of this map, or the call answers `OUT_OF_ORDER`. The first
+/// may become one with the last of this map. Costs a step for each range that is moved.
 #[unsafe(no_mangle)]
 pub extern "C" fn brm_raw_map_u64_append(handle: &mut Handle, other: &mut Handle) -> u32
     ensures bound { result ≡ DONE → BindAlike unsigned_keys nat_eq (map_items handle.new.seal.held)
@@ -580,7 +582,8 @@ pub extern "C" fn brm_raw_map_u64_append(handle: &mut Handle, other: &mut Handle
         → HoldsMap handle.new.seal.held × HoldsMap other.new.seal.held }
     ensures out_of_order { HoldsMap handle.old.seal.held → HoldsMap other.old.seal.held
         → (result ≡ OUT_OF_ORDER
-        ↔ ¬ LieBefore unsigned_keys (map_items handle.old.seal.held) (map_items other.old.seal.held)) }
+        ↔ ¬ LieBefore unsigned_keys (map_items handle.old.seal.held)
+        (map_items other.old.seal.held)) }
     ensures refused { result ≢ DONE → (handle.new.seal.held ≡ handle.old.seal.held)
         × (other.new.seal.held ≡ other.old.seal.held) }
     ensures answer { HoldsMap handle.old.seal.held → HoldsMap other.old.seal.held
