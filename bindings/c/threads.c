@@ -56,6 +56,10 @@ static void *work(void *given) {
     fill(&it->own, it);
     it->wrong += brm_equal(&it->own, &copy) != BRM_DONE;
     brm_destroy(&copy);
+    it->wrong += brm_overlay(it->shared, &it->own, &copy) != BRM_DONE || brm_count(&copy) != RANGES;
+    brm_destroy(&copy);
+    it->wrong += brm_without(it->shared, &it->own, &copy) != BRM_DONE || brm_count(&copy) != 0;
+    brm_destroy(&copy);
     return NULL;
 }
 
