@@ -54,14 +54,14 @@ invariant_of-self-in-Ok g c =
       there = there;
       len_is = c.new.ensures.len;
     } in (
-      rw (c.push_reserved.ensures.items, c.reserve.ensures.items) (added_whole s.slab c.insert.new.self s.rows c.add_to.new.self s.spares.items
+      rw (c.push_back_reserved.ensures.items, c.reserve.ensures.items) (added_whole s.slab c.insert.new.self s.rows c.add_to.new.self s.spares.items
           c.self.invariant.0 c.in-Ok.number c.new.result [] changes c.in-Ok.ensures.was_vacant
           c.in-Ok.ensures.len refl c.new.ensures.children),
       omega (
         arith,
         c.in-Ok.ensures.len,
         c.in_ok-reserve.ensures.ok,
-        c.push_reserved.ensures.capacity,
+        c.push_back_reserved.ensures.capacity,
         c.reserve.ensures.len,
         counted s.slab s.rows s.spares.items c.self.invariant.0,
         s.spares.ok.0,
@@ -91,7 +91,7 @@ returns-clause-kept g c =
       there = there;
       len_is = c.new.ensures.len;
     } in
-    rw (← c.self.view_is, c.push_reserved.ensures.items, c.reserve.ensures.items) (added s.slab c.insert.new.self s.rows c.add_to.new.self s.spares.items
+    rw (← c.self.view_is, c.push_back_reserved.ensures.items, c.reserve.ensures.items) (added s.slab c.insert.new.self s.rows c.add_to.new.self s.spares.items
     c.self.invariant.0 c.in-Ok.number c.new.result [] changes c.in-Ok.ensures.was_vacant
     c.in-Ok.ensures.len refl c.new.ensures.children)
 

@@ -29,8 +29,8 @@ clear-requires-clause-len g c =
     (rw (← c.self.view_is) at c.item_count-len.ensures)
     ∙ ap length (items_seen s.slab s.rows s.spares.items c.args.number present)
 
-pub push_reserved-requires : goal.push_reserved-requires
-push_reserved-requires g c =
+pub push_front_reserved-requires : goal.push_front_reserved-requires
+push_front_reserved-requires g c =
     let s = c.self.inside in
     let present = rw (← c.self.view_is) at c.requires in
     omega (
@@ -44,12 +44,12 @@ pub invariant_of-self : goal.invariant_of-self
 invariant_of-self g c =
     let s = c.self.inside in
     let present = rw (← c.self.view_is) at c.requires in (
-      rw (c.push_reserved.ensures.items, c.clear.ensures) (emptied_whole s.slab s.rows s.spares.items c.self.invariant.0 c.args.number c.index_mut.result.now c.new.result
+      rw (c.push_front_reserved.ensures.items, c.clear.ensures) (emptied_whole s.slab s.rows s.spares.items c.self.invariant.0 c.args.number c.index_mut.result.now c.new.result
           c.index_mut.ensures.value [] c.new.ensures.len [] c.new.ensures.children present refl refl),
       omega (
         arith,
         c.self.invariant.1,
-        c.push_reserved.ensures.capacity,
+        c.push_front_reserved.ensures.capacity,
         edited_len s.slab s.rows s.spares.items c.self.invariant.0 c.args.number c.index_mut.result.now c.new.result
             c.index_mut.ensures.value [] c.new.ensures.len [] c.new.ensures.children,
       ),
@@ -59,6 +59,6 @@ pub returns : goal.returns
 returns g c =
     let s = c.self.inside in
     let present = rw (← c.self.view_is) at c.requires in
-    rw (← c.self.view_is, c.push_reserved.ensures.items, c.clear.ensures) (emptied s.slab s.rows s.spares.items c.self.invariant.0 c.args.number c.index_mut.result.now c.new.result
+    rw (← c.self.view_is, c.push_front_reserved.ensures.items, c.clear.ensures) (emptied s.slab s.rows s.spares.items c.self.invariant.0 c.args.number c.index_mut.result.now c.new.result
     c.index_mut.ensures.value [] c.new.ensures.len [] c.new.ensures.children present
     refl refl)
