@@ -3,7 +3,7 @@ use Rattle.std.proofs.Common.{◌≡◌, ◌≢◌, ℕ, zero, suc, ◌+◌, ◌
 use borrow.Rule.Slice.PartMut.{put_mid}
 use Rattle.std.proofs.Math.ListN.{set, length-set}
 use Rattle.std.proofs.lemmas.Bool.{cases_eq, cases_lt}
-use Rattle.std.proofs.lemmas.List.{drop-drop, drop-take, take-take, take_at, drop_at, drop_all, take_all, take-append-le, drop-append-le, length-take-le, length-replicate, ext_get_or, append-nil, append_assoc, take-replicate, replicate-append-replicate, get_or-set_same, get_or-set_other, get_or-take, get_or-drop, get_or_past, take-set-le, drop-set-lt, drop-set-add}
+use Rattle.std.proofs.lemmas.List.{drop-drop, drop-take, take_at, drop_at, drop_all, take-append-le, length-take-le, length-replicate, ext_get_or, append-nil, append_assoc, take-replicate, replicate-append-replicate, get_or-set_same, get_or-set_other, get_or-take, get_or-drop, get_or_past, take-set-le, drop-set-lt, drop-set-add}
 use Rattle.std.proofs.lemmas.Slice.{take-put_mid_below, drop-put_mid}
 use Rattle.range_store.specs.declared.btree.nodes.TheConstants.{CAPACITY}
 use Rattle.range_store.specs.Rows.{items_in, HoldsItems, cells_of, row_of, rows_in, IsRows}

@@ -1,4 +1,4 @@
-use Rattle.std.proofs.Common.{ap, arith, ◌∙◌}
+use Rattle.std.proofs.Common.{ap, arith}
 use Rattle.slab.specs.Slab.{slab_len}
 use Rattle.range_store.specs.Heap.{node_count}
 use Rattle.range_store.specs.Spares.{heap_of}

@@ -1,15 +1,13 @@
-use Rattle.std.proofs.Common.{◌≡◌, ◌<◌, ◌≤◌, ◌+◌, ◌-◌, [], ◌∷◌, ◌++◌, length, length-drop, get_or, take, drop, arith, refl, sym, ap, ◌∙◌, length-append}
-use Rattle.std.specs.Prelude.{◌≢◌, Some, None, IsSome}
+use Rattle.std.proofs.Common.{◌≡◌, ◌≤◌, length, length-drop, take, drop, arith, sym, ap, ◌∙◌}
 use Rattle.std.proofs.Math.ListN.{set}
-use Rattle.slab.specs.Slab.{get, with_value}
-use Rattle.std.specs.List.{insert, remove}
-use Rattle.std.specs.Vec.Iter.{into_iter_items}
-use Rattle.std.proofs.lemmas.List.{length-take-le, get_or-set_other}
-use Rattle.std.proofs.lemmas.List.Edits.{length-insert, length-remove}
-use Rattle.range_store.specs.Heap.{HasNode, node_of, items_of, children_of, with_child}
+use Rattle.slab.specs.Slab.{with_value}
+use Rattle.std.specs.List.{insert}
+use Rattle.std.proofs.lemmas.List.{length-take-le}
+use Rattle.std.proofs.lemmas.List.Edits.{length-insert}
+use Rattle.range_store.specs.Heap.{node_of, items_of, children_of}
 use Rattle.range_store.specs.Rows.{row_of}
-use Rattle.range_store.specs.Spares.{heap_of, contents, without}
-use Rattle.range_store.proofs.Spares.{added, added_whole, bare_children, bare_row, children_seen, counted, edited, edited_len, edited_whole, emptied, emptied_whole, fewer_spares, filled, filled_whole, fits_count, found, grown, grown_whole, item_whole, item_written, items_seen, len_seen, none_whole, row_len, row_there, spare_found, spare_there, spares_left, apart_from_spare}
+use Rattle.range_store.specs.Spares.{heap_of}
+use Rattle.range_store.proofs.Spares.{bare_row, children_seen, edited, edited_len, edited_whole, filled, filled_whole, fits_count, found, items_seen, spare_found, spares_left, apart_from_spare}
 use Rattle.range_store.proofs.btree.nodes.Nodes.split.Goals as goal
 
 pub next_spare-right-requires : goal.next_spare-right-requires

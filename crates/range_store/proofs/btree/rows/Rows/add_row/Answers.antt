@@ -1,4 +1,4 @@
-use Rattle.std.proofs.Common.{◌≡◌, ◌+◌, suc, length, arith}
+use Rattle.std.proofs.Common.{◌≡◌, ◌+◌, suc, arith}
 use Rattle.range_store.proofs.Rows.{added_kept, added_rows, length-rows}
 use Rattle.range_store.proofs.btree.rows.Rows.add_row.Goals as goal
 

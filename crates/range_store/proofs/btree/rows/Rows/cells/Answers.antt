@@ -1,5 +1,4 @@
-use Rattle.std.proofs.Common.{◌≡◌, ◌≤◌, ◌+◌, ◌-◌, ◌*◌, length, take, drop, rules, arith, ap, refl, sym, ◌∙◌}
-use borrow.Author.Rules.{scaled_fits≤}
+use Rattle.std.proofs.Common.{◌≡◌, ◌≤◌, ◌+◌, ◌-◌, ◌*◌, length, rules, arith, ap}
 use Rattle.range_store.specs.declared.btree.nodes.TheConstants.{CAPACITY}
 use Rattle.range_store.proofs.Rows.{room, row_held}
 use Rattle.range_store.proofs.btree.rows.Rows.cells.Goals as goal

@@ -1,6 +1,4 @@
-use Rattle.std.proofs.Common.{◌≡◌, ◌≤◌, ◌<◌, ◌+◌, ◌-◌, ◌*◌, length, take, drop, rules, arith, ap, refl, sym, ◌∙◌}
-use borrow.Author.Rules.{scaled_fits≤}
-use Rattle.range_store.specs.declared.btree.nodes.TheConstants.{CAPACITY}
+use Rattle.std.proofs.Common.{◌<◌, arith, refl, sym, ◌∙◌}
 use Rattle.range_store.proofs.Rows.{cell_in, cell_written, rewritten, rewritten_rows, room, row_held, length-rows}
 use Rattle.range_store.proofs.btree.rows.Rows.item_mut.Goals as goal
 use Rattle.std.proofs.lemmas.Option.{same_Some}

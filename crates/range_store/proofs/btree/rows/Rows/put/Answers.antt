@@ -1,4 +1,4 @@
-use Rattle.std.proofs.Common.{◌≡◌, ◌≤◌, ◌<◌, ◌+◌, ◌-◌, ◌*◌, length, get_or, take, drop, replicate, None, rules, arith, ap, refl, sym, ◌∙◌}
+use Rattle.std.proofs.Common.{◌≡◌, ◌≤◌, ◌<◌, ◌+◌, ◌-◌, ◌*◌, length, rules, arith, ap, sym, ◌∙◌}
 use borrow.Rule.Slice.PartMut.{put_mid}
 use borrow.Author.Rules.{scaled_fits≤}
 use Rattle.std.proofs.Math.ListN.{set}

@@ -1,10 +1,9 @@
-use Rattle.std.proofs.Common.{◌≡◌, ◌≤◌, ◌<◌, ◌+◌, ◌-◌, ◌*◌, length, get_or, take, drop, replicate, None, rules, arith, ap, refl, sym, ◌∙◌}
+use Rattle.std.proofs.Common.{◌≡◌, ◌≤◌, ◌<◌, ◌+◌, ◌-◌, ◌*◌, length, get_or, rules, arith, ap, sym, ◌∙◌}
 use borrow.Rule.Slice.PartMut.{put_mid}
 use borrow.Author.Rules.{scaled_fits≤}
-use Rattle.std.proofs.Math.ListN.{set}
 use Rattle.std.proofs.lemmas.List.{with_items_is}
 use Rattle.range_store.specs.declared.btree.nodes.TheConstants.{CAPACITY}
-use Rattle.range_store.specs.Rows.{row_of, rows_in, IsRows}
+use Rattle.range_store.specs.Rows.{row_of, rows_in}
 use Rattle.range_store.proofs.Rows.{length-rows, part_held, part_written, rewritten, rewritten_rows, room, row_held}
 use Rattle.range_store.proofs.btree.rows.Rows.take.Goals as goal
 
