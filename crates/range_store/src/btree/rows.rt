@@ -98,6 +98,7 @@ fn take_item<T: Drop>(row: &mut [Option<T>], len: usize, index: usize) -> T
 }
 
 // Adds the empty cells that are missing to so many, for which there is room.
+#[inline(always)]
 fn add_cells<T: Drop>(cells: &mut Vec<Option<T>>, many: usize)
     requires { many ≤ vec_capacity cells.old }
     ensures cells { cells.new.items
