@@ -173,7 +173,6 @@ pub trait Storage<T>: Drop {
     /// Allocates nothing.
     ///
     /// The default gives one item, as a B-tree does.
-    #[inline(always)]
     fn chunk_from(&self, p: Self::Position) -> Chunk<'_, T, Self::Position>
         requires { is_good self.now p }
         ensures first { result.first.now
