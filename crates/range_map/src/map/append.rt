@@ -10,7 +10,7 @@ use crate::map::RangeMap;
 use range_algebra::any::AnyRange;
 use range_algebra::inner::starts_at_end;
 use range_change::error::NotAppended;
-use range_change::pieces::end_last_at;
+use range_change::answers::end_last_at;
 use range_keys::bound::Directed;
 use range_keys::traits::PartialEnum;
 use range_store::storage::{Item, Storage};

@@ -21,7 +21,7 @@ use range_algebra::inner::{self, clone_of};
 use range_algebra::range::AsRange;
 use range_change::bind::bind_inside;
 use range_change::error::UpdateError;
-use range_change::pieces::gather;
+use range_change::answers::gather;
 use range_change::reach::{reaching, surrounding};
 use range_change::replace::replace;
 use range_change::unbind::unbind_inside;
