@@ -1,5 +1,5 @@
 -- The answers to the pieces of a range, one after the other.
-use Rattle.std.proofs.Common.{ℕ, ◌+◌, take, drop, subst, ◌≡◌, refl, sym, ap, ◌∙◌, Option, Some, None, Bool, true, List, [], ◌∷◌, ◌++◌, append_assoc, inl, inr, ◌↔◌, map, Result, Ok}
+use Rattle.std.proofs.Common.{ℕ, ◌+◌, take, drop, ◌≡◌, refl, sym, ap, ◌∙◌, Option, Some, None, Bool, true, List, [], ◌∷◌, ◌++◌, append_assoc, inl, inr, ◌↔◌, map, Result, Ok}
 use Rattle.std.proofs.lemmas.List.{append-nil, drop-drop, map-append}
 use Rattle.std.specs.Fn.{Shared}
 use denote.Ref.{Bor}
@@ -11,7 +11,6 @@ use Rattle.range_keys.specs.declared.inner.position.Position.TheVariants.{Beside
 use Rattle.range_keys.specs.declared.inner.position.Side.TheVariants.{At}
 use Rattle.range_algebra.specs.declared.any.AnyRange.{AnyRange}
 use Rattle.range_algebra.specs.Clones.{IsBoundClone, SameBound}
-use Rattle.range_algebra.specs.Range.{Holds, IsKnownRange}
 use Rattle.range_algebra.specs.Intervals.{Any, Every}
 use Rattle.range_algebra.proofs.Lists.{every_append, every_right, every_weaker, list_is_take_and_drop}
 use Rattle.range_algebra.proofs.Places.{held_between}
@@ -29,9 +28,9 @@ use Rattle.range_change.proofs.Forms.{Known, Hold, before_is, binds_hold, bound_
 use Rattle.range_change.proofs.InsertionFrames.{all_meet}
 use Rattle.range_change.proofs.PieceLists.{pieces_are, pieces_are_cut, pieces_are_kept}
 use Rattle.range_change.proofs.PlaceOrder.{le_refl, le_trans, lt_not_le}
-use Rattle.range_change.proofs.RangePieces.{PLe, PLt, Lo, Hi, Rises, IsInside, IsRight, AreCut, any_unmap, any_use, any_with, every_unmap, every_with, lies_in, rises_right}
+use Rattle.range_change.proofs.RangePieces.{PLe, PLt, Lo, Hi, Rises, IsRight, AreCut, any_unmap, any_use, any_with, every_unmap, every_with, lies_in, rises_right}
 use Rattle.range_change.proofs.RunItems.{every_back, every_front}
-use Rattle.range_change.proofs.Spelling.{IsKeptIn, put_keeps_spelling}
+use Rattle.range_change.proofs.Spelling.{put_keeps_spelling}
 
 module _ {K : Type 0} (order : KeyOrder K) (lawful : IsLawful order) {V : Type 0}
     (same : V → V → Bool) (equal : IsEquivalence same) (r : AnyRange K) where

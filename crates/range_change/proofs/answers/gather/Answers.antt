@@ -1,5 +1,5 @@
 use Rattle.std.proofs.lemmas.Grind.{common_steps}
-use Rattle.std.proofs.Common.{rules, arith, sym, ◌∙◌, Ok, Err}
+use Rattle.std.proofs.Common.{arith, sym, ◌∙◌, Ok, Err}
 use Rattle.std.specs.Cmp.{Equal-is}
 use Rattle.range_keys.specs.Order.{IsLawful}
 use Rattle.range_algebra.specs.Clones.{bound_clone}

@@ -1,4 +1,4 @@
-use Rattle.std.proofs.Common.{Bool, List, drop, length, take}
+use Rattle.std.proofs.Common.{drop, length, take}
 use Rattle.std.specs.Cmp.{IsEquivalence}
 use Rattle.range_keys.specs.Order.{IsLawful}
 use Rattle.range_store.specs.ListPlaces.{place_before}
