@@ -30,9 +30,9 @@ module _ {K : Type 0} (order : KeyOrder K) where
   -- what is free from a start on, where the items stand after it
   abbrev pub free_from : {V : Type 0} → Option (Bound K) → List (Item (AnyRange K) V)
       → List (AnyRange K)
-  free_from start [] = between start (Some Unbounded)
+  free_from start [] = between order start (Some Unbounded)
   free_from start (i ∷ rest) =
-      between start (flipped i.key.start) ++ free_from (flipped i.key.end) rest
+      between order start (flipped i.key.start) ++ free_from (flipped i.key.end) rest
 
   -- the same, where the start refers to a key
   abbrev pub free_after : {V : Type 0} → Option (Bound (Bor K)) → List (Item (AnyRange K) V)
