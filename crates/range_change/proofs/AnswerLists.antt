@@ -20,7 +20,7 @@ use Rattle.range_change.proofs.Chains.{strictly_leads, chain_left, chain_right, 
 use Rattle.range_algebra.specs.Relations.{Touches}
 use Rattle.range_store.specs.declared.storage.Item.{Item}
 use Rattle.range_change.specs.Answers.{Answered}
-use Rattle.range_change.specs.Questions.{JoinsNoLast, IsPut}
+use Rattle.range_change.specs.Put.{JoinsNoLast, IsPut}
 use Rattle.range_change.specs.Edits.{with_end}
 use Rattle.range_change.specs.Stored.{item_lower}
 use Rattle.range_change.proofs.CutParts.{same_past}

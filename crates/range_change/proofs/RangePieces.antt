@@ -1,5 +1,5 @@
--- The pieces of a range, cut from its start on.
-use Rattle.std.proofs.Common.{◌≡◌, refl, sym, ap, ◌∙◌, Option, Some, None, Bool, true, false, List, [], ◌∷◌, ◌++◌, ◌⊎◌, inl, inr, map, if◌then◌else◌}
+-- Parts that share out a range are its pieces.
+use Rattle.std.proofs.Common.{◌≡◌, refl, sym, subst, ap, ◌∙◌, ℕ, ◌+◌, ◌<◌, length, get_or, take, drop, Option, Some, None, Bool, true, false, List, [], ◌∷◌, ◌++◌, ◌⊎◌, inl, inr, map, if◌then◌else◌}
 use Rattle.std.specs.declared.cmp.Ordering.TheVariants.{Equal}
 use Rattle.std.specs.Ordering.{is_gt}
 use Rattle.std.specs.Cmp.{IsEquivalence, tied_back}
@@ -13,7 +13,7 @@ use Rattle.range_algebra.specs.Range.{IsKnownRange}
 use Rattle.range_algebra.specs.RangeOrder.{range_cmp}
 use Rattle.range_algebra.specs.Intervals.{Le, Lt, Any, Every}
 use Rattle.range_algebra.specs.Orders.{le_refl, lt_le, eq_le, eq_ge, le_trans, lt_not_le, cases, both, le_lt_trans, lt_le_trans}
-use Rattle.range_algebra.proofs.Lists.{any_left, every_weaker, every_append}
+use Rattle.range_algebra.proofs.Lists.{every_at, every_weaker, parts_at}
 use Rattle.range_change.specs.Chains.{line_of}
 use Rattle.range_change.proofs.Chains.{follows_above, chain_tail}
 use Rattle.range_algebra.specs.Combined.{common}
@@ -21,12 +21,21 @@ use Rattle.range_algebra.proofs.Commons.{gt_le, later_is, earlier_is, later_over
 use Rattle.range_algebra.specs.Cuts.{lower, upper}
 use Rattle.range_algebra.specs.Relations.{LiesBefore}
 use Rattle.range_store.specs.declared.storage.Item.{Item}
-use Rattle.range_change.specs.Answers.{Answered, piece_of, AreAnswersTo}
 use Rattle.range_change.specs.Neighbours.{EachNext}
-use Rattle.range_change.specs.Pieces.{later, earlier, IsCommonPart, LiesIn, IsFreePart, IsPiece}
+use Rattle.range_change.specs.Pieces.{later, earlier, IsCommonPart, LiesIn, IsFreePart, IsPiece, ArePieces}
 use Rattle.range_change.specs.Lookups.{Overlap}
 use Rattle.range_change.proofs.Extents.{past_le, end_le}
-use Rattle.range_change.proofs.Forms.{Chained, before_is, nonempty_good}
+use Rattle.range_change.proofs.Forms.{Known, Chained, before_is, nonempty_good}
+
+pub item_at : {X : Type 0} (P : X → Type 0) (items : List X) (k : ℕ) (x : X) → Every P items
+    → k < length items → x ≡ get_or items k x → P x
+item_at P items k x all within read = subst P (sym read) (every_at P items k x all within)
+
+-- the items up to one, that one, and those after it
+pub listed_at : {X : Type 0} (items : List X) (n : ℕ) (x : X) → n < length items
+    → x ≡ get_or items n x → items ≡ take n items ++ x ∷ drop (n + 1) items
+listed_at items n x within read =
+    parts_at items n x within ∙ ap (λ y. take n items ++ y ∷ drop (n + 1) items) (sym read)
 
 -- some item is such and is used so
 pub any_use : {X R : Type 0} (P Q : X → Type 0) (xs : List X) → Any P xs → Every Q xs
@@ -52,23 +61,17 @@ pub every_with : {X : Type 0} (P Q R : X → Type 0) (xs : List X) → Every P x
 every_with P Q R [] h e f = tt
 every_with P Q R (x ∷ xs) h e f = (f x h.0 e.0, every_with P Q R xs h.1 e.1 f)
 
-pub every_map : {X Y : Type 0} (f : X → Y) (P : Y → Type 0) (xs : List X) → Every (λ x. P (f x)) xs
-    → Every P (map f xs)
-every_map f P [] h = tt
-every_map f P (x ∷ xs) h = (h.0, every_map f P xs h.1)
+-- what holds of the images of each
+pub every_unmap : {X Y : Type 0} (f : X → Y) (P : Y → Type 0) (xs : List X) → Every P (map f xs)
+    → Every (λ x. P (f x)) xs
+every_unmap f P [] h = tt
+every_unmap f P (x ∷ xs) h = (h.0, every_unmap f P xs h.1)
 
-pub any_map : {X Y : Type 0} (f : X → Y) (P : Y → Type 0) (xs : List X) → Any (λ x. P (f x)) xs
-    → Any P (map f xs)
-any_map f P [] h = h
-any_map f P (x ∷ xs) (inl h) = inl h
-any_map f P (x ∷ xs) (inr h) = inr (any_map f P xs h)
-
-next_map : {X Y : Type 0} (f : X → Y) (S : X → X → Type 0) (T : Y → Y → Type 0) (P : X → Type 0)
-    (xs : List X) → ((x y : X) → P x → P y → S x y → T (f x) (f y)) → Every P xs → EachNext S xs
-    → EachNext T (map f xs)
-next_map f S T P [] g e h = tt
-next_map f S T P (x ∷ []) g e h = (tt, tt)
-next_map f S T P (x ∷ y ∷ ys) g e h = (g x y e.0 e.1.0 h.0, next_map f S T P (y ∷ ys) g e.1 h.1)
+pub any_unmap : {X Y : Type 0} (f : X → Y) (P : Y → Type 0) (xs : List X) → Any P (map f xs)
+    → Any (λ x. P (f x)) xs
+any_unmap f P [] h = h
+any_unmap f P (x ∷ xs) (inl h) = inl h
+any_unmap f P (x ∷ xs) (inr h) = inr (any_unmap f P xs h)
 
 pub next_last : {X : Type 0} (S : X → X → Type 0) (xs : List X) (y : X) → EachNext S xs
     → Every (λ x. S x y) xs → EachNext S (xs ++ y ∷ [])
@@ -92,6 +95,15 @@ module _ {K : Type 0} (order : KeyOrder K) (lawful : IsLawful order) where
 
   abbrev pub Hi : AnyRange K → Position K
   Hi r = upper order r
+
+  -- each lies before all that follow
+  abbrev pub Rises : {W : Type 0} → List (Item (AnyRange K) W) → Type 0
+  Rises [] = Unit {0}
+  Rises (p ∷ rest) = Every (λ q. PLe (Hi p.key) (Lo q.key)) rest × Rises rest
+
+  pub rises_right : {W : Type 0} (xs ys : List (Item (AnyRange K) W)) → Rises (xs ++ ys) → Rises ys
+  rises_right [] ys h = h
+  rises_right (x ∷ xs) ys h = rises_right xs ys h.1
 
   later_by : (p q : Position K) (b : Bool) → is_gt (position_cmp order.cmp p q) ≡ b
       → PLe p (if b then p else q) × PLe q (if b then p else q)
@@ -151,35 +163,6 @@ module _ {K : Type 0} (order : KeyOrder K) (lawful : IsLawful order) where
             (either_choice_holds (λ x. PLe e x) (is_gt (cmp u v)) v u under.0 under.1)
             (earlier_is order lawful i.end r.end
             (λ b. PLe (earlier order u v) (end_position order b)) first.1 first.0);
-      }
-
-  -- likewise with the bounds of the range where they lie at the same place
-  pub shared_is : (r i : AnyRange K) → IsCommonPart order r i (common order r i)
-  shared_is r i =
-      let cmp = position_cmp order.cmp in
-      let total = position_total order.cmp lawful.total in
-      let c = common order r i in
-      let s = start_position order c.start in
-      let e = end_position order c.end in
-      let over = starts_over order lawful r.start i.start in
-      let under = ends_under order lawful r.end i.end in
-      let p = start_position order r.start in
-      let q = start_position order i.start in
-      let u = end_position order r.end in
-      let v = end_position order i.end in
-      let latest = later_over p q in
-      let first = earlier_under u v in
-      record {
-        starts =
-            both cmp total s (later order p q)
-            (later_is order lawful r.start i.start
-            (λ b. PLe (start_position order b) (later order p q)) latest.0 latest.1)
-            (either_choice_holds (λ x. PLe x s) (is_gt (cmp p q)) p q over.0 over.1);
-        ends =
-            both cmp total e (earlier order u v)
-            (either_choice_holds (λ x. PLe e x) (is_gt (cmp u v)) v u under.1 under.0)
-            (earlier_is order lawful r.end i.end
-            (λ b. PLe (earlier order u v) (end_position order b)) first.0 first.1);
       }
 
   -- a common part lies in both
@@ -267,58 +250,13 @@ module _ {K : Type 0} (order : KeyOrder K) (lawful : IsLawful order) where
     IsInside key =
         IsKnownRange order key × PLe (Lo r) (Lo key) × PLt (Lo key) (Hi key) × PLe (Hi key) (Hi r)
 
-    -- what the answers so far are to: the parts of the range before a place
-    pub record IsCutUpTo (m : Position K) (answers : List (Answered K V)) : Type 0 where
-      pub inside : Every (λ a. IsInside a.key × PLe (Hi a.key) m) answers
-      pub right : Every (λ a. IsRight a.key a.value) answers
-      pub rising : EachNext (λ a b. PLe (Hi a.key) (Lo b.key)) answers
-      pub covered : (p : Position K) → PLe (Lo r) p → PLt p (Hi r) → PLt p m
-          → Any (λ a. PLe (Lo a.key) p × PLt p (Hi a.key)) answers
-
-    pub cut_none : IsCutUpTo (Lo r) []
-    cut_none = record {
-      inside = tt;
-      right = tt;
-      rising = tt;
-      covered =
-          λ p from upto before. absurd
-          (lt_not_le (position_cmp order.cmp) (position_total order.cmp lawful.total) p
-          (Lo r) before from);
-    }
-
-    -- one part more
-    pub cut_more : (m n : Position K) (answers : List (Answered K V)) (a : Answered K V)
-        → IsCutUpTo m answers → IsInside a.key → IsRight a.key a.value → PLe m (Lo a.key)
-        → PLe (Hi a.key) n
-        → ((p : Position K) → PLe (Lo r) p → PLt p (Hi r) → PLt p n
-        → PLt p m ⊎ (PLe (Lo a.key) p × PLt p (Hi a.key))) → IsCutUpTo n (answers ++ a ∷ [])
-    cut_more m n answers a was inside right from upto split =
-        let cmp = position_cmp order.cmp in
-        let total = position_total order.cmp lawful.total in
-        let on =
-        le_trans cmp total m (Lo a.key) n
-        from (le_trans cmp total (Lo a.key) (Hi a.key) n
-        (lt_le cmp total (Lo a.key) (Hi a.key) inside.2) upto) in
-        record {
-          inside =
-              every_append (λ b. IsInside b.key × PLe (Hi b.key) n) answers (a ∷ [])
-              (every_weaker (λ b. IsInside b.key × PLe (Hi b.key) m)
-              (λ b. IsInside b.key × PLe (Hi b.key) n) answers
-              (λ b h. (h.0, le_trans cmp total (Hi b.key) m n h.1 on)) was.inside)
-              ((inside, upto), tt);
-          right = every_append (λ b. IsRight b.key b.value) answers (a ∷ []) was.right (right, tt);
-          rising =
-              next_last (λ b d. PLe (Hi b.key) (Lo d.key)) answers a was.rising
-              (every_weaker (λ b. IsInside b.key × PLe (Hi b.key) m)
-              (λ b. PLe (Hi b.key) (Lo a.key)) answers
-              (λ b h. le_trans cmp total (Hi b.key) m (Lo a.key) h.1 from) was.inside);
-          covered = λ p low high before. elim (split p low high before) [
-            | inl l ↦
-                any_left (λ b. PLe (Lo b.key) p × PLt p (Hi b.key)) answers (a ∷ [])
-                (was.covered p low high l)
-            | inr h ↦ any_end (λ b. PLe (Lo b.key) p × PLt p (Hi b.key)) answers a h
-          ];
-        }
+    -- parts that share out the range, each before the next
+    pub record AreCut (pieces : List (Item (AnyRange K) (Option V))) : Type 0 where
+      pub inside : Every (λ p. IsInside p.key) pieces
+      pub right : Every (λ p. IsRight p.key p.value) pieces
+      pub rising : Rises pieces
+      pub covered : (m : Position K) → PLe (Lo r) m → PLt m (Hi r)
+          → Any (λ p. PLe (Lo p.key) m × PLt m (Hi p.key)) pieces
 
     module _ (known_r : IsKnownRange order r) where
       module _ (full : Every IsFull items) where
@@ -574,38 +512,53 @@ module _ {K : Type 0} (order : KeyOrder K) (lawful : IsLawful order) where
                 (Hi part) (Hi r) ((nonempty_good order lawful part known).0 piece.0) within.2,
           ))
 
-      -- parts up to the end of the range are its pieces
+      rising_apart : (pieces : List (Item (AnyRange K) (Option V)))
+          → Every (λ p. IsInside p.key) pieces → Rises pieces
+          → EachNext (λ p q. LiesBefore order p.key q.key) pieces
+      rising_apart [] h k = tt
+      rising_apart (p ∷ []) h k = (tt, tt)
+      rising_apart (p ∷ q ∷ rest) h k = (
+        (before_is order lawful p.key.end q.key.start h.0.0.1 h.1.0.0.0).1 k.0.0,
+        rising_apart (q ∷ rest) h.1 k.1,
+      )
+
+      -- such parts are the pieces of the range
       pub cut_all : (same : V → V → Bool) (equal : IsEquivalence same) (full : Every IsFull items)
-          → Chained order lawful same equal items → (m : Position K) (answers : List (Answered K V))
-          → IsCutUpTo m answers → PLe (Hi r) m → AreAnswersTo order items r answers
-      cut_all same equal full chain m answers was upto =
-          let cmp = position_cmp order.cmp in
-          let total = position_total order.cmp lawful.total in
+          → Chained order lawful same equal items
+          → (pieces : List (Item (AnyRange K) (Option V))) → AreCut pieces
+          → ArePieces order items r pieces
+      cut_all same equal full chain pieces was =
           let each =
-          every_with (λ a. IsInside a.key × PLe (Hi a.key) m) (λ a. IsRight a.key a.value)
-          (λ a. IsInside a.key × IsRight a.key a.value) answers was.inside was.right
-          (λ a h k. (h.0, k)) in
+          every_with (λ p. IsInside p.key) (λ p. IsRight p.key p.value)
+          (λ p. IsInside p.key × IsRight p.key p.value) pieces was.inside was.right
+          (λ p h k. (h, k)) in
           record {
             each =
-                every_map piece_of (λ p. IsPiece order items r p.key p.value) answers
-                (every_weaker (λ a. IsInside a.key × IsRight a.key a.value)
-                (λ a. IsPiece order items r a.key a.value) answers
-                (λ a h. a_piece full a.key a.value h.0 h.1) each);
-            rising =
-                next_map piece_of (λ a b. PLe (Hi a.key) (Lo b.key))
-                (λ p q. LiesBefore order p.key q.key)
-                (λ a. IsInside a.key × IsRight a.key a.value) answers
-                (λ a b h k le. (before_is order lawful a.key.end b.key.start h.0.0.1 k.0.0.0).1 le)
-                each was.rising;
+                every_weaker (λ p. IsInside p.key × IsRight p.key p.value)
+                (λ p. IsPiece order items r p.key p.value) pieces
+                (λ p h. a_piece full p.key p.value h.0 h.1) each;
+            rising = rising_apart pieces was.inside was.rising;
             all = λ part binding known piece.
                 let at = piece_inside full part binding known piece in
-                any_map piece_of (λ p. (range_cmp order p.key part ≡ Equal) × (p.value ≡ binding))
-                answers (any_with (λ a. PLe (Lo a.key) (Lo part) × PLt (Lo part) (Hi a.key))
-                (λ a. IsInside a.key × IsRight a.key a.value)
-                (λ a. (range_cmp order a.key part ≡ Equal) × (a.value ≡ binding)) answers
-                (was.covered (Lo part) at.0 at.1
-                (lt_le_trans cmp total (Lo part) (Hi r) m at.1 upto)) each
-                (λ a h k.
-                same_piece full same equal a.key part a.value binding chain k.0 k.1 known piece
-                h.0 h.1));
+                any_with (λ p. PLe (Lo p.key) (Lo part) × PLt (Lo part) (Hi p.key))
+                (λ p. IsInside p.key × IsRight p.key p.value)
+                (λ p. (range_cmp order p.key part ≡ Equal) × (p.value ≡ binding)) pieces
+                (was.covered (Lo part) at.0 at.1) each
+                (λ p h k.
+                same_piece full same equal p.key part p.value binding chain k.0 k.1 known piece
+                h.0 h.1);
           }
+
+module _ {K : Type 0} (order : KeyOrder K) (lawful : IsLawful order) {V : Type 0}
+    (same : V → V → Bool) (equal : IsEquivalence same) (r : AnyRange K) where
+  full_by : (xs items : List (Item (AnyRange K) V)) → Known order lawful same equal xs
+      → Chained order lawful same equal xs → Every (IsFull order lawful items r) xs
+  full_by [] items known chain = tt
+  full_by (x ∷ []) items known chain = ((known.0, chain.0), tt)
+  full_by (x ∷ y ∷ ys) items known chain =
+      ((known.0, chain.0), full_by (y ∷ ys) items known.1 chain.1.1)
+
+  -- stored ranges are known, and each starts below the place where it ends
+  pub all_full : (items : List (Item (AnyRange K) V)) → Known order lawful same equal items
+      → Chained order lawful same equal items → Every (IsFull order lawful items r) items
+  all_full items known chain = full_by items items known chain

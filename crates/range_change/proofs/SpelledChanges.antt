@@ -27,10 +27,9 @@ use Rattle.range_change.specs.Stored.{IsStored, item_lower, item_upper}
 use Rattle.range_change.specs.Window.{option_items}
 use Rattle.range_change.specs.declared.reach.Reach.{Reach}
 use Rattle.range_change.specs.declared.window.Window.{Window}
-use Rattle.range_change.proofs.RangePieces.{any_use}
+use Rattle.range_change.proofs.RangePieces.{any_use, listed_at, item_at}
 use Rattle.range_change.proofs.Extents.{past_le, end_le}
 use Rattle.range_change.proofs.Forms.{places, Known, Chained, stored_known, stored_chain, nonempty_good}
-use Rattle.range_change.proofs.PieceAnswers.{listed_at, item_at}
 use Rattle.range_change.proofs.Spelling.{own_spelling, start_is_kept, end_is_kept, cut_end_is_kept, cut_start_is_kept}
 use Rattle.range_change.proofs.Surrounded.{reach_is_met}
 

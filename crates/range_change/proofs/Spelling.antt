@@ -21,7 +21,7 @@ use Rattle.range_algebra.proofs.Commons.{gt_le}
 use Rattle.range_algebra.proofs.Lists.{every_weaker, every_append, every_left, every_right, every_at}
 use Rattle.range_algebra.proofs.Places.{reaching_is_before_past}
 use Rattle.range_store.specs.declared.storage.Item.{Item}
-use Rattle.range_change.specs.Questions.{IsPut}
+use Rattle.range_change.specs.Put.{IsPut}
 use Rattle.range_change.specs.Chains.{line_of}
 use Rattle.range_change.specs.Edits.{flipped_bound, with_end}
 use Rattle.range_change.specs.Spelling.{IsStartAsIn, IsEndAsIn, IsSpelledAsIn, KeepsSpelling}
@@ -29,6 +29,12 @@ use Rattle.range_change.proofs.Chains.{chain_before, chain_right, follows_above}
 use Rattle.range_change.proofs.CutParts.{cut_end, cut_start, known_turned, same_turned}
 use Rattle.range_change.proofs.RangePieces.{every_with}
 use Rattle.range_change.proofs.Forms.{places, Known, Chained, before_is}
+
+-- what is written as the bounds of the range are is written as in the list
+abbrev pub IsKeptIn : {K V : Type 0} → KeyOrder K → List (Item (AnyRange K) V) → AnyRange K → Type 0
+IsKeptIn {K} order items key =
+    ((b : Bound K) → SameBound order key.start b → IsStartAsIn order items b)
+    × ((b : Bound K) → SameBound order key.end b → IsEndAsIn order items b)
 
 every_set : {X : Type 0} (P : X → Type 0) (xs : List X) (k : ℕ) (y : X) → Every P xs → P y
     → Every P (slice_set xs k y)
@@ -341,21 +347,19 @@ module _ {K : Type 0} (order : KeyOrder K) (lawful : IsLawful order) where
     pub put_keeps_spelling : (items : List (Item (AnyRange K) V)) (part : AnyRange K)
         (is_clone : K → K → Type 0)
         (clones : (a b : Bound K) → IsBoundClone is_clone a b → SameBound order a b)
-        → ((b : Bound K) → SameBound order part.start b → IsStartAsIn order items b)
-        → ((b : Bound K) → SameBound order part.end b → IsEndAsIn order items b)
-        → (old new : List (Item (AnyRange K) V)) (answer : Option V)
+        → IsKeptIn order items part → (old new : List (Item (AnyRange K) V)) (answer : Option V)
         → KeepsSpelling order items old → IsPut order same is_clone old new part answer
         → KeepsSpelling order items new
-    put_keeps_spelling items part is_clone clones starts ends old new None kept put = rw put kept
-    put_keeps_spelling items part is_clone clones starts ends old new (Some v) kept (inl put) =
+    put_keeps_spelling items part is_clone clones own old new None kept put = rw put kept
+    put_keeps_spelling items part is_clone clones own old new (Some v) kept (inl put) =
         rw put.list (every_append (λ j. IsSpelledAsIn order items j.key) old _ kept (
           (
-            starts put.start (clones part.start put.start put.start_clone),
-            ends put.end (clones part.end put.end put.end_clone),
+            own.0 put.start (clones part.start put.start put.start_clone),
+            own.1 put.end (clones part.end put.end put.end_clone),
           ),
           tt,
         ))
-    put_keeps_spelling items part is_clone clones starts ends old new (Some v) kept (inr put) =
+    put_keeps_spelling items part is_clone clones own old new (Some v) kept (inr put) =
         let d : Item (AnyRange K) V = record { key = part; value = v } in
         let last = get_or old (length old - 1) d in
         let was =
@@ -363,4 +367,4 @@ module _ {K : Type 0} (order : KeyOrder K) (lawful : IsLawful order) where
         (omega (arith, put.joins.0)) in
         rw (put.list d) (every_set (λ j. IsSpelledAsIn order items j.key) old (length old - 1)
         (with_end last put.end) kept
-        (was.0, ends put.end (clones part.end put.end put.end_clone)))
+        (was.0, own.1 put.end (clones part.end put.end put.end_clone)))

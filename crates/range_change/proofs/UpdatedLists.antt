@@ -20,7 +20,7 @@ use Rattle.range_change.specs.Frames.{IsUpdateFrame, IsMergedInto, IsMergeFrame,
 use Rattle.range_change.specs.Lookups.{IsConnectedTo, Overlap}
 use Rattle.range_change.specs.Pieces.{later, earlier, IsCommonPart, IsPiece}
 use Rattle.range_change.specs.Replaced.{IsReplaced}
-use Rattle.range_change.proofs.RangePieces.{PLe, PLt, Lo, Hi, IsFull, IsInside, IsRight, any_use, any_over, every_with, later_over, earlier_under, either_choice_holds, cut_none, cut_more, cut_all, a_piece}
+use Rattle.range_change.proofs.RangePieces.{PLe, PLt, Lo, Hi, IsFull, IsInside, IsRight, any_use, any_over, every_with, later_over, earlier_under, either_choice_holds, cut_all, a_piece}
 use Rattle.range_change.proofs.Extents.{end_le}
 use Rattle.range_change.proofs.Forms.{Chained}
 use Rattle.range_change.proofs.MergedItems.{rest_stands, way_follows}
@@ -222,14 +222,10 @@ module _ {K : Type 0} (order : KeyOrder K) (lawful : IsLawful order) {V : Type 0
   pub whole_answer : (answer : Option V)
       → AreAnswersTo order items r (record { key = r; value = Some x.value; answer = answer } ∷ [])
   whole_answer answer =
-      let cmp = position_cmp order.cmp in
-      let total = position_total order.cmp lawful.total in
-      let lo = Lo order lawful r in
-      let hi = Hi order lawful r in
-      let a : Answered K V = record { key = r; value = Some x.value; answer = answer } in
-      let cut =
-      cut_more order lawful items r lo hi [] a
-      (cut_none order lawful items r) whole_inside whole_right (le_refl cmp total lo)
-      (le_refl cmp total hi) (λ p low high before. inr (low, high)) in
-      cut_all order lawful items r known same equal full chain hi (a ∷ []) cut
-      (le_refl cmp total hi)
+      cut_all order lawful items r known same equal full chain
+      (record { key = r; value = Some x.value } ∷ []) (record {
+        inside = (whole_inside, tt);
+        right = (whole_right, tt);
+        rising = (tt, tt);
+        covered = λ m low high. inl (low, high);
+      })

@@ -10,11 +10,13 @@ pub mod Edits
 pub mod Frames
 pub mod Lookups
 pub mod Neighbours
+pub mod PieceLists
 pub mod Pieces
 pub mod Plans
-pub mod Questions
+pub mod Put
 pub mod Reach
 pub mod Replaced
+pub mod Runs
 pub mod Seams
 pub mod Searches
 pub mod Spelling

@@ -1,5 +1,5 @@
 //! Storing an item, with the item handed back where there is no memory: at a position, between its
-//! neighbours, or in the place of others.
+//! neighbours, or in place of others.
 ghost use Rattle.std.specs.Prelude.{◌≡◌, ◌+◌, ◌-◌, ◌*◌, ◌≤◌, length, insert, None, OnOk, OnErr, IfErr, IsOk};
 ghost use Rattle.std.specs.Option.{ForSome};
 ghost use Rattle.range_store.specs.Counting.{AddsSteps};
@@ -74,7 +74,7 @@ fn growth(count: usize) -> usize
     if count == 0 { 1 } else { 0 }
 }
 
-/// Stores an item with the bounds of those that it joins, in the place of the items of a window.
+/// Stores an item with the bounds of those that it joins, in place of the items of a window.
 /// Hands it back where there is no memory.
 pub fn put_merged<K: PartialEnum, V: Eq + Drop, C: Storage<Item<AnyRange<K>, V>>>(
     stored: &mut C,

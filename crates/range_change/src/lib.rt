@@ -19,13 +19,19 @@
 //!   `proofs/{ApartRanges,OuterRange}.antt`; before or after all of them, with no search
 //! - whole ranges taken out: `unbind_whole` in `src/unbind.rt`
 //! - chains that come to stand between two places of another: `proofs/Splices.antt`
-//! - what a closure is asked of a range, and what it returns, as one list: `src/pieces.rt`,
-//!   `proofs/{RangePieces,AnswerLists,PieceAnswers,Asked}.antt`
+//! - runs of stored items, from both ends: `src/runs.rt`, `specs/Runs.antt`,
+//!   `proofs/RunItems.antt`
+//! - the parts of a range that stored items bind, and the free ones, from both ends:
+//!   `src/pieces.rt`, `specs/{Pieces,PieceLists}.antt`,
+//!   `proofs/{RangePieces,PieceLists,PieceSteps}.antt`
+//! - what a closure returns for each of them, as one list: `src/answers.rt`,
+//!   `specs/{Answers,Put}.antt`, `proofs/{AnswerLists,PieceAnswers}.antt`
 //! - which bounds an update leaves as they are written: `specs/Spelling.antt`,
 //!   `proofs/{Spelling,SpelledChanges}.antt`
 //! - how many steps a call takes: `specs/Costs.antt`, proved in `proofs/Lengths.antt`
 #![tactic(auto)]
 
+pub mod answers;
 pub mod apart;
 pub mod append;
 pub mod bind;
@@ -37,6 +43,7 @@ pub mod pieces;
 pub mod probe;
 pub mod reach;
 pub mod replace;
+pub mod runs;
 pub mod splice;
 pub mod unbind;
 pub mod window;

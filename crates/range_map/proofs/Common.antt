@@ -57,18 +57,18 @@ pub use Rattle.range_change.specs.Chains.{Follows, IsChain, IsLeft, IsRight, Lea
 pub use Rattle.range_change.specs.Frames.{IsInsertionFrame, IsMergedInto}
 pub use Rattle.range_change.specs.Lookups.{BindsAllOf, IsPutInto, MeetAlso, MeetsSome, Overlap}
 pub use Rattle.range_change.specs.Pieces.{ArePieces, IsCommonPart, IsFreePart, IsPiece, LiesIn, earlier, later}
+pub use Rattle.range_change.specs.PieceLists.{between, free_piece, pieces_from, pieces_of}
+pub use Rattle.range_change.specs.Runs.{AreOverlapping, shown_item}
 pub use Rattle.range_change.specs.Stored.{IsStored, item_lower, item_upper}
-pub use Rattle.range_merge.proofs.PlaceOrder.{both, cases, eq_ge, eq_le, le_lt_trans, le_refl, le_trans, lt_le, lt_le_trans, lt_not_le, lt_trans, not_le, not_lt}
+pub use Rattle.range_change.proofs.PlaceOrder.{both, cases, eq_ge, eq_le, le_lt_trans, le_refl, le_trans, lt_le, lt_le_trans, lt_not_le, lt_trans, not_le, not_lt}
 pub use Rattle.range_map.specs.Appending.{IsApartFromLast, LieBefore, appended, are_one, as_one, joined}
 pub use Rattle.range_merge.specs.Combining.{AreCombined, IsCombinedAt, MayAnswerBoth}
 pub use Rattle.range_map.specs.Extending.{AreBoundAfter, item_of}
-pub use Rattle.range_map.specs.FreeRanges.{AreGaps, IsHeldOnce, between, free_after, free_from, full_range, item_ranges}
-pub use Rattle.range_map.specs.Iteration.{shown_item}
+pub use Rattle.range_map.specs.FreeRanges.{AreGaps, IsHeldOnce, free_after, free_from, full_range, item_ranges}
 pub use Rattle.range_map.specs.ListOrder.{IsCopyOf, item_input, list_cmp, list_input, lists_fed, lists_order, lists_tied, same_list}
-pub use Rattle.range_map.specs.Overlapping.{AreOverlapping}
 pub use Rattle.range_map.specs.Overlays.{IsCopyOfValue, IsOverlaid, IsRestricted, IsSecondOrFirst, IsWithout, MayOverlay, first_where}
 pub use Rattle.range_map.specs.PartWay.{AreUnboundAfter, BeforeOne, BeforeOneGap}
-pub use Rattle.range_map.specs.PieceLists.{AreGapsWithin, bound_piece, free_between, free_piece, free_ranges, pieces_from, range_if_free}
+pub use Rattle.range_map.specs.PieceLists.{AreGapsWithin, free_ranges, range_if_free}
 pub use Rattle.range_map.specs.Rebinding.{AreRebound, IsRebound}
 pub use Rattle.range_map.specs.Retaining.{BindOnlyAsBefore, CalledAtItem}
 pub use Rattle.range_map.specs.Sorting.{IsFirstFault, IsNext, IsSorted, last_key}

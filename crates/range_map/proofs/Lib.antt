@@ -17,11 +17,9 @@ pub mod Likeness
 pub mod MappedValues
 pub mod MeasureTotals
 pub mod Once
-pub mod OverlappingItems
 pub mod Overlays
 pub mod PartWay
-pub mod PieceLists
-pub mod PieceSteps
+pub mod FreePieces
 pub mod ReboundKeys
 pub mod KeptItems
 pub mod Scans

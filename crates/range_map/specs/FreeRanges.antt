@@ -1,7 +1,8 @@
 -- The gaps of a list: what its ranges leave free of all keys.
-use Rattle.std.specs.Prelude.{◌≡◌, List, [], ◌∷◌, ◌++◌, ◌⊎◌, Option, Some, None, if◌then◌else◌}
-use Rattle.range_map.specs.Common.{Bor, option_map, Equal, Bound, KeyOrder, bound_of, flipped, starts_past_end, Any, Every, Holds, IsKnownRange, range_cmp, LiesBefore, AnyRange, Item, EachNext, IsPiece}
+use Rattle.std.specs.Prelude.{◌≡◌, List, [], ◌∷◌, ◌++◌, ◌⊎◌, Option, Some, None}
+use Rattle.range_map.specs.Common.{Bor, option_map, Equal, Bound, KeyOrder, bound_of, flipped, Any, Every, Holds, IsKnownRange, range_cmp, LiesBefore, AnyRange, Item, EachNext, IsPiece}
 use Rattle.std.specs.declared.ops.Bound.TheVariants.{Unbounded}
+pub use Rattle.range_change.specs.PieceLists.{between}
 
 abbrev pub full_range : {K : Type 0} → AnyRange K
 full_range = record { start = Unbounded; end = Unbounded }
@@ -26,19 +27,12 @@ module _ {K : Type 0} (order : KeyOrder K) where
     pub all : (part : AnyRange K) → IsKnownRange order part
         → IsPiece order items full_range part None → Any (λ g. range_cmp order g part ≡ Equal) gaps
 
-  -- the range between two bounds, unless it is empty or one of them is missing
-  abbrev pub between : Option (Bound K) → Option (Bound K) → List (AnyRange K)
-  between None end = []
-  between (Some start) None = []
-  between (Some start) (Some end) =
-      if starts_past_end order start end then [] else record { start = start; end = end } ∷ []
-
   -- what is free from a start on, where the items stand after it
   abbrev pub free_from : {V : Type 0} → Option (Bound K) → List (Item (AnyRange K) V)
       → List (AnyRange K)
-  free_from start [] = between start (Some Unbounded)
+  free_from start [] = between order start (Some Unbounded)
   free_from start (i ∷ rest) =
-      between start (flipped i.key.start) ++ free_from (flipped i.key.end) rest
+      between order start (flipped i.key.start) ++ free_from (flipped i.key.end) rest
 
   -- the same, where the start refers to a key
   abbrev pub free_after : {V : Type 0} → Option (Bound (Bor K)) → List (Item (AnyRange K) V)

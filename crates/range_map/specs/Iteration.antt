@@ -1,14 +1,10 @@
 -- What is left of an iterator over stored items, which takes from both ends.
 use Rattle.std.specs.Prelude.{◌≡◌, ℕ, ◌+◌, ◌-◌, ◌≤◌, List, length, take, drop, Option, Some, None}
 use Rattle.std.specs.Option.{ForSome}
-use denote.Ref.{Bor}
 use Rattle.range_algebra.specs.declared.any.AnyRange.{AnyRange}
 use Rattle.range_store.specs.ListPlaces.{IsAt}
 use Rattle.range_store.specs.declared.storage.Item.{Item}
-
--- the item that a pair of references shows
-abbrev pub shown_item : {K V : Type 0} → Bor (AnyRange K) × Bor V → Item (AnyRange K) V
-shown_item pair = record { key = pair.0.now; value = pair.1.now }
+pub use Rattle.range_change.specs.Runs.{shown_item}
 
 -- the item that a pair is made of
 abbrev pub pair_item : {K V : Type 0} → AnyRange K × V → Item (AnyRange K) V

@@ -2,9 +2,9 @@
 use Rattle.std.proofs.Common.{◌≡◌, refl, sym, ◌∙◌, ◌↔◌, ◌⊎◌, inl, inr, arith, Bool, true, Option, Some, None, Result, Ok, List, [], ◌∷◌, ◌++◌}
 use Rattle.range_merge.proofs.Common.{IsEquivalence, Bound, KeyOrder, IsLawful, Position, Beside, At, IsBoundClone, SameBound, lower, upper, Any, Every, Holds, LiesBefore, AnyRange, any_left, any_none, any_split, every_append, every_weaker, Item, Answered, IsAsAnswered, IsBound, Binds, BindsTo, LiesIn, IsStored}
 use Rattle.range_merge.specs.Combining.{Combined, IsConstantOn, IsSharedPiece, AreCombined, IsCombination, MayAnswerOnBoth}
-use Rattle.range_merge.proofs.PlaceOrder.{le_refl, lt_le, le_trans, lt_not_le}
+use Rattle.range_change.proofs.PlaceOrder.{le_refl, lt_le, le_trans, lt_not_le}
 use Rattle.range_algebra.proofs.Places.{held_between, unbounded_start, unbounded_end}
-use Rattle.range_change.specs.Questions.{IsPut}
+use Rattle.range_change.specs.Put.{IsPut}
 use Rattle.range_merge.specs.Merged.{IsFirstPiece}
 use Rattle.range_change.specs.Neighbours.{EachNext}
 use Rattle.range_change.specs.Window.{option_items}

@@ -3,7 +3,7 @@ use Rattle.std.proofs.Common.{◌≡◌, refl, sym, ◌∙◌, ◌⊎◌, inl, i
 use Rattle.std.specs.declared.ops.Bound.TheVariants.{Unbounded}
 use Rattle.range_merge.proofs.Common.{option_map, IsEquivalence, KeyOrder, IsLawful, IsKnownRange, position_cmp, Position, Beside, At, lower, upper, Le, Lt, Any, Every, AnyRange, every_weaker, Item, IsBound, IsStored, line_of}
 use Rattle.range_merge.specs.Combining.{IsConstantOn}
-use Rattle.range_merge.proofs.PlaceOrder.{le_refl, lt_le, eq_le, eq_ge, le_trans, lt_not_le, cases, lt_le_trans}
+use Rattle.range_change.proofs.PlaceOrder.{le_refl, lt_le, eq_le, eq_ge, le_trans, lt_not_le, cases, lt_le_trans}
 use Rattle.range_merge.specs.Merged.{IsPlaced, IsCutFrom, IsUsedUp, StartAlike, IsFirstPiece}
 use Rattle.range_algebra.proofs.Places.{unbounded_start}
 use Rattle.range_change.specs.Window.{option_items}

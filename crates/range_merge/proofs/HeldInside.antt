@@ -3,7 +3,7 @@ use Rattle.std.proofs.Common.{inl, inr, List, [], ◌∷◌}
 use Rattle.range_merge.proofs.Common.{KeyOrder, IsLawful, Beside, At, Any, Holds, AnyRange, Item, IsBound, LiesIn}
 use Rattle.range_keys.specs.Position.{end_position}
 use Rattle.range_algebra.proofs.Holding.{holds_by_position}
-use Rattle.range_merge.proofs.PlaceOrder.{le_trans}
+use Rattle.range_change.proofs.PlaceOrder.{le_trans}
 
 module _ {K : Type 0} {order : KeyOrder K} (lawful : IsLawful order) where
   pub lies_in_holds : (k : K) → order.is_key k → (r s : AnyRange K) → LiesIn order r s

@@ -4,5 +4,4 @@ pub mod Combining
 pub mod Common
 pub mod FirstPieces
 pub mod HeldInside
-pub mod PlaceOrder
 pub mod WidestPieces

@@ -12,7 +12,7 @@ use Rattle.range_keys.specs.Position.{end_position}
 use Rattle.range_keys.proofs.Orderings.{equal_then_equal}
 use Rattle.range_algebra.specs.RangeOrder.{range_cmp}
 use Rattle.range_merge.proofs.Combining.{PLe, HoldsAt, SomeHoldsAt, IsLeftFrom, IsSideUpTo, not_left, some_of}
-use Rattle.range_merge.proofs.PlaceOrder.{le_refl, lt_le, eq_le, eq_ge, le_trans, le_lt_trans, lt_le_trans, lt_not_le, not_lt, cases, both}
+use Rattle.range_change.proofs.PlaceOrder.{le_refl, lt_le, eq_le, eq_ge, le_trans, le_lt_trans, lt_le_trans, lt_not_le, not_lt, cases, both}
 
 module _ {K : Type 0} (order : KeyOrder K) {V : Type 0} where
   -- the place is one where an item starts or ends

@@ -2,7 +2,7 @@
 ghost use Rattle.std.specs.Prelude.{◌≡◌, ◌∷◌, [], IfOk, OnOk, MatchOption, Option, Some, None, Ok, Err};
 ghost use Rattle.std.specs.Option.{option_copied, option_map};
 ghost use Rattle.range_algebra.specs.References.{range_of};
-ghost use Rattle.range_change.specs.Questions.{IsPut};
+ghost use Rattle.range_change.specs.Put.{IsPut};
 ghost use Rattle.range_change.specs.Window.{option_items};
 ghost use Rattle.range_change.specs.declared.error.UpdateError.TheVariants.{Closure as ClosureError, Memory as MemoryError};
 ghost use Rattle.range_merge.specs.AskedPieces.{IsFirstAskable, AreAsked, MayAnswerOnOne, AreFirstAsked, MayAnswerOnFirst};
@@ -14,8 +14,8 @@ use crate::merged::{
     whole_part,
 };
 use range_algebra::any::AnyRange;
+use range_change::answers::put;
 use range_change::error::UpdateError;
-use range_change::pieces::put;
 use range_keys::bound::Directed;
 use range_keys::traits::PartialEnum;
 use range_store::storage::Item;

@@ -20,7 +20,7 @@ use Rattle.range_map.specs.ListOrder.{same_list}
 use Rattle.range_change.specs.Pieces.{LiesIn, IsFreePart, IsPiece}
 use Rattle.range_change.specs.Lookups.{Overlap}
 use Rattle.range_map.proofs.FreeParts.{gaps_are}
-use Rattle.range_map.proofs.PieceSteps.{Pairs}
+use Rattle.range_map.proofs.FreePieces.{Pairs}
 use Rattle.range_change.proofs.Forms.{stored_known}
 use Rattle.range_map.proofs.Together.{IsAscending, stored_ascends}
 use Rattle.range_sets.proofs.Filling.{all_equal}

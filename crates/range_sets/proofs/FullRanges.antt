@@ -20,7 +20,7 @@ use Rattle.range_change.specs.Pieces.{LiesIn}
 use Rattle.range_change.proofs.Extents.{end_le}
 use Rattle.range_change.proofs.Forms.{before_is}
 use Rattle.range_map.specs.FreeRanges.{between}
-use Rattle.range_map.proofs.PieceSteps.{Pairs}
+use Rattle.range_map.proofs.FreePieces.{Pairs}
 use Rattle.range_map.proofs.Together.{IsAscending}
 
 module _ {K : Type 0} (order : KeyOrder K) (lawful : IsLawful order) where

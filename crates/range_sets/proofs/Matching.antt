@@ -17,7 +17,7 @@ use Rattle.range_algebra.specs.Relations.{LiesBefore}
 use Rattle.range_change.specs.Neighbours.{EachNext}
 use Rattle.range_change.specs.Pieces.{LiesIn}
 use Rattle.range_change.specs.Lookups.{Overlap}
-use Rattle.range_map.proofs.PieceSteps.{Pairs}
+use Rattle.range_map.proofs.FreePieces.{Pairs}
 use Rattle.range_sets.proofs.FullRanges.{IsFull, same_range}
 
 module _ {K : Type 0} (order : KeyOrder K) (lawful : IsLawful order) where

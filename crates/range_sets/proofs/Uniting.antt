@@ -32,7 +32,7 @@ use Rattle.range_change.proofs.Forms.{Known, Chained, chain_stored, stored_chain
 use Rattle.range_map.specs.FreeRanges.{full_range, item_ranges}
 use Rattle.range_merge.specs.Merged.{IsPlaced}
 use Rattle.range_merge.proofs.FirstPieces.{past_same}
-use Rattle.range_merge.proofs.PlaceOrder.{le_refl, lt_le, eq_le, eq_ge, le_trans, lt_le_trans, le_lt_trans, not_le, cases}
+use Rattle.range_change.proofs.PlaceOrder.{le_refl, lt_le, eq_le, eq_ge, le_trans, lt_le_trans, le_lt_trans, not_le, cases}
 use Rattle.range_sets.specs.KeySets.{HoldsKey, IsStoredSet, SomeHolds}
 use Rattle.range_sets.specs.TwoSets.{HoldsEither}
 use Rattle.range_sets.specs.Uniting.{StartsFirst, IsFirstOf, Reaches, IsLaterEnd, IsPushed, IsAdded}

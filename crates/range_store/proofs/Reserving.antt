@@ -1,6 +1,6 @@
 -- A heap with more capacity.
 use Rattle.std.proofs.Common.{◌≡◌, ℕ}
-use Rattle.range_store.specs.Heap.{Heap, node_of, SameNodes}
+use Rattle.range_store.specs.Heap.{Heap, SameNodes}
 use Rattle.range_store.specs.Frame.{same_below}
 use Rattle.range_store.specs.Nodes.{items_below, IsTree}
 use Rattle.range_store.specs.Written.{SameShape, same_nodes, tree_same}

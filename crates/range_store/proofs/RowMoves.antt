@@ -1,9 +1,9 @@
 -- Rows of which the items of one, or of two, change one after the other.
-use Rattle.std.proofs.Common.{◌≡◌, ◌≢◌, ℕ, suc, ◌+◌, ◌-◌, ◌<◌, ◌≤◌, List, [], ◌∷◌, ◌++◌, length, get_or, take, drop, take-add, refl, sym, ap, ◌∙◌, arith, length-append, length-drop}
+use Rattle.std.proofs.Common.{◌≡◌, ◌≢◌, ℕ, suc, ◌+◌, ◌-◌, ◌<◌, ◌≤◌, List, [], ◌∷◌, ◌++◌, length, get_or, take, drop, take-add, refl, sym, ap, ◌∙◌, arith}
 use Rattle.std.proofs.Math.ListN.{set, length-set}
 use Rattle.std.proofs.Math.Seq.{drop-cons}
 use Rattle.std.specs.List.{insert, remove}
-use Rattle.std.proofs.lemmas.List.{append_assoc, drop-drop, drop_all, take-take, length-take-le, get_or-take, get_or-set_same, get_or-set_other, set-set, set-get_or, set_comm}
+use Rattle.std.proofs.lemmas.List.{append_assoc, drop-drop, drop_all, take-take, length-take-le, get_or-take, get_or-set_same, get_or-set_other, set-set, set_comm}
 use Rattle.std.proofs.lemmas.List.Edits.{insert-append_left, insert_end}
 use Rattle.range_store.specs.Rows.{row_of}
 use Rattle.range_store.proofs.Dividing.{left_high, left_low, right_high, right_low}

@@ -1,9 +1,9 @@
--- Rows of cells, of which one is written or one added.
-use Rattle.std.proofs.Common.{◌≡◌, ◌≢◌, ℕ, zero, suc, ◌+◌, ◌*◌, ◌<◌, ◌≤◌, List, [], ◌∷◌, ◌++◌, length, get_or, take, drop, replicate, Option, Some, None, refl, sym, ap, ◌∙◌, inl, inr, arith, length-append, length-drop}
+-- Rows of cells, of which one is written, or some added.
+use Rattle.std.proofs.Common.{◌≡◌, ◌≢◌, ℕ, zero, suc, ◌+◌, ◌-◌, ◌*◌, ◌<◌, ◌≤◌, List, [], ◌∷◌, ◌++◌, length, get_or, take, drop, replicate, Option, Some, None, refl, sym, ap, ◌∙◌, inl, inr, arith, length-append, length-drop}
 use borrow.Rule.Slice.PartMut.{put_mid}
 use Rattle.std.proofs.Math.ListN.{set, length-set}
 use Rattle.std.proofs.lemmas.Bool.{cases_eq, cases_lt}
-use Rattle.std.proofs.lemmas.List.{drop-drop, drop-take, take-take, take_at, drop_at, drop_all, take_all, take-append-le, drop-append-le, length-take-le, length-replicate, ext_get_or, get_or-set_same, get_or-set_other, get_or-take, get_or-drop, get_or_past, take-set-le, drop-set-lt, drop-set-add}
+use Rattle.std.proofs.lemmas.List.{drop-drop, drop-take, take_at, drop_at, drop_all, take-append-le, length-take-le, length-replicate, ext_get_or, append-nil, append_assoc, take-replicate, replicate-append-replicate, get_or-set_same, get_or-set_other, get_or-take, get_or-drop, get_or_past, take-set-le, drop-set-lt, drop-set-add}
 use Rattle.std.proofs.lemmas.Slice.{take-put_mid_below, drop-put_mid}
 use Rattle.range_store.specs.declared.btree.nodes.TheConstants.{CAPACITY}
 use Rattle.range_store.specs.Rows.{items_in, HoldsItems, cells_of, row_of, rows_in, IsRows}
@@ -28,17 +28,33 @@ module _ {T : Type 0} where
   length-rows zero cells = refl
   length-rows (suc many) cells = ap suc (length-rows many (drop CAPACITY cells))
 
-  -- what a row that is there holds
-  pub row_held : (many : ℕ) (cells : List (Option T)) → IsRows many cells → (n : ℕ)
-      → n < length (rows_in many cells)
-      → HoldsItems (cells_of cells n) (row_of (rows_in many cells) n)
-  row_held many cells rows n within =
-      let less : n < many = omega (arith, length-rows many cells) in
-      rw (rows_read many cells n less) (rows.held n less)
+  -- a row past the cells has no item
+  module _ (many : ℕ) (cells : List (Option T)) (rows : IsRows many cells) (n : ℕ) where
+    cells_past : rows.there ≤ n → cells_of cells n ≡ []
+    cells_past past =
+        ap (take CAPACITY)
+        (drop_all (CAPACITY * n) cells (omega (arith, past, rows.cells_are)))
 
-  pub room : (many : ℕ) (cells : List (Option T)) → IsRows many cells → (n : ℕ)
-      → n < length (rows_in many cells) → CAPACITY * n + CAPACITY ≤ length cells
-  room many cells rows n within = omega (arith, rows.cells_are, length-rows many cells)
+    module _ (within : n < length (rows_in many cells))
+        (some : 0 < length (row_of (rows_in many cells) n)) where
+      row_there : n < rows.there
+      row_there =
+          elim (cases_lt n rows.there) [
+            | inl less ↦ less
+            | inr past ↦
+                let none : length (row_of (rows_in many cells) n) ≡ 0 =
+                ap length (rows_read many cells n (omega (arith, within, length-rows many cells))
+                ∙ ap items_in (cells_past (omega (arith, past)))) in
+                absurd (omega (arith, none, some))
+          ]
+
+      -- what a row with an item holds
+      pub row_held : HoldsItems (cells_of cells n) (row_of (rows_in many cells) n)
+      row_held = rw (rows_read many cells n (omega (arith, within, length-rows many cells)))
+          (rows.held n row_there)
+
+      pub room : CAPACITY * n + CAPACITY ≤ length cells
+      room = omega (arith, rows.cells_are, row_there)
 
   -- the cell of an item
   pub cell_in : (many : ℕ) (cells : List (Option T)) → IsRows many cells → (n i : ℕ)
@@ -46,7 +62,7 @@ module _ {T : Type 0} where
       → (stands : Standing (row_of (rows_in many cells) n) i) → (d : Option T)
       → get_or cells (CAPACITY * n + i) d ≡ Some stands.item
   cell_in many cells rows n i there within stands d =
-      let held = row_held many cells rows n there in
+      let held = row_held many cells rows n there (omega (arith, within)) in
       sym (get_or-take CAPACITY (drop (CAPACITY * n) cells) i d (omega (arith, held.fits))
       ∙ get_or-drop (CAPACITY * n) cells i d)
       ∙ cell_read (cells_of cells n) (row_of (rows_in many cells) n) held i within stands d
@@ -59,7 +75,7 @@ module _ {T : Type 0} where
 
   module _ (many : ℕ) (cells new : List (Option T)) (rows : IsRows many cells) (n : ℕ)
       (items : List T) (rewrites : Rewrites cells new n items) where
-    held_anew : (m : ℕ) → m < many → HoldsItems (cells_of new m) (items_in (cells_of new m))
+    held_anew : (m : ℕ) → m < rows.there → HoldsItems (cells_of new m) (items_in (cells_of new m))
     held_anew m within =
         elim (cases_eq m n) [
           | inl same ↦
@@ -69,6 +85,8 @@ module _ {T : Type 0} where
 
     pub rewritten_rows : IsRows many new
     rewritten_rows = record {
+      there = rows.there;
+      few = rows.few;
       cells_are = rewrites.len ∙ rows.cells_are;
       held = held_anew;
     }
@@ -137,6 +155,19 @@ module _ {T : Type 0} where
   part_written n k all cells part items within holds =
       rw all (all_written n cells part items within holds)
 
+  -- the items that it had
+  pub part_held : (n k : ℕ) → k ≡ CAPACITY → (cells part : List (Option T)) (items : List T)
+      → part ≡ cells → HoldsItems (cells_of cells n) items
+      → items_in (take k (drop (CAPACITY * n) part)) ≡ items
+  part_held n k all cells part items same held =
+      rw (all, same) (items_held (cells_of cells n) items held)
+
+  pub part_holds : (n k : ℕ) → k ≡ CAPACITY → (cells part : List (Option T)) (items : List T)
+      → part ≡ cells → HoldsItems (cells_of cells n) items
+      → HoldsItems (take k (drop (CAPACITY * n) part)) (items_in (take k (drop (CAPACITY * n) part)))
+  part_holds n k all cells part items same held =
+      rw (all, same) (rw (items_held (cells_of cells n) items held) held)
+
   take_set : (n : ℕ) (xs : List (Option T)) (i : ℕ) (x : Option T)
       → take n (set xs i x) ≡ set (take n xs) i x
   take_set zero xs i x = refl
@@ -171,69 +202,138 @@ module _ {T : Type 0} where
         here = rw here (held_set (cells_of cells n) items i item holds within);
       }
 
-  -- a row was added
-  module _ (many : ℕ) (cells : List (Option T)) (rows : IsRows many cells) where
-    abbrev more : List (Option T)
-    more = cells ++ replicate CAPACITY None
+  -- empty cells were added up to a row
+  module _ (many : ℕ) (cells : List (Option T)) (rows : IsRows many cells) (n : ℕ)
+      (within : n < many) where
+    abbrev missing : ℕ
+    missing = CAPACITY * n + CAPACITY - length cells
 
-    added_cells : (n : ℕ) → n < many → cells_of more n ≡ cells_of cells n
-    added_cells n within =
-        sym (drop-take (CAPACITY * n) CAPACITY more)
-        ∙ ap (drop (CAPACITY * n)) (take-append-le (CAPACITY * n + CAPACITY) cells
-        (replicate CAPACITY None) (omega (arith, rows.cells_are)))
-        ∙ drop-take (CAPACITY * n) CAPACITY cells
+    abbrev topped : List (Option T)
+    topped = cells ++ replicate missing None
 
-    new_cells : cells_of more many ≡ replicate CAPACITY None
-    new_cells =
-        ap (take CAPACITY) (drop_at cells (replicate CAPACITY None) (CAPACITY * many)
-        rows.cells_are)
-        ∙ take_all CAPACITY (replicate CAPACITY None)
-        (omega (arith, length-replicate {A = Option T} CAPACITY None))
+    length-topped : length topped ≡ length cells + missing
+    length-topped =
+        length-append cells (replicate missing None)
+        ∙ ap (λ k. length cells + k) (length-replicate {A = Option T} missing None)
 
-    added_held : (n : ℕ) → n < suc many → HoldsItems (cells_of more n) (items_in (cells_of more n))
-    added_held n within =
-        elim (cases_lt n many) [
-          | inl less ↦ rw (added_cells n less) (rows.held n less)
-          | inr past ↦
-              let same : n ≡ many = omega arith in
-              rw (same, new_cells) held_none
+    pub topped_room : CAPACITY * n + CAPACITY ≤ length topped
+    topped_room = omega (arith, length-topped)
+
+    old_cells : (m : ℕ) → m < rows.there → cells_of topped m ≡ cells_of cells m
+    old_cells m less =
+        sym (drop-take (CAPACITY * m) CAPACITY topped)
+        ∙ ap (drop (CAPACITY * m)) (take-append-le (CAPACITY * m + CAPACITY) cells
+        (replicate missing None) (omega (arith, rows.cells_are, less)))
+        ∙ drop-take (CAPACITY * m) CAPACITY cells
+
+    new_cells : (m : ℕ) → rows.there ≤ m → m ≤ n → cells_of topped m ≡ replicate CAPACITY None
+    new_cells m past least =
+        let skipped = CAPACITY * m - length cells in
+        let front = cells ++ replicate skipped None in
+        let parts : topped ≡ front ++ replicate (missing - skipped) None =
+        ap (λ zs. cells ++ zs) (ap (λ k. replicate k None) (omega (arith, rows.cells_are, past, least))
+        ∙ sym (replicate-append-replicate skipped (missing - skipped) None))
+        ∙ sym (append_assoc cells (replicate skipped None) (replicate (missing - skipped) None)) in
+        let long : length front ≡ CAPACITY * m =
+        omega (
+          arith,
+          length-append cells (replicate skipped None),
+          length-replicate {A = Option T} skipped None,
+          rows.cells_are,
+          past,
+        ) in
+        ap (λ cs. cells_of cs m) parts
+        ∙ ap (take CAPACITY) (drop_at front (replicate (missing - skipped) None) (CAPACITY * m) long)
+        ∙ take-replicate CAPACITY (missing - skipped) None (omega (arith, rows.cells_are, past, least))
+
+    pub topped_rows : IsRows many topped
+    topped_rows =
+        elim (cases_lt n rows.there) [
+          | inl less ↦
+              let none : missing ≡ 0 = omega (arith, rows.cells_are, less) in
+              let same : topped ≡ cells =
+              ap (λ k. cells ++ replicate k None) none ∙ append-nil cells in
+              rw same rows
+          | inr past ↦ record {
+            there = suc n;
+            few = omega (arith, within);
+            cells_are = omega (arith, length-topped, rows.cells_are, past);
+            held = λ m least.
+                elim (cases_lt m rows.there) [
+                  | inl less ↦ rw (old_cells m less) (rows.held m less)
+                  | inr new ↦ rw (new_cells m (omega (arith, new)) (omega (arith, least))) held_none
+                ];
+          }
         ]
 
-    pub added_rows : IsRows (suc many) more
+    none_new : (m : ℕ) → rows.there ≤ m → items_in (cells_of topped m) ≡ []
+    none_new m past =
+        elim (cases_lt n m) [
+          | inl after ↦
+              ap (λ cs. items_in (take CAPACITY cs))
+              (drop_all (CAPACITY * m) topped
+              (omega (arith, length-topped, rows.cells_are, past, after)))
+          | inr least ↦ ap items_in (new_cells m past (omega (arith, least)))
+        ]
+
+    pub topped_same : rows_in many topped ≡ rows_in many cells
+    topped_same =
+        let long = length-rows many topped in
+        ext_get_or [] (rows_in many topped) (rows_in many cells)
+        (long ∙ sym (length-rows many cells))
+        (λ m below.
+        rows_read many topped m (omega (arith, long, below))
+        ∙ elim (cases_lt m rows.there) [
+          | inl less ↦ ap items_in (old_cells m less)
+          | inr past ↦
+              none_new m (omega (arith, past))
+              ∙ sym (ap items_in (cells_past many cells rows m (omega (arith, past))))
+        ]
+        ∙ sym (rows_read many cells m (omega (arith, long, below))))
+
+    pub topped_held : HoldsItems (cells_of topped n) (row_of (rows_in many cells) n)
+    topped_held =
+        let less : n < topped_rows.there = omega (arith, topped_rows.cells_are, topped_room) in
+        rw (← topped_same, rows_read many topped n within) (topped_rows.held n less)
+
+  -- a row without cells was added
+  module _ (many : ℕ) (cells : List (Option T)) (rows : IsRows many cells) where
+    pub added_rows : IsRows (suc many) cells
     added_rows = record {
-      cells_are = omega (
-        arith,
-        rows.cells_are,
-        length-append cells (replicate CAPACITY None),
-        length-replicate {A = Option T} CAPACITY None,
-      );
-      held = added_held;
+      there = rows.there;
+      few = omega (arith, rows.few);
+      cells_are = rows.cells_are;
+      held = rows.held;
     }
 
     -- each number has what it had
-    pub added_kept : (n : ℕ) → row_of (rows_in (suc many) more) n ≡ row_of (rows_in many cells) n
+    pub added_kept : (n : ℕ) → row_of (rows_in (suc many) cells) n ≡ row_of (rows_in many cells) n
     added_kept n =
         elim (cases_lt n many) [
           | inl less ↦
-              rows_read (suc many) more n (omega arith) ∙ ap items_in (added_cells n less)
-              ∙ sym (rows_read many cells n less)
+              rows_read (suc many) cells n (omega (arith, less)) ∙ sym (rows_read many cells n less)
           | inr past ↦
               elim (cases_eq n many) [
                 | inl same ↦
-                    rw same (rows_read (suc many) more many (omega arith)
-                    ∙ ap items_in new_cells
-                    ∙ sym (get_or_past (rows_in many cells) many []
-                    (omega (arith, length-rows many cells))))
-                | inr other ↦
-                    get_or_past (rows_in (suc many) more) n []
-                    (omega (arith, length-rows (suc many) more))
+                    rows_read (suc many) cells n (omega (arith, same))
+                    ∙ ap items_in (cells_past many cells rows n (omega (arith, past, rows.few)))
                     ∙ sym (get_or_past (rows_in many cells) n []
-                    (omega (arith, length-rows many cells)))
+                    (omega (arith, length-rows many cells, past)))
+                | inr other ↦
+                    get_or_past (rows_in (suc many) cells) n []
+                    (omega (arith, length-rows (suc many) cells, past, other))
+                    ∙ sym (get_or_past (rows_in many cells) n []
+                    (omega (arith, length-rows many cells, past)))
               ]
         ]
 
-  pub no_rows : IsRows {T = T} 0 []
-  no_rows = record { cells_are = refl; held = λ n within. absurd (omega arith) }
+  pub no_rows : (many : ℕ) (cells : List (Option T)) → many ≡ 0 → cells ≡ [] → IsRows many cells
+  no_rows many cells none empty = record {
+    there = 0;
+    few = omega arith;
+    cells_are = ap length empty;
+    held = λ n within. absurd (omega (arith, within));
+  }
 
   pub rows_none : (cells : List (Option T)) → rows_in 0 cells ≡ []
   unfolding rows_in

@@ -310,9 +310,9 @@ module _ {T : Type 0} (old new : Slab Node) (was now : List (List T)) (spares : 
         }
 
     -- a spare got what a new node has
-    module _ (left : List ℕ) (parts : spares ≡ left ++ n ∷ []) where
-      told : (k : ℕ) → occurrences k spares ≡ occurrences k left + occurrences k (n ∷ [])
-      told k = ap (occurrences k) parts ∙ occurrences-append k left (n ∷ [])
+    module _ (left : List ℕ) (parts : spares ≡ n ∷ left) where
+      told : (k : ℕ) → occurrences k spares ≡ occurrences k (n ∷ []) + occurrences k left
+      told k = ap (occurrences k) parts ∙ occurrences-cons k n left
 
       spare_apart : occurrences n left ≡ 0
       spare_apart = omega (arith, told n, occurrences_itself n, whole.once n)
@@ -337,7 +337,6 @@ module _ {T : Type 0} (old new : Slab Node) (was now : List (List T)) (spares : 
               counted new now left stored_whole,
               len,
               ap length parts,
-              length-append left (n ∷ []),
             );
             capacity = len;
           }
@@ -346,8 +345,8 @@ module _ {T : Type 0} (old new : Slab Node) (was now : List (List T)) (spares : 
     module _ (present : HasNode (heap_of old was spares) n) (no_items : items ≡ [])
         (no_children : node.children.items ≡ []) where
       longer : (k : ℕ)
-          → occurrences k (spares ++ n ∷ []) ≡ occurrences k spares + occurrences k (n ∷ [])
-      longer k = occurrences-append k spares (n ∷ [])
+          → occurrences k (n ∷ spares) ≡ occurrences k (n ∷ []) + occurrences k spares
+      longer k = occurrences-cons k n spares
 
       apart : occurrences n spares ≡ 0
       apart = in_use old was spares n present
@@ -357,7 +356,7 @@ module _ {T : Type 0} (old new : Slab Node) (was now : List (List T)) (spares : 
           ∙ ap (λ xs. Some (record { items = xs; children = node.children.items })) no_items
           ∙ ap (λ ks. Some (record { items = []; children = ks })) no_children
 
-      pub freed_whole : IsWhole new now (spares ++ n ∷ [])
+      pub freed_whole : IsWhole new now (n ∷ spares)
       freed_whole = record {
         there = changed_there;
         lens = changed_lens;
@@ -385,19 +384,18 @@ module _ {T : Type 0} (old new : Slab Node) (was now : List (List T)) (spares : 
             ];
       }
 
-      pub removed : Removes (heap_of old was spares) (heap_of new now (spares ++ n ∷ [])) n
+      pub removed : Removes (heap_of old was spares) (heap_of new now (n ∷ spares)) n
       removed = record {
         was = present;
-        gone = spare_read new now (spares ++ n ∷ []) n
+        gone = spare_read new now (n ∷ spares) n
             (omega (arith, longer n, occurrences_itself n));
-        others = elsewhere (spares ++ n ∷ [])
+        others = elsewhere (n ∷ spares)
             (λ k differs. omega (arith, longer k, occurrences_other k n (λ e. differs (sym e))));
         len = omega (
           arith,
           counted old was spares whole,
-          counted new now (spares ++ n ∷ []) freed_whole,
+          counted new now (n ∷ spares) freed_whole,
           len,
-          length-append spares (n ∷ []),
         );
         capacity = len;
       }
@@ -549,7 +547,7 @@ module _ {T : Type 0} (slab : Slab Node) (rows : List (List T)) (spares : List �
       n node items edit edited_len present)
 
   -- a spare got what a new node has
-  module _ (left : List ℕ) (parts : spares ≡ left ++ n ∷ []) where
+  module _ (left : List ℕ) (parts : spares ≡ n ∷ left) where
     pub filled_whole : IsWhole (with_value slab n node) (set rows n items) left
     filled_whole = stored_whole slab (with_value slab n node) rows (set rows n items) spares whole n
         node items edit edited_len left parts
@@ -565,23 +563,23 @@ module _ {T : Type 0} (slab : Slab Node) (rows : List (List T)) (spares : List �
     no_children : node.children.items ≡ []
     no_children = children_are ∙ none
 
-    pub emptied_whole : IsWhole (with_value slab n node) (set rows n items) (spares ++ n ∷ [])
+    pub emptied_whole : IsWhole (with_value slab n node) (set rows n items) (n ∷ spares)
     emptied_whole = freed_whole slab (with_value slab n node) rows (set rows n items) spares whole n
         node items edit edited_len present no_items no_children
 
     pub emptied : Removes (heap_of slab rows spares)
-        (heap_of (with_value slab n node) (set rows n items) (spares ++ n ∷ [])) n
+        (heap_of (with_value slab n node) (set rows n items) (n ∷ spares)) n
     emptied = removed slab (with_value slab n node) rows (set rows n items) spares whole n node
         items edit edited_len present no_items no_children
 
 -- a spare has nothing
 module _ {T : Type 0} (slab : Slab Node) (rows : List (List T)) (spares left : List ℕ)
-    (whole : IsWhole slab rows spares) (n : ℕ) (parts : spares ≡ left ++ n ∷ []) where
+    (whole : IsWhole slab rows spares) (n : ℕ) (parts : spares ≡ n ∷ left) where
   among : 0 < occurrences n spares
   among = omega (
     arith,
     ap (occurrences n) parts,
-    occurrences-append n left (n ∷ []),
+    occurrences-cons n n left,
     occurrences_itself n,
   )
 
@@ -670,14 +668,14 @@ module _ {T : Type 0} (slab : Slab Node) (rows : List (List T)) (spares : List �
 
 -- a node in use is no spare
 pub apart_from_spare : {T : Type 0} (slab : Slab Node) (rows : List (List T))
-    (spares left : List ℕ) (spare : ℕ) → spares ≡ left ++ spare ∷ [] → (n : ℕ)
+    (spares left : List ℕ) (spare : ℕ) → spares ≡ spare ∷ left → (n : ℕ)
     → HasNode (heap_of slab rows spares) n → n ≢ spare
 apart_from_spare slab rows spares left spare parts n present same =
     omega (
       arith,
       in_use slab rows spares n present,
       ap (occurrences n) parts,
-      occurrences-append n left (spare ∷ []),
+      occurrences-cons n spare left,
       ap (λ m. occurrences m (spare ∷ [])) same,
       occurrences_itself spare,
     )

@@ -1,5 +1,6 @@
 -- How `Rows` keeps the items of each number: in cells that follow each other, so many for each
--- number, of which the first have an item. No public clause cites this file.
+-- number, of which the first have an item. The last numbers may have no cells yet, and no item.
+-- No public clause cites this file.
 use Rattle.std.specs.Prelude.{◌≡◌, ℕ, zero, suc, ◌-◌, ◌*◌, ◌<◌, ◌≤◌, List, [], ◌∷◌, ◌++◌, length, map, take, drop, replicate, Option, Some, None, filter_map, slice_index_or}
 use Rattle.range_store.specs.declared.btree.nodes.TheConstants.{CAPACITY}
 
@@ -30,7 +31,9 @@ module _ {T : Type 0} where
   rows_in zero cells = []
   rows_in (suc many) cells = items_in (take CAPACITY cells) ∷ rows_in many (drop CAPACITY cells)
 
-  -- so many rows of cells, and nothing else
+  -- the cells of the first of so many rows, and nothing else
   pub record IsRows (many : ℕ) (cells : List (Option T)) : Type 0 where
-    pub cells_are : length cells ≡ CAPACITY * many
-    pub held : (n : ℕ) → n < many → HoldsItems (cells_of cells n) (items_in (cells_of cells n))
+    pub there : ℕ
+    pub few : there ≤ many
+    pub cells_are : length cells ≡ CAPACITY * there
+    pub held : (n : ℕ) → n < there → HoldsItems (cells_of cells n) (items_in (cells_of cells n))

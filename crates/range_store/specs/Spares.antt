@@ -1,6 +1,6 @@
 -- How `Nodes` keeps its nodes: under the numbers of a slab, with their items in rows, but for
 -- spares, which are empty and stand in no tree. No public clause cites this file.
-use Rattle.std.specs.Prelude.{◌≡◌, ℕ, zero, ◌+◌, ◌<◌, ◌≤◌, List, [], ◌∷◌, length, Option, Some, None, IsSome, slice_set}
+use Rattle.std.specs.Prelude.{◌≡◌, ℕ, ◌+◌, ◌<◌, ◌≤◌, List, [], ◌∷◌, length, Option, Some, None, IsSome, slice_set}
 use Rattle.slab.specs.Slab.{Slab, get, slab_len}
 use Rattle.range_store.specs.declared.btree.node.Node.{Node}
 use Rattle.range_store.specs.Heap.{Heap, Content}

@@ -19,7 +19,7 @@ pub use crate::btree::nodes::{CAPACITY, MAX_LEN, MIN_LEN};
 pub use crate::btree::path::Edge;
 use crate::btree::path::stands_first;
 use crate::btree::searching::MAX_ASKS;
-use crate::storage::{Probe, Storage};
+use crate::storage::{Chunk, Probe, Storage};
 use std::alloc::{AllocError, Global};
 
 /// Items in a B-tree: insertion, removal and search take steps in the logarithm of their number.
@@ -126,6 +126,15 @@ impl<T: Drop> Storage<T> for BoxStorage<T> {
     fn get(&self, p: Edge) -> &T {
         let home = self.home(p);
         self.nodes.item_at(home.node, home.index)
+    }
+
+    #[inline(always)]
+    fn chunk_from(&self, p: Edge) -> Chunk<'_, T, Edge> {
+        Chunk {
+            first: self.get(p),
+            rest: &[],
+            after: self.next(p),
+        }
     }
 
     fn get_mut(&mut self, p: Edge) -> &mut T {

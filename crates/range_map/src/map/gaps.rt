@@ -4,13 +4,14 @@ ghost use Rattle.std.specs.Iterator.{YieldsFirstBy, item_count};
 ghost use Rattle.std.specs.Option.{option_map};
 ghost use Rattle.range_keys.specs.Position.{bound_of};
 ghost use Rattle.range_algebra.specs.References.{range_of};
-ghost use Rattle.range_map.specs.FreeRanges.{between, free_after, item_ranges, AreGaps, IsHeldOnce};
+ghost use Rattle.range_map.specs.FreeRanges.{free_after, item_ranges, AreGaps, IsHeldOnce};
 ghost use Rattle.range_change.specs.Window.{option_items};
 
 use crate::map::RangeMap;
 use crate::map::iter::Iter;
 use range_algebra::any::AnyRange;
 use range_change::cut::flip;
+use range_change::pieces::range_between;
 use range_keys::traits::PartialEnum;
 use range_store::storage::{Item, Storage};
 use std::marker::Model;
@@ -33,27 +34,6 @@ impl<'a, K: PartialEnum + 'a, V: 'a, C: Storage<Item<AnyRange<K>, V>> + 'a> Mode
     ghost Value = { List (AnyRange K) };
 
     ghost view = { λ g. free_after K.order g.start g.items };
-}
-
-/// The range between two bounds, unless it is empty or one of them is missing.
-pub(crate) fn range_between<'a, K: PartialEnum>(
-    start: Option<Bound<&'a K>>,
-    end: Option<Bound<&'a K>>,
-) -> Option<AnyRange<&'a K>>
-    ensures { option_items (option_map range_of result)
-        ≡ between K.order (option_map bound_of start.entry) (option_map bound_of end.entry) }
-{
-    match (start, end) {
-        (Some(start), Some(end)) => {
-            let range = AnyRange::new(start, end);
-            if range.ref_is_empty() {
-                None
-            } else {
-                Some(range)
-            }
-        }
-        (_, _) => None,
-    }
 }
 
 /// The next gap from a start on, and where the one after it starts.

@@ -2,6 +2,7 @@
 ghost use Rattle.std.specs.Prelude.{◌≡◌, ◌≢◌, ◌⊎◌, ◌+◌, ◌-◌, ◌<◌, ◌≤◌, [], ◌∷◌, length, take, drop, slice_get, slice_index, slice_index_or, insert, remove, IsOk, OnOk};
 ghost use Rattle.std.specs.Borrow.{Lends, sem};
 ghost use Rattle.std.specs.Vec.Iter.{into_iter_items};
+ghost use Rattle.std.specs.VecDeque.{deque_capacity};
 ghost use Rattle.range_store.specs.Rows.{HoldsItems};
 ghost use Rattle.range_store.specs.Heap.{node_of, HasNode, items_of, children_of, node_count, HasRoomFor, SameNodes, with_child, with_item, FitsChild, Writes, Stores, Removes, Divides, left_items, right_items, HasPair, RotatesLeft, RotatesRight, Merges, Absorbs};
 
@@ -9,6 +10,7 @@ use crate::btree::node::Node;
 use crate::btree::rows::Rows;
 use slab::Slab;
 use std::alloc::{AllocError, Global};
+use std::collections::VecDeque;
 use std::marker::Model;
 use std::mem;
 use std::vec::IntoIter;
@@ -32,8 +34,9 @@ pub const CHILD_PLACES: usize = CAPACITY + 1;
 pub struct Nodes<T> {
     slab: Slab<Node>,
     rows: Rows<T>,
-    // The numbers of empty nodes that are not in use.
-    spares: Vec<usize>,
+    // The numbers of empty nodes that are not in use. The first is taken next: one that was in use
+    // before, or the least, so that the memory of the others need not be written.
+    spares: VecDeque<usize>,
 }
 
 impl<T> Model for Nodes<T> {
@@ -43,14 +46,15 @@ impl<T> Model for Nodes<T> {
 
     ghost coded = { heap_code T.code };
 
-    ghost use Rattle.std.specs.Prelude.{◌≤◌, vec_capacity};
+    ghost use Rattle.std.specs.Prelude.{◌≤◌};
+    ghost use Rattle.std.specs.VecDeque.{deque_capacity};
     ghost use Rattle.slab.specs.Slab.{slab_len};
     ghost use Rattle.range_store.specs.Spares.{heap_of, IsWhole};
 
     ghost view = { λ s. heap_of s.slab s.rows s.spares.items };
 
     ghost invariant = { λ s. IsWhole s.slab s.rows s.spares.items
-        × (slab_len s.slab ≤ vec_capacity s.spares) };
+        × (slab_len s.slab ≤ deque_capacity s.spares) };
 }
 
 /// A node was cut in two: `middle` stands between it and `right`.
@@ -58,6 +62,18 @@ impl<T> Model for Nodes<T> {
 pub struct Split<T> {
     pub middle: T,
     pub right: usize,
+}
+
+// The spare that is taken next, of which there is one.
+fn next_spare(spares: &mut VecDeque<usize>) -> usize
+    requires { 0 < length spares.old.items }
+    ensures items { spares.old.items ≡ result ∷ spares.new.items }
+    ensures capacity { deque_capacity spares.new ≡ deque_capacity spares.old }
+{
+    match spares.pop_front() {
+        Some(number) => number,
+        None => unreachable!(),
+    }
 }
 
 impl<T: Drop> Nodes<T> {
@@ -71,7 +87,7 @@ impl<T: Drop> Nodes<T> {
         Nodes {
             slab: Slab::new(alloc),
             rows: Rows::new(alloc),
-            spares: Vec::new(alloc),
+            spares: VecDeque::new(alloc),
         }
     }
 
@@ -102,7 +118,6 @@ impl<T: Drop> Nodes<T> {
             return Ok(());
         }
         self.slab.reserve(missing)?;
-        self.rows.reserve(missing)?;
         for _ in 0..missing {
             self.add_spare()?;
         }
@@ -119,7 +134,7 @@ impl<T: Drop> Nodes<T> {
         self.spares
             .reserve(self.slab.len() - self.spares.len() + 1)?;
         match self.slab.insert(Node::new()) {
-            Ok(number) => self.spares.push_reserved(number),
+            Ok(number) => self.spares.push_back_reserved(number),
             Err(_) => return Err(AllocError),
         }
         Ok(())
@@ -133,10 +148,11 @@ impl<T: Drop> Nodes<T> {
         self.slab[number].len
     }
 
-    /// The cells of a node, of which the first have its items.
+    /// The cells of a node that has an item, of which the first have its items.
     #[inline(always)]
     pub fn cells(&self, number: usize) -> &[Option<T>]
-        requires { HasNode self.now number }
+        requires present { HasNode self.now number }
+        requires some { 0 < length (items_of (node_of self.now number)) }
         ensures { HoldsItems result.now (items_of (node_of self.now number)) }
     {
         self.rows.cells(number)
@@ -219,7 +235,7 @@ impl<T: Drop> Nodes<T> {
             (with_child (children_of (node_of self.old number)) (index + 1) child) result.middle
             result.right }
     {
-        let right = self.spares.take_last();
+        let right = next_spare(&mut self.spares);
         let upper = self.slab[number].divide(index + 1, child);
         self.slab[right] = upper;
         let middle = self.rows.divide(number, right, index, item);
@@ -245,7 +261,7 @@ impl<T: Drop> Nodes<T> {
         requires { HasRoomFor self.old 1 }
         ensures { Stores self.old self.new result (item ∷ []) [] }
     {
-        let number = self.spares.take_last();
+        let number = next_spare(&mut self.spares);
         self.slab[number].len = 1;
         self.rows.put(number, 0, 0, item);
         number
@@ -260,7 +276,7 @@ impl<T: Drop> Nodes<T> {
             [] }
         ensures rest { into_iter_items items.new ≡ drop count (into_iter_items items.old) }
     {
-        let number = self.spares.take_last();
+        let number = next_spare(&mut self.spares);
         self.slab[number].len = count;
         self.rows.fill(number, count, items);
         number
@@ -271,7 +287,7 @@ impl<T: Drop> Nodes<T> {
         requires { HasRoomFor self.old 1 }
         ensures { Stores self.old self.new result (middle ∷ []) (left ∷ right ∷ []) }
     {
-        let number = self.spares.take_last();
+        let number = next_spare(&mut self.spares);
         let node = &mut self.slab[number];
         node.len = 1;
         node.children.push(left);
@@ -285,7 +301,7 @@ impl<T: Drop> Nodes<T> {
         requires { HasRoomFor self.old 1 }
         ensures { Stores self.old self.new result [] (child ∷ []) }
     {
-        let number = self.spares.take_last();
+        let number = next_spare(&mut self.spares);
         self.slab[number].children.push(child);
         number
     }
@@ -298,7 +314,7 @@ impl<T: Drop> Nodes<T> {
         let len = self.item_count(number);
         self.slab[number] = Node::new();
         self.rows.clear(number, len);
-        self.spares.push_reserved(number);
+        self.spares.push_front_reserved(number);
     }
 
     /// Moves an item from the child after the item at `index` of a node to the one before it.
@@ -406,6 +422,6 @@ impl<T: Drop> Nodes<T> {
         let upper = mem::replace(&mut self.slab[right], Node::new());
         let len = self.slab[left].absorb(&upper);
         self.rows.absorb(left, len, middle, right, upper.len);
-        self.spares.push_reserved(right);
+        self.spares.push_front_reserved(right);
     }
 }

@@ -14,7 +14,8 @@ use std::vec::IntoIter;
 /// Up to `CAPACITY` items under each number from 0 on.
 #[derive(Drop)]
 pub struct Rows<T> {
-    // `CAPACITY` cells for each row, of which the first have its items.
+    // `CAPACITY` cells for each row, of which the first have its items. Rows at the end that never
+    // had an item have capacity alone, so that their memory is not written.
     cells: Vec<Option<T>>,
     many: usize,
 }
@@ -27,11 +28,14 @@ impl<T> Model for Rows<T> {
 
     ghost coded = { coded_list (coded_list T.code) };
 
+    ghost use Rattle.std.specs.Prelude.{◌*◌, ◌≤◌, vec_capacity};
+    ghost use Rattle.range_store.specs.declared.btree.nodes.TheConstants.{CAPACITY};
     ghost use Rattle.range_store.specs.Rows.{rows_in, IsRows};
 
     ghost view = { λ s. rows_in s.many s.cells.items };
 
-    ghost invariant = { λ s. IsRows s.many s.cells.items };
+    ghost invariant = { λ s. IsRows s.many s.cells.items
+        × (CAPACITY * s.many ≤ vec_capacity s.cells) };
 }
 
 // The next item, of which there is one.
@@ -93,12 +97,16 @@ fn take_item<T: Drop>(row: &mut [Option<T>], len: usize, index: usize) -> T
     }
 }
 
-// Adds a row's cells, for which there is room.
-fn add_cells<T: Drop>(cells: &mut Vec<Option<T>>)
-    requires { length cells.old.items + CAPACITY ≤ vec_capacity cells.old }
-    ensures { cells.new.items ≡ cells.old.items ++ replicate CAPACITY None }
+// Adds the empty cells that are missing to so many, for which there is room.
+#[inline(always)]
+fn add_cells<T: Drop>(cells: &mut Vec<Option<T>>, many: usize)
+    requires { many ≤ vec_capacity cells.old }
+    ensures cells { cells.new.items
+        ≡ cells.old.items ++ replicate (many - length cells.old.items) None }
+    ensures capacity { vec_capacity cells.new ≡ vec_capacity cells.old }
 {
-    for _ in 0..CAPACITY {
+    let missing = many.saturating_sub(cells.len());
+    for _ in 0..missing {
         cells.push_reserved(None);
     }
 }
@@ -123,16 +131,6 @@ impl<T: Drop> Rows<T> {
         self.many
     }
 
-    /// Makes room for so many more rows.
-    pub fn reserve(&mut self, additional: usize) -> Result<(), AllocError>
-        ensures { self.new ≡ self.old }
-    {
-        let Some(missing) = additional.checked_mul(CAPACITY) else {
-            return Err(AllocError);
-        };
-        self.cells.reserve(missing)
-    }
-
     /// Adds empty rows up to this number.
     pub fn add_to(&mut self, number: usize) -> Result<(), AllocError>
         ensures there { OnOk result (number < length self.new) }
@@ -151,16 +149,17 @@ impl<T: Drop> Rows<T> {
         ensures no_less { length self.old ≤ length self.new }
         ensures kept { (k : ℕ) → row_of self.new k ≡ row_of self.old k }
     {
-        self.cells.reserve(CAPACITY)?;
-        add_cells(&mut self.cells);
+        let missing = CAPACITY * self.many - self.cells.len() + CAPACITY;
+        self.cells.reserve(missing)?;
         self.many += 1;
         Ok(())
     }
 
-    /// The cells of a row.
+    /// The cells of a row that has an item.
     #[inline(always)]
     pub fn cells(&self, number: usize) -> &[Option<T>]
-        requires { number < length self.now }
+        requires number { number < length self.now }
+        requires some { 0 < length (row_of self.now number) }
         ensures { HoldsItems result.now (row_of self.now number) }
     {
         let cells = self.cells.as_slice();
@@ -201,6 +200,7 @@ impl<T: Drop> Rows<T> {
     {
         let cells = &mut self.cells;
         let start = CAPACITY * number;
+        add_cells(cells, start + CAPACITY);
         put_item(&mut cells[start..start + CAPACITY], len, index, item);
     }
 

@@ -1,4 +1,4 @@
-use Rattle.range_map.proofs.PieceSteps.{gaps_within_are, none_free}
+use Rattle.range_map.proofs.FreePieces.{gaps_within_are, none_free}
 use Rattle.range_map.proofs.map.RangeMap.gaps_within.Goals as goal
 
 pub returns-clause-gaps : goal.returns-clause-gaps

@@ -1,5 +1,5 @@
 use Rattle.range_map.proofs.Common.{any_over}
-use Rattle.range_map.proofs.PieceSteps.{all_pieces, all_free}
+use Rattle.range_map.proofs.FreePieces.{all_pieces, all_free}
 use Rattle.range_map.proofs.map.RangeMap.pieces.Goals as goal
 
 pub returns : goal.returns
@@ -7,19 +7,18 @@ returns g c =
     let lawful = g.met.K.PartialEnum.lawful in
     let items = g.C.Storage.items c.args.self.now in
     let r = g.R.AsRange.range c.args.range.now in
-    simp (
+    let met = c.met_by-items.result in
+    rw c.new-2.ensures (simp (
       c.new.ensures.start,
       c.new.ensures.end,
       c.start.ensures,
       c.end.ensures,
-      c.start-2.ensures,
-      c.end-2.ensures,
     ) (record {
       pieces =
-          all_pieces lawful g.met.V.Eq.laws items r c.met_by.result c.in_form.ensures
-          c.known_range.ensures c.met_by.ensures.items c.met_by.ensures.empty;
+          all_pieces lawful g.met.V.Eq.laws items r met c.in_form.ensures c.known_range.ensures
+          c.met_by-items.ensures.items c.met_by-items.ensures.empty;
       free =
-          λ part free. any_over _ _ _ (λ p h. h.1) (all_free lawful g.met.V.Eq.laws items r
-          c.met_by.result c.in_form.ensures c.known_range.ensures c.met_by.ensures.items
-          c.met_by.ensures.empty part free);
-    })
+          λ part free. any_over _ _ _ (λ p h. h.1) (all_free lawful g.met.V.Eq.laws items r met
+          c.in_form.ensures c.known_range.ensures c.met_by-items.ensures.items
+          c.met_by-items.ensures.empty part free);
+    }))

@@ -1,5 +1,5 @@
 use Rattle.range_map.proofs.Common.{◌∙◌, append-nil, free_ranges}
-use Rattle.range_map.proofs.PieceSteps.{free_append}
+use Rattle.range_map.proofs.FreePieces.{free_append}
 use Rattle.range_map.proofs.map.gaps_within.last_free.Goals as goal
 
 pub returns-in-None-clause-next : goal.returns-in-None-clause-next

@@ -1,4 +1,4 @@
-use Rattle.std.proofs.Common.{◌≡◌, ◌-◌, length, arith, ◌∙◌, count_by}
+use Rattle.std.proofs.Common.{◌-◌, length, arith, ◌∙◌, count_by}
 use Rattle.std.proofs.lemmas.List.Sums.{count_by-le-length}
 use Rattle.range_store.specs.Rows.{items_in}
 use Rattle.range_store.proofs.Front.{four_tell}

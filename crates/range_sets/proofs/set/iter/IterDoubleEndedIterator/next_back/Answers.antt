@@ -1,7 +1,7 @@
 use Rattle.std.proofs.Common.{◌∷◌, [], ap, sym, ◌∙◌}
 use Rattle.range_map.specs.FreeRanges.{item_ranges}
 use Rattle.range_map.specs.Iteration.{shown_item}
-use Rattle.range_map.proofs.PieceSteps.{last_is_less}
+use Rattle.range_change.proofs.PieceSteps.{last_is_less}
 use Rattle.range_sets.proofs.EndRanges.{item_ranges_append}
 use Rattle.range_sets.proofs.set.iter.IterDoubleEndedIterator.next_back.Goals as goal
 use Rattle.range_sets.proofs.set.iter.IterDoubleEndedIterator.next_back.Goals.{in-Some, in-None}

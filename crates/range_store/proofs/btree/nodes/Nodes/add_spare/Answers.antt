@@ -1,13 +1,5 @@
-use Rattle.std.proofs.Common.{◌≡◌, ◌<◌, ◌≤◌, ◌+◌, ◌-◌, [], ◌∷◌, ◌++◌, length, get_or, take, drop, arith, refl, sym, ap, ◌∙◌, length-append}
-use Rattle.std.specs.Prelude.{slice_get}
-use Rattle.std.specs.List.{insert, remove}
-use Rattle.std.specs.Vec.Iter.{into_iter_items}
-use Rattle.std.proofs.lemmas.List.{length-take-le, set-get_or}
-use Rattle.std.proofs.lemmas.List.Edits.{length-insert, length-remove}
-use Rattle.range_store.specs.Heap.{node_of, items_of, children_of, with_child}
-use Rattle.range_store.specs.Rows.{row_of}
-use Rattle.range_store.specs.Spares.{heap_of, contents, without}
-use Rattle.range_store.proofs.Spares.{added, added_whole, bare_children, bare_row, children_seen, counted, edited, edited_len, edited_whole, emptied, emptied_whole, fewer_spares, filled, filled_whole, fits_count, found, grown, grown_whole, item_whole, item_written, items_seen, len_seen, none_whole, row_len, row_there, spare_found, spare_there, spares_left, vacant_row, Changes}
+use Rattle.std.proofs.Common.{◌<◌, [], length, arith, refl, ◌∙◌}
+use Rattle.range_store.proofs.Spares.{added, added_whole, counted, grown, vacant_row, Changes}
 use Rattle.range_store.proofs.btree.nodes.Nodes.add_spare.Goals as goal
 
 pub overflow_sub-len : goal.overflow_sub-len
@@ -54,14 +46,14 @@ invariant_of-self-in-Ok g c =
       there = there;
       len_is = c.new.ensures.len;
     } in (
-      rw (c.push_reserved.ensures.items, c.reserve.ensures.items) (added_whole s.slab c.insert.new.self s.rows c.add_to.new.self s.spares.items
+      rw (c.push_back_reserved.ensures.items, c.reserve.ensures.items) (added_whole s.slab c.insert.new.self s.rows c.add_to.new.self s.spares.items
           c.self.invariant.0 c.in-Ok.number c.new.result [] changes c.in-Ok.ensures.was_vacant
           c.in-Ok.ensures.len refl c.new.ensures.children),
       omega (
         arith,
         c.in-Ok.ensures.len,
         c.in_ok-reserve.ensures.ok,
-        c.push_reserved.ensures.capacity,
+        c.push_back_reserved.ensures.capacity,
         c.reserve.ensures.len,
         counted s.slab s.rows s.spares.items c.self.invariant.0,
         s.spares.ok.0,
@@ -91,7 +83,7 @@ returns-clause-kept g c =
       there = there;
       len_is = c.new.ensures.len;
     } in
-    rw (← c.self.view_is, c.push_reserved.ensures.items, c.reserve.ensures.items) (added s.slab c.insert.new.self s.rows c.add_to.new.self s.spares.items
+    rw (← c.self.view_is, c.push_back_reserved.ensures.items, c.reserve.ensures.items) (added s.slab c.insert.new.self s.rows c.add_to.new.self s.spares.items
     c.self.invariant.0 c.in-Ok.number c.new.result [] changes c.in-Ok.ensures.was_vacant
     c.in-Ok.ensures.len refl c.new.ensures.children)
 

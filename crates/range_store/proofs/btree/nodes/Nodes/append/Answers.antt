@@ -1,15 +1,12 @@
-use Rattle.std.proofs.Common.{◌≡◌, ◌<◌, ◌≤◌, ◌+◌, ◌-◌, [], ◌∷◌, ◌++◌, length, length-drop, get_or, take, drop, arith, refl, sym, ap, ◌∙◌, length-append}
-use Rattle.std.specs.Prelude.{◌≢◌, Some, None, IsSome}
+use Rattle.std.proofs.Common.{◌≡◌, [], ◌∷◌, ◌++◌, length, arith, refl, sym, ap, ◌∙◌, length-append}
+use Rattle.std.specs.Prelude.{Some, None}
 use Rattle.std.proofs.Math.ListN.{set}
 use Rattle.slab.specs.Slab.{get, with_value}
-use Rattle.std.specs.List.{insert, remove}
-use Rattle.std.specs.Vec.Iter.{into_iter_items}
-use Rattle.std.proofs.lemmas.List.{length-take-le, get_or-set_other}
-use Rattle.std.proofs.lemmas.List.Edits.{length-insert, length-remove}
-use Rattle.range_store.specs.Heap.{HasNode, node_of, items_of, children_of, with_child}
+use Rattle.std.proofs.lemmas.List.{get_or-set_other}
+use Rattle.range_store.specs.Heap.{HasNode, node_of, items_of, children_of}
 use Rattle.range_store.specs.Rows.{row_of}
-use Rattle.range_store.specs.Spares.{heap_of, contents, without}
-use Rattle.range_store.proofs.Spares.{added, added_whole, bare_children, bare_row, children_seen, counted, edited, edited_len, edited_whole, emptied, emptied_whole, fewer_spares, filled, filled_whole, fits_count, found, grown, grown_whole, item_whole, item_written, items_seen, len_seen, none_whole, row_len, row_there, spare_found, spare_there, spares_left, apart_from_spare}
+use Rattle.range_store.specs.Spares.{heap_of}
+use Rattle.range_store.proofs.Spares.{children_seen, edited, edited_len, edited_whole, emptied, emptied_whole, fewer_spares, found, items_seen, len_seen}
 use Rattle.range_store.proofs.btree.nodes.Nodes.append.Goals as goal
 
 pub index_mut-requires : goal.index_mut-requires
@@ -78,8 +75,8 @@ absorb-requires-clause-room g c =
       rw (← c.self.view_is) at c.requires.room,
     )
 
-pub push_reserved-requires : goal.push_reserved-requires
-push_reserved-requires g c =
+pub push_front_reserved-requires : goal.push_front_reserved-requires
+push_front_reserved-requires g c =
     let s = c.self.inside in
     let left = rw (← c.self.view_is) at c.requires.left in
     let right = rw (← c.self.view_is) at c.requires.right in
@@ -107,7 +104,7 @@ invariant_of-self g c =
     let right_items = items_seen s.slab s.rows s.spares.items c.args.right right in
     let slab = with_value s.slab c.args.right c.replace-upper.new.dest in
     let rows = set s.rows c.args.right [] in
-    let spares = s.spares.items ++ c.args.right ∷ [] in
+    let spares = c.args.right ∷ s.spares.items in
     let none_len : c.replace-upper.new.dest.len ≡ 0 = rw c.replace-upper.ensures.after c.new.ensures.len in
     let none_children : c.replace-upper.new.dest.children.items ≡ [] =
     rw c.replace-upper.ensures.after c.new.ensures.children in
@@ -128,12 +125,12 @@ invariant_of-self g c =
       ap length right_items,
       length-append (row_of s.rows c.args.left) (c.args.middle ∷ row_of s.rows c.args.right),
     ) in (
-      rw (c.push_reserved.ensures.items, c.absorb.ensures) (edited_whole slab rows spares whole c.args.left c.index_mut-2.result.now c.absorb-len.new.self
+      rw (c.push_front_reserved.ensures.items, c.absorb.ensures) (edited_whole slab rows spares whole c.args.left c.index_mut-2.result.now c.absorb-len.new.self
           c.index_mut-2.ensures.value all many _ c.absorb-len.ensures.children there),
       omega (
         arith,
         c.self.invariant.1,
-        c.push_reserved.ensures.capacity,
+        c.push_front_reserved.ensures.capacity,
         edited_len s.slab s.rows s.spares.items c.self.invariant.0 c.args.right c.index_mut.result.now c.replace-upper.new.dest
             c.index_mut.ensures.value [] none_len [] none_children,
         edited_len slab rows spares whole c.args.left c.index_mut-2.result.now c.absorb-len.new.self
@@ -158,7 +155,7 @@ returns g c =
     let right_items = items_seen s.slab s.rows s.spares.items c.args.right right in
     let slab = with_value s.slab c.args.right c.replace-upper.new.dest in
     let rows = set s.rows c.args.right [] in
-    let spares = s.spares.items ++ c.args.right ∷ [] in
+    let spares = c.args.right ∷ s.spares.items in
     let none_len : c.replace-upper.new.dest.len ≡ 0 = rw c.replace-upper.ensures.after c.new.ensures.len in
     let none_children : c.replace-upper.new.dest.children.items ≡ [] =
     rw c.replace-upper.ensures.after c.new.ensures.children in
@@ -184,7 +181,7 @@ returns g c =
     ≡ c.replace-upper.result.children.items =
     rw c.replace-upper.ensures.value (children_seen s.slab s.rows s.spares.items c.args.right c.index_mut.result.now right
     c.index_mut.ensures.value) in
-    rw (← c.self.view_is, c.push_reserved.ensures.items, c.absorb.ensures) (record {
+    rw (← c.self.view_is, c.push_front_reserved.ensures.items, c.absorb.ensures) (record {
       between = heap_of slab rows spares;
       right = gone;
       left = rw (left_items, right_items, left_children, right_children) (edited slab rows spares whole c.args.left c.index_mut-2.result.now c.absorb-len.new.self

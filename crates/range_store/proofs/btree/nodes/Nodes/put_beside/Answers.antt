@@ -1,13 +1,10 @@
-use Rattle.std.proofs.Common.{◌≡◌, ◌<◌, ◌≤◌, ◌+◌, ◌-◌, [], ◌∷◌, ◌++◌, length, get_or, take, drop, arith, refl, sym, ap, ◌∙◌, length-append}
-use Rattle.std.specs.Prelude.{slice_get}
-use Rattle.std.specs.List.{insert, remove}
-use Rattle.std.specs.Vec.Iter.{into_iter_items}
-use Rattle.std.proofs.lemmas.List.{length-take-le}
-use Rattle.std.proofs.lemmas.List.Edits.{length-insert, length-remove}
-use Rattle.range_store.specs.Heap.{node_of, items_of, children_of, with_child}
+use Rattle.std.proofs.Common.{◌≡◌, ◌≤◌, length, arith, ap}
+use Rattle.std.specs.List.{insert}
+use Rattle.std.proofs.lemmas.List.Edits.{length-insert}
+use Rattle.range_store.specs.Heap.{node_of, items_of, children_of}
 use Rattle.range_store.specs.Rows.{row_of}
-use Rattle.range_store.specs.Spares.{heap_of, contents, without}
-use Rattle.range_store.proofs.Spares.{added, added_whole, bare_children, bare_row, children_seen, counted, edited, edited_len, edited_whole, emptied, emptied_whole, fewer_spares, filled, filled_whole, fits_count, found, grown, grown_whole, item_whole, item_written, items_seen, len_seen, none_whole, row_len, row_there, spare_found, spare_there, spares_left}
+use Rattle.range_store.specs.Spares.{heap_of}
+use Rattle.range_store.proofs.Spares.{children_seen, edited, edited_len, edited_whole, fits_count, found, items_seen, len_seen}
 use Rattle.range_store.proofs.btree.nodes.Nodes.put_beside.Goals as goal
 
 pub index_mut-requires : goal.index_mut-requires

@@ -1,13 +1,5 @@
-use Rattle.std.proofs.Common.{◌≡◌, ◌<◌, ◌≤◌, ◌+◌, ◌-◌, [], ◌∷◌, ◌++◌, length, get_or, take, drop, arith, refl, sym, ap, ◌∙◌, length-append}
-use Rattle.std.specs.Prelude.{slice_get}
-use Rattle.std.specs.List.{insert, remove}
-use Rattle.std.specs.Vec.Iter.{into_iter_items}
-use Rattle.std.proofs.lemmas.List.{length-take-le, set-get_or}
-use Rattle.std.proofs.lemmas.List.Edits.{length-insert, length-remove}
-use Rattle.range_store.specs.Heap.{node_of, items_of, children_of, with_child}
-use Rattle.range_store.specs.Rows.{row_of}
-use Rattle.range_store.specs.Spares.{heap_of, contents, without}
-use Rattle.range_store.proofs.Spares.{added, added_whole, bare_children, bare_row, children_seen, counted, edited, edited_len, edited_whole, emptied, emptied_whole, fewer_spares, filled, filled_whole, fits_count, found, grown, grown_whole, item_whole, item_written, items_seen, len_seen, none_whole, row_len, row_there, spare_found, spare_there, spares_left, vacant_row, Changes}
+use Rattle.std.proofs.Common.{[], length, arith, refl, ap, ◌∙◌}
+use Rattle.range_store.proofs.Spares.{edited_len, emptied, emptied_whole, fewer_spares, found, items_seen, row_there}
 use Rattle.range_store.proofs.btree.nodes.Nodes.remove_node.Goals as goal
 
 pub index_mut-requires : goal.index_mut-requires
@@ -29,8 +21,8 @@ clear-requires-clause-len g c =
     (rw (← c.self.view_is) at c.item_count-len.ensures)
     ∙ ap length (items_seen s.slab s.rows s.spares.items c.args.number present)
 
-pub push_reserved-requires : goal.push_reserved-requires
-push_reserved-requires g c =
+pub push_front_reserved-requires : goal.push_front_reserved-requires
+push_front_reserved-requires g c =
     let s = c.self.inside in
     let present = rw (← c.self.view_is) at c.requires in
     omega (
@@ -44,12 +36,12 @@ pub invariant_of-self : goal.invariant_of-self
 invariant_of-self g c =
     let s = c.self.inside in
     let present = rw (← c.self.view_is) at c.requires in (
-      rw (c.push_reserved.ensures.items, c.clear.ensures) (emptied_whole s.slab s.rows s.spares.items c.self.invariant.0 c.args.number c.index_mut.result.now c.new.result
+      rw (c.push_front_reserved.ensures.items, c.clear.ensures) (emptied_whole s.slab s.rows s.spares.items c.self.invariant.0 c.args.number c.index_mut.result.now c.new.result
           c.index_mut.ensures.value [] c.new.ensures.len [] c.new.ensures.children present refl refl),
       omega (
         arith,
         c.self.invariant.1,
-        c.push_reserved.ensures.capacity,
+        c.push_front_reserved.ensures.capacity,
         edited_len s.slab s.rows s.spares.items c.self.invariant.0 c.args.number c.index_mut.result.now c.new.result
             c.index_mut.ensures.value [] c.new.ensures.len [] c.new.ensures.children,
       ),
@@ -59,6 +51,6 @@ pub returns : goal.returns
 returns g c =
     let s = c.self.inside in
     let present = rw (← c.self.view_is) at c.requires in
-    rw (← c.self.view_is, c.push_reserved.ensures.items, c.clear.ensures) (emptied s.slab s.rows s.spares.items c.self.invariant.0 c.args.number c.index_mut.result.now c.new.result
+    rw (← c.self.view_is, c.push_front_reserved.ensures.items, c.clear.ensures) (emptied s.slab s.rows s.spares.items c.self.invariant.0 c.args.number c.index_mut.result.now c.new.result
     c.index_mut.ensures.value [] c.new.ensures.len [] c.new.ensures.children present
     refl refl)

@@ -1,4 +1,4 @@
-use Rattle.std.proofs.Common.{ap, arith, ◌∙◌}
+use Rattle.std.proofs.Common.{ap, arith}
 use Rattle.slab.specs.Slab.{slab_len}
 use Rattle.range_store.specs.Heap.{node_count}
 use Rattle.range_store.specs.Spares.{heap_of}
@@ -46,9 +46,8 @@ returns-in_err-add_spare-clause-succeeds g c room =
 pub returns-clause-room : goal.returns-clause-room
 returns-clause-room g c =
     let s = c.self.inside in
-    let nodes = ap (λ rows. node_count (heap_of c.reserve.new.self rows s.spares.items))
-    c.reserve-2.ensures
-    ∙ ap (λ slab. node_count (heap_of slab s.rows s.spares.items)) c.reserve.ensures.rest_kept in
+    let nodes = ap (λ slab. node_count (heap_of slab s.rows s.spares.items))
+    c.reserve.ensures.rest_kept in
     omega (
       arith,
       nodes,
@@ -62,16 +61,3 @@ returns-clause-room g c =
       c.loop.invariant.more,
       c.loop.invariant.kept.len,
     )
-
-pub returns-in_err-reserve-2-clause-succeeds : goal.returns-in_err-reserve-2-clause-succeeds
-returns-in_err-reserve-2-clause-succeeds g c room =
-    let s = c.self.inside in
-    absurd (omega (
-      arith,
-      spares_left s.slab s.rows s.spares.items c.self.invariant.0 c.args.additional
-          (rw (← c.self.view_is) at room),
-      s.spares.ok.0,
-      c.len.ensures,
-      c.saturating_sub-missing.ensures,
-      c.if-missing-eq0.false,
-    ))

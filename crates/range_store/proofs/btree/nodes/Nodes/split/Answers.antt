@@ -1,19 +1,17 @@
-use Rattle.std.proofs.Common.{◌≡◌, ◌<◌, ◌≤◌, ◌+◌, ◌-◌, [], ◌∷◌, ◌++◌, length, length-drop, get_or, take, drop, arith, refl, sym, ap, ◌∙◌, length-append}
-use Rattle.std.specs.Prelude.{◌≢◌, Some, None, IsSome}
+use Rattle.std.proofs.Common.{◌≡◌, ◌≤◌, length, length-drop, take, drop, arith, sym, ap, ◌∙◌}
 use Rattle.std.proofs.Math.ListN.{set}
-use Rattle.slab.specs.Slab.{get, with_value}
-use Rattle.std.specs.List.{insert, remove}
-use Rattle.std.specs.Vec.Iter.{into_iter_items}
-use Rattle.std.proofs.lemmas.List.{length-take-le, get_or-set_other}
-use Rattle.std.proofs.lemmas.List.Edits.{length-insert, length-remove}
-use Rattle.range_store.specs.Heap.{HasNode, node_of, items_of, children_of, with_child}
+use Rattle.slab.specs.Slab.{with_value}
+use Rattle.std.specs.List.{insert}
+use Rattle.std.proofs.lemmas.List.{length-take-le}
+use Rattle.std.proofs.lemmas.List.Edits.{length-insert}
+use Rattle.range_store.specs.Heap.{node_of, items_of, children_of}
 use Rattle.range_store.specs.Rows.{row_of}
-use Rattle.range_store.specs.Spares.{heap_of, contents, without}
-use Rattle.range_store.proofs.Spares.{added, added_whole, bare_children, bare_row, children_seen, counted, edited, edited_len, edited_whole, emptied, emptied_whole, fewer_spares, filled, filled_whole, fits_count, found, grown, grown_whole, item_whole, item_written, items_seen, len_seen, none_whole, row_len, row_there, spare_found, spare_there, spares_left, apart_from_spare}
+use Rattle.range_store.specs.Spares.{heap_of}
+use Rattle.range_store.proofs.Spares.{bare_row, children_seen, edited, edited_len, edited_whole, filled, filled_whole, fits_count, found, items_seen, spare_found, spares_left, apart_from_spare}
 use Rattle.range_store.proofs.btree.nodes.Nodes.split.Goals as goal
 
-pub take_last-right-requires : goal.take_last-right-requires
-take_last-right-requires g c =
+pub next_spare-right-requires : goal.next_spare-right-requires
+next_spare-right-requires g c =
     let s = c.self.inside in
     omega (
       arith,
@@ -43,7 +41,7 @@ index_mut-requires-2 g c =
     let s = c.self.inside in
     let present = rw (← c.self.view_is) at c.requires.present in
     let items = items_seen s.slab s.rows s.spares.items c.args.number present in
-    let parts = c.take_last-right.ensures.items in
+    let parts = c.next_spare-right.ensures.items in
     let all = insert (row_of s.rows c.args.number) c.args.index c.args.item in
     let within : c.args.index ≤ length (row_of s.rows c.args.number) =
     omega (arith, ap length items, rw (← c.self.view_is) at c.requires.within) in
@@ -60,14 +58,14 @@ index_mut-requires-2 g c =
     let rows = set s.rows c.args.number (take 6 all) in
     let whole = edited_whole s.slab s.rows s.spares.items c.self.invariant.0 c.args.number c.index_mut.result.now c.divide-upper.new.self
     c.index_mut.ensures.value (take 6 all) first_len _ c.divide-upper.ensures.left present in
-    spare_found slab rows s.spares.items c.take_last-right.new.self.items whole c.take_last-right.result parts
+    spare_found slab rows s.spares.items c.next_spare-right.new.spares.items whole c.next_spare-right.result parts
 
 pub divide-middle-requires-clause-apart : goal.divide-middle-requires-clause-apart
 divide-middle-requires-clause-apart g c =
     let s = c.self.inside in
     let present = rw (← c.self.view_is) at c.requires.present in
     let items = items_seen s.slab s.rows s.spares.items c.args.number present in
-    apart_from_spare s.slab s.rows s.spares.items c.take_last-right.new.self.items c.take_last-right.result c.take_last-right.ensures.items c.args.number present
+    apart_from_spare s.slab s.rows s.spares.items c.next_spare-right.new.spares.items c.next_spare-right.result c.next_spare-right.ensures.items c.args.number present
 
 pub divide-middle-requires-clause-full : goal.divide-middle-requires-clause-full
 divide-middle-requires-clause-full g c =
@@ -79,14 +77,14 @@ divide-middle-requires-clause-full g c =
 pub divide-middle-requires-clause-empty : goal.divide-middle-requires-clause-empty
 divide-middle-requires-clause-empty g c =
     let s = c.self.inside in
-    bare_row s.slab s.rows s.spares.items c.take_last-right.new.self.items c.self.invariant.0 c.take_last-right.result c.take_last-right.ensures.items
+    bare_row s.slab s.rows s.spares.items c.next_spare-right.new.spares.items c.self.invariant.0 c.next_spare-right.result c.next_spare-right.ensures.items
 
 pub invariant_of-self : goal.invariant_of-self
 invariant_of-self g c =
     let s = c.self.inside in
     let present = rw (← c.self.view_is) at c.requires.present in
     let items = items_seen s.slab s.rows s.spares.items c.args.number present in
-    let parts = c.take_last-right.ensures.items in
+    let parts = c.next_spare-right.ensures.items in
     let all = insert (row_of s.rows c.args.number) c.args.index c.args.item in
     let within : c.args.index ≤ length (row_of s.rows c.args.number) =
     omega (arith, ap length items, rw (← c.self.view_is) at c.requires.within) in
@@ -105,17 +103,17 @@ invariant_of-self g c =
     c.index_mut.ensures.value (take 6 all) first_len _ c.divide-upper.ensures.left present in
     let second_len : c.divide-upper.result.len ≡ length (drop 7 all) =
     omega (arith, c.divide-upper.ensures.right_len, length-drop 7 all) in (
-      rw c.divide-middle.ensures.rows (filled_whole slab rows s.spares.items whole c.take_last-right.result c.index_mut-2.result.now
+      rw c.divide-middle.ensures.rows (filled_whole slab rows s.spares.items whole c.next_spare-right.result c.index_mut-2.result.now
           c.divide-upper.result c.index_mut-2.ensures.value (drop 7 all) second_len _
-          c.divide-upper.ensures.right c.take_last-right.new.self.items parts),
+          c.divide-upper.ensures.right c.next_spare-right.new.spares.items parts),
       omega (
         arith,
         c.self.invariant.1,
-        c.take_last-right.ensures.capacity,
+        c.next_spare-right.ensures.capacity,
         edited_len s.slab s.rows s.spares.items c.self.invariant.0 c.args.number c.index_mut.result.now
             c.divide-upper.new.self c.index_mut.ensures.value (take 6 all) first_len _
             c.divide-upper.ensures.left,
-        edited_len slab rows s.spares.items whole c.take_last-right.result c.index_mut-2.result.now
+        edited_len slab rows s.spares.items whole c.next_spare-right.result c.index_mut-2.result.now
             c.divide-upper.result c.index_mut-2.ensures.value (drop 7 all) second_len _
             c.divide-upper.ensures.right,
       ),
@@ -126,7 +124,7 @@ returns g c =
     let s = c.self.inside in
     let present = rw (← c.self.view_is) at c.requires.present in
     let items = items_seen s.slab s.rows s.spares.items c.args.number present in
-    let parts = c.take_last-right.ensures.items in
+    let parts = c.next_spare-right.ensures.items in
     let all = insert (row_of s.rows c.args.number) c.args.index c.args.item in
     let within : c.args.index ≤ length (row_of s.rows c.args.number) =
     omega (arith, ap length items, rw (← c.self.view_is) at c.requires.within) in
@@ -152,7 +150,7 @@ returns g c =
       first = edited s.slab s.rows s.spares.items c.self.invariant.0 c.args.number c.index_mut.result.now
           c.divide-upper.new.self c.index_mut.ensures.value (take 6 all) first_len _
           c.divide-upper.ensures.left present;
-      second = filled slab rows s.spares.items whole c.take_last-right.result c.index_mut-2.result.now
+      second = filled slab rows s.spares.items whole c.next_spare-right.result c.index_mut-2.result.now
           c.divide-upper.result c.index_mut-2.ensures.value (drop 7 all) second_len _
-          c.divide-upper.ensures.right c.take_last-right.new.self.items parts;
+          c.divide-upper.ensures.right c.next_spare-right.new.spares.items parts;
     }))

@@ -1,17 +1,11 @@
-use Rattle.std.proofs.Common.{◌≡◌, ◌<◌, ◌≤◌, ◌+◌, ◌-◌, [], ◌∷◌, ◌++◌, length, get_or, take, drop, arith, refl, sym, ap, ◌∙◌, length-append}
-use Rattle.std.specs.Prelude.{slice_get}
-use Rattle.std.specs.List.{insert, remove}
-use Rattle.std.specs.Vec.Iter.{into_iter_items}
-use Rattle.std.proofs.lemmas.List.{length-take-le, set-get_or}
-use Rattle.std.proofs.lemmas.List.Edits.{length-insert, length-remove}
-use Rattle.range_store.specs.Heap.{node_of, items_of, children_of, with_child}
+use Rattle.std.proofs.Common.{[], ◌∷◌, ◌++◌, length, arith, ap, ◌∙◌}
+use Rattle.std.proofs.lemmas.List.{set-get_or}
 use Rattle.range_store.specs.Rows.{row_of}
-use Rattle.range_store.specs.Spares.{heap_of, contents, without}
-use Rattle.range_store.proofs.Spares.{added, added_whole, bare_children, bare_row, children_seen, counted, edited, edited_len, edited_whole, emptied, emptied_whole, fewer_spares, filled, filled_whole, fits_count, found, grown, grown_whole, item_whole, item_written, items_seen, len_seen, none_whole, row_len, row_there, spare_found, spare_there, spares_left, vacant_row, Changes}
+use Rattle.range_store.proofs.Spares.{bare_children, bare_row, edited_len, filled, filled_whole, row_len, spare_found, spares_left}
 use Rattle.range_store.proofs.btree.nodes.Nodes.store_above.Goals as goal
 
-pub take_last-number-requires : goal.take_last-number-requires
-take_last-number-requires g c =
+pub next_spare-number-requires : goal.next_spare-number-requires
+next_spare-number-requires g c =
     let s = c.self.inside in
     omega (
       arith,
@@ -22,36 +16,36 @@ take_last-number-requires g c =
 pub index_mut-requires : goal.index_mut-requires
 index_mut-requires g c =
     let s = c.self.inside in
-    spare_found s.slab s.rows s.spares.items c.take_last-number.new.self.items c.self.invariant.0
-    c.take_last-number.result c.take_last-number.ensures.items
+    spare_found s.slab s.rows s.spares.items c.next_spare-number.new.spares.items c.self.invariant.0
+    c.next_spare-number.result c.next_spare-number.ensures.items
 
 pub push-requires : goal.push-requires
 push-requires g c =
     let s = c.self.inside in
-    let bare = bare_children s.slab s.rows s.spares.items c.take_last-number.new.self.items c.self.invariant.0
-    c.take_last-number.result c.take_last-number.ensures.items c.index_mut.result.now c.index_mut.ensures.value in
-    let blank = bare_row s.slab s.rows s.spares.items c.take_last-number.new.self.items c.self.invariant.0
-    c.take_last-number.result c.take_last-number.ensures.items in
+    let bare = bare_children s.slab s.rows s.spares.items c.next_spare-number.new.spares.items c.self.invariant.0
+    c.next_spare-number.result c.next_spare-number.ensures.items c.index_mut.result.now c.index_mut.ensures.value in
+    let blank = bare_row s.slab s.rows s.spares.items c.next_spare-number.new.spares.items c.self.invariant.0
+    c.next_spare-number.result c.next_spare-number.ensures.items in
     (omega arith, omega (arith, ap length bare))
 
 pub invariant_of-self : goal.invariant_of-self
 invariant_of-self g c =
     let s = c.self.inside in
-    let bare = bare_children s.slab s.rows s.spares.items c.take_last-number.new.self.items c.self.invariant.0
-    c.take_last-number.result c.take_last-number.ensures.items c.index_mut.result.now c.index_mut.ensures.value in
-    let blank = bare_row s.slab s.rows s.spares.items c.take_last-number.new.self.items c.self.invariant.0
-    c.take_last-number.result c.take_last-number.ensures.items in (
-      rw (set-get_or s.rows c.take_last-number.result []) at (filled_whole s.slab s.rows s.spares.items c.self.invariant.0 c.take_last-number.result c.index_mut.result.now
-          (record c.index_mut.result.now { children = c.push.new.self }) c.index_mut.ensures.value (row_of s.rows c.take_last-number.result)
-          (row_len s.slab s.rows s.spares.items c.self.invariant.0 c.take_last-number.result c.index_mut.result.now c.index_mut.ensures.value) (c.args.child ∷ [])
-          (c.push.ensures.items ∙ ap (λ ks. ks ++ c.args.child ∷ []) bare) c.take_last-number.new.self.items c.take_last-number.ensures.items),
+    let bare = bare_children s.slab s.rows s.spares.items c.next_spare-number.new.spares.items c.self.invariant.0
+    c.next_spare-number.result c.next_spare-number.ensures.items c.index_mut.result.now c.index_mut.ensures.value in
+    let blank = bare_row s.slab s.rows s.spares.items c.next_spare-number.new.spares.items c.self.invariant.0
+    c.next_spare-number.result c.next_spare-number.ensures.items in (
+      rw (set-get_or s.rows c.next_spare-number.result []) at (filled_whole s.slab s.rows s.spares.items c.self.invariant.0 c.next_spare-number.result c.index_mut.result.now
+          (record c.index_mut.result.now { children = c.push.new.self }) c.index_mut.ensures.value (row_of s.rows c.next_spare-number.result)
+          (row_len s.slab s.rows s.spares.items c.self.invariant.0 c.next_spare-number.result c.index_mut.result.now c.index_mut.ensures.value) (c.args.child ∷ [])
+          (c.push.ensures.items ∙ ap (λ ks. ks ++ c.args.child ∷ []) bare) c.next_spare-number.new.spares.items c.next_spare-number.ensures.items),
       omega (
         arith,
         c.self.invariant.1,
-        c.take_last-number.ensures.capacity,
-        edited_len s.slab s.rows s.spares.items c.self.invariant.0 c.take_last-number.result c.index_mut.result.now
-            (record c.index_mut.result.now { children = c.push.new.self }) c.index_mut.ensures.value (row_of s.rows c.take_last-number.result)
-            (row_len s.slab s.rows s.spares.items c.self.invariant.0 c.take_last-number.result c.index_mut.result.now c.index_mut.ensures.value) (c.args.child ∷ [])
+        c.next_spare-number.ensures.capacity,
+        edited_len s.slab s.rows s.spares.items c.self.invariant.0 c.next_spare-number.result c.index_mut.result.now
+            (record c.index_mut.result.now { children = c.push.new.self }) c.index_mut.ensures.value (row_of s.rows c.next_spare-number.result)
+            (row_len s.slab s.rows s.spares.items c.self.invariant.0 c.next_spare-number.result c.index_mut.result.now c.index_mut.ensures.value) (c.args.child ∷ [])
             (c.push.ensures.items ∙ ap (λ ks. ks ++ c.args.child ∷ []) bare),
       ),
     )
@@ -59,11 +53,11 @@ invariant_of-self g c =
 pub returns : goal.returns
 returns g c =
     let s = c.self.inside in
-    let bare = bare_children s.slab s.rows s.spares.items c.take_last-number.new.self.items c.self.invariant.0
-    c.take_last-number.result c.take_last-number.ensures.items c.index_mut.result.now c.index_mut.ensures.value in
-    let blank = bare_row s.slab s.rows s.spares.items c.take_last-number.new.self.items c.self.invariant.0
-    c.take_last-number.result c.take_last-number.ensures.items in
-    rw (← c.self.view_is) (rw (set-get_or s.rows c.take_last-number.result [], blank) at (filled s.slab s.rows s.spares.items c.self.invariant.0 c.take_last-number.result c.index_mut.result.now
-    (record c.index_mut.result.now { children = c.push.new.self }) c.index_mut.ensures.value (row_of s.rows c.take_last-number.result)
-    (row_len s.slab s.rows s.spares.items c.self.invariant.0 c.take_last-number.result c.index_mut.result.now c.index_mut.ensures.value) (c.args.child ∷ [])
-    (c.push.ensures.items ∙ ap (λ ks. ks ++ c.args.child ∷ []) bare) c.take_last-number.new.self.items c.take_last-number.ensures.items))
+    let bare = bare_children s.slab s.rows s.spares.items c.next_spare-number.new.spares.items c.self.invariant.0
+    c.next_spare-number.result c.next_spare-number.ensures.items c.index_mut.result.now c.index_mut.ensures.value in
+    let blank = bare_row s.slab s.rows s.spares.items c.next_spare-number.new.spares.items c.self.invariant.0
+    c.next_spare-number.result c.next_spare-number.ensures.items in
+    rw (← c.self.view_is) (rw (set-get_or s.rows c.next_spare-number.result [], blank) at (filled s.slab s.rows s.spares.items c.self.invariant.0 c.next_spare-number.result c.index_mut.result.now
+    (record c.index_mut.result.now { children = c.push.new.self }) c.index_mut.ensures.value (row_of s.rows c.next_spare-number.result)
+    (row_len s.slab s.rows s.spares.items c.self.invariant.0 c.next_spare-number.result c.index_mut.result.now c.index_mut.ensures.value) (c.args.child ∷ [])
+    (c.push.ensures.items ∙ ap (λ ks. ks ++ c.args.child ∷ []) bare) c.next_spare-number.new.spares.items c.next_spare-number.ensures.items))

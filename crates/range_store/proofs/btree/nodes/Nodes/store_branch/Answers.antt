@@ -1,17 +1,10 @@
-use Rattle.std.proofs.Common.{◌≡◌, ◌<◌, ◌≤◌, ◌+◌, ◌-◌, [], ◌∷◌, ◌++◌, length, get_or, take, drop, arith, refl, sym, ap, ◌∙◌, length-append}
-use Rattle.std.specs.Prelude.{slice_get}
-use Rattle.std.specs.List.{insert, remove}
-use Rattle.std.specs.Vec.Iter.{into_iter_items}
-use Rattle.std.proofs.lemmas.List.{length-take-le}
-use Rattle.std.proofs.lemmas.List.Edits.{length-insert, length-remove}
-use Rattle.range_store.specs.Heap.{node_of, items_of, children_of, with_child}
-use Rattle.range_store.specs.Rows.{row_of}
-use Rattle.range_store.specs.Spares.{heap_of, contents, without}
-use Rattle.range_store.proofs.Spares.{added, added_whole, bare_children, bare_row, children_seen, counted, edited, edited_len, edited_whole, emptied, emptied_whole, fewer_spares, filled, filled_whole, fits_count, found, grown, grown_whole, item_whole, item_written, items_seen, len_seen, none_whole, row_len, row_there, spare_found, spare_there, spares_left}
+use Rattle.std.proofs.Common.{[], ◌∷◌, ◌++◌, length, arith, refl, sym, ap, ◌∙◌, length-append}
+use Rattle.std.specs.List.{insert}
+use Rattle.range_store.proofs.Spares.{bare_children, bare_row, edited_len, filled, filled_whole, spare_found, spare_there, spares_left}
 use Rattle.range_store.proofs.btree.nodes.Nodes.store_branch.Goals as goal
 
-pub take_last-number-requires : goal.take_last-number-requires
-take_last-number-requires g c =
+pub next_spare-number-requires : goal.next_spare-number-requires
+next_spare-number-requires g c =
     let s = c.self.inside in
     omega (
       arith,
@@ -22,33 +15,33 @@ take_last-number-requires g c =
 pub index_mut-node-requires : goal.index_mut-node-requires
 index_mut-node-requires g c =
     let s = c.self.inside in
-    spare_found s.slab s.rows s.spares.items c.take_last-number.new.self.items c.self.invariant.0
-    c.take_last-number.result c.take_last-number.ensures.items
+    spare_found s.slab s.rows s.spares.items c.next_spare-number.new.spares.items c.self.invariant.0
+    c.next_spare-number.result c.next_spare-number.ensures.items
 
 pub put-requires-clause-number : goal.put-requires-clause-number
 put-requires-clause-number g c =
     let s = c.self.inside in
-    spare_there s.slab s.rows s.spares.items c.take_last-number.new.self.items c.self.invariant.0
-    c.take_last-number.result c.take_last-number.ensures.items
+    spare_there s.slab s.rows s.spares.items c.next_spare-number.new.spares.items c.self.invariant.0
+    c.next_spare-number.result c.next_spare-number.ensures.items
 
 pub put-requires-clause-len : goal.put-requires-clause-len
 put-requires-clause-len g c =
     let s = c.self.inside in
-    sym (ap length (bare_row s.slab s.rows s.spares.items c.take_last-number.new.self.items c.self.invariant.0
-    c.take_last-number.result c.take_last-number.ensures.items))
+    sym (ap length (bare_row s.slab s.rows s.spares.items c.next_spare-number.new.spares.items c.self.invariant.0
+    c.next_spare-number.result c.next_spare-number.ensures.items))
 
 pub push-requires : goal.push-requires
 push-requires g c =
     let s = c.self.inside in
-    let bare = bare_children s.slab s.rows s.spares.items c.take_last-number.new.self.items c.self.invariant.0
-    c.take_last-number.result c.take_last-number.ensures.items c.index_mut-node.result.now c.index_mut-node.ensures.value in
+    let bare = bare_children s.slab s.rows s.spares.items c.next_spare-number.new.spares.items c.self.invariant.0
+    c.next_spare-number.result c.next_spare-number.ensures.items c.index_mut-node.result.now c.index_mut-node.ensures.value in
     (omega arith, omega (arith, ap length bare))
 
 pub push-requires-2 : goal.push-requires-2
 push-requires-2 g c =
     let s = c.self.inside in
-    let bare = bare_children s.slab s.rows s.spares.items c.take_last-number.new.self.items c.self.invariant.0
-    c.take_last-number.result c.take_last-number.ensures.items c.index_mut-node.result.now c.index_mut-node.ensures.value in (
+    let bare = bare_children s.slab s.rows s.spares.items c.next_spare-number.new.spares.items c.self.invariant.0
+    c.next_spare-number.result c.next_spare-number.ensures.items c.index_mut-node.result.now c.index_mut-node.ensures.value in (
       omega arith,
       omega (
         arith,
@@ -61,18 +54,18 @@ push-requires-2 g c =
 pub invariant_of-self : goal.invariant_of-self
 invariant_of-self g c =
     let s = c.self.inside in
-    let blank = bare_row s.slab s.rows s.spares.items c.take_last-number.new.self.items c.self.invariant.0
-    c.take_last-number.result c.take_last-number.ensures.items in
-    let bare = bare_children s.slab s.rows s.spares.items c.take_last-number.new.self.items c.self.invariant.0
-    c.take_last-number.result c.take_last-number.ensures.items c.index_mut-node.result.now c.index_mut-node.ensures.value in (
-      rw (c.put.ensures, ap (λ xs. insert xs 0 c.args.middle) blank) (filled_whole s.slab s.rows s.spares.items c.self.invariant.0 c.take_last-number.result c.index_mut-node.result.now (record c.index_mut-node.result.now { len = 1; children = c.push-2.new.self })
+    let blank = bare_row s.slab s.rows s.spares.items c.next_spare-number.new.spares.items c.self.invariant.0
+    c.next_spare-number.result c.next_spare-number.ensures.items in
+    let bare = bare_children s.slab s.rows s.spares.items c.next_spare-number.new.spares.items c.self.invariant.0
+    c.next_spare-number.result c.next_spare-number.ensures.items c.index_mut-node.result.now c.index_mut-node.ensures.value in (
+      rw (c.put.ensures, ap (λ xs. insert xs 0 c.args.middle) blank) (filled_whole s.slab s.rows s.spares.items c.self.invariant.0 c.next_spare-number.result c.index_mut-node.result.now (record c.index_mut-node.result.now { len = 1; children = c.push-2.new.self })
           c.index_mut-node.ensures.value (c.args.middle ∷ []) (refl) (c.args.left ∷ c.args.right ∷ []) (c.push-2.ensures.items ∙ ap (λ ks. ks ++ c.args.right ∷ [])
-          (c.push.ensures.items ∙ ap (λ ks. ks ++ c.args.left ∷ []) bare)) c.take_last-number.new.self.items c.take_last-number.ensures.items),
+          (c.push.ensures.items ∙ ap (λ ks. ks ++ c.args.left ∷ []) bare)) c.next_spare-number.new.spares.items c.next_spare-number.ensures.items),
       omega (
         arith,
         c.self.invariant.1,
-        c.take_last-number.ensures.capacity,
-        edited_len s.slab s.rows s.spares.items c.self.invariant.0 c.take_last-number.result c.index_mut-node.result.now (record c.index_mut-node.result.now { len = 1; children = c.push-2.new.self })
+        c.next_spare-number.ensures.capacity,
+        edited_len s.slab s.rows s.spares.items c.self.invariant.0 c.next_spare-number.result c.index_mut-node.result.now (record c.index_mut-node.result.now { len = 1; children = c.push-2.new.self })
             c.index_mut-node.ensures.value (c.args.middle ∷ []) (refl) (c.args.left ∷ c.args.right ∷ []) (c.push-2.ensures.items ∙ ap (λ ks. ks ++ c.args.right ∷ [])
             (c.push.ensures.items ∙ ap (λ ks. ks ++ c.args.left ∷ []) bare)),
       ),
@@ -81,10 +74,10 @@ invariant_of-self g c =
 pub returns : goal.returns
 returns g c =
     let s = c.self.inside in
-    let blank = bare_row s.slab s.rows s.spares.items c.take_last-number.new.self.items c.self.invariant.0
-    c.take_last-number.result c.take_last-number.ensures.items in
-    let bare = bare_children s.slab s.rows s.spares.items c.take_last-number.new.self.items c.self.invariant.0
-    c.take_last-number.result c.take_last-number.ensures.items c.index_mut-node.result.now c.index_mut-node.ensures.value in
-    rw (← c.self.view_is, c.put.ensures, ap (λ xs. insert xs 0 c.args.middle) blank) (filled s.slab s.rows s.spares.items c.self.invariant.0 c.take_last-number.result c.index_mut-node.result.now (record c.index_mut-node.result.now { len = 1; children = c.push-2.new.self })
+    let blank = bare_row s.slab s.rows s.spares.items c.next_spare-number.new.spares.items c.self.invariant.0
+    c.next_spare-number.result c.next_spare-number.ensures.items in
+    let bare = bare_children s.slab s.rows s.spares.items c.next_spare-number.new.spares.items c.self.invariant.0
+    c.next_spare-number.result c.next_spare-number.ensures.items c.index_mut-node.result.now c.index_mut-node.ensures.value in
+    rw (← c.self.view_is, c.put.ensures, ap (λ xs. insert xs 0 c.args.middle) blank) (filled s.slab s.rows s.spares.items c.self.invariant.0 c.next_spare-number.result c.index_mut-node.result.now (record c.index_mut-node.result.now { len = 1; children = c.push-2.new.self })
     c.index_mut-node.ensures.value (c.args.middle ∷ []) (refl) (c.args.left ∷ c.args.right ∷ []) (c.push-2.ensures.items ∙ ap (λ ks. ks ++ c.args.right ∷ [])
-    (c.push.ensures.items ∙ ap (λ ks. ks ++ c.args.left ∷ []) bare)) c.take_last-number.new.self.items c.take_last-number.ensures.items)
+    (c.push.ensures.items ∙ ap (λ ks. ks ++ c.args.left ∷ []) bare)) c.next_spare-number.new.spares.items c.next_spare-number.ensures.items)

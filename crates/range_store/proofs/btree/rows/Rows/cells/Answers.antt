@@ -1,5 +1,4 @@
-use Rattle.std.proofs.Common.{◌≡◌, ◌≤◌, ◌+◌, ◌-◌, ◌*◌, length, take, drop, rules, arith, ap, refl, sym, ◌∙◌}
-use borrow.Author.Rules.{scaled_fits≤}
+use Rattle.std.proofs.Common.{◌≡◌, ◌≤◌, ◌+◌, ◌-◌, ◌*◌, length, rules, arith, ap}
 use Rattle.range_store.specs.declared.btree.nodes.TheConstants.{CAPACITY}
 use Rattle.range_store.proofs.Rows.{room, row_held}
 use Rattle.range_store.proofs.btree.rows.Rows.cells.Goals as goal
@@ -9,8 +8,8 @@ overflow_mul-start g c =
     let s = c.self.inside in
     omega (
       arith,
-      room s.many s.cells.items c.self.invariant c.args.number
-          (rw (← c.self.view_is) at c.requires),
+      room s.many s.cells.items c.self.invariant.0 c.args.number
+          (rw (← c.self.view_is) at c.requires.number) (rw (← c.self.view_is) at c.requires.some),
       s.cells.ok,
     )
 
@@ -19,8 +18,8 @@ overflow_add-result g c =
     let s = c.self.inside in
     omega (
       arith,
-      room s.many s.cells.items c.self.invariant c.args.number
-          (rw (← c.self.view_is) at c.requires),
+      room s.many s.cells.items c.self.invariant.0 c.args.number
+          (rw (← c.self.view_is) at c.requires.number) (rw (← c.self.view_is) at c.requires.some),
       s.cells.ok,
     )
 
@@ -29,8 +28,8 @@ offset_bounds-cells-start g c =
     let s = c.self.inside in
     omega (
       arith,
-      room s.many s.cells.items c.self.invariant c.args.number
-          (rw (← c.self.view_is) at c.requires),
+      room s.many s.cells.items c.self.invariant.0 c.args.number
+          (rw (← c.self.view_is) at c.requires.number) (rw (← c.self.view_is) at c.requires.some),
       ap length c.as_slice-cells.ensures.value,
     )
 
@@ -40,8 +39,8 @@ slice_bounds-result-end g c =
     let end : CAPACITY * c.args.number + CAPACITY ≤ length c.as_slice-cells.result.now =
     omega (
       arith,
-      room s.many s.cells.items c.self.invariant c.args.number
-          (rw (← c.self.view_is) at c.requires),
+      room s.many s.cells.items c.self.invariant.0 c.args.number
+          (rw (← c.self.view_is) at c.requires.number) (rw (← c.self.view_is) at c.requires.some),
       ap length c.as_slice-cells.ensures.value,
     ) in
     search rules
@@ -52,4 +51,4 @@ returns g c =
     let start = CAPACITY * c.args.number in
     let long : start + CAPACITY - start ≡ CAPACITY = omega arith in
     rw (← c.self.view_is, c.as_slice-cells.ensures.value, long) (row_held s.many s.cells.items
-    c.self.invariant c.args.number (rw (← c.self.view_is) at c.requires))
+    c.self.invariant.0 c.args.number (rw (← c.self.view_is) at c.requires.number) (rw (← c.self.view_is) at c.requires.some))

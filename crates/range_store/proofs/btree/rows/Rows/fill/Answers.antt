@@ -1,4 +1,4 @@
-use Rattle.std.proofs.Common.{arith, ap, sym, length, ◌∙◌, length-drop, ◌<◌}
+use Rattle.std.proofs.Common.{arith, sym, length, ◌∙◌, ◌<◌}
 use Rattle.std.specs.Vec.Iter.{into_iter_items}
 use Rattle.range_store.proofs.RowMoves.{filled_more}
 use Rattle.range_store.proofs.btree.rows.Rows.fill.Goals as goal

@@ -1,6 +1,4 @@
-use Rattle.std.proofs.Common.{◌≡◌, ◌≤◌, ◌<◌, ◌+◌, ◌-◌, ◌*◌, length, take, drop, rules, arith, ap, refl, sym, ◌∙◌}
-use borrow.Author.Rules.{scaled_fits≤}
-use Rattle.range_store.specs.declared.btree.nodes.TheConstants.{CAPACITY}
+use Rattle.std.proofs.Common.{◌<◌, arith, refl, sym, ◌∙◌}
 use Rattle.range_store.proofs.Rows.{cell_in, cell_written, rewritten, rewritten_rows, room, row_held, length-rows}
 use Rattle.range_store.proofs.btree.rows.Rows.item_mut.Goals as goal
 use Rattle.std.proofs.lemmas.Option.{same_Some}
@@ -12,8 +10,8 @@ overflow_mul-number g c =
     let s = c.self.inside in
     omega (
       arith,
-      room s.many s.cells.items c.self.invariant c.args.number
-          (rw (← c.self.view_is) at c.requires.number),
+      room s.many s.cells.items c.self.invariant.0 c.args.number
+          (rw (← c.self.view_is) at c.requires.number) (omega (arith, rw (← c.self.view_is) at c.requires.within)),
       s.cells.ok,
     )
 
@@ -23,8 +21,8 @@ overflow_add-number g c =
     let there = rw (← c.self.view_is) at c.requires.number in
     omega (
       arith,
-      room s.many s.cells.items c.self.invariant c.args.number there,
-      (row_held s.many s.cells.items c.self.invariant c.args.number there).fits,
+      room s.many s.cells.items c.self.invariant.0 c.args.number there (omega (arith, rw (← c.self.view_is) at c.requires.within)),
+      (row_held s.many s.cells.items c.self.invariant.0 c.args.number there (omega (arith, rw (← c.self.view_is) at c.requires.within))).fits,
       rw (← c.self.view_is) at c.requires.within,
       s.cells.ok,
     )
@@ -35,8 +33,8 @@ index_mut-requires g c =
     let there = rw (← c.self.view_is) at c.requires.number in
     omega (
       arith,
-      room s.many s.cells.items c.self.invariant c.args.number there,
-      (row_held s.many s.cells.items c.self.invariant c.args.number there).fits,
+      room s.many s.cells.items c.self.invariant.0 c.args.number there (omega (arith, rw (← c.self.view_is) at c.requires.within)),
+      (row_held s.many s.cells.items c.self.invariant.0 c.args.number there (omega (arith, rw (← c.self.view_is) at c.requires.within))).fits,
       rw (← c.self.view_is) at c.requires.within,
       s.cells.ok,
     )
@@ -46,7 +44,7 @@ filled-requires g c =
     let s = c.self.inside in
     let there = rw (← c.self.view_is) at c.requires.number in
     let within = rw (← c.self.view_is) at c.requires.within in
-    rw (c.index_mut.ensures.value ∙ cell_in s.many s.cells.items c.self.invariant c.args.number
+    rw (c.index_mut.ensures.value ∙ cell_in s.many s.cells.items c.self.invariant.0 c.args.number
     c.args.index there within (standing (row_of (rows_in s.many s.cells.items) c.args.number)
     c.args.index within) _) refl
 
@@ -54,11 +52,13 @@ pub invariant_of-self-lent : goal.invariant_of-self-lent
 invariant_of-self-lent g c w =
     let s = c.self.inside in
     let there = rw (← c.self.view_is) at c.requires.number in
-    let within = rw (← c.self.view_is) at c.requires.within in
-    rewritten_rows s.many s.cells.items _ c.self.invariant c.args.number _
-    (cell_written c.args.number c.args.index s.cells.items
-    (row_of (rows_in s.many s.cells.items) c.args.number) w within
-    (row_held s.many s.cells.items c.self.invariant c.args.number there))
+    let within = rw (← c.self.view_is) at c.requires.within in (
+      rewritten_rows s.many s.cells.items _ c.self.invariant.0 c.args.number _
+          (cell_written c.args.number c.args.index s.cells.items
+          (row_of (rows_in s.many s.cells.items) c.args.number) w within
+          (row_held s.many s.cells.items c.self.invariant.0 c.args.number there (omega (arith, within)))),
+      c.self.invariant.1,
+    )
 
 pub returns : goal.returns
 returns g c =
@@ -69,14 +69,14 @@ returns g c =
     let stands = standing (row_of (rows_in s.many s.cells.items) c.args.number) c.args.index
     within in
     let read = c.index_mut.ensures.value
-    ∙ cell_in s.many s.cells.items c.self.invariant c.args.number c.args.index there within stands
+    ∙ cell_in s.many s.cells.items c.self.invariant.0 c.args.number c.args.index there within stands
     _ in (
       (
         refl,
-        λ w. rw (← c.self.view_is) (rewritten s.many s.cells.items _ c.self.invariant
+        λ w. rw (← c.self.view_is) (rewritten s.many s.cells.items _ c.self.invariant.0
             c.args.number _ (cell_written c.args.number c.args.index s.cells.items
             (row_of (rows_in s.many s.cells.items) c.args.number) w within
-            (row_held s.many s.cells.items c.self.invariant c.args.number there)) less),
+            (row_held s.many s.cells.items c.self.invariant.0 c.args.number there (omega (arith, rw (← c.self.view_is) at c.requires.within)))) less),
       ),
       record {
         writes_back = tt;

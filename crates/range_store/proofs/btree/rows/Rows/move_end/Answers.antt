@@ -1,4 +1,4 @@
-use Rattle.std.proofs.Common.{arith, ap, ◌∙◌, ◌-◌}
+use Rattle.std.proofs.Common.{arith, ap, ◌∙◌}
 use Rattle.std.specs.List.{insert}
 use Rattle.std.proofs.Math.ListN.{set}
 use Rattle.range_store.specs.Rows.{row_of}

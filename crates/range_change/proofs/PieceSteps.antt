@@ -1,0 +1,92 @@
+-- One piece after the other, from either end.
+use Rattle.std.proofs.Common.{◌≡◌, refl, sym, ap, ◌∙◌, List, [], ◌∷◌, ◌++◌, Option, Some, None, Bool, true, false, map, if◌then◌else◌, append_assoc, arith, length, length-append, ◌<◌}
+use Rattle.std.specs.declared.ops.Bound.{Bound}
+use Rattle.range_keys.specs.Order.{KeyOrder, IsLawful}
+use Rattle.range_algebra.specs.Combined.{common}
+use Rattle.range_algebra.specs.Compared.{flipped, starts_past_end}
+use Rattle.range_algebra.specs.Range.{IsKnownBound, IsKnownRange}
+use Rattle.range_algebra.specs.declared.any.AnyRange.{AnyRange}
+use Rattle.range_algebra.proofs.Places.{flipped_back, flipped_bound_is_past, flipped_known}
+use Rattle.range_store.specs.declared.storage.Item.{Item}
+use Rattle.range_change.specs.PieceLists.{between, free_piece, bound_piece, free_between, pieces_from}
+use Rattle.range_change.proofs.Forms.{before_is}
+use Rattle.range_change.proofs.PlaceOrder.{eq_le, lt_not_le}
+
+module _ {K : Type 0} {order : KeyOrder K} (lawful : IsLawful order) where
+  -- nothing is free between the start past an end and that end
+  none_past : (e s : Bound K) → flipped e ≡ Some s → IsKnownBound order e → (t : Bool)
+      → starts_past_end order s e ≡ t
+      → ◌≡◌ {A = List (AnyRange K)} (if t then [] else record { start = s; end = e } ∷ []) []
+  none_past e s turns known true is = refl
+  none_past e s turns known false is =
+      absurd (lt_not_le lawful _ _
+      ((before_is order lawful e s known (flipped_known order lawful e s turns known)).1
+      (eq_le lawful _ _ (flipped_bound_is_past order lawful e s turns))) is)
+
+  none_after_end : (e : Bound K) (s : Option (Bound K)) → flipped e ≡ s → IsKnownBound order e
+      → between order s (Some e) ≡ []
+  none_after_end e None turns known = refl
+  none_after_end e (Some s) turns known =
+      none_past e s turns known (starts_past_end order s e) refl
+
+  none_before_start : (s : Bound K) (e : Option (Bound K)) → flipped s ≡ e → IsKnownBound order s
+      → between order (Some s) e ≡ []
+  none_before_start s None turns known = refl
+  none_before_start s (Some e) turns known =
+      none_after_end e (Some s) (flipped_back order lawful s e turns)
+      (flipped_known order lawful s e turns known)
+
+  module _ {V : Type 0} (r : AnyRange K) where
+    -- the piece that comes first
+    pub gap_first : (s e : Option (Bound K)) {items rest : List (Item (AnyRange K) V)}
+        {i : Item (AnyRange K) V} (g : AnyRange K) (b : Bound K) → items ≡ i ∷ rest
+        → IsKnownRange order i.key → g ∷ [] ≡ between order s (flipped i.key.start)
+        → b ≡ i.key.start → pieces_from order r s e items
+        ≡ free_piece g ∷ pieces_from order r (Some b) e items
+    gap_first s e {rest = rest} {i = i} g b list known is start =
+        let more = bound_piece order r i ∷ pieces_from order r (flipped i.key.end) e rest in
+        let none = none_before_start i.key.start (flipped i.key.start) refl known.0 in
+        rw (list, start) (ap (λ gs. map free_piece gs ++ more) (sym is)
+        ∙ ap (λ gs. free_piece g ∷ (map free_piece gs ++ more)) (sym none))
+
+    -- the piece that comes last
+    pieces_end : (s e : Option (Bound K)) (init : List (Item (AnyRange K) V))
+        (i : Item (AnyRange K) V) → pieces_from order r s e (init ++ i ∷ [])
+        ≡ pieces_from order r s (flipped i.key.start) init
+        ++ bound_piece order r i ∷ free_between order (flipped i.key.end) e
+    pieces_end s e [] i = refl
+    pieces_end s e (j ∷ rest) i =
+        let gap = free_between order s (flipped j.key.start) in
+        let more = pieces_from order r (flipped j.key.end) (flipped i.key.start) rest in
+        let end = bound_piece order r i ∷ free_between order (flipped i.key.end) e in
+        ap (λ ps. gap ++ bound_piece order r j ∷ ps) (pieces_end (flipped j.key.end) e rest i)
+        ∙ sym (append_assoc gap (bound_piece order r j ∷ more) end)
+
+    module _ (s e : Option (Bound K)) {items : List (Item (AnyRange K) V)}
+        (init : List (Item (AnyRange K) V)) (i : Item (AnyRange K) V)
+        (list : items ≡ init ++ i ∷ []) where
+      pub gap_last : (g : AnyRange K) (b : Bound K) → IsKnownRange order i.key
+          → g ∷ [] ≡ between order (flipped i.key.end) e → b ≡ i.key.end
+          → pieces_from order r s e items
+          ≡ pieces_from order r s (Some b) items ++ free_piece g ∷ []
+      gap_last g b known is end =
+          let more = pieces_from order r s (flipped i.key.start) init in
+          let here = bound_piece order r i in
+          let none = none_after_end i.key.end (flipped i.key.end) refl known.1 in
+          rw (list, end, pieces_end s e init i, pieces_end s (Some i.key.end) init i)
+          (ap (λ gs. more ++ here ∷ map free_piece gs) (sym is)
+          ∙ sym (append_assoc more (here ∷ []) (free_piece g ∷ []))
+          ∙ ap (λ gs. (more ++ here ∷ map free_piece gs) ++ free_piece g ∷ []) (sym none))
+
+      pub item_last : (t : Option (Bound K)) (part : AnyRange K)
+          → [] ≡ between order (flipped i.key.end) e → t ≡ flipped i.key.start
+          → part ≡ common order i.key r → pieces_from order r s e items
+          ≡ pieces_from order r s t init ++ record { key = part; value = Some i.value } ∷ []
+      item_last t part none start is =
+          rw (list, start, is) (pieces_end s e init i
+          ∙ ap (λ gs. pieces_from order r s (flipped i.key.start) init
+          ++ bound_piece order r i ∷ map free_piece gs) (sym none))
+
+-- what is left once the last is taken is less
+pub last_is_less : {X : Type 0} (xs ys : List X) (x : X) → xs ≡ ys ++ x ∷ [] → length ys < length xs
+last_is_less xs ys x is = omega (arith, ap length is, length-append ys (x ∷ []))

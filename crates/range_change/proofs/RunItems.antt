@@ -1,0 +1,231 @@
+-- The items that a range meets are one run of a stored list.
+use Rattle.range_algebra.proofs.Lists.{any_none, any_left, any_right, any_split, every_at, every_left, every_right, list_is_take_and_drop, drop_all}
+use Rattle.range_algebra.proofs.Places.{unbounded_end}
+use Rattle.range_algebra.specs.Intervals.{Le, Lt, Every}
+use Rattle.range_algebra.specs.Range.{IsKnownBound, with_bounds}
+use Rattle.range_algebra.specs.declared.any.AnyRange.{AnyRange}
+use Rattle.range_change.proofs.Forms.{stored_known}
+use Rattle.range_change.proofs.Found.{starts_rise, stored_tail, every_nonempty}
+use Rattle.range_change.proofs.Listed.{IsListed, stored_list_is_listed}
+use Rattle.range_change.proofs.RangePieces.{every_with}
+use Rattle.range_change.proofs.Tests.{not_both}
+use Rattle.range_change.specs.Lookups.{MeetsSome}
+use Rattle.range_change.specs.Stored.{IsStored}
+use Rattle.range_keys.specs.Order.{KeyOrder, IsLawful}
+use Rattle.range_keys.specs.Position.{start_position, end_position, position_cmp}
+use Rattle.range_keys.specs.declared.inner.position.Position.{Position}
+use Rattle.range_change.specs.Runs.{AreOverlapping}
+use Rattle.range_change.proofs.PlaceOrder.{le_refl, lt_le, le_trans, lt_not_le, le_lt_trans}
+use Rattle.range_store.specs.ListPlaces.{place_before}
+use Rattle.range_store.specs.declared.storage.Item.{Item}
+use Rattle.std.proofs.Common.{◌≡◌, refl, sym, ap, ◌∙◌, ℕ, zero, suc, ◌+◌, ◌-◌, ◌<◌, ◌≤◌, Bool, true, false, List, [], ◌∷◌, ◌++◌, length, take, drop, get_or, arith, Option, Some, None, inl, inr}
+use Rattle.std.proofs.lemmas.List.{drop-drop}
+use Rattle.std.specs.Cmp.{IsEquivalence}
+use Rattle.std.specs.Ordering.{is_gt}
+use Rattle.std.specs.Prelude.{MatchOption}
+use Rattle.std.specs.declared.ops.Bound.{Bound}
+use Rattle.std.specs.declared.ops.Bound.TheVariants.{Included, Unbounded}
+use Rattle.range_change.specs.Window.{IsFound, IsLastStarting, place_after}
+use Rattle.range_change.proofs.Extents.{end_le}
+use Rattle.range_change.proofs.Windows.{first_of_run, last_of_run}
+
+pub every_front : {X : Type 0} (P : X → Type 0) (n : ℕ) (xs : List X) → Every P xs
+    → Every P (take n xs)
+every_front P n xs h = every_left P _ _ (rw (list_is_take_and_drop xs n) at h)
+
+pub every_back : {X : Type 0} (P : X → Type 0) (n : ℕ) (xs : List X) → Every P xs
+    → Every P (drop n xs)
+every_back P n xs h = every_right P _ _ (rw (list_is_take_and_drop xs n) at h)
+
+every_between : {X : Type 0} (P : X → Type 0) (m n : ℕ) (xs : List X) → Every P (take n xs)
+    → Every P (take (n - m) (drop m xs))
+every_between P zero n xs h = let whole : n - 0 ≡ n = omega arith in rw whole h
+every_between P m zero xs h = let none : zero - m ≡ 0 = omega arith in rw none tt
+every_between P m n [] h = every_front P (n - m) (drop m []) (every_back P m [] tt)
+every_between P (suc m) (suc n) (x ∷ xs) h =
+    let less : suc n - suc m ≡ n - m = omega arith in
+    rw less (every_between P m n xs h.1)
+
+module _ {K : Type 0} {order : KeyOrder K} (lawful : IsLawful order) where
+  abbrev PLe : Position K → Position K → Type 0
+  PLe p q = Le (position_cmp order.cmp) p q
+
+  abbrev PLt : Position K → Position K → Type 0
+  PLt p q = Lt (position_cmp order.cmp) p q
+
+  abbrev Start : {V : Type 0} → Item (AnyRange K) V → Position K
+  Start i = start_position order i.key.start
+
+  abbrev End : {V : Type 0} → Item (AnyRange K) V → Position K
+  End i = end_position order i.key.end
+
+  -- the end of all keys is the last
+  pub ends_full : (e : Bound K) → IsKnownBound order e
+      → PLe (end_position order e) (end_position order Unbounded)
+  ends_full e known = end_le order lawful e Unbounded known tt (unbounded_end order lawful e known)
+
+  module _ {V : Type 0} (same : V → V → Bool) where
+    first_starts_first : (i : Item (AnyRange K) V) (rest : List (Item (AnyRange K) V)) (n : ℕ)
+        (y : Item (AnyRange K) V) → IsListed order lawful same (i ∷ rest) → n < length rest
+        → y ≡ get_or rest n y → PLt (Start i) (Start y)
+    first_starts_first i rest n y h within read =
+        rw read (le_lt_trans lawful _ _ _ (every_nonempty order lawful same (i ∷ rest) h).0
+        (every_at _ rest n y (starts_rise order lawful same i rest h) within))
+
+    -- the one item starts before the other just where it stands before it
+    listed_order : (items : List (Item (AnyRange K) V)) (m n : ℕ) (x y : Item (AnyRange K) V)
+        → IsListed order lawful same items → m < length items → n < length items
+        → x ≡ get_or items m x → y ≡ get_or items n y
+        → (m < n → PLt (Start x) (Start y)) × (n ≤ m → PLe (Start y) (Start x))
+    listed_order [] m n x y h in_m in_n read read' = absurd (omega (arith, in_m))
+    listed_order (i ∷ rest) zero zero x y h in_m in_n read read' =
+        let here : x ≡ i = read in
+        let there : y ≡ i = read' in
+        (λ l. absurd (omega (arith, l)), λ _. rw (here, there) (le_refl lawful _))
+    listed_order (i ∷ rest) zero (suc n) x y h in_m in_n read read' =
+        let here : x ≡ i = read in (
+          λ _. rw here (first_starts_first i rest n y h (omega (arith, in_n)) read'),
+          λ l. absurd (omega (arith, l)),
+        )
+    listed_order (i ∷ rest) (suc m) zero x y h in_m in_n read read' =
+        let there : y ≡ i = read' in (
+          λ l. absurd (omega (arith, l)),
+          λ _. rw there (lt_le lawful _ _
+              (first_starts_first i rest m x h (omega (arith, in_m)) read)),
+        )
+    listed_order (i ∷ rest) (suc m) (suc n) x y h in_m in_n read read' =
+        let next =
+        listed_order rest m n x y (stored_tail order lawful same i rest h) (omega (arith, in_m))
+        (omega (arith, in_n)) read read' in
+        (λ l. next.0 (omega (arith, l)), λ l. next.1 (omega (arith, l)))
+
+    pub stored_order : {items : List (Item (AnyRange K) V)} {m n : ℕ} {x y : Item (AnyRange K) V}
+        → IsStored order same items → m < length items → n < length items
+        → x ≡ get_or items m x → y ≡ get_or items n y →
+        (is_gt (position_cmp order.cmp (Start y) (Start x)) ≡ true → m < n)
+        × (is_gt (position_cmp order.cmp (Start y) (Start x)) ≡ false → n ≤ m)
+    stored_order {items = items} {m = m} {n = n} {x = x} {y = y} stored in_m in_n read read' =
+        let placed =
+        listed_order items m n x y (stored_list_is_listed order lawful same items stored) in_m in_n
+        read read' in (
+          λ e. let never : n ≤ m → ⊥ = λ l. not_both (placed.1 l) e in omega (arith, never),
+          λ e.
+              let never : m < n → ⊥ = λ l. lt_not_le lawful _ _ (placed.0 l) e in
+              omega (arith, never),
+        )
+
+  -- the items from the first that does not end before the range to the last that starts within it
+  -- at the latest
+  overlapping_are : {V : Type 0} (r : AnyRange K) (items : List (Item (AnyRange K) V)) (a b : ℕ)
+      → Every (λ i. PLt (End i) (start_position order r.start)) (take a items)
+      → Every (λ i. PLe (start_position order r.start) (End i)) (drop a items)
+      → Every (λ i. PLe (Start i) (end_position order r.end)) (take b items)
+      → Every (λ i. PLt (end_position order r.end) (Start i)) (drop b items)
+      → AreOverlapping order items r (take (b - a) (drop a items))
+  overlapping_are r items a b below above upto past =
+      let same_place : a + (b - a) ≡ b + (a - b) = omega arith in
+      let behind : drop (b - a) (drop a items) ≡ drop (a - b) (drop b items) =
+      drop-drop (b - a) a items
+      ∙ (ap (λ n. drop n items) same_place ∙ sym (drop-drop (a - b) b items)) in
+      record {
+        before = take a items;
+        after = drop (b - a) (drop a items);
+        split =
+            list_is_take_and_drop items a
+            ∙ ap (λ ys. take a items ++ ys) (list_is_take_and_drop (drop a items) (b - a));
+        below = below;
+        meet =
+            every_with _ _ _ _ (every_front _ (b - a) (drop a items) above)
+            (every_between _ a b items upto)
+            (λ i h k. (λ l. lt_not_le lawful _ _ l h, λ l. lt_not_le lawful _ _ l k));
+        above = rw behind (every_back _ (a - b) (drop b items) past);
+      }
+
+  -- where none is shown, the range meets none
+  pub none_shown : {V : Type 0} (items : List (Item (AnyRange K) V)) (r : AnyRange K)
+      (met : List (Item (AnyRange K) V)) → AreOverlapping order items r met → met ≡ []
+      → MeetsSome order items r → ⊥
+  none_shown items r met are none h =
+      elim (any_split _ are.before (met ++ are.after) (rw are.split at h)) [
+        | inl k ↦ any_none _ _ are.before are.below (λ i l both. both.0 l) k
+        | inr k ↦ any_none _ _ are.after are.above (λ i l both. both.1 l) (rw none at k)
+      ]
+
+  -- where the range meets none, none is shown
+  pub all_shown : {V : Type 0} (items : List (Item (AnyRange K) V)) (r : AnyRange K)
+      (met : List (Item (AnyRange K) V)) → AreOverlapping order items r met
+      → (MeetsSome order items r → ⊥) → met ≡ []
+  all_shown items r [] are none = refl
+  all_shown items r (i ∷ rest) are none =
+      absurd (none (rw are.split (any_right _ are.before ((i ∷ rest) ++ are.after)
+      (any_left _ (i ∷ rest) are.after (inl are.meet.0)))))
+
+module _ {K : Type 0} {order : KeyOrder K} (lawful : IsLawful order) {V : Type 0}
+    {same : V → V → Bool} (equal : IsEquivalence same) {P : Type 0} (is_good : P → Type 0)
+    (rank : P → ℕ) (items : List (Item (AnyRange K) V)) (stored : IsStored order same items) where
+  -- what stands neither before what the first search finds nor after what the second does
+  pub overlapping_found : (r : AnyRange K) (p e : Position K) → p ≡ start_position order r.start
+      → e ≡ end_position order r.end → (before first last : Option P)
+      → IsFound order is_good rank items p before first
+      → IsLastStarting order is_good rank items e last (place_after rank last)
+      → AreOverlapping order items r
+      (take (place_after rank last - place_before rank (length items) first)
+      (drop (place_before rank (length items) first) items))
+  overlapping_found r p e low high before first last found ends =
+      overlapping_are lawful r items (place_before rank (length items) first)
+      (place_after rank last) (rw low at found.below) (rw low at found.above)
+      (rw high at ends.upto) (rw high at ends.past)
+
+  at_end : (last : Option P)
+      → MatchOption last (items ≡ []) (λ p. is_good p × (rank p + 1 ≡ length items))
+      → place_after rank last ≡ length items
+  at_end None h = rw h refl
+  at_end (Some p) h = h.1
+
+  -- all that stand not before what the search for a key finds
+  pub found_from : (k : K) → order.is_key k → (before first last : Option P)
+      → IsFound order is_good rank items (start_position order (Included k)) before first
+      → MatchOption last (items ≡ []) (λ p. is_good p × (rank p + 1 ≡ length items))
+      → AreOverlapping order items (with_bounds (Included k) Unbounded)
+      (take (place_after rank last - place_before rank (length items) first)
+      (drop (place_before rank (length items) first) items))
+  found_from k key before first last found is_last =
+      let upper : Position K = end_position order Unbounded in
+      let all : Every (λ i. PLe lawful (Start lawful i) upper) items =
+      every_with _ _ _ items (every_nonempty order lawful same items
+      (stored_list_is_listed order lawful same items stored))
+      (stored_known order lawful same equal items stored)
+      (λ i own known. le_trans lawful _ _ _ own (ends_full lawful i.key.end known.1)) in
+      let b = place_after rank last in
+      overlapping_are lawful (with_bounds (Included k) Unbounded) items
+      (place_before rank (length items) first) b found.below found.above (every_front _ b items all)
+      (rw (drop_all items b (at_end last is_last)) tt)
+
+-- the first of a run and the rest, and the last and those before it
+module _ {T : Type 0} (items : List T) (p q : ℕ) (x : T) (within : q < length items) where
+  pub run_first : p ≤ q → x ≡ get_or items p x → (n : ℕ) → n ≡ p + 1
+      → take (q + 1 - p) (drop p items) ≡ x ∷ take (q + 1 - n) (drop n items)
+  run_first le read n next =
+      let left : q + 1 - p - 1 ≡ q + 1 - (p + 1) = omega arith in
+      rw next (first_of_run items p (q + 1 - p) x (omega (arith, le))
+      (omega (arith, le, within)) read
+      ∙ ap (λ m. x ∷ take m (drop (p + 1) items)) left)
+
+  pub run_last : p ≤ q → x ≡ get_or items q x → (n : ℕ) → n + 1 ≡ q
+      → take (q + 1 - p) (drop p items) ≡ take (n + 1 - p) (drop p items) ++ x ∷ []
+  run_last le read n next =
+      let left : q + 1 - p - 1 ≡ n + 1 - p = omega (arith, next) in
+      last_of_run items p (q + 1 - p) q x (omega (arith, le)) (omega (arith, le, within))
+      (omega (arith, le)) read
+      ∙ ap (λ m. take m (drop p items) ++ x ∷ []) left
+
+  pub run_alone_first : p ≤ q → q ≤ p → x ≡ get_or items p x
+      → take (q + 1 - p) (drop p items) ≡ x ∷ []
+  run_alone_first le ge read =
+      let none : q + 1 - (p + 1) ≡ 0 = omega (arith, ge) in
+      run_first le read (p + 1) refl ∙ ap (λ m. x ∷ take m (drop (p + 1) items)) none
+
+  pub run_alone : p ≤ q → q ≤ p → x ≡ get_or items q x → take (q + 1 - p) (drop p items) ≡ x ∷ []
+  run_alone le ge read =
+      let at : q ≡ p = omega (arith, le, ge) in
+      run_alone_first le ge (read ∙ ap (λ n. get_or items n x) at)

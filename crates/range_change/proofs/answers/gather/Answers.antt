@@ -1,0 +1,74 @@
+use Rattle.std.proofs.lemmas.Grind.{common_steps}
+use Rattle.std.proofs.Common.{arith, sym, ◌∙◌, Ok, Err}
+use Rattle.std.specs.Cmp.{Equal-is}
+use Rattle.range_keys.specs.Order.{IsLawful}
+use Rattle.range_algebra.specs.Clones.{bound_clone}
+use Rattle.range_change.proofs.PieceAnswers.{started, next_is_askable, next_answered, one_more, one_more_keeps_spelling, all_gathered}
+use Rattle.range_change.proofs.Results.{error_has_no_value}
+use Rattle.range_change.proofs.Tests.{value_is_no_error}
+use Rattle.range_change.proofs.answers.gather.Goals as goal
+
+pub loop-part-init : goal.loop-part-init
+loop-part-init g c =
+    rw (c.new-middle.ensures.items, c.pieces_within-pieces.ensures) (record {
+      spelled = tt;
+      underway = λ lawful equal. started lawful equal c.requires.window;
+    })
+
+pub ask-requires : goal.ask-requires
+ask-requires g c =
+    let lawful = g.met.K.PartialEnum.lawful in
+    let equal = g.met.V.Eq.laws in
+    let was = rw c.in-Some.ensures.steps at (c.loop-part.invariant.underway lawful equal) in
+    next_is_askable lawful equal c.requires.window was c.requires.free c.requires.bound
+
+pub returns-in_err-ask : goal.returns-in_err-ask
+returns-in_err-ask g c =
+    let lawful = g.met.K.PartialEnum.lawful in
+    let equal = g.met.V.Eq.laws in
+    let was = rw c.in-Some.ensures.steps at (c.loop-part.invariant.underway lawful equal) in
+    record {
+      ok = error_has_no_value _ c.from_residual.result c.from_residual.ensures.0;
+      spelled = error_has_no_value _ c.from_residual.result c.from_residual.ensures.0;
+      closure =
+          λ e failed. next_answered lawful equal c.requires.window was (Err e)
+          (c.ask.ensures.closure e (grind (arith, common_steps)));
+      memory =
+          λ failed.
+          let said = c.ask.ensures.memory (grind (arith, common_steps)) in
+          (said.0, next_answered lawful equal c.requires.window was (Ok said.0) said.1);
+    }
+
+pub loop-part-preserved : goal.loop-part-preserved
+loop-part-preserved g c =
+    let order = g.K.MaybeBounded.order in
+    let tied = λ (a : g.row.K.Denot) (b : g.row.K.Denot) (h : g.K.Clone.is_clone a b).
+    sym (g.met.K.MaybeBounded.order_is_cmp a b)
+    ∙ (Equal-is (g.K.Ord.cmp a b)).0
+    (sym (g.met.K.Ord.matches_eq a b) ∙ c.requires.keys a b h) in
+    let done = c.in_ok-ask.ensures.ok in
+    let clones = λ (lawful : IsLawful order). bound_clone order lawful g.K.Clone.is_clone tied in
+    record {
+      spelled =
+          let lawful = g.met.K.PartialEnum.lawful in
+          let equal = g.met.V.Eq.laws in
+          let was = rw c.in-Some.ensures.steps at (c.loop-part.invariant.underway lawful equal) in
+          one_more_keeps_spelling lawful equal c.requires.window was g.K.Clone.is_clone
+          (clones lawful) c.ask.new.items.items done.0 done.2 c.loop-part.invariant.spelled;
+      underway = λ lawful equal.
+          let was = rw c.in-Some.ensures.steps at (c.loop-part.invariant.underway lawful equal) in
+          one_more lawful equal c.requires.window was g.K.Clone.is_clone (clones lawful)
+          c.ask.new.items.items done.0 done.2 done.1;
+    }
+
+pub returns : goal.returns
+returns g c =
+    let lawful = g.met.K.PartialEnum.lawful in
+    let equal = g.met.V.Eq.laws in
+    let was = rw c.in_default.ensures.steps.0 at (c.loop-part.invariant.underway lawful equal) in
+    record {
+      ok = all_gathered lawful equal c.requires.window was;
+      spelled = c.loop-part.invariant.spelled;
+      closure = λ e failed. absurd (value_is_no_error failed);
+      memory = λ failed. absurd (value_is_no_error failed);
+    }

@@ -1,0 +1,210 @@
+//! Runs of stored items, from both ends.
+ghost use Rattle.std.specs.Prelude.{◌≡◌, ◌∷◌, ◌++◌, [], ⊤, Some, length, take, drop, ◌-◌};
+ghost use Rattle.std.specs.Iterator.{YieldsFirstBy, YieldsLastBy, item_count};
+ghost use Rattle.std.specs.Ordering.{is_gt};
+ghost use Rattle.range_keys.specs.Position.{position_cmp, start_position};
+ghost use Rattle.range_store.specs.ListPlaces.{IsAt, place_before};
+ghost use Rattle.range_change.specs.Runs.{IsRun, run_items, shown_item};
+ghost use Rattle.range_change.specs.Stored.{IsStored};
+ghost use Rattle.range_change.specs.Window.{IsJustBefore, place_after};
+
+use crate::window::starts_past;
+use range_algebra::any::AnyRange;
+use range_keys::bound::Directed;
+use range_keys::traits::PartialEnum;
+use range_store::storage::{Item, Steps, Storage};
+use std::alloc::AllocError;
+use std::marker::{Model, PhantomData};
+use std::ops::RangeBounds;
+
+/// The stored ranges that meet a range and are left, each with its value, in order. A contract sees
+/// their list.
+#[derive(Drop)]
+pub struct Overlapping<'a, K: PartialEnum + 'a, V: Eq + 'a, C: Storage<Item<AnyRange<K>, V>> + 'a> {
+    stored: &'a C,
+    ends: Option<(C::Position, C::Position)>,
+    item: PhantomData<(K, V)>,
+}
+
+impl<'a, K: PartialEnum + 'a, V: Eq + 'a, C: Storage<Item<AnyRange<K>, V>> + 'a> Model
+    for Overlapping<'a, K, V, C> {
+    ghost use Rattle.std.specs.Prelude.{List};
+    ghost use Rattle.range_algebra.specs.declared.any.AnyRange.{AnyRange};
+    ghost use Rattle.range_store.specs.declared.storage.Item.{Item};
+    ghost use Rattle.range_change.specs.Runs.{IsRun, run_items};
+    ghost use Rattle.range_change.specs.Stored.{IsStored};
+
+    ghost Value = { List (Item (AnyRange K) V) };
+
+    ghost view = { λ o. run_items (C.rank o.stored.now) (C.items o.stored.now) o.ends };
+
+    ghost invariant = { λ o. IsStored K.order V.eq (C.items o.stored.now)
+        × IsRun (C.is_good o.stored.now) (C.rank o.stored.now) o.ends };
+}
+
+impl<'a, K: PartialEnum + 'a, V: Eq + 'a, C: Storage<Item<AnyRange<K>, V>> + 'a> Overlapping<
+    'a,
+    K,
+    V,
+    C,
+> {
+    /// The items of a run of a container.
+    pub fn new(stored: &'a C, ends: Option<(C::Position, C::Position)>) -> Self
+        requires stored { IsStored K.order V.eq (C.items stored.now) }
+        requires run { IsRun (C.is_good stored.now) (C.rank stored.now) ends }
+        ensures { result ≡ run_items (C.rank stored.now) (C.items stored.now) ends }
+    {
+        Overlapping {
+            stored,
+            ends,
+            item: PhantomData,
+        }
+    }
+
+    /// The same items again.
+    pub fn duplicate(&self) -> Self
+        ensures { result ≡ self.now }
+    {
+        Overlapping::new(self.stored, self.ends)
+    }
+}
+
+/// Whether the one item stands before the other.
+fn stands_before<K: PartialEnum, V>(
+    item: &Item<AnyRange<K>, V>,
+    other: &Item<AnyRange<K>, V>,
+) -> bool
+    ensures { result
+        ≡ is_gt (position_cmp K.order.cmp (start_position K.order other.now.key.start)
+        (start_position K.order item.now.key.start)) }
+{
+    let mut steps = Steps::new();
+    let start = Directed::Start(item.key.start_bound());
+    starts_past::<K, V>(other, &start, &mut steps)
+}
+
+/// The first item of a run, and the run that is left after it.
+fn split_first<'a, K: PartialEnum, V: Eq, C: Storage<Item<AnyRange<K>, V>>>(
+    stored: &'a C,
+    first: C::Position,
+    last: C::Position,
+) -> (&'a Item<AnyRange<K>, V>, Option<(C::Position, C::Position)>)
+    requires stored { IsStored K.order V.eq (C.items stored.now) }
+    requires run { IsRun (C.is_good stored.now) (C.rank stored.now) (Some (first, last)) }
+    ensures run { IsRun (C.is_good stored.now) (C.rank stored.now) result.1 }
+    ensures items { run_items (C.rank stored.now) (C.items stored.now) (Some (first, last))
+        ≡ result.0.now ∷ run_items (C.rank stored.now) (C.items stored.now) result.1 }
+{
+    let item = stored.get(first);
+    if stands_before(item, stored.get(last)) {
+        match stored.next(first) {
+            Some(p) => (item, Some((p, last))),
+            None => unreachable!(),
+        }
+    } else {
+        (item, None)
+    }
+}
+
+/// The last item of a run, and the run that is left before it.
+fn split_last<'a, K: PartialEnum, V: Eq, C: Storage<Item<AnyRange<K>, V>>>(
+    stored: &'a C,
+    first: C::Position,
+    last: C::Position,
+) -> (Option<(C::Position, C::Position)>, &'a Item<AnyRange<K>, V>)
+    requires stored { IsStored K.order V.eq (C.items stored.now) }
+    requires run { IsRun (C.is_good stored.now) (C.rank stored.now) (Some (first, last)) }
+    ensures run { IsRun (C.is_good stored.now) (C.rank stored.now) result.0 }
+    ensures items { run_items (C.rank stored.now) (C.items stored.now) (Some (first, last))
+        ≡ run_items (C.rank stored.now) (C.items stored.now) result.0 ++ result.1.now ∷ [] }
+{
+    let item = stored.get(last);
+    if stands_before(stored.get(first), item) {
+        match stored.prev(last) {
+            Some(p) => (Some((first, p)), item),
+            None => unreachable!(),
+        }
+    } else {
+        (None, item)
+    }
+}
+
+/// The run of the items that stand neither before the one position nor after the other.
+pub fn run_between<K: PartialEnum, V: Eq, C: Storage<Item<AnyRange<K>, V>>>(
+    stored: &C,
+    first: Option<C::Position>,
+    last: Option<C::Position>,
+) -> Option<(C::Position, C::Position)>
+    requires stored { IsStored K.order V.eq (C.items stored.now) }
+    requires first { IsAt (C.is_good stored.now) (C.rank stored.now) (length (C.items stored.now))
+        first (place_before (C.rank stored.now) (length (C.items stored.now)) first) }
+    requires last { IsJustBefore (C.is_good stored.now) (C.rank stored.now) last
+        (place_after (C.rank stored.now) last) }
+    ensures run { IsRun (C.is_good stored.now) (C.rank stored.now) result }
+    ensures items { let place = place_before (C.rank stored.now) (length (C.items stored.now)) first
+        in run_items (C.rank stored.now) (C.items stored.now) result
+        ≡ take (place_after (C.rank stored.now) last - place) (drop place (C.items stored.now)) }
+{
+    match (first, last) {
+        (Some(p), Some(q)) => {
+            if stands_before(stored.get(q), stored.get(p)) {
+                None
+            } else {
+                Some((p, q))
+            }
+        }
+        (_, _) => None,
+    }
+}
+
+/// A clone has the same items left. It allocates nothing and never fails.
+impl<'a, K: PartialEnum + 'a, V: Eq + 'a, C: Storage<Item<AnyRange<K>, V>> + 'a> Clone
+    for Overlapping<'a, K, V, C> {
+    ghost is_clone = { λ iter copy. copy ≡ iter };
+
+    ghost is_infallible = { λ _. ⊤ };
+
+    fn clone(&self) -> Result<Self, AllocError> {
+        Ok(self.duplicate())
+    }
+}
+
+impl<'a, K: PartialEnum + 'a, V: Eq + 'a, C: Storage<Item<AnyRange<K>, V>> + 'a> Iterator
+    for Overlapping<'a, K, V, C> {
+    type Item = (&'a AnyRange<K>, &'a V);
+
+    ghost next_gives = { YieldsFirstBy shown_item (λ rest. rest) };
+
+    ghost remaining = { item_count (λ rest. rest) };
+
+    fn next(&mut self) -> Option<(&'a AnyRange<K>, &'a V)> {
+        match self.ends {
+            None => None,
+            Some((first, last)) => {
+                let (item, ends) = split_first::<K, V, C>(self.stored, first, last);
+                self.ends = ends;
+                Some((&item.key, &item.value))
+            }
+        }
+    }
+
+    fn size_hint(&self) -> (usize, Option<usize>) {
+        (0, None)
+    }
+}
+
+impl<'a, K: PartialEnum + 'a, V: Eq + 'a, C: Storage<Item<AnyRange<K>, V>> + 'a> DoubleEndedIterator
+    for Overlapping<'a, K, V, C> {
+    ghost next_back_gives = { YieldsLastBy shown_item (λ rest. rest) };
+
+    fn next_back(&mut self) -> Option<(&'a AnyRange<K>, &'a V)> {
+        match self.ends {
+            None => None,
+            Some((first, last)) => {
+                let (ends, item) = split_last::<K, V, C>(self.stored, first, last);
+                self.ends = ends;
+                Some((&item.key, &item.value))
+            }
+        }
+    }
+}
