@@ -1,5 +1,7 @@
 //! What is wrong with a line that says nothing.
 
+ghost use Rattle.std.specs.Prelude.{◌≤◌, ◌+◌, length};
+
 use crate::family::Family;
 use crate::line::{content_of, length_of};
 use std::fmt;
@@ -46,11 +48,15 @@ fn family_of(text: &str) -> Option<Family> {
 }
 
 /// How many bytes of white space a text begins with.
-fn blanks(text: &[u8]) -> usize {
+fn blanks(text: &[u8]) -> usize
+    ensures { result ≤ length text.now }
+{
     text.len().saturating_sub(text.trim_ascii_start().len())
 }
 
-fn fault_of_prefix(address: &str, digits: &str) -> Fault {
+fn fault_of_prefix(address: &str, digits: &str) -> Fault
+    ensures { result.column ≤ length address.now + 1 }
+{
     match family_of(address) {
         None => Fault {
             column: 0,
@@ -67,7 +73,9 @@ fn fault_of_prefix(address: &str, digits: &str) -> Fault {
     }
 }
 
-fn fault_of_range(first: &str, last: &str) -> Fault {
+fn fault_of_range(first: &str, last: &str) -> Fault
+    ensures { result.column ≤ length first.now + 1 + length last.now }
+{
     if family_of(first.trim_ascii()).is_none() {
         return Fault {
             column: 0,
@@ -85,7 +93,9 @@ fn fault_of_range(first: &str, last: &str) -> Fault {
     }
 }
 
-fn fault_in(text: &str) -> Fault {
+fn fault_in(text: &str) -> Fault
+    ensures { result.column ≤ length text.now }
+{
     if let Some((address, digits)) = text.split_once('/') {
         return fault_of_prefix(address, digits);
     }
@@ -98,9 +108,14 @@ fn fault_in(text: &str) -> Fault {
     }
 }
 
-/// What is wrong with a line that [`line_of`](crate::line_of) reads as nothing. Allocates nothing.
-pub fn fault_of(line: &[u8]) -> Fault {
-    let fault = match str::from_utf8(content_of(line)) {
+/// What is wrong with a line that [`line_of`](crate::line_of) reads as nothing, at one of its bytes
+/// or at its end. Allocates nothing.
+pub fn fault_of(line: &[u8]) -> Fault
+    ensures first { 1 ≤ result.column }
+    ensures last { result.column ≤ length line.now + 1 }
+{
+    let blanks = blanks(line);
+    let fault = match str::from_utf8(content_of(&line[blanks..])) {
         Ok(text) => fault_in(text),
         Err(_) => Fault {
             column: 0,
@@ -108,7 +123,7 @@ pub fn fault_of(line: &[u8]) -> Fault {
         },
     };
     Fault {
-        column: fault.column.saturating_add(blanks(line)).saturating_add(1),
+        column: fault.column.saturating_add(blanks).saturating_add(1),
         expected: fault.expected,
     }
 }
