@@ -4,7 +4,7 @@ Two programs are built without a proof, so that one allocation of a run can be r
 tests/, whose calls look themselves at what became of them, and `rangerun`, which plays the
 conversations of memory.txt. There the replies have to be those of the conversation without the line
 that was refused, with `memory` in the place of that line's, or those of the lines before it and
-`read error`, since to read a line may allocate too.
+`read error`, since to read a line may allocate too. Of `cidr` nothing may be printed then.
 """
 
 import collections
@@ -101,16 +101,32 @@ def refuse_lines(program, talk):
     return asked, len(met), wrong
 
 
+def refuse_answer(program, talk):
+    """Refuses each allocation of a conversation that has one answer. Returns how many, at how many nothing is
+    printed and the status is 1, and those of which something else came."""
+    whole, asked = refusing(program, 0, talk.input(), talk.words)
+    wrong = [] if whole == talk.wanted() else [f"with enough memory {whole}"]
+    silent = 0
+    for number in range(1, asked + 1):
+        found, _ = refusing(program, number, talk.input(), talk.words)
+        if not found.out and found.errors.startswith(b"Error: ") and found.status == 1:
+            silent += 1
+        elif found != whole:
+            wrong.append(f"refusal {number}: {str([*found])[:300]}")
+    return asked, silent, wrong
+
+
 def refuse_conversations(program, folder):
     began = time.monotonic()
     talks = conversations.of_file(folder / "conversations" / "memory.txt")
+    refuse_one = {"cidr": refuse_answer, "rangerun": refuse_lines}[folder.name]
     with concurrent.futures.ThreadPoolExecutor(PROCESSORS) as pool:
-        found = [*pool.map(lambda talk: refuse_lines(program, talk), talks)]
+        found = [*pool.map(lambda talk: refuse_one(program, talk), talks)]
     wrong = [f"{talk.name}: {it}" for talk, (_, _, strays) in zip(talks, found) for it in strays]
     wrong += [f"{talk.name}: no line was refused" for talk, (_, met, _) in zip(talks, found) if not met]
     failed = sum(bool(strays) or not met for _, met, strays in found)
-    what = f"{sum(asked for asked, _, _ in found)} allocations of {len(talks)} conversations refused"
-    what += f", at {sum(met for _, met, _ in found)} lines"
+    what = f"{folder.name}: {sum(asked for asked, _, _ in found)} allocations of {len(talks)} conversations refused"
+    what += f", {sum(met for _, met, _ in found)} answers"
     return told(what, Counts(len(talks) - failed, failed), began, "\n".join(wrong))
 
 
@@ -118,10 +134,10 @@ def refuse(wanted=()):
     """Refuses each allocation of the calls with one of the words in their names; of all and of the conversations."""
     if not shutil.which("cc"):
         return [told("refused memory", Counts(0, 0, 1), time.monotonic(), "")]
-    names = ["refusals"] if wanted else ["refusals", "rangerun"]
+    names = ["refusals"] if wanted else ["refusals", "rangerun", "cidr"]
     with workspace() as crates, tempfile.TemporaryDirectory() as room:
         with concurrent.futures.ThreadPoolExecutor() as pool:
             programs = [*pool.map(lambda name: built(crates / name, pathlib.Path(room)), names)]
         counts = [refuse_calls(programs[0], wanted)]
-        counts += [refuse_conversations(it, CRATES / "rangerun") for it in programs[1:]]
+        counts += [refuse_conversations(it, CRATES / it.name) for it in programs[1:]]
     return counts
