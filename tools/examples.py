@@ -1,7 +1,7 @@
 """The examples of pages and doc comments.
 
 A block of a page that is marked `rust` or `antt` has to stand whole in a file of the crates that RUN
-names, where it is proved, or of two of tests/, where it is run. The examples in doc comments of the
+names, where it is proved, or of three of tests/, where it is run. The examples in doc comments of the
 crates that SHOWN names are made into tests, which are run without a proof: tests/examples.txt has
 what stands around each. A block marked `text` is none.
 """
@@ -14,7 +14,7 @@ from tools import repository
 from tools.repository import CRATES, TOP, Counts, run, told
 
 RUN = [CRATES / name for name in ("tour", "access", "bookings", "odd_keys", "lexing_patterns")]
-RUN += [TOP / "tests" / name for name in ("example_tests", "pattern_tests")]
+RUN += [TOP / "tests" / name for name in ("address_tests", "example_tests", "pattern_tests")]
 PAGES = ("README.md", "docs/GUIDE.md")
 KINDS = (".rt", ".rt.txt", ".antt")
 FRAMES = TOP / "tests" / "examples.txt"

@@ -5,11 +5,12 @@ tests/, whose calls look themselves at what became of them, and `rangerun`, whic
 conversations of memory.txt. There the replies have to be those of the conversation without the line
 that was refused, with `memory` in the place of that line's, or those of the lines before it and
 `read error`, since to read a line may allocate too. A third, `tokens`, has to print the same, or a
-beginning of it and that it is out of memory.
+beginning of it and that it is out of memory. The fourth, `cidr`, has to print the same, or nothing.
 """
 
 import collections
 import concurrent.futures
+import functools
 import pathlib
 import shutil
 import subprocess
@@ -103,23 +104,39 @@ def refuse_lines(program, talk):
     return asked, len(met), wrong
 
 
-def refuse_command(program, talk):
+def told_by_tokens(found, whole):
+    return found.errors.endswith(b"out of memory\n") and whole.out.startswith(found.out)
+
+
+def told_by_cidr(found, _):
+    return found.errors.startswith(b"Error: ") and not found.out
+
+
+def refuse_command(is_told, program, talk):
     """Refuses each allocation of a command whose replies are one output. Returns the like."""
     whole, asked = refusing(program, 0, talk.input(), talk.words)
     wrong = [] if whole == talk.wanted() else [f"with enough memory {whole}"]
     met = 0
     for number in range(1, asked + 1):
         found, _ = refusing(program, number, talk.input(), talk.words)
-        is_told = found.errors.endswith(b"out of memory\n") and found.status == 1
-        met += is_told
-        if not (is_told and whole.out.startswith(found.out)) and found != whole:
+        if found.status == 1 and is_told(found, whole):
+            met += 1
+        elif found != whole:
             wrong.append(f"refusal {number}: {str([*found])[:300]}")
     return asked, met, wrong
 
 
-def refuse_conversations(program, refuse_one):
+PLAYERS = {
+    "rangerun": refuse_lines,
+    "tokens": functools.partial(refuse_command, told_by_tokens),
+    "cidr": functools.partial(refuse_command, told_by_cidr),
+}
+
+
+def refuse_conversations(program):
     began = time.monotonic()
     talks = conversations.of_file(CRATES / program.name / "conversations" / "memory.txt")
+    refuse_one = PLAYERS[program.name]
     with concurrent.futures.ThreadPoolExecutor(PROCESSORS) as pool:
         found = [*pool.map(lambda talk: refuse_one(program, talk), talks)]
     wrong = [f"{talk.name}: {it}" for talk, (_, _, strays) in zip(talks, found) for it in strays]
@@ -134,11 +151,10 @@ def refuse(wanted=()):
     """Refuses each allocation of the calls with one of the words in their names; of all and of the conversations."""
     if not shutil.which("cc"):
         return [told("refused memory", Counts(0, 0, 1), time.monotonic(), "")]
-    names = ["refusals"] if wanted else ["refusals", "rangerun", "tokens"]
+    names = ["refusals"] if wanted else ["refusals", *PLAYERS]
     with workspace() as crates, tempfile.TemporaryDirectory() as room:
         with concurrent.futures.ThreadPoolExecutor() as pool:
             programs = [*pool.map(lambda name: built(crates / name, pathlib.Path(room)), names)]
         counts = [refuse_calls(programs[0], wanted)]
-        players = {"rangerun": refuse_lines, "tokens": refuse_command}
-        counts += [refuse_conversations(it, players[it.name]) for it in programs[1:]]
+        counts += [refuse_conversations(it) for it in programs[1:]]
     return counts
