@@ -1,6 +1,6 @@
 """Refused memory: each allocation of each call is refused in turn, and what became of it is looked at.
 
-Two programs are built without a proof, so that one allocation of a run can be refused: `refusals` of
+Four programs are built without a proof, so that one allocation of a run can be refused: `refusals` of
 tests/, whose calls look themselves at what became of them, and `rangerun`, which plays the
 conversations of memory.txt. There the replies have to be those of the conversation without the line
 that was refused, with `memory` in the place of that line's, or those of the lines before it and
