@@ -11,8 +11,8 @@ The folder `conversations` of a program has files with any number of them:
     > show
     0..=8 1
 
-The first line names the program and gives it its arguments. What stands after `> ` is its input;
-all other lines are the replies to it.
+The first line names the program and gives it its arguments. It runs in its crate's folder. What stands
+after `> ` is its input; all other lines are the replies to it.
 There may also be a line
 
     stderr read error     where that line is written to standard error; else nothing is
@@ -126,8 +126,9 @@ def play(program, talk, kind, room):
     # A write beyond the limit gives an error: the signal for it stays ignored, as Python has it.
     limit = lambda: resource.setrlimit(resource.RLIMIT_FSIZE, (size, size))
     how = {"preexec_fn": limit, "restore_signals": False, "stderr": subprocess.PIPE, "timeout": 60}
+    folder = program.parent.parent
     with opened(talk.input(), kind) as given, tempfile.TemporaryFile() as out:
-        ran = subprocess.run([program, *talk.words], stdout=out, **given, **how)
+        ran = subprocess.run([program, *talk.words], cwd=folder, stdout=out, **given, **how)
         out.seek(0)
         return Ended(out.read(), ran.stderr, ran.returncode)
 
@@ -145,7 +146,9 @@ def play_built(folder):
 def play_unproved(folder):
     """Plays them once, with a program built without a proof, but for those with a stream that fails."""
     talks = [it for it in of_crate(folder) if not it.breaks and it.rooms == [None]]
-    ended = cases(folder, {talk.name: (talk.input(), talk.words) for talk in talks})
+    files = [it.relative_to(folder) for it in sorted(folder.glob("data/*"))]
+    flags = [word for it in files for word in ("--data", f"{it}={it}")]
+    ended = cases(folder, {talk.name: (talk.input(), talk.words) for talk in talks}, flags)
     return [(talk.name, ended.get(talk.name, ended[None]), talk.wanted()) for talk in talks]
 
 

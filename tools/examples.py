@@ -1,7 +1,7 @@
 """The examples of pages and doc comments.
 
 A block of a page that is marked `rust` or `antt` has to stand whole in a file of the crates that RUN
-names, where it is proved, or of two of tests/, where it is run. The examples in doc comments of the
+names, where it is proved, or of three of tests/, where it is run. The examples in doc comments of the
 crates that SHOWN names are made into tests, which are run without a proof: tests/examples.txt has
 what stands around each. A block marked `text` is none.
 """
@@ -13,14 +13,16 @@ import time
 from tools import repository
 from tools.repository import CRATES, TOP, Counts, run, told
 
-RUN = [CRATES / name for name in ("tour", "access", "bookings", "odd_keys")]
-RUN += [TOP / "tests" / name for name in ("example_tests", "pattern_tests")]
+RUN = [CRATES / name for name in ("tour", "access", "bookings", "odd_keys", "lexing_patterns")]
+RUN += [TOP / "tests" / name for name in ("address_tests", "example_tests", "pattern_tests")]
 PAGES = ("README.md", "docs/GUIDE.md")
 KINDS = (".rt", ".rt.txt", ".antt")
 FRAMES = TOP / "tests" / "examples.txt"
 SHOWN = ("range_algebra", "range_map", "range_sets", "range_commands", "range_json", "range_set_json")
-# The crate of the examples, and the one whose calls they show.
+SHOWN += ("lexing_patterns",)
+# The crate of the examples, the one whose calls most of them show, and what else they use.
 CRATE, CRATE_ABOVE = "examples", "btree_range_map"
+USED = "lexing lexing_patterns serde_json"
 
 
 def stripped(lines):
@@ -102,7 +104,7 @@ def read_by(crate):
 @contextlib.contextmanager
 def workspace():
     """Gives the folder of copies of all crates, with one more of the examples."""
-    with repository.workspace(f"{CRATE}: {CRATE_ABOVE} serde_json\n") as room:
+    with repository.workspace(f"{CRATE}: {CRATE_ABOVE} {USED}\n") as room:
         source = room / CRATE / "src"
         source.mkdir(parents=True)
         (source / "lib.rt").write_text("#[cfg(test)]\nmod tests;\n")

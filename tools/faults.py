@@ -1,14 +1,16 @@
 """Refused memory: each allocation of each call is refused in turn, and what became of it is looked at.
 
-Two programs are built without a proof, so that one allocation of a run can be refused: `refusals` of
+Four programs are built without a proof, so that one allocation of a run can be refused: `refusals` of
 tests/, whose calls look themselves at what became of them, and `rangerun`, which plays the
 conversations of memory.txt. There the replies have to be those of the conversation without the line
 that was refused, with `memory` in the place of that line's, or those of the lines before it and
-`read error`, since to read a line may allocate too.
+`read error`, since to read a line may allocate too. A third, `tokens`, has to print the same, or a
+beginning of it and that it is out of memory. The fourth, `cidr`, has to print the same, or nothing.
 """
 
 import collections
 import concurrent.futures
+import functools
 import pathlib
 import shutil
 import subprocess
@@ -33,8 +35,9 @@ def built(crate, folder):
 
 def refusing(program, number, given=b"", words=()):
     """Runs a program of which one allocation is refused. Returns how it ended, and how many it asked for."""
-    environment = {"REFUSED": str(number)}
-    ran = subprocess.run([program, *words], input=given, capture_output=True, env=environment)
+    environment, folder = {"REFUSED": str(number)}, CRATES / program.name
+    how = {"cwd": folder if folder.exists() else None, "env": environment}
+    ran = subprocess.run([program, *words], input=given, capture_output=True, **how)
     errors, _, asked = ran.stderr.rpartition(b"allocations ")
     return Ended(ran.stdout, errors, ran.returncode), int(asked)
 
@@ -101,16 +104,46 @@ def refuse_lines(program, talk):
     return asked, len(met), wrong
 
 
-def refuse_conversations(program, folder):
+def told_by_tokens(found, whole):
+    return found.errors.endswith(b"out of memory\n") and whole.out.startswith(found.out)
+
+
+def told_by_cidr(found, _):
+    return found.errors.startswith(b"Error: ") and not found.out
+
+
+def refuse_command(is_told, program, talk):
+    """Refuses each allocation of a command whose replies are one output. Returns the like."""
+    whole, asked = refusing(program, 0, talk.input(), talk.words)
+    wrong = [] if whole == talk.wanted() else [f"with enough memory {whole}"]
+    met = 0
+    for number in range(1, asked + 1):
+        found, _ = refusing(program, number, talk.input(), talk.words)
+        if found.status == 1 and is_told(found, whole):
+            met += 1
+        elif found != whole:
+            wrong.append(f"refusal {number}: {str([*found])[:300]}")
+    return asked, met, wrong
+
+
+PLAYERS = {
+    "rangerun": refuse_lines,
+    "tokens": functools.partial(refuse_command, told_by_tokens),
+    "cidr": functools.partial(refuse_command, told_by_cidr),
+}
+
+
+def refuse_conversations(program):
     began = time.monotonic()
-    talks = conversations.of_file(folder / "conversations" / "memory.txt")
+    talks = conversations.of_file(CRATES / program.name / "conversations" / "memory.txt")
+    refuse_one = PLAYERS[program.name]
     with concurrent.futures.ThreadPoolExecutor(PROCESSORS) as pool:
-        found = [*pool.map(lambda talk: refuse_lines(program, talk), talks)]
+        found = [*pool.map(lambda talk: refuse_one(program, talk), talks)]
     wrong = [f"{talk.name}: {it}" for talk, (_, _, strays) in zip(talks, found) for it in strays]
     wrong += [f"{talk.name}: no line was refused" for talk, (_, met, _) in zip(talks, found) if not met]
     failed = sum(bool(strays) or not met for _, met, strays in found)
     what = f"{sum(asked for asked, _, _ in found)} allocations of {len(talks)} conversations refused"
-    what += f", at {sum(met for _, met, _ in found)} lines"
+    what = f"{program.name}: {what}, at {sum(met for _, met, _ in found)} lines"
     return told(what, Counts(len(talks) - failed, failed), began, "\n".join(wrong))
 
 
@@ -118,10 +151,10 @@ def refuse(wanted=()):
     """Refuses each allocation of the calls with one of the words in their names; of all and of the conversations."""
     if not shutil.which("cc"):
         return [told("refused memory", Counts(0, 0, 1), time.monotonic(), "")]
-    names = ["refusals"] if wanted else ["refusals", "rangerun"]
+    names = ["refusals"] if wanted else ["refusals", *PLAYERS]
     with workspace() as crates, tempfile.TemporaryDirectory() as room:
         with concurrent.futures.ThreadPoolExecutor() as pool:
             programs = [*pool.map(lambda name: built(crates / name, pathlib.Path(room)), names)]
         counts = [refuse_calls(programs[0], wanted)]
-        counts += [refuse_conversations(it, CRATES / "rangerun") for it in programs[1:]]
+        counts += [refuse_conversations(it) for it in programs[1:]]
     return counts

@@ -59,6 +59,7 @@ def gate():
         runs.append(pool.submit(examples.run_in, room))
         runs += [pool.submit(conversations.count, it, conversations.play_built) for it in programs]
         runs.append(pool.submit(counting, "random conversations", ["crates/rangecalc/fuzz", "--conversations", "1000"]))
+        runs.append(pool.submit(counting, "random lists", ["crates/cidr/fuzz", "--lists", "300"]))
         ended = [it.result() for it in runs]
     bindings = counting("bindings: C, Rust and Python", ["./bindings/run"])
     return [*fresh, proved, *ended, *faults.refuse(), bindings]

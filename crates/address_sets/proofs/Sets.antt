@@ -44,29 +44,29 @@ any_append P (x ∷ xs) ys =
 
 module _ {A : Type 0} {order : KeyOrder A} {number : A → ℕ} {at : ℕ → A} {width : ℕ}
     (family : IsFamily order number at width) where
-  abbrev Stored : Type 0
+  abbrev pub Stored : Type 0
   Stored = Item (AnyRange A) (Unit {0})
 
-  abbrev Coarse : List Stored → Type 0
+  abbrev pub Coarse : List Stored → Type 0
   Coarse items = IsCoarse order (λ _ _. true) items
 
-  coarse_rest : (i : Stored) (items : List Stored) → Coarse (i ∷ items) → Coarse items
+  pub coarse_rest : (i : Stored) (items : List Stored) → Coarse (i ∷ items) → Coarse items
   coarse_rest i items c =
       record { keyed = c.keyed.1; rising = c.rising.1; parted = c.parted.1 }
 
-  abbrev Known : List Stored → Type 0
+  abbrev pub Known : List Stored → Type 0
   Known items = AllByRecursion (λ i. IsKnownRange order i.key) items
 
-  abbrev from_of : AnyRange A → ℕ
+  abbrev pub from_of : AnyRange A → ℕ
   from_of r = start_number number at width r.start
 
-  abbrev past_of : AnyRange A → ℕ
+  abbrev pub past_of : AnyRange A → ℕ
   past_of r = past_number number at width r.end
 
   pub below_number : (a b : A) → Below order a b → number a < number b
   below_number a b l = ranked (number a) (number b) Less (sym l ∙ family.by_number a b)
 
-  number_below : (a b : A) → number a < number b → Below order a b
+  pub number_below : (a b : A) → number a < number b → Below order a b
   number_below a b h = family.by_number a b ∙ sym (nat_cmp_is (number a) (number b) Less h)
 
   not_above_number : (a b : A) → NotAbove order a b → number a ≤ number b
@@ -95,19 +95,19 @@ module _ {A : Type 0} {order : KeyOrder A} {number : A → ℕ} {at : ℕ → A}
   end_holds (Excluded x) a key = (below_number a x, number_below a x)
   end_holds Unbounded a key = (λ h. family.counted.in_size a key, λ h. tt)
 
-  holds_is : (r : AnyRange A) (a : A) → order.is_key a
+  pub holds_is : (r : AnyRange A) (a : A) → order.is_key a
       → Holds order r a ↔ ((from_of r ≤ number a) × (number a < past_of r))
   holds_is r a key = (
     λ h. ((start_holds r.start a).0 h.0, (end_holds r.end a key).0 h.1),
     λ h. ((start_holds r.start a).1 h.0, (end_holds r.end a key).1 h.1),
   )
 
-  top_by : (b : Bound A) → IsKnownBound order b → past_number number at width b ≤ 2 ^ width
+  pub top_by : (b : Bound A) → IsKnownBound order b → past_number number at width b ≤ 2 ^ width
   top_by (Included x) key = let h = family.counted.in_size x key in omega (arith, h)
   top_by (Excluded x) key = let h = family.counted.in_size x key in omega (arith, h)
   top_by Unbounded key = omega arith
 
-  some_by : (r : AnyRange A) → ¬ IsKeyless order r → from_of r < past_of r
+  pub some_by : (r : AnyRange A) → ¬ IsKeyless order r → from_of r < past_of r
   some_by r keyed = elim (cases_lt (from_of r) (past_of r)) [
     | inl less ↦ less
     | inr not ↦ absurd (keyed (λ a key held.
@@ -173,7 +173,7 @@ module _ {A : Type 0} {order : KeyOrder A} {number : A → ℕ} {at : ℕ → A}
         ascending x (from + size number width p) past ps more e.1 rest after,
       )
 
-  last_held : (r : AnyRange A) → IsKnownRange order r → ¬ IsKeyless order r
+  pub last_held : (r : AnyRange A) → IsKnownRange order r → ¬ IsKeyless order r
       → (a : A) × order.is_key a × Holds order r a × (number a + 1 ≡ past_of r)
   last_held r known keyed =
       let some = some_by r keyed in
@@ -187,7 +187,7 @@ module _ {A : Type 0} {order : KeyOrder A} {number : A → ℕ} {at : ℕ → A}
         omega (arith, e, some),
       )
 
-  first_held : (r : AnyRange A) → IsKnownRange order r → ¬ IsKeyless order r
+  pub first_held : (r : AnyRange A) → IsKnownRange order r → ¬ IsKeyless order r
       → (a : A) × order.is_key a × Holds order r a × (number a ≡ from_of r)
   first_held r known keyed =
       let some = some_by r keyed in

@@ -1,5 +1,6 @@
 -- Address families, prefixes, and the prefixes that a set has.
 pub mod Addresses
+pub mod Counts
 pub mod Families
 pub mod Left
 pub mod Prefixes

@@ -9,9 +9,11 @@
 //! - keys too many to be counted: `src/ipv6.rt`, `specs/Addresses.antt`
 //! - the prefixes of a set of addresses: `src/{prefix,prefixes}.rt`,
 //!   `specs/{Prefixes,Tiles}.antt`; that no fewer have its addresses, `proofs/{Fewest,Sets}.antt`
+//! - how many addresses a set has: `src/count.rt`, `proofs/Counts.antt`
 #![tactic(auto)]
 
 pub mod address;
+pub mod count;
 pub mod ipv4;
 pub mod ipv6;
 pub mod prefix;
@@ -19,6 +21,7 @@ pub mod prefixes;
 
 pub use address::Address;
 use btree_range_map::RangeSet;
+pub use count::address_count;
 pub use ipv4::Ipv4;
 pub use ipv6::Ipv6;
 pub use prefix::Prefix;

@@ -41,7 +41,7 @@ impl<'a, A: Address + 'a> Model for Prefixes<'a, A> {
 }
 
 /// The number of the first address from the bound on.
-fn first_number<A: Address>(start: &Bound<A>) -> u128
+pub(crate) fn first_number<A: Address>(start: &Bound<A>) -> u128
     requires { start_number A.number A.at A.WIDTH start.now < 2 ^ A.WIDTH }
     ensures { result ≡ start_number A.number A.at A.WIDTH start.now }
 {
@@ -53,7 +53,7 @@ fn first_number<A: Address>(start: &Bound<A>) -> u128
 }
 
 /// The number of the last address up to the bound.
-fn last_number<A: Address>(end: &Bound<A>) -> u128
+pub(crate) fn last_number<A: Address>(end: &Bound<A>) -> u128
     requires { 0 < past_number A.number A.at A.WIDTH end.now }
     ensures { result + 1 ≡ past_number A.number A.at A.WIDTH end.now }
 {

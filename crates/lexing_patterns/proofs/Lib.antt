@@ -4,6 +4,7 @@ pub mod Drafting
 pub mod Joining
 pub mod Literals
 pub mod Meanings
+pub mod Naming
 pub mod CharacterRanges
 pub mod Pouring
 pub mod Promise

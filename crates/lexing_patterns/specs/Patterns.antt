@@ -1,10 +1,10 @@
 -- The tokens of a text by patterns.
-use Rattle.std.specs.Prelude.{◌≡◌, ◌↔◌, ℕ, ◌≤◌, ◌<◌, List, [], ◌∷◌, length, take, Some, slice_get, ⊤}
+use Rattle.std.specs.Prelude.{◌≡◌, ◌↔◌, ℕ, ◌≤◌, ◌<◌, List, [], ◌∷◌, length, take, Some, slice_get, IsTrue, ⊤}
 use Rattle.std.specs.Str.{IsCharBoundary, IsUtf8}
 use Rattle.btree_range_map.specs.Characters.{IsCharacter}
 use Rattle.charmoves.specs.Automata.{HasRule, IsStart}
 use Rattle.lexing.specs.declared.lexer.Lexer.{Lexer}
-use Rattle.lexing.specs.Lexers.{Accepts, rules_in}
+use Rattle.lexing.specs.Lexers.{Accepts, IsNameOf, IsSkipped, rules_in}
 use Rattle.lexing.specs.Tokens.{IsToken}
 use Rattle.regex_hir.specs.Re.{Re}
 use Rattle.regex_hir.specs.Matches.{Matches}
@@ -52,6 +52,18 @@ abbrev pub IsLexerOf : List PatternRule → Lexer → Type 0
 IsLexerOf rules lexer = (patterns : List Re) × AreReadAs rules patterns
     × ((text : List ℕ) → IsUtf8 text → (rule len : ℕ)
     → IsToken lexer text rule len ↔ IsLongestMatch patterns text rule len)
+
+-- of each rule, with its index, this holds
+abbrev pub EachRule : List PatternRule → (ℕ → PatternRule → Type 0) → Type 0
+EachRule rules P = (i : ℕ) (rule : PatternRule) → slice_get rules i ≡ Some rule → P i rule
+
+-- the lexer's rules have the names of these
+abbrev pub HasNamesOf : List PatternRule → Lexer → Type 0
+HasNamesOf rules lexer = EachRule rules (λ i rule. IsNameOf lexer i rule.name.now)
+
+-- the lexer skips tokens of just those rules that are skipped
+abbrev pub SkipsAs : List PatternRule → Lexer → Type 0
+SkipsAs rules lexer = EachRule rules (λ i rule. IsSkipped lexer i ↔ IsTrue rule.skipped)
 
 -- the lexer has the rules, start states and ends of the automata
 pub record IsPoured (draft : Draft) (lexer : Lexer) : Type 0 where

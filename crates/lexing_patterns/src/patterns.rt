@@ -1,9 +1,9 @@
 //! A lexer of several patterns.
-ghost use Rattle.std.specs.Prelude.{ℕ, ◌≡◌, ◌+◌, ◌↔◌, ◌∷◌, [], ◌++◌, List, length, IfOk, OnOk};
+ghost use Rattle.std.specs.Prelude.{ℕ, ◌≡◌, ◌↔◌, ◌∷◌, [], ◌++◌, List, length, IfOk, OnOk};
 ghost use Rattle.regex_hir.specs.Re.{Re};
 ghost use Rattle.lexing.specs.Lexers.{Accepts, rules_in, rule_count};
 ghost use Rattle.lexing_patterns.specs.Drafts.{IsDraft};
-ghost use Rattle.lexing_patterns.specs.Patterns.{IsReadAs, AreReadAs, IsPoured, IsLexerOf};
+ghost use Rattle.lexing_patterns.specs.Patterns.{IsReadAs, AreReadAs, IsPoured, IsLexerOf, HasNamesOf, SkipsAs};
 
 use crate::draft::Draft;
 use crate::error::{PatternError, RuleError};
@@ -31,6 +31,8 @@ pub struct PatternRule<'a> {
 /// Allocates.
 pub fn lexer(alloc: Global, rules: &[PatternRule]) -> Result<Lexer, RuleError>
     ensures count { IfOk result (λ lexer. rule_count lexer ≡ length rules.now) }
+    ensures named { IfOk result (HasNamesOf rules.now) }
+    ensures skips { IfOk result (SkipsAs rules.now) }
     ensures tokens { IfOk result (IsLexerOf rules.now) }
 {
     let draft = draft_of(alloc, rules)?;
@@ -85,6 +87,8 @@ fn fault(error: regex_syntax::Error) -> PatternError {
 
 fn assembled(alloc: Global, draft: &Draft, rules: &[PatternRule]) -> Result<Lexer, PatternError>
     ensures count { IfOk result (λ lexer. rule_count lexer ≡ length rules.now) }
+    ensures named { IfOk result (HasNamesOf rules.now) }
+    ensures skips { IfOk result (SkipsAs rules.now) }
     ensures poured { IfOk result (IsPoured draft.now) }
 {
     let moves = Moves::build(rules_of(alloc, draft)?);
@@ -94,9 +98,12 @@ fn assembled(alloc: Global, draft: &Draft, rules: &[PatternRule]) -> Result<Lexe
     Ok(lexer)
 }
 
-/// Adds the rules to the lexer.
+/// Adds the rules to a lexer that has none.
 fn name_all(lexer: &mut Lexer, rules: &[PatternRule]) -> Result<(), PatternError>
-    ensures count { OnOk result (rule_count lexer.new ≡ rule_count lexer.old + length rules.now) }
+    requires { rule_count lexer.old ≡ 0 }
+    ensures count { OnOk result (rule_count lexer.new ≡ length rules.now) }
+    ensures named { OnOk result (HasNamesOf rules.now lexer.new) }
+    ensures skips { OnOk result (SkipsAs rules.now lexer.new) }
     ensures automaton { rules_in lexer.new ≡ rules_in lexer.old }
     ensures accepting { (q r : ℕ) → Accepts lexer.new q r ↔ Accepts lexer.old q r }
 {

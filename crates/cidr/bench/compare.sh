@@ -1,0 +1,7 @@
+#!/bin/sh
+# Times `cidr merge` beside its peers on the blocks of a geolocation table, in order and in no order.
+# Needs Debian's tor-geoipdb, iprange, aggregate, python3-netaddr and time.
+# First, in this crate: rt run. Then: bench/compare.sh [PROGRAM]
+set -eu
+cd "$(dirname "$0")/.."
+exec /usr/bin/python3 bench/compare.py "${1:-out/cidr}"

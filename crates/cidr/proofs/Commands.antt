@@ -1,0 +1,269 @@
+-- Lists put together, one after the other.
+use Rattle.std.proofs.Common.{◌≡◌, ◌≢◌, ℕ, ◌↔◌, ◌⊎◌, Bool, List, [], ◌∷◌, ◌++◌, Option, None, Some, IfSome, Result, Ok, Err, IfErr, IfOk, OnErr, OnOk, ap, inl, inr, refl, sym, subst, append_assoc, arith, length}
+use Rattle.std.proofs.lemmas.List.{append-nil}
+use Rattle.btree_range_map.specs.Holding.{box_items}
+use Rattle.btree_range_map.specs.KeySets.{HoldsKey}
+use Rattle.address_sets.specs.Addresses.{ipv4_at, ipv4_order, ipv6_at, ipv6_order}
+use Rattle.address_text.specs.declared.family.Family.{Family}
+use Rattle.address_text.specs.declared.family.Family.TheVariants.{V4, V6}
+use Rattle.address_text.specs.declared.line.Line.{Line}
+use Rattle.address_lists.specs.Lists.{AreSaid, Has, HasJust, IsListed}
+use Rattle.address_lists.specs.declared.addresses.Addresses.{Addresses}
+use Rattle.cidr.specs.Commands.{AreKnown, AreLists, Asked, Combined, IsAnswer, Put}
+use Rattle.line_program.specs.Listing.{Writes}
+use Rattle.address_lists.specs.Printed.{IsPrinted}
+use Rattle.cidr.specs.declared.serve.Command.{Command}
+use Rattle.cidr.specs.declared.serve.Command.TheVariants.{Merge, Common, Except, Diff, Invert}
+use Rattle.cidr.specs.declared.serve.Stop.{Stop}
+use Rattle.cidr.specs.declared.serve.Stop.TheVariants.{Unwritable}
+
+-- a list with no element
+pub nothing_left : {X : Type 0} (xs : List X) → length xs ≡ 0 → xs ≡ []
+nothing_left [] none = refl
+nothing_left (x ∷ xs) none = absurd (omega arith)
+
+iff_then : {A B C : Type 0} → A ↔ B → B ↔ C → A ↔ C
+iff_then e f = (λ a. f.0 (e.0 a), λ c. e.1 (f.1 c))
+
+module _ (family : Family) (n : ℕ) where
+  combined_same : (task : Command) (P R Q S : Family → ℕ → Type 0) → P family n ↔ R family n
+      → Q family n ↔ S family n → Combined task P Q family n ↔ Combined task R S family n
+  combined_same Merge P R Q S e f = (
+    λ h. elim h [ inl p ↦ inl (e.0 p) | inr q ↦ inr (f.0 q) ],
+    λ h. elim h [ inl p ↦ inl (e.1 p) | inr q ↦ inr (f.1 q) ],
+  )
+  combined_same Common P R Q S e f = (λ h. (e.0 h.0, f.0 h.1), λ h. (e.1 h.0, f.1 h.1))
+  combined_same Except P R Q S e f =
+      (λ h. (e.0 h.0, λ s. h.1 (f.1 s)), λ h. (e.1 h.0, λ q. h.1 (f.0 q)))
+  combined_same Diff P R Q S e f = (
+    λ h. elim h [
+      | inl one ↦ inl (e.0 one.0, λ s. one.1 (f.1 s))
+      | inr two ↦ inr (λ r. two.0 (e.1 r), f.0 two.1)
+    ],
+    λ h. elim h [
+      | inl one ↦ inl (e.1 one.0, λ q. one.1 (f.0 q))
+      | inr two ↦ inr (λ p. two.0 (e.0 p), f.1 two.1)
+    ],
+  )
+  combined_same Invert P R Q S e f = (
+    λ h. elim h [ inl p ↦ inl (e.0 p) | inr q ↦ inr (f.0 q) ],
+    λ h. elim h [ inl p ↦ inl (e.1 p) | inr q ↦ inr (f.1 q) ],
+  )
+
+  put_same : (task : Command) (lists : List (List Line)) (P R : Family → ℕ → Type 0)
+      → P family n ↔ R family n → Put task P lists family n ↔ Put task R lists family n
+  put_same task [] P R e = e
+  put_same task (lines ∷ lists) P R e =
+      put_same task lists (Combined task P (λ f m. IsListed f m lines))
+      (Combined task R (λ f m. IsListed f m lines))
+      (combined_same task P R (λ f m. IsListed f m lines) (λ f m. IsListed f m lines) e
+      (λ h. h, λ h. h))
+
+  put_more : (task : Command) (lists : List (List Line)) (lines : List Line)
+      (P : Family → ℕ → Type 0)
+      → Combined task (Put task P lists) (λ f m. IsListed f m lines) family n
+      ↔ Put task P (lists ++ lines ∷ []) family n
+  put_more task [] lines P = (λ h. h, λ h. h)
+  put_more task (first ∷ lists) lines P =
+      put_more task lists lines (Combined task P (λ f m. IsListed f m first))
+
+-- the lines of one source, where its bytes are known
+abbrev pub IsRead : Bool → Option (List ℕ) → Addresses → Type 0
+IsRead strict input list = IfSome input (λ bytes. (lines : List Line) × AreSaid strict bytes lines []
+    × HasJust list (λ family n. IsListed family n lines))
+
+module _ (strict : Bool) (task : Command) (first : Addresses) (files : List (List ℕ)) where
+  -- the lists of the files before those that are left are put together
+  pub record IsPutTo (left : List (Option (List ℕ))) (list : Addresses) : Type 0 where
+    pub rest : List (List ℕ)
+    pub known : AreKnown left rest
+    pub lists : List (List Line)
+    pub goes_on : (more : List (List Line)) → AreLists strict rest more
+        → AreLists strict files (lists ++ more)
+    pub put : HasJust list (Put task (Has first) lists)
+
+  pub put_none : (inputs : List (Option (List ℕ))) → AreKnown inputs files → IsPutTo inputs first
+  put_none inputs known = record {
+    rest = files;
+    known = known;
+    lists = [];
+    goes_on = λ more said. said;
+    put = λ family n h. (λ has. has, λ has. has);
+  }
+
+  more_put : (input : Option (List ℕ)) (left : List (Option (List ℕ))) (list other next : Addresses)
+      (rest : List (List ℕ)) (lists : List (List Line)) → AreKnown (input ∷ left) rest
+      → ((more : List (List Line)) → AreLists strict rest more
+      → AreLists strict files (lists ++ more))
+      → HasJust list (Put task (Has first) lists) → IsRead strict input other
+      → HasJust next (Combined task (Has list) (Has other)) → IsPutTo left next
+  more_put input left list other next [] lists known goes_on put read combined = absurd known
+  more_put input left list other next (bytes ∷ rest) lists known goes_on put read combined =
+      let (lines, said, listed) = subst (λ o. IsRead strict o other) known.0 read in record {
+        rest = rest;
+        known = known.1;
+        lists = lists ++ lines ∷ [];
+        goes_on =
+            λ more said_more. subst (AreLists strict files)
+            (sym (append_assoc lists (lines ∷ []) more))
+            (goes_on (lines ∷ more) (said, said_more));
+        put =
+            λ family n h. iff_then (combined family n h)
+            (iff_then
+            (combined_same family n task (Has list) (Put task (Has first) lists) (Has other)
+            (λ f m. IsListed f m lines) (put family n h) (listed family n h))
+            (put_more family n task lists lines (Has first)));
+      }
+
+  -- one list more is put together with them
+  pub one_put : (input : Option (List ℕ)) (left : List (Option (List ℕ)))
+      (list other next : Addresses) → IsPutTo (input ∷ left) list → IsRead strict input other
+      → HasJust next (Combined task (Has list) (Has other)) → IsPutTo left next
+  one_put input left list other next put read combined =
+      more_put input left list other next put.rest put.lists put.known put.goes_on put.put read
+      combined
+
+  ended : (list : Addresses) (rest : List (List ℕ)) (lists : List (List Line)) → AreKnown [] rest
+      → ((more : List (List Line)) → AreLists strict rest more
+      → AreLists strict files (lists ++ more))
+      → HasJust list (Put task (Has first) lists)
+      → (lists : List (List Line)) × AreLists strict files lists
+      × HasJust list (Put task (Has first) lists)
+  ended list [] lists known goes_on put =
+      (lists, subst (AreLists strict files) (append-nil lists) (goes_on [] tt), put)
+  ended list (bytes ∷ rest) lists known goes_on put = absurd known
+
+  -- the lists of all files are put together
+  pub all_put : (list : Addresses) → IsPutTo [] list
+      → (lists : List (List Line)) × AreLists strict files lists
+      × HasJust list (Put task (Has first) lists)
+  all_put list put = ended list put.rest put.lists put.known put.goes_on put.put
+
+-- the first list, and those of the others put together with it
+pub asked_of : (strict : Bool) (task : Command) (input : Option (List ℕ))
+    (left : List (Option (List ℕ))) (first new : Addresses) → IsRead strict input first
+    → ((files : List (List ℕ)) → AreKnown left files → (lists : List (List Line))
+    × AreLists strict files lists × HasJust new (Put task (Has first) lists))
+    → (files : List (List ℕ)) → AreKnown (input ∷ left) files
+    → (lists : List (List Line)) × AreLists strict files lists × HasJust new (Asked task lists)
+asked_of strict task input left first new read put [] known = absurd known
+asked_of strict task input left first new read put (bytes ∷ files) known =
+    let (lines, said, listed) = subst (λ o. IsRead strict o first) known.0 read in
+    let (lists, all_said, all) = put files known.1 in (
+      lines ∷ lists,
+      (said, all_said),
+      λ family n h. iff_then (all family n h)
+          (put_same family n task lists (Has first) (λ f m. IsListed f m lines)
+          (listed family n h)),
+    )
+
+has_not : (list : Addresses) → box_items list.v4 ≡ [] → box_items list.v6 ≡ [] → (family : Family)
+    (n : ℕ) → ¬ Has list family n
+has_not list v4 v6 V4 n has = subst (λ items. HoldsKey ipv4_order items (ipv4_at n)) v4 has
+has_not list v4 v6 V6 n has = subst (λ items. HoldsKey ipv6_order items (ipv6_at n)) v6 has
+
+-- what is read into no list is what the lines say
+pub read_alone : (strict : Bool) (input : Option (List ℕ)) (none list : Addresses)
+    → box_items none.v4 ≡ [] → box_items none.v6 ≡ []
+    → IfSome input (λ bytes. (lines : List Line) × AreSaid strict bytes lines []
+    × HasJust list (λ family n. Has none family n ⊎ IsListed family n lines))
+    → IsRead strict input list
+read_alone strict None none list v4 v6 read = tt
+read_alone strict (Some bytes) none list v4 v6 (lines, said, read) = (
+  lines,
+  said,
+  λ family n h. iff_then (read family n h) (
+    λ e. elim e [ inl had ↦ absurd (has_not none v4 v6 family n had) | inr listed ↦ listed ],
+    λ listed. inr listed,
+  ),
+)
+
+-- the lists of all inputs, and what is made of them
+abbrev pub AreMade : Bool → List (Option (List ℕ)) → (List (List Line) → Type 0) → Type 0
+AreMade strict inputs IsMade = (files : List (List ℕ)) → AreKnown inputs files
+    → (lists : List (List Line)) × AreLists strict files lists × IsMade lists
+
+pub asked_all : (strict : Bool) (task : Command) (input : Option (List ℕ))
+    (left all : List (Option (List ℕ))) (first : Addresses) (result : Result Addresses Stop)
+    → all ≡ input ∷ left → IsRead strict input first
+    → IfOk result
+    (λ new. AreMade strict left (λ lists. HasJust new (Put task (Has first) lists)))
+    → IfOk result (λ new. AreMade strict all (λ lists. HasJust new (Asked task lists)))
+asked_all strict task input left all first (Ok new) same read put =
+    λ files known. asked_of strict task input left first new read put files
+    (subst (λ inputs. AreKnown inputs files) same known)
+asked_all strict task input left all first (Err stop) same read put = tt
+
+-- no list has no address
+none_made : (strict : Bool) (task : Command) (list : Addresses) → box_items list.v4 ≡ []
+    → box_items list.v6 ≡ [] → AreMade strict [] (λ lists. HasJust list (Asked task lists))
+none_made strict task list v4 v6 [] known =
+    ([], tt, λ family n h. (has_not list v4 v6 family n, λ none. absurd none))
+none_made strict task list v4 v6 (bytes ∷ files) known = absurd known
+
+pub none_asked : (strict : Bool) (task : Command) (list : Addresses)
+    (inputs : List (Option (List ℕ))) → inputs ≡ [] → box_items list.v4 ≡ []
+    → box_items list.v6 ≡ [] → AreMade strict inputs (λ lists. HasJust list (Asked task lists))
+none_asked strict task list inputs same v4 v6 =
+    subst (λ one. AreMade strict one (λ lists. HasJust list (Asked task lists))) (sym same)
+    (none_made strict task list v4 v6)
+
+-- the other addresses are what `invert` says
+pub others_answer : (list others : Addresses) (lists : List (List Line))
+    → HasJust list (Asked Invert lists) → HasJust others (λ family n. ¬ Has list family n)
+    → HasJust others (IsAnswer Invert lists)
+others_answer list others lists asked inverse family n h =
+    let one = asked family n h in
+    let other = inverse family n h in
+    (λ has said. other.0 has (one.1 said), λ none. other.1 (λ has. none (one.0 has)))
+
+-- any other task says the addresses themselves
+pub same_answer : (task : Command) (list : Addresses) (lists : List (List Line))
+    → task ≢ Invert → HasJust list (Asked task lists) → HasJust list (IsAnswer task lists)
+same_answer Merge list lists other asked = asked
+same_answer Common list lists other asked = asked
+same_answer Except list lists other asked = asked
+same_answer Diff list lists other asked = asked
+same_answer Invert list lists other asked = absurd (other refl)
+
+pub invert_answer : (strict : Bool) (task : Command) (inputs : List (Option (List ℕ)))
+    (list others : Addresses) → task ≡ Invert
+    → AreMade strict inputs (λ lists. HasJust list (Asked task lists))
+    → HasJust others (λ family n. ¬ Has list family n)
+    → AreMade strict inputs (λ lists. HasJust others (IsAnswer task lists))
+invert_answer strict task inputs list others same asked inverse files known =
+    let (lists, said, all) = asked files known in (
+      lists,
+      said,
+      subst (λ one. HasJust others (IsAnswer one lists)) (sym same)
+          (others_answer list others lists
+          (subst (λ one. HasJust list (Asked one lists)) same all) inverse),
+    )
+
+pub other_answer : (strict : Bool) (task : Command) (inputs : List (Option (List ℕ)))
+    (list : Addresses) → task ≢ Invert
+    → AreMade strict inputs (λ lists. HasJust list (Asked task lists))
+    → AreMade strict inputs (λ lists. HasJust list (IsAnswer task lists))
+other_answer strict task inputs list other asked files known =
+    let (lists, said, all) = asked files known in
+    (lists, said, same_answer task list lists other all)
+
+-- what is printed is the answer
+pub answer_printed : {X : Type 0} (strict : Bool) (task : Command) (inputs all : List (Option (List ℕ)))
+    (list : Addresses) (before after : Option (List ℕ)) (result : Result X Stop)
+    → inputs ≡ all → AreMade strict inputs (λ lists. HasJust list (IsAnswer task lists))
+    → OnOk result (Writes before after (IsPrinted list))
+    → OnOk result ((files : List (List ℕ)) → AreKnown all files → (lists : List (List Line))
+    × (list : Addresses) × AreLists strict files lists × HasJust list (IsAnswer task lists)
+    × Writes before after (IsPrinted list))
+answer_printed strict task inputs all list before after (Ok done) same made printed =
+    λ files known.
+    let (lists, said, answer) = made files (subst (λ one. AreKnown one files) (sym same) known) in
+    (lists, list, said, answer, printed)
+answer_printed strict task inputs all list before after (Err stop) same made printed = tt
+
+-- printing fails where nothing can be written, and for no other reason
+pub fails_unwritable : {X : Type 0} (P : Type 0) (result : Result X Stop)
+    → IfErr result (λ stop. stop ≡ Unwritable) → result ≢ Err Unwritable → OnErr result P
+fails_unwritable P (Ok done) failed other = tt
+fails_unwritable P (Err stop) failed other = absurd (other (ap Err failed))

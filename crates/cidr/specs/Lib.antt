@@ -1,0 +1,2 @@
+-- What the commands make of lists.
+pub mod Commands

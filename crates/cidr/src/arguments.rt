@@ -1,0 +1,117 @@
+//! The command line.
+
+use crate::serve::Command;
+use std::alloc::{AllocError, Global};
+
+/// How the program is called.
+pub const USAGE: &str = "\
+usage: cidr merge|common|invert [--strict] FILE..
+       cidr except [--strict] FILE.. --from FILE
+       cidr diff [--strict] FILE FILE
+       cidr --help
+";
+
+/// What the program does, with examples, after the usage.
+pub const HELP: &str = "
+Puts lists of IP addresses together, and prints what comes of it in as few prefixes as can be.
+
+  merge   the addresses that are in any list
+  common  those that are in all lists
+  except  those of the list after --from that are in no other list
+  diff    those that are in just one of two lists
+  invert  those of both families that are in no list
+
+A line is an address, a prefix such as 10.0.0.0/8 or a range such as 10.0.0.0-10.0.0.5, and what
+follows # is a comment. With --strict, a prefix may have no bits of 1 after its length. A file
+named - is standard input.
+
+  cidr merge blocked.txt more.txt
+  cidr except exceptions.txt --from blocked.txt
+  cidr invert allowed.txt
+";
+
+/// What the arguments ask for.
+#[derive(Drop)]
+pub struct Request<'a> {
+    pub command: Command,
+    /// The names of the lists, that of `--from` first.
+    pub files: Vec<&'a str>,
+    pub strict: bool,
+}
+
+/// Whether the words, which begin with the program's name, are `--help` alone.
+pub fn asks_for_help(words: &[String]) -> bool {
+    match words {
+        [_, word] => word.as_str() == "--help",
+        _ => false,
+    }
+}
+
+fn command_of(word: &str) -> Option<Command> {
+    match word {
+        "merge" => Some(Command::Merge),
+        "common" => Some(Command::Common),
+        "except" => Some(Command::Except),
+        "diff" => Some(Command::Diff),
+        "invert" => Some(Command::Invert),
+        _ => None,
+    }
+}
+
+/// The names of the lists and whether `--strict` is among the words; `None` where there is an
+/// unknown option, or `--from` and it has no place.
+fn options<'a>(
+    alloc: Global,
+    words: &'a [String],
+    takes_from: bool,
+) -> Result<Option<(Vec<&'a str>, bool)>, AllocError> {
+    let mut files = Vec::new(alloc);
+    let mut strict = false;
+    let mut has_from = false;
+    let mut after_from = false;
+    for word in words {
+        match word.as_str() {
+            "--strict" => strict = true,
+            "--from" if takes_from && !has_from => {
+                has_from = true;
+                after_from = true;
+            }
+            name if name.len() > 1 && name.as_bytes().first() == Some(&b'-') => return Ok(None),
+            name if after_from => {
+                files.insert(0, name)?;
+                after_from = false;
+            }
+            name => files.push(name)?,
+        }
+    }
+    if after_from || has_from != takes_from {
+        return Ok(None);
+    }
+    Ok(Some((files, strict)))
+}
+
+/// What the words ask for, which begin with the program's name; `None` where they are wrong.
+pub fn read_request(alloc: Global, words: &[String]) -> Result<Option<Request<'_>>, AllocError> {
+    let [_, word, words @ ..] = words else {
+        return Ok(None);
+    };
+    let Some(command) = command_of(word.as_str()) else {
+        return Ok(None);
+    };
+    let Some((files, strict)) = options(alloc, words, command == Command::Except)? else {
+        return Ok(None);
+    };
+    let is_known = match command {
+        Command::Diff => files.len() == 2,
+        Command::Except => files.len() >= 2,
+        _ => !files.is_empty(),
+    };
+    if !is_known {
+        return Ok(None);
+    }
+    Ok(Some(Request {
+        command,
+        files,
+        strict,
+    }))
+}

@@ -1,0 +1,190 @@
+//! The commands, over any readers and writer.
+
+ghost use Rattle.std.specs.Prelude.{◌≡◌, ◌≢◌, ℕ, List, [], Err, length, map, IfErr, IfOk, IfSome, OnErr, OnOk};
+ghost use Rattle.std.specs.Vec.Iter.{into_iter_items, into_iter_len};
+ghost use Rattle.address_text.specs.declared.line.Line.{Line};
+ghost use Rattle.address_lists.specs.Lists.{AreSaid, Has, HasJust, IsListed};
+ghost use Rattle.address_lists.specs.Printed.{IsPrinted};
+ghost use Rattle.address_lists.specs.declared.addresses.Addresses.{Addresses};
+ghost use Rattle.line_program.specs.Listing.{Writes};
+ghost use Rattle.cidr.specs.Commands.{AreKnown, AreLists, Asked, Combined, IsAnswer, Put};
+ghost use Rattle.cidr.specs.declared.serve.Stop.TheVariants.{Unwritable};
+
+use address_lists::{Addresses, ListError, read_list, write_prefixes};
+use btree_range_map::MapError;
+use std::alloc::Global;
+use std::io::{BufRead, Write};
+use std::vec::IntoIter;
+
+/// What is made of some lists.
+#[derive(Clone, Copy, PartialEq, Eq, Debug)]
+pub enum Command {
+    /// The addresses of any list.
+    Merge,
+    /// Those of all lists.
+    Common,
+    /// Those of the first list that no other one has.
+    Except,
+    /// Those of the first list or the second, and not of both.
+    Diff,
+    /// Those of no list.
+    Invert,
+}
+
+/// A list that is to be read, with its name.
+#[derive(Drop)]
+pub struct Source<R> {
+    pub name: String,
+    pub reader: R,
+}
+
+/// Why nothing more is printed.
+#[derive(Drop)]
+pub enum Stop {
+    /// The list of this name cannot be read.
+    Bad(String, ListError),
+    /// An allocation failed.
+    Memory,
+    /// The answer cannot be written.
+    Unwritable,
+}
+
+/// The addresses of a list.
+fn read_source<R: BufRead + Drop>(
+    alloc: Global,
+    source: Source<R>,
+    strict: bool,
+) -> Result<Addresses, Stop>
+    ensures { IfOk result (λ list. IfSome (R.remaining source.reader)
+        (λ bytes. (lines : List Line) × AreSaid strict bytes lines []
+        × HasJust list (λ family n. IsListed family n lines))) }
+{
+    let Source { name, mut reader } = source;
+    let mut list = Addresses::new(alloc);
+    match read_list(alloc, &mut list, &mut reader, strict) {
+        Ok(()) => Ok(list),
+        Err(error) => Err(Stop::Bad(name, error)),
+    }
+}
+
+/// What the command makes of some addresses and those of one list more.
+fn combined(command: Command, mut list: Addresses, other: &Addresses) -> Result<Addresses, MapError>
+    ensures { IfOk result
+        (λ new. HasJust new (Combined command (Has list) (Has other.now))) }
+{
+    match command {
+        Command::Merge => list.join(other)?,
+        Command::Common => list.keep_common(other)?,
+        Command::Except => list.take_out(other)?,
+        Command::Diff => return list.difference(other),
+        Command::Invert => list.join(other)?,
+    }
+    Ok(list)
+}
+
+/// What the command makes of some addresses and those of the sources.
+fn gathered<R: BufRead + Drop>(
+    alloc: Global,
+    command: Command,
+    mut list: Addresses,
+    mut sources: IntoIter<Source<R>>,
+    strict: bool,
+) -> Result<Addresses, Stop>
+    requires { into_iter_len sources ≡ length (into_iter_items sources) }
+    ensures { IfOk result (λ new. (files : List (List ℕ))
+        → AreKnown (map (λ s. R.remaining s.reader) (into_iter_items sources)) files
+        → (lists : List (List Line)) × AreLists strict files lists
+        × HasJust new (Put command (Has list) lists)) }
+{
+    while let Some(source) = sources.next() {
+        let other = read_source(alloc, source, strict)?;
+        list = match combined(command, list, &other) {
+            Ok(list) => list,
+            Err(_) => return Err(Stop::Memory),
+        };
+    }
+    Ok(list)
+}
+
+/// What the command makes of the addresses of the sources, before `invert` turns it round.
+fn asked<R: BufRead + Drop>(
+    alloc: Global,
+    command: Command,
+    mut sources: IntoIter<Source<R>>,
+    strict: bool,
+) -> Result<Addresses, Stop>
+    requires { into_iter_len sources ≡ length (into_iter_items sources) }
+    ensures { IfOk result (λ new. (files : List (List ℕ))
+        → AreKnown (map (λ s. R.remaining s.reader) (into_iter_items sources)) files
+        → (lists : List (List Line)) × AreLists strict files lists
+        × HasJust new (Asked command lists)) }
+{
+    match sources.next() {
+        Some(source) => {
+            let first = read_source(alloc, source, strict)?;
+            gathered(alloc, command, first, sources, strict)
+        }
+        None => Ok(Addresses::new(alloc)),
+    }
+}
+
+/// What the command says of the addresses of the sources.
+fn answered<R: BufRead + Drop>(
+    alloc: Global,
+    command: Command,
+    sources: IntoIter<Source<R>>,
+    strict: bool,
+) -> Result<Addresses, Stop>
+    requires { into_iter_len sources ≡ length (into_iter_items sources) }
+    ensures { IfOk result (λ new. (files : List (List ℕ))
+        → AreKnown (map (λ s. R.remaining s.reader) (into_iter_items sources)) files
+        → (lists : List (List Line)) × AreLists strict files lists
+        × HasJust new (IsAnswer command lists)) }
+{
+    let list = asked(alloc, command, sources, strict)?;
+    match command {
+        Command::Invert => match list.inverse() {
+            Ok(others) => Ok(others),
+            Err(_) => Err(Stop::Memory),
+        },
+        _ => Ok(list),
+    }
+}
+
+fn print<W: Write>(list: &Addresses, out: &mut W) -> Result<(), Stop>
+    ensures printed { OnOk result (Writes (W.contents out.old) (W.contents out.new)
+        (IsPrinted list.now)) }
+    ensures failed { IfErr result (λ stop. stop ≡ Unwritable) }
+{
+    match write_prefixes(list, out) {
+        Ok(()) => {}
+        Err(_) => return Err(Stop::Unwritable),
+    }
+    match out.flush() {
+        Ok(()) => Ok(()),
+        Err(_) => Err(Stop::Unwritable),
+    }
+}
+
+/// Reads the sources, and prints the prefixes of what the command says of their addresses.
+///
+/// The prefixes are as few as can be, ascending, those of IPv4 first, each on a line; `out` is
+/// flushed. Nothing is printed where a source cannot be read or an allocation fails. One list is
+/// held beside the answer.
+pub fn serve<R: BufRead + Drop, W: Write>(
+    alloc: Global,
+    command: Command,
+    sources: Vec<Source<R>>,
+    strict: bool,
+    out: &mut W,
+) -> Result<(), Stop>
+    ensures printed { OnOk result ((files : List (List ℕ))
+        → AreKnown (map (λ s. R.remaining s.reader) sources.items) files
+        → (lists : List (List Line)) × (list : Addresses) × AreLists strict files lists
+        × HasJust list (IsAnswer command lists)
+        × Writes (W.contents out.old) (W.contents out.new) (IsPrinted list)) }
+    ensures silent { result ≢ Err Unwritable → OnErr result (out.new ≡ out.old) }
+{
+    let list = answered(alloc, command, sources.into_iter(), strict)?;
+    print(&list, out)
+}

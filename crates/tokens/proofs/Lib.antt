@@ -1,0 +1,4 @@
+pub mod Machines
+pub mod Places
+pub mod Steps
+pub mod Written
