@@ -1,20 +1,25 @@
 -- Which keys a range holds, and which range of a list holds a key: laws that callers cite in proofs.
-use Rattle.std.specs.Prelude.{true, Bool, List, [], ◌∷◌, ◌⊎◌, ◌↔◌, refl}
+use Rattle.std.specs.Prelude.{true, Bool, List, Option, Some, None, [], ◌∷◌, ◌⊎◌, ◌↔◌, refl}
 use Rattle.std.proofs.Common.{inl, inr}
 use Rattle.std.specs.List.{AllByRecursion}
 use Rattle.std.specs.declared.ops.Bound.{Bound}
 use Rattle.std.specs.declared.ops.Bound.TheVariants.{Included, Excluded, Unbounded}
-use Rattle.range_keys.specs.Order.{KeyOrder, IsLawful, Below, NotAbove}
+use Rattle.range_keys.specs.Order.{KeyOrder, IsComplete, IsLawful, Below, NotAbove}
+use Rattle.range_keys.proofs.Orderings.{not_greater}
 use Rattle.range_algebra.specs.Extremes.{IsLeastOf, IsGreatestOf}
 use Rattle.range_algebra.specs.Intervals.{Any}
 use Rattle.range_algebra.specs.Orders.{cases, le_refl, le_trans, le_lt_trans, lt_le_trans, lt_trans, lt_not_le, lt_le}
 use Rattle.range_algebra.specs.Range.{Holds, StartHolds, EndHolds, IsKeyless}
 use Rattle.range_algebra.specs.Relations.{AreBelow, LiesBetween}
+use Rattle.range_algebra.proofs.Completeness.{nonempty_holds}
 use Rattle.range_algebra.proofs.Meeting.{held_or_not as holds_or_not}
 use Rattle.range_algebra.specs.declared.any.AnyRange.{AnyRange}
 use Rattle.range_store.specs.declared.storage.Item.{Item}
 use Rattle.range_change.specs.Bindings.{IsBound, IsCoarse}
 use Rattle.range_change.specs.Neighbours.{EachNext}
+use Rattle.range_change.proofs.Overlaps.{binding_meets}
+use Rattle.range_merge.specs.Combining.{IsConstantOn, IsSharedPart}
+use Rattle.range_merge.proofs.HeldInside.{lies_in_holds}
 use Rattle.range_map.specs.FreeRanges.{item_ranges}
 use Rattle.range_sets.specs.KeySets.{HoldsKey, SomeHolds}
 
@@ -28,7 +33,40 @@ held_by_ranges order (i ∷ rest) k =
       λ h. elim h [ inl here ↦ inl here | inr there ↦ inr (later.1 there) ],
     )
 
+-- the key is bound where there is a value, and nowhere else
+abbrev pub IsBoundWhere : {K V : Type 0} → KeyOrder K → List (Item (AnyRange K) V) → K → Option V
+    → Type 0
+IsBoundWhere order items k None = ¬ IsBound order items k
+IsBoundWhere order items k (Some v) = IsBound order items k
+
 module _ {K : Type 0} (order : KeyOrder K) (lawful : IsLawful order) where
+  bound_where : {V : Type 0} (part : AnyRange K) (k : K) → order.is_key k → Holds order part k
+      → (items : List (Item (AnyRange K) V)) (value : Option V) → IsConstantOn order items part value
+      → IsBoundWhere order items k value
+  bound_where part k key held items None apart =
+      λ bound. apart (binding_meets order lawful items part (k, key, held, bound)).1
+  bound_where part k key held [] (Some v) none = absurd none
+  bound_where part k key held (i ∷ rest) (Some v) (inl here) =
+      inl (lies_in_holds lawful k key part i.key here.0 held)
+  bound_where part k key held (i ∷ rest) (Some v) (inr later) =
+      inr (bound_where part k key held rest (Some v) later)
+
+  -- over complete keys a part on which two lists are constant has a key, which both bind as the part
+  pub shared_part_has_key : {V W : Type 0} (items : List (Item (AnyRange K) V))
+      (others : List (Item (AnyRange K) W)) (part : AnyRange K) (left : Option V)
+      (right : Option W) → IsComplete order → IsSharedPart order items others part left right
+      → (k : K) × order.is_key k × Holds order part k × IsBoundWhere order items k left
+      × IsBoundWhere order others k right
+  shared_part_has_key items others part left right complete is =
+      let found =
+      nonempty_holds order lawful complete part is.known (not_greater _ is.nonempty) in (
+        found.0,
+        found.1,
+        found.2,
+        bound_where part found.0 found.1 found.2 items left is.first,
+        bound_where part found.0 found.1 found.2 others right is.second,
+      )
+
   -- a range holds a key, or it does not
   pub held_or_not : (r : AnyRange K) (k : K) → Holds order r k ⊎ (¬ Holds order r k)
   held_or_not r k = holds_or_not order lawful r k

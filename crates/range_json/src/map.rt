@@ -1,7 +1,6 @@
 //! Maps as JSON values.
 ghost use Rattle.std.specs.Prelude.{◌≡◌, ◌⊎◌, IfOk, OnOk, IfErr};
 ghost use Rattle.serde_json.specs.View.{view};
-ghost use Rattle.range_algebra.specs.Range.{ClonesAreEqual};
 ghost use Rattle.range_change.specs.Stored.{IsStored};
 ghost use Rattle.range_json.specs.Shapes.{map_shape, pair_shape, range_shape};
 ghost use Rattle.range_json.specs.MapFaults.{IsMapRead, IsMapFault};
@@ -61,8 +60,8 @@ pub fn map_to_json<K: Json + PartialEnum, V: Json + Eq, C: Storage<Item<AnyRange
 /// A map that binds the keys of each range in the array to the value beside it.
 ///
 /// Reads what `map_to_json` writes, and the bare array of its member `items`. Touching ranges of
-/// equal values are kept as one, and empty ranges bind nothing. Costs an insertion for each
-/// element.
+/// equal values are kept as one, and empty ranges bind nothing. Clones nothing. Costs an insertion
+/// for each element.
 ///
 /// # Errors
 ///
@@ -70,12 +69,10 @@ pub fn map_to_json<K: Json + PartialEnum, V: Json + Eq, C: Storage<Item<AnyRange
 /// that its range, a bound, a key or its value is none, or that its range meets that of an earlier
 /// element. An empty range meets none. `NotArray` and `Version` where the whole has neither shape.
 /// `Memory` where an allocation fails.
-pub fn map_from_json<
-    K: Json + Measure + Clone,
-    V: Json + Eq + Clone,
-    C: Storage<Item<AnyRange<K>, V>>,
->(alloc: Global, value: &Value) -> Result<RangeMap<K, V, C>, JsonError>
-    requires { ClonesAreEqual K.is_clone K.eq }
+pub fn map_from_json<K: Json + Measure, V: Json + Eq, C: Storage<Item<AnyRange<K>, V>>>(
+    alloc: Global,
+    value: &Value,
+) -> Result<RangeMap<K, V, C>, JsonError>
     ensures read { IfOk result
         (λ map. IsMapRead K.order K.reads V.reads K.is_read V.is_read V.eq (view value.now)
         (C.items map)) }

@@ -2,7 +2,7 @@
 ghost use Rattle.std.specs.Prelude.{◌≡◌, ◌⊎◌, Some, None, IfOk, OnOk, IfErr};
 ghost use Rattle.std.specs.BTreeSet.{IsEmpty};
 ghost use Rattle.serde_json.specs.View.{view};
-ghost use Rattle.range_algebra.specs.Range.{ClonesAreEqual, IsEmptyRange, IsKnownRange};
+ghost use Rattle.range_algebra.specs.Range.{IsEmptyRange, IsKnownRange};
 ghost use Rattle.range_change.specs.Bindings.{IsBoundAfter};
 ghost use Rattle.range_change.specs.Frames.{IsInsertionFrame};
 ghost use Rattle.range_change.specs.Lookups.{MeetsSome, MeetAlso};
@@ -123,11 +123,10 @@ fn insert_values<K: Measure, S: MaybeEmpty, C: Storage<Item<AnyRange<K>, S>>>(
 ///
 /// As those of `map_from_json`; `Value` where the value is no array of values, or an empty one.
 pub fn multimap_from_json<
-    K: Json + Measure + Clone,
+    K: Json + Measure,
     V: Json + Ord + Clone,
     C: Storage<Item<AnyRange<K>, BTreeSet<V>>>,
 >(alloc: Global, value: &Value) -> Result<RangeMultiMap<K, BTreeSet<V>, C>, JsonError>
-    requires { ClonesAreEqual K.is_clone K.eq }
     ensures read { IfOk result
         (λ map. IsMultimapRead K.order K.reads V.reads K.is_read V.is_read V.cmp V.eq
         (view value.now) (C.items map)) }

@@ -14,7 +14,7 @@ module _ {K : Type 0} (order : KeyOrder K) where
     under = λ k key free b. (λ binds. binds, λ binds. binds);
   }
 
-  is_bound : (items : Ranges K) (k : K) (v : ℤ) → BindsTo order int_eq items k v
+  pub is_bound : (items : Ranges K) (k : K) (v : ℤ) → BindsTo order int_eq items k v
       → IsBound order items k
   is_bound [] k v none = none
   is_bound (i ∷ rest) k v (inl here) = inl here.0

@@ -1,6 +1,6 @@
--- How far the loops have come, and what the calls make of lists.
+-- What the calls make of lists, and what they tell of them.
 pub mod Itself
 pub mod Letters
 pub mod Made
+pub mod Related
 pub mod Served
-pub mod SoFar

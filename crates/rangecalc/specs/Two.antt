@@ -1,5 +1,5 @@
 -- What is made of two maps, and which of the four maps a command to several changes.
-use Rattle.std.specs.Prelude.{◌≡◌, ◌+ℤ◌, ℤ, FitsSigned, Option, Some, None, Result, Ok, Err}
+use Rattle.std.specs.Prelude.{◌≡◌, ◌+ℤ◌, ℤ, FitsSigned, IsErr, Option, Some, None, Result, Ok, Err}
 use Rattle.std.specs.Int.{w64}
 use Rattle.std.specs.Ordering.{int_eq}
 use Rattle.btree_range_map.specs.Bindings.{BindAlike}
@@ -39,6 +39,18 @@ Makes Either None (Some b) made = made ≡ Ok (Some b)
 Makes Either left right made = made ≡ Ok None
 Makes Over (Some a) right made = made ≡ Ok (Some a)
 Makes Over None right made = made ≡ Ok right
+
+-- keys that two maps bind so are found where the first alone binds them
+abbrev pub FindsAlone : {E : Type 0} → Option ℤ → Option ℤ → Result (Option ℤ) E → Type 0
+FindsAlone None right found = found ≡ Ok None
+FindsAlone (Some a) None found = IsErr found
+FindsAlone (Some a) (Some b) found = found ≡ Ok None
+
+-- keys that two maps bind so are found where both bind them
+abbrev pub FindsShared : {E : Type 0} → Option ℤ → Option ℤ → Result (Option ℤ) E → Type 0
+FindsShared None right found = found ≡ Ok None
+FindsShared (Some a) None found = found ≡ Ok None
+FindsShared (Some a) (Some b) found = IsErr found
 
 module _ {K : Type 0} (order : KeyOrder K) where
   -- the bindings of the one list for the keys that the other binds, or for all others

@@ -8,7 +8,7 @@ ghost use Rattle.btree_range_map.specs.Holding.{box_items};
 ghost use Rattle.btree_range_map.specs.PartWay.{BeforeOne};
 ghost use Rattle.btree_range_map.specs.Together.{BindKeysOf, ShareNoKey};
 ghost use Rattle.btree_range_map.specs.UpdateError.TheVariants.{Closure};
-ghost use Rattle.rangecalc.specs.Two.{AreRelated, IsAmended, IsKept, IsSum, Makes};
+ghost use Rattle.rangecalc.specs.Two.{AreRelated, FindsAlone, FindsShared, IsAmended, IsKept, IsSum, Makes};
 
 use crate::line::{Amendment, Kept, Relation, Way};
 use crate::number::NumberKey;
@@ -101,30 +101,50 @@ pub fn amend_by_itself<K: NumberKey>(amendment: Amendment, map: &mut RangeMap<K,
     }
 }
 
+/// Keys that two maps bind, or that one of them binds alone.
+#[derive(Drop)]
+struct Found;
+
+/// Finds keys that the first map alone binds.
+fn find_alone(first: Option<&i64>, second: Option<&i64>) -> Result<Option<i64>, Found>
+    ensures { FindsAlone (option_copied first.entry) (option_copied second.entry) result }
+{
+    match (first, second) {
+        (Some(_), None) => Err(Found),
+        (_, _) => Ok(None),
+    }
+}
+
+/// Finds keys that both maps bind.
+fn find_shared(first: Option<&i64>, second: Option<&i64>) -> Result<Option<i64>, Found>
+    ensures { FindsShared (option_copied first.entry) (option_copied second.entry) result }
+{
+    match (first, second) {
+        (Some(_), Some(_)) => Err(Found),
+        (_, _) => Ok(None),
+    }
+}
+
 /// Whether each key that the first map binds is bound by the second.
 fn is_subset<K: NumberKey>(first: &RangeMap<K, i64>, second: &RangeMap<K, i64>) -> bool
     ensures { IsTrue result ↔ BindKeysOf K.order (box_items first.now) (box_items second.now) }
 {
-    let mut items = first.iter();
-    while let Some((range, _)) = items.next() {
-        if !second.binds_all(*range) {
-            return false;
-        }
-    }
-    true
+    let passed: Result<RangeMap<K, i64>, UpdateError<Found>> = first.combine(
+        second,
+        |one, two| find_alone(one, two),
+    );
+    passed.is_ok()
 }
 
 /// Whether no key is bound by both maps.
 fn are_apart<K: NumberKey>(first: &RangeMap<K, i64>, second: &RangeMap<K, i64>) -> bool
     ensures { IsTrue result ↔ ShareNoKey K.order (box_items first.now) (box_items second.now) }
 {
-    let mut items = first.iter();
-    while let Some((range, _)) = items.next() {
-        if second.intersects(*range) {
-            return false;
-        }
-    }
-    true
+    let passed: Result<RangeMap<K, i64>, UpdateError<Found>> = first.combine(
+        second,
+        |one, two| find_shared(one, two),
+    );
+    passed.is_ok()
 }
 
 /// Whether it is true of two maps.
