@@ -10,7 +10,6 @@ beginning of it and that it is out of memory. The fourth, `cidr`, has to print t
 
 import collections
 import concurrent.futures
-import functools
 import pathlib
 import shutil
 import subprocess
@@ -89,61 +88,51 @@ def may_end(program, talk):
     return ends, [*stops, Ended(before, b"read error\n", 1)]
 
 
-def refuse_lines(program, talk):
-    """Refuses each allocation of a conversation. Returns how many, and those of which something else came."""
+def rangerun_ends(program, talk):
+    """Returns what a refused line may come to: the number of such an end, -1 where reading a line was refused."""
     ends, stops = may_end(program, talk)
+    return lambda found, _: ends.index(found) if found in ends else -1 if found in stops else None
+
+
+def tokens_ends(_program, _talk):
+    def met(found, whole):
+        is_told = found.errors.endswith(b"out of memory\n") and found.status == 1
+        return found if is_told and whole.out.startswith(found.out) else None
+
+    return met
+
+
+def cidr_ends(_program, _talk):
+    return lambda found, _: found if (found.out, found.status) == (b"", 1) and found.errors else None
+
+
+PLAYERS = {"rangerun": rangerun_ends, "tokens": tokens_ends, "cidr": cidr_ends}
+
+
+def refuse_each(program, talk):
+    """Refuses each allocation of a conversation. Returns how many, how many ends they have, and what else came."""
+    met_by, met = PLAYERS[program.name](program, talk), set()
     whole, asked = refusing(program, 0, talk.input(), talk.words)
     wrong = [] if whole == talk.wanted() else [f"with enough memory {whole}"]
-    met = set()
     for number in range(1, asked + 1):
         found, _ = refusing(program, number, talk.input(), talk.words)
-        if found in ends:
-            met.add(ends.index(found))
-        elif found not in stops and found != whole:
+        end = met_by(found, whole)
+        met.add(end)
+        if end is None and found != whole:
             wrong.append(f"refusal {number}: {str([*found])[:300]}")
-    return asked, len(met), wrong
-
-
-def told_by_tokens(found, whole):
-    return found.errors.endswith(b"out of memory\n") and whole.out.startswith(found.out)
-
-
-def told_by_cidr(found, _):
-    return found.errors.startswith(b"Error: ") and not found.out
-
-
-def refuse_command(is_told, program, talk):
-    """Refuses each allocation of a command whose replies are one output. Returns the like."""
-    whole, asked = refusing(program, 0, talk.input(), talk.words)
-    wrong = [] if whole == talk.wanted() else [f"with enough memory {whole}"]
-    met = 0
-    for number in range(1, asked + 1):
-        found, _ = refusing(program, number, talk.input(), talk.words)
-        if found.status == 1 and is_told(found, whole):
-            met += 1
-        elif found != whole:
-            wrong.append(f"refusal {number}: {str([*found])[:300]}")
-    return asked, met, wrong
-
-
-PLAYERS = {
-    "rangerun": refuse_lines,
-    "tokens": functools.partial(refuse_command, told_by_tokens),
-    "cidr": functools.partial(refuse_command, told_by_cidr),
-}
+    return asked, len(met - {None, -1}), wrong
 
 
 def refuse_conversations(program):
     began = time.monotonic()
     talks = conversations.of_file(CRATES / program.name / "conversations" / "memory.txt")
-    refuse_one = PLAYERS[program.name]
     with concurrent.futures.ThreadPoolExecutor(PROCESSORS) as pool:
-        found = [*pool.map(lambda talk: refuse_one(program, talk), talks)]
+        found = [*pool.map(lambda talk: refuse_each(program, talk), talks)]
     wrong = [f"{talk.name}: {it}" for talk, (_, _, strays) in zip(talks, found) for it in strays]
     wrong += [f"{talk.name}: no line was refused" for talk, (_, met, _) in zip(talks, found) if not met]
     failed = sum(bool(strays) or not met for _, met, strays in found)
     what = f"{sum(asked for asked, _, _ in found)} allocations of {len(talks)} conversations refused"
-    what = f"{program.name}: {what}, at {sum(met for _, met, _ in found)} lines"
+    what = f"{program.name}: {what}, which end in {sum(met for _, met, _ in found)} ways"
     return told(what, Counts(len(talks) - failed, failed), began, "\n".join(wrong))
 
 

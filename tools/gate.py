@@ -8,18 +8,7 @@ import subprocess
 import time
 
 from tools import conversations, examples, faults, mutants
-from tools.repository import (
-    PROCESSORS,
-    TOP,
-    Counts,
-    below,
-    counted,
-    crates,
-    passed,
-    run,
-    tell,
-    told,
-)
+from tools.repository import PROCESSORS, TOP, Counts, below, counted, crates, run, tell, told
 
 RESULT = re.compile(r"^test result: .*?(\d+) passed; (\d+) failed", re.M)
 # A check takes less than this; what `rt` expects of it, by its lines, is up to three times as much.

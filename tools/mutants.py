@@ -18,13 +18,9 @@ import tempfile
 
 from tools.repository import CRATES, TOP, Counts, below, crates, run
 
-FUNCTION = re.compile(
-    r"( *)(?:pub(?:\([a-z]+\))? )?(?:final |const |unsafe |extern \"C\" )*fn (\w+)"
-)
+FUNCTION = re.compile(r"( *)(?:pub(?:\([a-z]+\))? )?(?:final |const |unsafe |extern \"C\" )*fn (\w+)")
 IMPL = re.compile(r"(?:unsafe )?(?:impl|trait)\b")
-GOAL = re.compile(
-    r"(?:note: |\./)*(src|proofs)/(\S+?)\.(?:rt|antt):(\d+):\d+: (?:error: `([^`]+)`|.*\(`([^`]+)`\))"
-)
+GOAL = re.compile(r"(?:note: |\./)*(src|proofs)/(\S+?)\.(?:rt|antt):(\d+):\d+: (?:error: `([^`]+)`|.*\(`([^`]+)`\))")
 UNREAD = re.compile(r"\berror\[[\w-]+\]|^(\./)?src/\S+: error: [^`]", re.M)
 HEAD = "# What ./check mutants saw; sum of the files and of the contracts below: "
 
