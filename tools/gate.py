@@ -148,7 +148,10 @@ def program(crate, room):
     if not crate.is_proved:
         files = sorted((room / crate.name).glob("conversations/*.txt"))
         given += b"\n".join(path.read_bytes() for path in files)
-    began, words = time.monotonic(), ["rt", "try", "--", *read("args").decode().splitlines()]
+    # `rt ci` runs a program in its folder `data`, `rt try` in that of the crate.
+    named = read("args").decode().splitlines()
+    named = [f"data/{it}" if (room / crate.name / "data" / it).is_file() else it for it in named]
+    began, words = time.monotonic(), ["rt", "try", "--", *named]
     ended = subprocess.run(words, cwd=room / crate.name, input=given, capture_output=True)
     is_well = ended.stdout == read("stdout") and ended.returncode == int(read("status") or 0)
     said = (ended.stdout + ended.stderr).decode(errors="replace")
