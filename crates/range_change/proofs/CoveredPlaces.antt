@@ -3,19 +3,18 @@ use Rattle.std.proofs.Common.{ℕ, refl, true, Bool, Result, Ok, Err, OnOk, List
 use Rattle.std.specs.Prelude.{insert}
 use Rattle.std.specs.Cmp.{IsEquivalence}
 use Rattle.range_keys.specs.Order.{KeyOrder, IsLawful}
-use Rattle.range_keys.specs.PositionOrder.{position_total}
 use Rattle.range_keys.specs.declared.inner.position.Position.{Position}
 use Rattle.range_algebra.specs.declared.any.AnyRange.{AnyRange}
 use Rattle.range_algebra.specs.Range.{IsKnownRange}
 use Rattle.range_algebra.specs.Cuts.{lower, upper}
 use Rattle.range_change.specs.Chains.{line_of, IsBoundTo}
-use Rattle.range_algebra.specs.Intervals.{Le, Lt, Any, Every}
+use Rattle.range_algebra.specs.Intervals.{Any, Every}
 use Rattle.range_algebra.proofs.Lists.{list_is_take_and_drop, any_left, any_right, any_split}
 use Rattle.range_change.proofs.PlaceOrder.{le_refl, lt_le, le_lt_trans, lt_not_le, cases, not_le, PLe, PLt}
 use Rattle.range_store.specs.declared.storage.Item.{Item}
 use Rattle.range_change.specs.Stored.{item_lower, item_upper}
 use Rattle.range_change.specs.Lookups.{MeetsSome, MeetAlso, Overlap}
-use Rattle.range_change.proofs.Forms.{places, nonempty_good, before_is, Known, Chained, Hold, respects_any}
+use Rattle.range_change.proofs.Forms.{nonempty_good, before_is, Known, Chained, Hold, respects_any}
 
 pub on_ok : {A E : Type 0} (P Q : Type 0) (r : Result A E) → (P → Q) → OnOk r P → OnOk r Q
 on_ok P Q (Ok x) f h = f h

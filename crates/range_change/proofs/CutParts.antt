@@ -13,7 +13,6 @@ use Rattle.range_algebra.specs.declared.any.AnyRange.{AnyRange}
 use Rattle.range_algebra.specs.Range.{IsKnownBound, IsKnownRange}
 use Rattle.range_algebra.specs.Compared.{flipped}
 use Rattle.range_algebra.specs.Clones.{SameBound, same_start}
-use Rattle.range_algebra.specs.Intervals.{Lt}
 use Rattle.range_change.proofs.PlaceOrder.{eq_le, eq_ge, le_lt_trans, lt_not_le, PLt}
 use Rattle.range_algebra.specs.Cuts.{past, upper}
 use Rattle.range_change.specs.Edits.{flipped_bound}

@@ -5,14 +5,13 @@ use Rattle.std.specs.Cmp.{IsEquivalence}
 use Rattle.std.specs.Option.{unwrap_or}
 use Rattle.std.specs.declared.ops.Bound.{Bound}
 use Rattle.range_keys.specs.Order.{KeyOrder, IsLawful}
-use Rattle.range_keys.specs.PositionOrder.{position_total}
 use Rattle.range_algebra.specs.declared.any.AnyRange.{AnyRange}
 use Rattle.range_algebra.specs.Range.{IsKnownRange}
-use Rattle.range_algebra.specs.Intervals.{Le, Lt, Any, Every}
+use Rattle.range_algebra.specs.Intervals.{Lt, Any, Every}
 use Rattle.range_change.proofs.PlaceOrder.{lt_trans, lt_not_le, le_lt_trans, PLe, PLt}
 use Rattle.range_change.specs.Chains.{line_of}
 use Rattle.range_change.proofs.Chains.{chain_before}
-use Rattle.range_algebra.specs.Cuts.{lower, upper}
+use Rattle.range_algebra.specs.Cuts.{upper}
 use Rattle.range_algebra.proofs.Lists.{list_is_take_and_drop, parts_at, every_at, any_left, any_right, any_none, every_weaker, every_append, every_left, every_right}
 use Rattle.range_change.proofs.RangeSides.{element_at}
 use Rattle.range_store.specs.declared.storage.Item.{Item}

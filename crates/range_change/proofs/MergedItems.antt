@@ -2,13 +2,11 @@
 use Rattle.std.proofs.Common.{◌≡◌, refl, Bool, List, [], ◌∷◌, ◌++◌, ◌⊎◌, inl, inr}
 use Rattle.std.specs.Cmp.{IsEquivalence}
 use Rattle.range_keys.specs.Order.{KeyOrder, IsLawful}
-use Rattle.range_keys.specs.Position.{start_position, end_position}
-use Rattle.range_keys.specs.PositionOrder.{position_total}
 use Rattle.range_algebra.proofs.Lists.{any_left, any_right, every_weaker, every_append, every_left, every_right}
 use Rattle.range_change.specs.Chains.{line_of}
 use Rattle.range_change.proofs.Chains.{chain_right, chain_before, follows_above}
 use Rattle.range_algebra.specs.Cuts.{lower, upper}
-use Rattle.range_algebra.specs.Intervals.{Lt, Any, Every}
+use Rattle.range_algebra.specs.Intervals.{Any, Every}
 use Rattle.range_change.proofs.PlaceOrder.{le_lt_trans, lt_le_trans, lt_trans, lt_not_le, PLt}
 use Rattle.range_algebra.specs.Range.{IsKnownRange}
 use Rattle.range_algebra.specs.declared.any.AnyRange.{AnyRange}
@@ -18,7 +16,7 @@ use Rattle.range_change.specs.Frames.{IsMergedInto, IsUpdateFrame, IsSpliceFrame
 use Rattle.range_change.specs.Stored.{item_lower, item_upper}
 use Rattle.range_change.specs.Lookups.{IsConnectedTo, Overlap}
 use Rattle.range_change.proofs.RangePieces.{every_with, IsFull}
-use Rattle.range_change.proofs.Forms.{places, Chained}
+use Rattle.range_change.proofs.Forms.{Chained}
 use Rattle.range_change.proofs.ApartRanges.{apart_not}
 
 -- each item is one of the list

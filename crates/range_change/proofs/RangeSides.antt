@@ -9,7 +9,7 @@ use Rattle.range_keys.specs.PositionOrder.{position_total}
 use Rattle.range_algebra.specs.declared.any.AnyRange.{AnyRange}
 use Rattle.range_algebra.specs.Range.{IsKnownRange}
 use Rattle.range_store.specs.declared.storage.Item.{Item}
-use Rattle.range_algebra.specs.Intervals.{Le, Lt, Every}
+use Rattle.range_algebra.specs.Intervals.{Every}
 use Rattle.range_change.proofs.PlaceOrder.{eq_le, eq_ge, lt_le, le_trans, PLe, PLt}
 use Rattle.range_change.specs.Chains.{line_of, Leads, Trails}
 use Rattle.range_change.proofs.ChainJoins.{places_between_are_unbound, left_apart, left_joined, right_apart, right_joined, leading_last, trailing_first, places_between_are_bound}

@@ -5,12 +5,10 @@ use Rattle.std.proofs.lemmas.Option.{same_Some}
 use Rattle.std.specs.Cmp.{IsEquivalence}
 use Rattle.std.specs.declared.ops.Bound.{Bound}
 use Rattle.range_keys.specs.Order.{KeyOrder, IsLawful}
-use Rattle.range_keys.specs.Position.{end_position}
-use Rattle.range_keys.specs.PositionOrder.{position_total}
 use Rattle.range_algebra.specs.declared.any.AnyRange.{AnyRange}
 use Rattle.range_algebra.specs.Clones.{same_itself}
 use Rattle.range_algebra.specs.Cuts.{lower, upper}
-use Rattle.range_algebra.specs.Intervals.{Lt, Every}
+use Rattle.range_algebra.specs.Intervals.{Every}
 use Rattle.range_change.proofs.PlaceOrder.{lt_le, eq_le, eq_ge, lt_not_le, lt_trans, PLt}
 use Rattle.range_algebra.specs.Range.{IsKnownRange}
 use Rattle.range_algebra.proofs.Lists.{every_weaker, every_append, every_left, every_right, list_is_take_and_drop}
@@ -29,7 +27,7 @@ use Rattle.range_change.specs.declared.reach.Reach.{Reach}
 use Rattle.range_change.specs.declared.window.Window.{Window}
 use Rattle.range_change.proofs.RangePieces.{any_use, listed_at, item_at}
 use Rattle.range_change.proofs.Extents.{past_le, end_le}
-use Rattle.range_change.proofs.Forms.{places, Known, Chained, stored_known, stored_chain, nonempty_good}
+use Rattle.range_change.proofs.Forms.{Known, Chained, stored_known, stored_chain, nonempty_good}
 use Rattle.range_change.proofs.Spelling.{own_spelling, start_is_kept, end_is_kept, cut_end_is_kept, cut_start_is_kept}
 use Rattle.range_change.proofs.Surrounded.{reach_is_met}
 

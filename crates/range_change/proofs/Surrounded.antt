@@ -25,7 +25,7 @@ use Rattle.range_change.specs.declared.reach.Reach.{Reach}
 use Rattle.range_change.specs.declared.window.Window.{Window}
 use Rattle.range_change.proofs.RangePieces.{IsFull, all_full, item_at, listed_at}
 use Rattle.range_change.proofs.RangeSides.{borders_insert, borders_remove, left_border_inside, right_border_inside, left_rest_cut, right_rest_cut, left_border_rest, right_border_rest}
-use Rattle.range_change.proofs.Forms.{places, Chained, stored_known, stored_chain, nonempty_good}
+use Rattle.range_change.proofs.Forms.{Chained, stored_known, stored_chain, nonempty_good}
 use Rattle.range_change.proofs.InsertionFrames.{insertion_frame, cut_way}
 use Rattle.range_change.proofs.Lengths.{changed_length}
 use Rattle.range_change.proofs.MergedItems.{surrounded_alone}

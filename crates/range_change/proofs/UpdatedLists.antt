@@ -6,7 +6,6 @@ use Rattle.std.specs.Ordering.{is_gt}
 use Rattle.std.specs.Cmp.{IsEquivalence}
 use Rattle.range_keys.specs.Order.{KeyOrder, IsLawful}
 use Rattle.range_keys.specs.Position.{start_position, end_position, position_cmp}
-use Rattle.range_keys.specs.PositionOrder.{position_total}
 use Rattle.range_algebra.specs.declared.any.AnyRange.{AnyRange}
 use Rattle.range_algebra.specs.Range.{Holds, IsKnownRange}
 use Rattle.range_algebra.specs.Intervals.{Any, Every}
@@ -18,7 +17,7 @@ use Rattle.range_change.specs.Bindings.{Binds, IsSomeOf}
 use Rattle.range_change.specs.Changes.{IsInserted, IsRemoved}
 use Rattle.range_change.specs.Frames.{IsUpdateFrame, IsMergedInto, IsMergeFrame, HasValue, JoinsOrMeets, IsNewItem, IsPart, IsInsertionFrame, IsRemovalFrame}
 use Rattle.range_change.specs.Lookups.{IsConnectedTo, Overlap}
-use Rattle.range_change.specs.Pieces.{later, earlier, IsCommonPart, IsPiece}
+use Rattle.range_change.specs.Pieces.{IsCommonPart, IsPiece}
 use Rattle.range_change.specs.Replaced.{IsReplaced}
 use Rattle.range_change.proofs.RangePieces.{IsFull, IsInside, IsRight, any_use, any_over, every_with, later_over, earlier_under, either_choice_holds, cut_all, a_piece}
 use Rattle.range_change.proofs.Extents.{end_le}
