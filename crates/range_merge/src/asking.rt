@@ -14,8 +14,8 @@ use crate::merged::{
     whole_part,
 };
 use range_algebra::any::AnyRange;
-use range_change::error::UpdateError;
 use range_change::answers::put;
+use range_change::error::UpdateError;
 use range_keys::bound::Directed;
 use range_keys::traits::PartialEnum;
 use range_store::storage::Item;
