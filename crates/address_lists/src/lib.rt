@@ -4,7 +4,7 @@
 //!
 //! - the addresses of a list, of both families, and what two lists have together:
 //!   `src/addresses.rt`, `specs/Lists.antt`
-//! - reading a list, and where it is wrong: `src/read.rt`
+//! - reading a list, and where it is wrong: `src/read.rt`, `specs/Reading.antt`
 //! - the prefixes of a list as they are printed: `src/print.rt`, `specs/Printed.antt`
 #![tactic(auto)]
 
