@@ -4,6 +4,8 @@
 #[cfg(test)]
 mod complement;
 #[cfg(test)]
+mod coverage;
+#[cfg(test)]
 mod json_values;
 #[cfg(test)]
 mod maps;
