@@ -1,2 +1,3 @@
 -- What the commands make of lists.
 pub mod Commands
+pub mod Relations

@@ -7,7 +7,7 @@ use std::alloc::{AllocError, Global};
 pub const USAGE: &str = "\
 usage: cidr merge|common|invert [--strict] FILE..
        cidr except [--strict] FILE.. --from FILE
-       cidr diff [--strict] FILE FILE
+       cidr diff|compare [--strict] FILE FILE
        cidr --help
 ";
 
@@ -20,6 +20,8 @@ Puts lists of IP addresses together, and prints what comes of it in as few prefi
   except  those of the list after --from that are in no other list
   diff    those that are in just one of two lists
   invert  those of both families that are in no list
+  compare how the first of two lists lies to the second: equal, subset, superset, overlapping or
+          apart
 
 A line is an address, a prefix such as 10.0.0.0/8 or a range such as 10.0.0.0-10.0.0.5, and what
 follows # is a comment. With --strict, a prefix may have no bits of 1 after its length. A file
@@ -30,10 +32,19 @@ named - is standard input.
   cidr invert allowed.txt
 ";
 
+/// What is to be done with the lists.
+#[derive(Clone, Copy, PartialEq, Eq, Debug)]
+pub enum Task {
+    /// They are put together.
+    Combine(Command),
+    /// The first of two is compared with the second.
+    Compare,
+}
+
 /// What the arguments ask for.
 #[derive(Drop)]
 pub struct Request<'a> {
-    pub command: Command,
+    pub task: Task,
     /// The names of the lists, that of `--from` first.
     pub files: Vec<&'a str>,
     pub strict: bool,
@@ -47,13 +58,14 @@ pub fn asks_for_help(words: &[String]) -> bool {
     }
 }
 
-fn command_of(word: &str) -> Option<Command> {
+fn task_of(word: &str) -> Option<Task> {
     match word {
-        "merge" => Some(Command::Merge),
-        "common" => Some(Command::Common),
-        "except" => Some(Command::Except),
-        "diff" => Some(Command::Diff),
-        "invert" => Some(Command::Invert),
+        "merge" => Some(Task::Combine(Command::Merge)),
+        "common" => Some(Task::Combine(Command::Common)),
+        "except" => Some(Task::Combine(Command::Except)),
+        "diff" => Some(Task::Combine(Command::Diff)),
+        "invert" => Some(Task::Combine(Command::Invert)),
+        "compare" => Some(Task::Compare),
         _ => None,
     }
 }
@@ -95,22 +107,23 @@ pub fn read_request(alloc: Global, words: &[String]) -> Result<Option<Request<'_
     let [_, word, words @ ..] = words else {
         return Ok(None);
     };
-    let Some(command) = command_of(word.as_str()) else {
+    let Some(task) = task_of(word.as_str()) else {
         return Ok(None);
     };
-    let Some((files, strict)) = options(alloc, words, command == Command::Except)? else {
+    let Some((files, strict)) = options(alloc, words, task == Task::Combine(Command::Except))?
+    else {
         return Ok(None);
     };
-    let is_known = match command {
-        Command::Diff => files.len() == 2,
-        Command::Except => files.len() >= 2,
-        _ => !files.is_empty(),
+    let is_known = match task {
+        Task::Combine(Command::Diff) | Task::Compare => files.len() == 2,
+        Task::Combine(Command::Except) => files.len() >= 2,
+        Task::Combine(_) => !files.is_empty(),
     };
     if !is_known {
         return Ok(None);
     }
     Ok(Some(Request {
-        command,
+        task,
         files,
         strict,
     }))

@@ -50,7 +50,7 @@ pub enum Stop {
 }
 
 /// The addresses of a list.
-fn read_source<R: BufRead + Drop>(
+pub fn read_source<R: BufRead + Drop>(
     alloc: Global,
     source: Source<R>,
     strict: bool,
