@@ -92,6 +92,7 @@ impl Addresses {
         let v6 = self.v6.complement()?;
         Ok(Addresses { v4, v6 })
     }
+
     /// Whether the other list has each address of this one. Allocates nothing.
     pub fn is_subset(&self, other: &Addresses) -> bool
         ensures { IsTrue result ↔ HasAllOf other.now self.now }

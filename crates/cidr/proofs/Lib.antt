@@ -1,2 +1,3 @@
 -- Lemmas.
 mod Commands
+mod Compared

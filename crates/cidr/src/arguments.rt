@@ -1,11 +1,11 @@
 //! The command line.
 
-use crate::serve::Command;
+use crate::serve::{Command, Form};
 use std::alloc::{AllocError, Global};
 
 /// How the program is called.
 pub const USAGE: &str = "\
-usage: cidr merge|common|invert [--strict] FILE..
+usage: cidr merge|common|invert|count [--strict] FILE..
        cidr except [--strict] FILE.. --from FILE
        cidr diff|compare [--strict] FILE FILE
        cidr --help
@@ -20,8 +20,9 @@ Puts lists of IP addresses together, and prints what comes of it in as few prefi
   except  those of the list after --from that are in no other list
   diff    those that are in just one of two lists
   invert  those of both families that are in no list
+  count   how many addresses of each family are in any list
   compare how the first of two lists lies to the second: equal, subset, superset, overlapping or
-          apart
+          apart, and how many addresses each has
 
 A line is an address, a prefix such as 10.0.0.0/8 or a range such as 10.0.0.0-10.0.0.5, and what
 follows # is a comment. With --strict, a prefix may have no bits of 1 after its length. A file
@@ -35,8 +36,8 @@ named - is standard input.
 /// What is to be done with the lists.
 #[derive(Clone, Copy, PartialEq, Eq, Debug)]
 pub enum Task {
-    /// They are put together.
-    Combine(Command),
+    /// They are put together, and printed in the form.
+    Combine(Command, Form),
     /// The first of two is compared with the second.
     Compare,
 }
@@ -60,11 +61,12 @@ pub fn asks_for_help(words: &[String]) -> bool {
 
 fn task_of(word: &str) -> Option<Task> {
     match word {
-        "merge" => Some(Task::Combine(Command::Merge)),
-        "common" => Some(Task::Combine(Command::Common)),
-        "except" => Some(Task::Combine(Command::Except)),
-        "diff" => Some(Task::Combine(Command::Diff)),
-        "invert" => Some(Task::Combine(Command::Invert)),
+        "merge" => Some(Task::Combine(Command::Merge, Form::Prefixes)),
+        "common" => Some(Task::Combine(Command::Common, Form::Prefixes)),
+        "except" => Some(Task::Combine(Command::Except, Form::Prefixes)),
+        "diff" => Some(Task::Combine(Command::Diff, Form::Prefixes)),
+        "invert" => Some(Task::Combine(Command::Invert, Form::Prefixes)),
+        "count" => Some(Task::Combine(Command::Merge, Form::Count)),
         "compare" => Some(Task::Compare),
         _ => None,
     }
@@ -110,14 +112,17 @@ pub fn read_request(alloc: Global, words: &[String]) -> Result<Option<Request<'_
     let Some(task) = task_of(word.as_str()) else {
         return Ok(None);
     };
-    let Some((files, strict)) = options(alloc, words, task == Task::Combine(Command::Except))?
-    else {
+    let takes_from = match task {
+        Task::Combine(Command::Except, _) => true,
+        _ => false,
+    };
+    let Some((files, strict)) = options(alloc, words, takes_from)? else {
         return Ok(None);
     };
     let is_known = match task {
-        Task::Combine(Command::Diff) | Task::Compare => files.len() == 2,
-        Task::Combine(Command::Except) => files.len() >= 2,
-        Task::Combine(_) => !files.is_empty(),
+        Task::Combine(Command::Diff, _) | Task::Compare => files.len() == 2,
+        Task::Combine(Command::Except, _) => files.len() >= 2,
+        Task::Combine(..) => !files.is_empty(),
     };
     if !is_known {
         return Ok(None);

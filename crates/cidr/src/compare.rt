@@ -5,12 +5,12 @@ ghost use Rattle.std.specs.Io.KnownBytes.{Appends};
 ghost use Rattle.address_text.specs.declared.line.Line.{Line};
 ghost use Rattle.address_lists.specs.Lists.{AreSaid, HasJust, IsListed};
 ghost use Rattle.address_lists.specs.declared.addresses.Addresses.{Addresses};
-ghost use Rattle.cidr.specs.Relations.{IsRelation, relation_text};
-ghost use Rattle.cidr.specs.declared.compare.Relation.{Relation};
+ghost use Rattle.line_program.specs.Listing.{Writes};
+ghost use Rattle.cidr.specs.Relations.{IsCompared, IsRelation, relation_text};
 ghost use Rattle.cidr.specs.declared.serve.Stop.TheVariants.{Unwritable};
 
 use crate::serve::{Source, Stop, read_source};
-use address_lists::Addresses;
+use address_lists::{Addresses, write_counts};
 use std::alloc::Global;
 use std::io::{self, BufRead, Write};
 
@@ -54,12 +54,21 @@ fn write_relation<W: Write>(relation: Relation, out: &mut W) -> io::Result<()>
     }
 }
 
-fn print<W: Write>(relation: Relation, out: &mut W) -> Result<(), Stop>
-    ensures printed { OnOk result (Appends (W.contents out.old) (W.contents out.new)
-        (relation_text relation)) }
+fn write_compared<W: Write>(first: &Addresses, second: &Addresses, out: &mut W) -> io::Result<()>
+    ensures { OnOk result (Writes (W.contents out.old) (W.contents out.new)
+        (IsCompared first.now second.now)) }
+{
+    write_relation(relation_of(first, second), out)?;
+    write_counts("first ", first, out)?;
+    write_counts("second ", second, out)
+}
+
+fn print<W: Write>(first: &Addresses, second: &Addresses, out: &mut W) -> Result<(), Stop>
+    ensures printed { OnOk result (Writes (W.contents out.old) (W.contents out.new)
+        (IsCompared first.now second.now)) }
     ensures failed { IfErr result (λ stop. stop ≡ Unwritable) }
 {
-    match write_relation(relation, out) {
+    match write_compared(first, second, out) {
         Ok(()) => {}
         Err(_) => return Err(Stop::Unwritable),
     }
@@ -69,10 +78,11 @@ fn print<W: Write>(relation: Relation, out: &mut W) -> Result<(), Stop>
     }
 }
 
-/// Reads two lists, and prints in one word how the addresses of the first lie to those of the
-/// second: `equal`, `subset`, `superset`, `overlapping` or `apart`.
+/// Reads two lists, and prints how the addresses of the first lie to those of the second.
 ///
-/// Nothing is printed where a list cannot be read or an allocation fails.
+/// It is a word, `equal`, `subset`, `superset`, `overlapping` or `apart`, and then how many
+/// addresses of each family each list has, such as `first IPv4 256`, a line each. `out` is
+/// flushed. Nothing is printed where a list cannot be read or an allocation fails.
 pub fn compare<R: BufRead + Drop, W: Write>(
     alloc: Global,
     first: Source<R>,
@@ -83,14 +93,13 @@ pub fn compare<R: BufRead + Drop, W: Write>(
     ensures printed { OnOk result (IfSome (R.remaining first.reader)
         (λ one. IfSome (R.remaining second.reader) (λ other. (lines : List Line)
         × (others : List Line) × AreSaid strict one lines [] × AreSaid strict other others []
-        × (list : Addresses) × (second : Addresses) × (relation : Relation)
+        × (list : Addresses) × (other_list : Addresses)
         × HasJust list (λ family n. IsListed family n lines)
-        × HasJust second (λ family n. IsListed family n others)
-        × IsRelation list second relation
-        × Appends (W.contents out.old) (W.contents out.new) (relation_text relation)))) }
+        × HasJust other_list (λ family n. IsListed family n others)
+        × Writes (W.contents out.old) (W.contents out.new) (IsCompared list other_list)))) }
     ensures silent { result ≢ Err Unwritable → OnErr result (out.new ≡ out.old) }
 {
     let first = read_source(alloc, first, strict)?;
     let second = read_source(alloc, second, strict)?;
-    print(relation_of(&first, &second), out)
+    print(&first, &second, out)
 }

@@ -16,7 +16,7 @@ mod serve;
 use crate::arguments::{HELP, Request, Task, USAGE, asks_for_help, read_request};
 use crate::compare::compare;
 use crate::inputs::Input;
-use crate::serve::{Source, Stop};
+use crate::serve::{Source, Stop, serve};
 use anyhow::{Context, bail};
 use std::alloc::Global;
 use std::env;
@@ -47,7 +47,9 @@ fn answer<R: BufRead + Drop, W: Write>(
     out: &mut W,
 ) -> Result<(), Stop> {
     match request.task {
-        Task::Combine(command) => serve::serve(alloc, command, sources, request.strict, out),
+        Task::Combine(command, form) => {
+            serve(alloc, command, form, sources, request.strict, out)
+        }
         Task::Compare => {
             let mut sources = sources.into_iter();
             match (sources.next(), sources.next()) {

@@ -4,16 +4,16 @@ ghost use Rattle.std.specs.Prelude.{◌≡◌, ◌≢◌, ℕ, List, [], Err, le
 ghost use Rattle.std.specs.Vec.Iter.{into_iter_items, into_iter_len};
 ghost use Rattle.address_text.specs.declared.line.Line.{Line};
 ghost use Rattle.address_lists.specs.Lists.{AreSaid, Has, HasJust, IsListed};
-ghost use Rattle.address_lists.specs.Printed.{IsPrinted};
 ghost use Rattle.address_lists.specs.declared.addresses.Addresses.{Addresses};
 ghost use Rattle.line_program.specs.Listing.{Writes};
 ghost use Rattle.cidr.specs.Commands.{AreKnown, AreLists, Asked, Combined, IsAnswer, Put};
+ghost use Rattle.cidr.specs.Shown.{IsShown};
 ghost use Rattle.cidr.specs.declared.serve.Stop.TheVariants.{Unwritable};
 
-use address_lists::{Addresses, ListError, read_list, write_prefixes};
+use address_lists::{Addresses, ListError, read_list, write_counts, write_prefixes};
 use btree_range_map::MapError;
 use std::alloc::Global;
-use std::io::{BufRead, Write};
+use std::io::{self, BufRead, Write};
 use std::vec::IntoIter;
 
 /// What is made of some lists.
@@ -29,6 +29,15 @@ pub enum Command {
     Diff,
     /// Those of no list.
     Invert,
+}
+
+/// What is printed of addresses.
+#[derive(Clone, Copy, PartialEq, Eq, Debug)]
+pub enum Form {
+    /// The prefixes that have just these, as few as can be.
+    Prefixes,
+    /// How many there are of each family.
+    Count,
 }
 
 /// A list that is to be read, with its name.
@@ -151,12 +160,22 @@ fn answered<R: BufRead + Drop>(
     }
 }
 
-fn print<W: Write>(list: &Addresses, out: &mut W) -> Result<(), Stop>
+fn write_list<W: Write>(form: Form, list: &Addresses, out: &mut W) -> io::Result<()>
+    ensures { OnOk result (Writes (W.contents out.old) (W.contents out.new)
+        (IsShown form list.now)) }
+{
+    match form {
+        Form::Prefixes => write_prefixes(list, out),
+        Form::Count => write_counts("", list, out),
+    }
+}
+
+fn print<W: Write>(form: Form, list: &Addresses, out: &mut W) -> Result<(), Stop>
     ensures printed { OnOk result (Writes (W.contents out.old) (W.contents out.new)
-        (IsPrinted list.now)) }
+        (IsShown form list.now)) }
     ensures failed { IfErr result (λ stop. stop ≡ Unwritable) }
 {
-    match write_prefixes(list, out) {
+    match write_list(form, list, out) {
         Ok(()) => {}
         Err(_) => return Err(Stop::Unwritable),
     }
@@ -166,14 +185,15 @@ fn print<W: Write>(list: &Addresses, out: &mut W) -> Result<(), Stop>
     }
 }
 
-/// Reads the sources, and prints the prefixes of what the command says of their addresses.
+/// Reads the sources, and prints the addresses that the command says of theirs, in the form.
 ///
-/// The prefixes are as few as can be, ascending, those of IPv4 first, each on a line; `out` is
+/// Prefixes are as few as can be, ascending, those of IPv4 first, each on a line; `out` is
 /// flushed. Nothing is printed where a source cannot be read or an allocation fails. One list is
 /// held beside the answer.
 pub fn serve<R: BufRead + Drop, W: Write>(
     alloc: Global,
     command: Command,
+    form: Form,
     sources: Vec<Source<R>>,
     strict: bool,
     out: &mut W,
@@ -182,9 +202,9 @@ pub fn serve<R: BufRead + Drop, W: Write>(
         → AreKnown (map (λ s. R.remaining s.reader) sources.items) files
         → (lists : List (List Line)) × (list : Addresses) × AreLists strict files lists
         × HasJust list (IsAnswer command lists)
-        × Writes (W.contents out.old) (W.contents out.new) (IsPrinted list)) }
+        × Writes (W.contents out.old) (W.contents out.new) (IsShown form list)) }
     ensures silent { result ≢ Err Unwritable → OnErr result (out.new ≡ out.old) }
 {
     let list = answered(alloc, command, sources.into_iter(), strict)?;
-    print(&list, out)
+    print(form, &list, out)
 }

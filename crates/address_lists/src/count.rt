@@ -1,0 +1,39 @@
+//! How many addresses a list has, as it is printed.
+
+ghost use Rattle.std.specs.Prelude.{◌++◌, OnOk, codes};
+ghost use Rattle.btree_range_map.specs.Holding.{box_items};
+ghost use Rattle.line_program.specs.Listing.{Writes};
+ghost use Rattle.address_lists.specs.Counted.{IsCountLine, IsCounted};
+
+use crate::addresses::Addresses;
+use address_sets::{Address, AddressSet, address_count};
+use std::io::{self, Write};
+
+fn write_count<A: Address, W: Write>(
+    before: &str,
+    family: &str,
+    set: &AddressSet<A>,
+    out: &mut W,
+) -> io::Result<()>
+    ensures { OnOk result (Writes (W.contents out.old) (W.contents out.new)
+        (IsCountLine (before.now ++ family.now) A.order (box_items set.now))) }
+{
+    match address_count(set) {
+        Some(count) => writeln!(out, "{before}{family} {count}"),
+        None => writeln!(
+            out,
+            "{before}{family} 340282366920938463463374607431768211456"
+        ),
+    }
+}
+
+/// Writes how many addresses of each family the list has, IPv4 first, each on a line.
+///
+/// A line is the text `before`, the family and the number, as `IPv4 256`. Allocates nothing.
+pub fn write_counts<W: Write>(before: &str, list: &Addresses, out: &mut W) -> io::Result<()>
+    ensures { OnOk result (Writes (W.contents out.old) (W.contents out.new)
+        (IsCounted before.now list.now)) }
+{
+    write_count(before, "IPv4", &list.v4, out)?;
+    write_count(before, "IPv6", &list.v6, out)
+}
