@@ -249,19 +249,20 @@ other_answer strict task inputs list other asked files known =
     let (lists, said, all) = asked files known in
     (lists, said, same_answer task list lists other all)
 
--- what is printed is the answer
-pub answer_printed : {X : Type 0} (strict : Bool) (task : Command) (form : Form)
-    (inputs all : List (Option (List ℕ))) (list : Addresses) (before after : Option (List ℕ)) (result : Result X Stop)
-    → inputs ≡ all → AreMade strict inputs (λ lists. HasJust list (IsAnswer task lists))
+-- what is printed is what is kept of the answer
+pub answer_printed : {X : Type 0} (strict : Bool) (Answer : List (List Line) → Family → ℕ → Type 0)
+    (form : Form) (inputs all : List (Option (List ℕ))) (list : Addresses)
+    (before after : Option (List ℕ)) (result : Result X Stop) → inputs ≡ all
+    → AreMade strict inputs (λ lists. HasJust list (Answer lists))
     → OnOk result (Writes before after (IsShown form list))
     → OnOk result ((files : List (List ℕ)) → AreKnown all files → (lists : List (List Line))
-    × (list : Addresses) × AreLists strict files lists × HasJust list (IsAnswer task lists)
+    × (list : Addresses) × AreLists strict files lists × HasJust list (Answer lists)
     × Writes before after (IsShown form list))
-answer_printed strict task form inputs all list before after (Ok done) same made printed =
+answer_printed strict Answer form inputs all list before after (Ok done) same made printed =
     λ files known.
     let (lists, said, answer) = made files (subst (λ one. AreKnown one files) (sym same) known) in
     (lists, list, said, answer, printed)
-answer_printed strict task form inputs all list before after (Err stop) same made printed = tt
+answer_printed strict Answer form inputs all list before after (Err stop) same made printed = tt
 
 -- printing fails where nothing can be written, and for no other reason
 pub fails_unwritable : {X : Type 0} (P : Type 0) (result : Result X Stop)

@@ -1,3 +1,4 @@
 -- Lemmas.
 mod Commands
 mod Compared
+mod Kept

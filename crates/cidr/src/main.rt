@@ -4,8 +4,8 @@
 //!
 //! - the command line: `src/arguments.rt`; standard input and files: `src/inputs.rt`
 //! - the commands over any readers and writer, and what they print: `src/serve.rt`,
-//!   `specs/Commands.antt`, `proofs/Commands.antt`; of `compare`, `src/compare.rt`,
-//!   `specs/Relations.antt`
+//!   `specs/{Commands,Shown}.antt`, `proofs/{Commands,Kept}.antt`; of `compare`,
+//!   `src/compare.rt`, `specs/Relations.antt`, `proofs/Compared.antt`
 #![tactic(auto)]
 
 mod arguments;
@@ -16,7 +16,7 @@ mod serve;
 use crate::arguments::{HELP, Request, Task, USAGE, asks_for_help, read_request};
 use crate::compare::compare;
 use crate::inputs::Input;
-use crate::serve::{Source, Stop, serve};
+use crate::serve::{Output, Source, Stop, serve};
 use anyhow::{Context, bail};
 use std::alloc::Global;
 use std::env;
@@ -48,7 +48,11 @@ fn answer<R: BufRead + Drop, W: Write>(
 ) -> Result<(), Stop> {
     match request.task {
         Task::Combine(command, form) => {
-            serve(alloc, command, form, sources, request.strict, out)
+            let output = Output {
+                only: request.only,
+                form,
+            };
+            serve(alloc, command, sources, request.strict, output, out)
         }
         Task::Compare => {
             let mut sources = sources.into_iter();

@@ -7,10 +7,12 @@ ghost use Rattle.address_lists.specs.Lists.{AreSaid, Has, HasJust, IsListed};
 ghost use Rattle.address_lists.specs.declared.addresses.Addresses.{Addresses};
 ghost use Rattle.line_program.specs.Listing.{Writes};
 ghost use Rattle.cidr.specs.Commands.{AreKnown, AreLists, Asked, Combined, IsAnswer, Put};
-ghost use Rattle.cidr.specs.Shown.{IsShown};
+ghost use Rattle.cidr.specs.Shown.{IsShown, Kept};
 ghost use Rattle.cidr.specs.declared.serve.Stop.TheVariants.{Unwritable};
 
 use address_lists::{Addresses, ListError, read_list, write_counts, write_prefixes};
+use address_sets::AddressSet;
+use address_text::Family;
 use btree_range_map::MapError;
 use std::alloc::Global;
 use std::io::{self, BufRead, Write};
@@ -38,6 +40,14 @@ pub enum Form {
     Prefixes,
     /// How many there are of each family.
     Count,
+}
+
+/// What is printed of an answer.
+#[derive(Clone, Copy, Debug)]
+pub struct Output {
+    /// The family whose addresses alone are printed; `None` for both.
+    pub only: Option<Family>,
+    pub form: Form,
 }
 
 /// A list that is to be read, with its name.
@@ -160,6 +170,24 @@ fn answered<R: BufRead + Drop>(
     }
 }
 
+/// The addresses of one family alone, or of both.
+fn kept(alloc: Global, list: Addresses, only: Option<Family>) -> Addresses
+    ensures { HasJust result (Kept only (Has list)) }
+{
+    let Addresses { v4, v6 } = list;
+    match only {
+        None => Addresses { v4, v6 },
+        Some(Family::V4) => Addresses {
+            v4,
+            v6: AddressSet::new(alloc),
+        },
+        Some(Family::V6) => Addresses {
+            v4: AddressSet::new(alloc),
+            v6,
+        },
+    }
+}
+
 fn write_list<W: Write>(form: Form, list: &Addresses, out: &mut W) -> io::Result<()>
     ensures { OnOk result (Writes (W.contents out.old) (W.contents out.new)
         (IsShown form list.now)) }
@@ -185,7 +213,7 @@ fn print<W: Write>(form: Form, list: &Addresses, out: &mut W) -> Result<(), Stop
     }
 }
 
-/// Reads the sources, and prints the addresses that the command says of theirs, in the form.
+/// Reads the sources, and prints what the command says of their addresses, of one family or both.
 ///
 /// Prefixes are as few as can be, ascending, those of IPv4 first, each on a line; `out` is
 /// flushed. Nothing is printed where a source cannot be read or an allocation fails. One list is
@@ -193,18 +221,18 @@ fn print<W: Write>(form: Form, list: &Addresses, out: &mut W) -> Result<(), Stop
 pub fn serve<R: BufRead + Drop, W: Write>(
     alloc: Global,
     command: Command,
-    form: Form,
     sources: Vec<Source<R>>,
     strict: bool,
+    output: Output,
     out: &mut W,
 ) -> Result<(), Stop>
     ensures printed { OnOk result ((files : List (List ℕ))
         → AreKnown (map (λ s. R.remaining s.reader) sources.items) files
         → (lists : List (List Line)) × (list : Addresses) × AreLists strict files lists
-        × HasJust list (IsAnswer command lists)
-        × Writes (W.contents out.old) (W.contents out.new) (IsShown form list)) }
+        × HasJust list (Kept output.only (IsAnswer command lists))
+        × Writes (W.contents out.old) (W.contents out.new) (IsShown output.form list)) }
     ensures silent { result ≢ Err Unwritable → OnErr result (out.new ≡ out.old) }
 {
     let list = answered(alloc, command, sources.into_iter(), strict)?;
-    print(form, &list, out)
+    print(output.form, &kept(alloc, list, output.only), out)
 }
