@@ -1,5 +1,7 @@
 -- What two lists have together, as the sets of both families have.
-use Rattle.std.proofs.Common.{ℕ}
+use Rattle.std.proofs.Common.{◌≡◌, ℕ, ◌↔◌, Bool, true, false, sym, ◌∙◌}
+use Rattle.std.specs.Prelude.{IsTrue}
+use Rattle.std.proofs.lemmas.Bool.{false≢true}
 use Rattle.btree_range_map.specs.Holding.{box_items}
 use Rattle.btree_range_map.specs.Together.{BindKeysOf, ShareNoKey}
 use Rattle.address_sets.specs.Addresses.{ipv4_at, ipv4_number, ipv4_order, ipv6_at, ipv6_number, ipv6_order}
@@ -29,3 +31,32 @@ module _ (list other : Addresses) where
 
   pub none_v6 : ShareNone list other → ShareNoKey ipv6_order (box_items list.v6) (box_items other.v6)
   none_v6 none k small has = none V6 (ipv6_number k) small has
+
+  -- after the sets of IPv4, those of IPv6 tell
+  pub all_then : (one both : Bool) → one ≡ true
+      → (IsTrue one → BindKeysOf ipv4_order (box_items other.v4) (box_items list.v4))
+      → (IsTrue both → BindKeysOf ipv6_order (box_items other.v6) (box_items list.v6))
+      → (BindKeysOf ipv6_order (box_items other.v6) (box_items list.v6) → IsTrue both)
+      → IsTrue both ↔ HasAllOf list other
+  all_then one both is v4 v6 told =
+      (λ yes. has_all (v4 is) (v6 yes), λ all. told (all_v6 all))
+
+  pub all_else : (one : Bool) → one ≡ false
+      → (BindKeysOf ipv4_order (box_items other.v4) (box_items list.v4) → IsTrue one)
+      → IsTrue false ↔ HasAllOf list other
+  all_else one is told =
+      (λ yes. absurd (false≢true yes), λ all. absurd (false≢true (sym is ∙ told (all_v4 all))))
+
+  pub none_then : (one both : Bool) → one ≡ true
+      → (IsTrue one → ShareNoKey ipv4_order (box_items list.v4) (box_items other.v4))
+      → (IsTrue both → ShareNoKey ipv6_order (box_items list.v6) (box_items other.v6))
+      → (ShareNoKey ipv6_order (box_items list.v6) (box_items other.v6) → IsTrue both)
+      → IsTrue both ↔ ShareNone list other
+  none_then one both is v4 v6 told =
+      (λ yes. share_none (v4 is) (v6 yes), λ none. told (none_v6 none))
+
+  pub none_else : (one : Bool) → one ≡ false
+      → (ShareNoKey ipv4_order (box_items list.v4) (box_items other.v4) → IsTrue one)
+      → IsTrue false ↔ ShareNone list other
+  none_else one is told =
+      (λ yes. absurd (false≢true yes), λ none. absurd (false≢true (sym is ∙ told (none_v4 none))))
