@@ -9,11 +9,11 @@ use Rattle.range_keys.specs.Position.{start_position, end_position, position_cmp
 use Rattle.range_keys.specs.PositionOrder.{position_total}
 use Rattle.range_keys.specs.declared.inner.position.Position.{Position}
 use Rattle.range_algebra.specs.declared.any.AnyRange.{AnyRange}
-use Rattle.range_algebra.specs.Cuts.{past}
+use Rattle.range_algebra.specs.Cuts.{past, lower, upper}
 use Rattle.range_algebra.specs.Clones.{IsBoundClone, SameBound, same_start}
 use Rattle.range_algebra.specs.Range.{IsKnownRange}
 use Rattle.range_algebra.specs.Intervals.{Any, Every}
-use Rattle.range_algebra.specs.Orders.{lt_le, eq_le, eq_ge, le_trans, cases, le_lt_trans, lt_le_trans}
+use Rattle.range_change.proofs.PlaceOrder.{lt_le, eq_le, eq_ge, le_trans, cases, le_lt_trans, lt_le_trans, PLe, PLt}
 use Rattle.range_algebra.proofs.Lists.{any_left, any_right, any_split, every_weaker, every_append, every_left, every_right}
 use Rattle.range_change.specs.Chains.{line_of, Leads, Respects}
 use Rattle.range_change.proofs.Chains.{strictly_leads, chain_left, chain_right, chain_before, chains_join, same_is_symmetric}
@@ -24,7 +24,7 @@ use Rattle.range_change.specs.Put.{JoinsNoLast, IsPut}
 use Rattle.range_change.specs.Edits.{with_end}
 use Rattle.range_change.specs.Stored.{item_lower}
 use Rattle.range_change.proofs.CutParts.{same_past}
-use Rattle.range_change.proofs.RangePieces.{PLe, PLt, Lo, Hi, any_end}
+use Rattle.range_change.proofs.RangePieces.{any_end}
 use Rattle.range_change.proofs.Forms.{Known, Chained, Hold, touches_is}
 
 split_last : {X : Type 0} (xs : List X) (k : ℕ) → k + 1 ≡ length xs
@@ -54,20 +54,19 @@ module _ {K : Type 0} (order : KeyOrder K) (lawful : IsLawful order) {V : Type 0
   -- a nonempty part between the places of the range
   abbrev pub IsWithin : AnyRange K → Type 0
   IsWithin key =
-      IsKnownRange order key × PLe order lawful (Lo order lawful r) (Lo order lawful key)
-      × PLt order lawful (Lo order lawful key) (Hi order lawful key)
-      × PLe order lawful (Hi order lawful key) (Hi order lawful r)
+      IsKnownRange order key × PLe lawful (lower order r) (lower order key)
+      × PLt lawful (lower order key) (upper order key)
+      × PLe lawful (upper order key) (upper order r)
 
   abbrev HoldsAt : Position K → AnyRange K → Type 0
   HoldsAt p key =
-      PLe order lawful (Lo order lawful key) p × PLt order lawful p (Hi order lawful key)
+      PLe lawful (lower order key) p × PLt lawful p (upper order key)
 
   -- the range of an item lies in the range, and before the place
   abbrev LiesUpTo : Position K → Item (AnyRange K) V → Type 0
   LiesUpTo m j =
-      PLe order lawful (Lo order lawful r) (Lo order lawful j.key)
-      × PLe order lawful (Hi order lawful j.key) (Hi order lawful r)
-      × PLe order lawful (Hi order lawful j.key) m
+      PLe lawful (lower order r) (lower order j.key)
+      × PLe lawful (upper order j.key) (upper order r) × PLe lawful (upper order j.key) m
 
   -- the items bind what the answers so far say
   pub record IsFilledUpTo (m : Position K) (answers : List (Answered K V))
@@ -90,22 +89,18 @@ module _ {K : Type 0} (order : KeyOrder K) (lawful : IsLawful order) {V : Type 0
       }
 
   module _ (m n : Position K) (answers : List (Answered K V)) (key : AnyRange K)
-      (inside : IsWithin key) (from : PLe order lawful m (Lo order lawful key))
-      (upto : PLe order lawful (Hi order lawful key) n) where
-    later_place_is_not_before : PLe order lawful m n
+      (inside : IsWithin key) (from : PLe lawful m (lower order key))
+      (upto : PLe lawful (upper order key) n) where
+    later_place_is_not_before : PLe lawful m n
     later_place_is_not_before =
-        let cmp = position_cmp order.cmp in
-        let total = position_total order.cmp lawful.total in
-        le_trans cmp total m (Lo order lawful key) n
-        from (le_trans cmp total (Lo order lawful key) (Hi order lawful key) n
-        (lt_le cmp total (Lo order lawful key) (Hi order lawful key) inside.2) upto)
+        le_trans lawful _ _ _
+        from (le_trans lawful _ _ _ (lt_le lawful _ _ inside.2) upto)
 
     lies_up_to_later_place : (j : Item (AnyRange K) V) → LiesUpTo m j → LiesUpTo n j
     lies_up_to_later_place j h = (
       h.0,
       h.1,
-      le_trans (position_cmp order.cmp) (position_total order.cmp lawful.total)
-          (Hi order lawful j.key) m n h.2 later_place_is_not_before,
+      le_trans lawful _ _ _ h.2 later_place_is_not_before,
     )
 
     more_valued : (a : Answered K V) (middle : List (Item (AnyRange K) V))
@@ -139,7 +134,7 @@ module _ {K : Type 0} (order : KeyOrder K) (lawful : IsLawful order) {V : Type 0
         }
 
     lead_all : (v : V) (j : Item (AnyRange K) V)
-        → position_cmp order.cmp (Lo order lawful j.key) (Lo order lawful key) ≡ Equal → j.value ≡ v
+        → position_cmp order.cmp (lower order j.key) (lower order key) ≡ Equal → j.value ≡ v
         → (xs : List (Item (AnyRange K) V)) → Chained order lawful same equal xs
         → Every (LiesUpTo m) xs
         → ((k : ℕ) (d : Item (AnyRange K) V) → k + 1 ≡ length xs
@@ -147,34 +142,22 @@ module _ {K : Type 0} (order : KeyOrder K) (lawful : IsLawful order) {V : Type 0
         → Every (λ x. Leads (line_of order lawful same equal) x (item_lower order j) j.value) xs
     lead_all v j at is [] chain within apart = tt
     lead_all v j at is (x ∷ []) chain within apart =
-        let cmp = position_cmp order.cmp in
-        let total = position_total order.cmp lawful.total in
         let before =
-        le_trans cmp total (Hi order lawful x.key) m
-        (Lo order lawful key) within.0.2 from in (
+        le_trans lawful _ _ _ within.0.2 from in (
           (
-            le_trans cmp total (Hi order lawful x.key) (Lo order lawful key)
-                (Lo order lawful j.key) before
-                (eq_ge cmp total (Lo order lawful j.key) (Lo order lawful key) at),
+            le_trans lawful _ _ _ before (eq_ge lawful _ _ at),
             λ le alike. apart 0 x refl
                 ((touches_is order lawful x.key.end key inside.0 inside.2 before).1
-                (le_trans cmp total (Lo order lawful key) (Lo order lawful j.key)
-                (Hi order lawful x.key) (eq_ge cmp total (Lo order lawful j.key)
-                (Lo order lawful key) at) le)) (rw is at alike),
+                (le_trans lawful _ _ _ (eq_ge lawful _ _ at) le)) (rw is at alike),
           ),
           tt,
         )
     lead_all v j at is (x ∷ y ∷ ys) chain within apart =
-        let cmp = position_cmp order.cmp in
-        let total = position_total order.cmp lawful.total in
         let rest =
         lead_all v j at is (y ∷ ys) chain.1.1 within.1
         (λ k d size. apart (suc k) d (omega (arith, size))) in
         let strict =
-        le_lt_trans cmp total (Hi order lawful x.key) (Lo order lawful y.key)
-        (Lo order lawful j.key) chain.1.0.0
-        (lt_le_trans cmp total (Lo order lawful y.key) (Hi order lawful y.key)
-        (Lo order lawful j.key) chain.1.1.0 rest.0.0) in (
+        le_lt_trans lawful _ _ _ chain.1.0.0 (lt_le_trans lawful _ _ _ chain.1.1.0 rest.0.0) in (
           strictly_leads (line_of order lawful same equal) x (item_lower order j) j.value strict,
           rest,
         )
@@ -182,23 +165,20 @@ module _ {K : Type 0} (order : KeyOrder K) (lawful : IsLawful order) {V : Type 0
     filled_with_item_after : (v : V) (value : Option V) (j : Item (AnyRange K) V)
         (middle : List (Item (AnyRange K) V)) → IsFilledUpTo m answers middle
         → IsKnownRange order j.key
-        → position_cmp order.cmp (Lo order lawful j.key) (Lo order lawful key) ≡ Equal
-        → position_cmp order.cmp (Hi order lawful j.key) (Hi order lawful key) ≡ Equal → j.value ≡ v
+        → position_cmp order.cmp (lower order j.key) (lower order key) ≡ Equal
+        → position_cmp order.cmp (upper order j.key) (upper order key) ≡ Equal → j.value ≡ v
         → JoinsNoLast order same middle key v
         → IsFilledUpTo n (answers ++ record { key = key; value = value; answer = Some v } ∷ [])
         (middle ++ j ∷ [])
     filled_with_item_after v value j middle was known at to is apart =
-        let cmp = position_cmp order.cmp in
-        let total = position_total order.cmp lawful.total in
         let a : Answered K V = record { key = key; value = value; answer = Some v } in
-        let lo = Lo order lawful key in
-        let hi = Hi order lawful key in
-        let p0 = Lo order lawful j.key in
-        let q0 = Hi order lawful j.key in
+        let lo = lower order key in
+        let hi = upper order key in
+        let p0 = lower order j.key in
+        let q0 = upper order j.key in
         let good =
-        lt_le_trans cmp total p0 hi q0
-        (le_lt_trans cmp total p0 lo hi (eq_le cmp total p0 lo at) inside.2)
-        (eq_ge cmp total q0 hi to) in
+        lt_le_trans lawful _ _ _ (le_lt_trans lawful _ _ _ (eq_le lawful _ _ at) inside.2)
+        (eq_ge lawful _ _ to) in
         record {
           known =
               every_append (λ i. IsKnownRange order i.key) middle (j ∷ []) was.known (known, tt);
@@ -212,9 +192,9 @@ module _ {K : Type 0} (order : KeyOrder K) (lawful : IsLawful order) {V : Type 0
               every_append (LiesUpTo n) middle (j ∷ [])
               (every_weaker (LiesUpTo m) (LiesUpTo n) middle lies_up_to_later_place was.inside) (
                 (
-                  le_trans cmp total (Lo order lawful r) lo p0 inside.1 (eq_ge cmp total p0 lo at),
-                  le_trans cmp total q0 hi (Hi order lawful r) (eq_le cmp total q0 hi to) inside.3,
-                  le_trans cmp total q0 hi n (eq_le cmp total q0 hi to) upto,
+                  le_trans lawful _ _ _ inside.1 (eq_ge lawful _ _ at),
+                  le_trans lawful _ _ _ (eq_le lawful _ _ to) inside.3,
+                  le_trans lawful _ _ _ (eq_le lawful _ _ to) upto,
                 ),
                 tt,
               );
@@ -228,8 +208,8 @@ module _ {K : Type 0} (order : KeyOrder K) (lawful : IsLawful order) {V : Type 0
                     | inl e ↦
                         any_end P answers a (
                           (
-                            le_trans cmp total lo p0 p (eq_ge cmp total p0 lo at) e.0.0,
-                            lt_le_trans cmp total p q0 hi e.0.1 (eq_le cmp total q0 hi to),
+                            le_trans lawful _ _ _ (eq_ge lawful _ _ at) e.0.0,
+                            lt_le_trans lawful _ _ _ e.0.1 (eq_le lawful _ _ to),
                           ),
                           rw is at e.1,
                         )
@@ -242,8 +222,8 @@ module _ {K : Type 0} (order : KeyOrder K) (lawful : IsLawful order) {V : Type 0
                     | inl e ↦
                         any_end Q middle j (
                           (
-                            le_trans cmp total p0 lo p (eq_le cmp total p0 lo at) e.0.0,
-                            lt_le_trans cmp total p hi q0 e.0.1 (eq_ge cmp total q0 hi to),
+                            le_trans lawful _ _ _ (eq_le lawful _ _ at) e.0.0,
+                            lt_le_trans lawful _ _ _ e.0.1 (eq_ge lawful _ _ to),
                           ),
                           rw is e.1,
                         )
@@ -259,29 +239,27 @@ module _ {K : Type 0} (order : KeyOrder K) (lawful : IsLawful order) {V : Type 0
 
     filled_on : (v : V) (value : Option V) (front : List (Item (AnyRange K) V))
         (last j : Item (AnyRange K) V) → IsFilledUpTo m answers (front ++ last ∷ [])
-        → IsKnownRange order j.key → Lo order lawful j.key ≡ Lo order lawful last.key
-        → position_cmp order.cmp (Hi order lawful j.key) (Hi order lawful key) ≡ Equal
-        → j.value ≡ last.value → PLe order lawful (Lo order lawful key) (Hi order lawful last.key)
+        → IsKnownRange order j.key → lower order j.key ≡ lower order last.key
+        → position_cmp order.cmp (upper order j.key) (upper order key) ≡ Equal
+        → j.value ≡ last.value → PLe lawful (lower order key) (upper order last.key)
         → same last.value v ≡ true
         → IsFilledUpTo n (answers ++ record { key = key; value = value; answer = Some v } ∷ [])
         (front ++ j ∷ [])
     filled_on v value front last j was known at to is touches alike_values =
-        let cmp = position_cmp order.cmp in
-        let total = position_total order.cmp lawful.total in
         let a : Answered K V = record { key = key; value = value; answer = Some v } in
-        let lo = Lo order lawful key in
-        let hi = Hi order lawful key in
-        let q0 = Hi order lawful j.key in
-        let low = Lo order lawful last.key in
-        let high = Hi order lawful last.key in
+        let lo = lower order key in
+        let hi = upper order key in
+        let q0 = upper order j.key in
+        let low = lower order last.key in
+        let high = upper order last.key in
         let tail = chain_right (line_of order lawful same equal) front (last ∷ []) was.chain in
         let within = every_right (LiesUpTo m) front (last ∷ []) was.inside in
-        let before : PLe order lawful high lo = le_trans cmp total high m lo within.0.2 from in
-        let past_lo : PLt order lawful low hi =
-        lt_le_trans cmp total low high hi tail.0
-        (le_trans cmp total high lo hi before (lt_le cmp total lo hi inside.2)) in
-        let good : PLt order lawful (Lo order lawful j.key) q0 =
-        rw at (lt_le_trans cmp total low hi q0 past_lo (eq_ge cmp total q0 hi to)) in
+        let before : PLe lawful high lo = le_trans lawful _ _ _ within.0.2 from in
+        let past_lo : PLt lawful low hi =
+        lt_le_trans lawful _ _ _ tail.0
+        (le_trans lawful _ _ _ before (lt_le lawful _ _ inside.2)) in
+        let good : PLt lawful (lower order j.key) q0 =
+        rw at (lt_le_trans lawful _ _ _ past_lo (eq_ge lawful _ _ to)) in
         let leads = chain_before (line_of order lawful same equal) front last [] was.chain in
         let old_valued =
         every_right (λ i. Any (λ b. b.answer ≡ Some i.value) answers) front
@@ -300,8 +278,8 @@ module _ {K : Type 0} (order : KeyOrder K) (lawful : IsLawful order) {V : Type 0
               (every_left (LiesUpTo m) front (last ∷ []) was.inside)) (
                 (
                   rw at within.0.0,
-                  le_trans cmp total q0 hi (Hi order lawful r) (eq_le cmp total q0 hi to) inside.3,
-                  le_trans cmp total q0 hi n (eq_le cmp total q0 hi to) upto,
+                  le_trans lawful _ _ _ (eq_le lawful _ _ to) inside.3,
+                  le_trans lawful _ _ _ (eq_le lawful _ _ to) upto,
                 ),
                 tt,
               );
@@ -309,12 +287,12 @@ module _ {K : Type 0} (order : KeyOrder K) (lawful : IsLawful order) {V : Type 0
               let P = λ (b : Answered K V). HoldsAt p b.key × Gives W b.answer in
               let Q = λ (i : Item (AnyRange K) V). HoldsAt p i.key × (W i.value ≡ true) in
               let old = was.has p W alike in
-              let into : PLt order lawful p hi → PLt order lawful p q0 =
-              λ l. lt_le_trans cmp total p hi q0 l (eq_ge cmp total q0 hi to) in (
+              let into : PLt lawful p hi → PLt lawful p q0 =
+              λ l. lt_le_trans lawful _ _ _ l (eq_ge lawful _ _ to) in (
                 λ h. elim (any_split Q front (j ∷ []) h) [
                   | inl g ↦ any_left P answers (a ∷ []) (old.0 (any_left Q front (last ∷ []) g))
                   | inr g ↦ elim g [
-                    | inl e ↦ elim (cases cmp total p high) [
+                    | inl e ↦ elim (cases lawful p high) [
                       | inl l ↦
                           any_left P answers (a ∷ [])
                           (old.0 (any_right Q front (last ∷ [])
@@ -322,8 +300,8 @@ module _ {K : Type 0} (order : KeyOrder K) (lawful : IsLawful order) {V : Type 0
                       | inr le ↦
                           any_end P answers a (
                             (
-                              le_trans cmp total lo high p touches le,
-                              lt_le_trans cmp total p q0 hi e.0.1 (eq_le cmp total q0 hi to),
+                              le_trans lawful _ _ _ touches le,
+                              lt_le_trans lawful _ _ _ e.0.1 (eq_le lawful _ _ to),
                             ),
                             alike last.value v alike_values (rw is at e.1),
                           )
@@ -339,9 +317,8 @@ module _ {K : Type 0} (order : KeyOrder K) (lawful : IsLawful order) {V : Type 0
                           any_end Q front j (
                             (
                               rw at e.0.0,
-                              into (lt_le_trans cmp total p high hi e.0.1
-                                  (le_trans cmp total high lo hi before
-                                  (lt_le cmp total lo hi inside.2))),
+                              into (lt_le_trans lawful _ _ _ e.0.1 (le_trans lawful _ _ _ before
+                                  (lt_le lawful _ _ inside.2))),
                             ),
                             rw is e.1,
                           )
@@ -352,9 +329,8 @@ module _ {K : Type 0} (order : KeyOrder K) (lawful : IsLawful order) {V : Type 0
                     | inl e ↦
                         any_end Q front j (
                           (
-                            rw at (le_trans cmp total low lo p
-                                (le_trans cmp total low high lo
-                                (lt_le cmp total low high tail.0) before)
+                            rw at (le_trans lawful _ _ _ (le_trans lawful _ _ _
+                                (lt_le lawful _ _ tail.0) before)
                                 e.0.0),
                             into e.0.1,
                           ),
@@ -385,11 +361,10 @@ module _ {K : Type 0} (order : KeyOrder K) (lawful : IsLawful order) {V : Type 0
       fill_more value (Some v) old new was (inl put) =
           rw put.list (filled_with_item_after v value
           (record { key = record { start = put.start; end = put.end }; value = v }) old was
-          put.known (tied_back (position_total order.cmp lawful.total) (Lo order lawful key)
-          (start_position order put.start)
-          (same_start order lawful key.start put.start
+          put.known (tied_back (position_total order.cmp lawful.total) (lower order key)
+          (start_position order put.start) (same_start order lawful key.start put.start
           (clones key.start put.start put.start_clone)))
-          (tied_back (position_total order.cmp lawful.total) (Hi order lawful key)
+          (tied_back (position_total order.cmp lawful.total) (upper order key)
           (past_of put.end) (same_past order lawful key.end put.end
           (clones key.end put.end put.end_clone))) refl put.apart)
       fill_more value (Some v) old new was (inr put) =
@@ -400,16 +375,13 @@ module _ {K : Type 0} (order : KeyOrder K) (lawful : IsLawful order) {V : Type 0
           let j = with_end last put.end in
           let list : new ≡ parts.0 ++ j ∷ [] = rw (parts.3 last) at (put.list last) ∙ parts.4 j in
           let was_parts : IsFilledUpTo m answers (parts.0 ++ last ∷ []) = rw parts.2 at was in
-          let cmp = position_cmp order.cmp in
-          let total = position_total order.cmp lawful.total in
           let within = every_right (LiesUpTo m) parts.0 (last ∷ []) was_parts.inside in
           let known =
           every_right (λ i. IsKnownRange order i.key) parts.0 (last ∷ []) was_parts.known in
           let before =
-          le_trans cmp total (Hi order lawful last.key) m
-          (Lo order lawful key) within.0.2 from in
+          le_trans lawful _ _ _ within.0.2 from in
           rw list (filled_on v value parts.0 last j was_parts (known.0.0, put.known) refl
-          (tied_back (position_total order.cmp lawful.total) (Hi order lawful key)
+          (tied_back (position_total order.cmp lawful.total) (upper order key)
           (past_of put.end) (same_past order lawful key.end put.end
           (clones key.end put.end put.end_clone))) refl
           ((touches_is order lawful last.key.end key inside.0 inside.2 before).0 joins.0)

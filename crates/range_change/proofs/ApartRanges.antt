@@ -17,7 +17,7 @@ use Rattle.range_change.proofs.ChainJoins.{places_between_are_bound, left_apart,
 use Rattle.range_algebra.specs.Compared.{flipped, starts_at_end}
 use Rattle.range_algebra.specs.Cuts.{lower, upper}
 use Rattle.range_algebra.specs.Intervals.{Every, Le, Lt}
-use Rattle.range_algebra.specs.Orders.{eq_ge, eq_le, le_lt_trans, le_refl, le_trans, lt_le, lt_le_trans, lt_not_le, lt_trans, not_le}
+use Rattle.range_change.proofs.PlaceOrder.{eq_ge, eq_le, le_lt_trans, le_refl, le_trans, lt_le, lt_le_trans, lt_not_le, lt_trans, not_le}
 use Rattle.range_algebra.specs.Range.{IsEmptyRange, IsKnownRange}
 use Rattle.range_algebra.specs.declared.any.AnyRange.{AnyRange}
 use Rattle.range_algebra.proofs.Lists.{drop_all, list_is_take_and_drop, any_none, any_split, every_append, every_left, every_right, every_weaker}
@@ -90,34 +90,27 @@ module _ {K : Type 0} (order : KeyOrder K) (lawful : IsLawful order) where
   apart_is r s known others full h =
       let le = (before_is order lawful r.end s.start known.1 others.0).0 h.0 in
       let touch =
-      touches_is order lawful r.end s others
-      ((nonempty_good order lawful s others).0 full) le in
-      not_le (position_cmp order.cmp) (position_total order.cmp lawful.total) (upper order r)
-      (lower order s) (λ back. h.1 (touch.1 back))
+      touches_is order lawful r.end s others ((nonempty_good order lawful s others).0 full) le in
+      not_le lawful (upper order r) (lower order s) (λ back. h.1 (touch.1 back))
 
   -- they lie apart where the start that follows the one comes before the other
   pub apart_by_start : (r s : AnyRange K) (i : Bound K) → flipped r.end ≡ Some i
       → IsKnownRange order r → IsKnownRange order s
       → LiesApart order r s ↔ PLt (start_position order i) (lower order s)
   apart_by_start r s i turns known others =
-      let cmp = position_cmp order.cmp in
-      let total = position_total order.cmp lawful.total in
       let before = before_is order lawful r.end s.start known.1 others.0 in
       let same = flipped_bound_is_past order lawful r.end i turns in
       let touch =
       λ (le : PLe (upper order r) (lower order s)). touches_by order lawful r.end i s turns le in (
-        λ h. not_le cmp total (start_position order i) (lower order s) (λ back.
-            h.1 (rw turns ((touch (before.0 h.0)).1
-            (le_trans cmp total (lower order s) (start_position order i) (upper order r) back
-            (eq_ge cmp total (upper order r) (start_position order i) same))))),
+        λ h. not_le lawful (start_position order i) (lower order s) (λ back.
+            h.1 (rw turns ((touch (before.0 h.0)).1 (le_trans lawful _ _ _ back
+            (eq_ge lawful _ _ same))))),
         λ l.
             let lt : PLt (upper order r) (lower order s) =
-            le_lt_trans cmp total (upper order r) (start_position order i) (lower order s)
-            (eq_le cmp total (upper order r) (start_position order i) same) l in
-            let le = lt_le cmp total (upper order r) (lower order s) lt in (
+            le_lt_trans lawful _ _ _ (eq_le lawful _ _ same) l in
+            let le = lt_le lawful _ _ lt in (
               before.1 le,
-              λ t. lt_not_le cmp total (upper order r) (lower order s) lt
-                  ((touch le).0 (rw turns at t)),
+              λ t. lt_not_le lawful _ _ lt ((touch le).0 (rw turns at t)),
             ),
       )
 
@@ -128,20 +121,13 @@ module _ {K : Type 0} (order : KeyOrder K) (lawful : IsLawful order) where
       → (Overlap order r s → ⊥) × (Touches order r s → ⊥) × (Touches order s r → ⊥)
       × (LiesBefore order r s)
   apart_not r s known others good good_s l =
-      let cmp = position_cmp order.cmp in
-      let total = position_total order.cmp lawful.total in
       let before =
-      (before_is order lawful r.end s.start known.1 others.0).1
-      (lt_le cmp total (upper order r) (lower order s) l) in (
+      (before_is order lawful r.end s.start known.1 others.0).1 (lt_le lawful _ _ l) in (
         λ meets. meets.0 before,
-        λ t. lt_not_le cmp total (upper order r) (lower order s) l
-            (eq_ge cmp total (upper order r) (lower order s)
+        λ t. lt_not_le lawful _ _ l (eq_ge lawful _ _
             (touching_same order lawful r.end (lower order s) t)),
-        λ t. lt_not_le cmp total (lower order r) (upper order s)
-            (lt_trans cmp total (lower order r) (upper order r) (upper order s) good
-            (lt_trans cmp total (upper order r) (lower order s) (upper order s) l good_s))
-            (eq_le cmp total (upper order s) (lower order r)
-            (touching_same order lawful s.end (lower order r) t)),
+        λ t. lt_not_le lawful _ _ (lt_trans lawful _ _ _ good (lt_trans lawful _ _ _ l good_s))
+            (eq_le lawful _ _ (touching_same order lawful s.end (lower order r) t)),
         before,
       )
 
@@ -171,8 +157,6 @@ module _ {K : Type 0} (order : KeyOrder K) (lawful : IsLawful order) where
       clear_front : (n : ℕ) (x : Item (AnyRange K) V) → n < length items → x ≡ get_or items n x
           → LiesApart order x.key r → Every (Before r) (take (n + 1) items)
       clear_front n x within read apart =
-          let cmp = position_cmp order.cmp in
-          let total = position_total order.cmp lawful.total in
           let more : drop n items ≡ x ∷ drop (n + 1) items =
           drop_more items n x within ∙ ap (λ y. y ∷ drop (n + 1) items) (sym read) in
           let split : items ≡ take n items ++ x ∷ drop (n + 1) items =
@@ -194,15 +178,11 @@ module _ {K : Type 0} (order : KeyOrder K) (lawful : IsLawful order) where
           take_more items n x within ∙ ap (λ y. take n items ++ y ∷ []) (sym read) in
           rw longer (every_append (Before r) (take n items) (x ∷ [])
           (every_weaker _ _ (take n items)
-          (λ y h. le_lt_trans cmp total (item_upper order y) (item_lower order x)
-          (lower order r) h.0 (lt_trans cmp total (item_lower order x) (item_upper order x)
-          (lower order r) good.0 own)) before) (own, tt))
+          (λ y h. le_lt_trans lawful _ _ _ h.0 (lt_trans lawful _ _ _ good.0 own)) before) (own, tt))
 
       clear_back : (n : ℕ) (x : Item (AnyRange K) V) → n < length items → x ≡ get_or items n x
           → LiesApart order r x.key → Every (Behind r) (drop n items)
       clear_back n x within read apart =
-          let cmp = position_cmp order.cmp in
-          let total = position_total order.cmp lawful.total in
           let more : drop n items ≡ x ∷ drop (n + 1) items =
           drop_more items n x within ∙ ap (λ y. y ∷ drop (n + 1) items) (sym read) in
           let split : items ≡ take n items ++ x ∷ drop (n + 1) items =
@@ -216,7 +196,7 @@ module _ {K : Type 0} (order : KeyOrder K) (lawful : IsLawful order) where
           (x ∷ drop (n + 1) items) whole in
           let above =
           chain_above (line_of order lawful same equal) (item_lower order x) x
-          (drop (n + 1) items) chain (le_refl cmp total (item_lower order x)) in
+          (drop (n + 1) items) chain (le_refl lawful (item_lower order x)) in
           let known_x =
           (every_right (λ i. IsKnownRange order i.key) (take n items)
           (x ∷ drop (n + 1) items) all_known).0 in
@@ -224,8 +204,7 @@ module _ {K : Type 0} (order : KeyOrder K) (lawful : IsLawful order) where
           apart_is r x.key known known_x
           ((nonempty_good order lawful x.key known_x).1 chain.0) apart in
           rw more (every_weaker _ _ (x ∷ drop (n + 1) items)
-          (λ y h. lt_le_trans cmp total (upper order r) (item_lower order x)
-          (item_lower order y) own h) above)
+          (λ y h. lt_le_trans lawful _ _ _ own h) above)
 
       clear_before : {P : Type 0} (is_good : P → Type 0) (rank : P → ℕ)
           (good_in_range : (p : P) → is_good p → rank p < length items) (before : Option P)
@@ -320,7 +299,6 @@ module _ {K : Type 0} (order : KeyOrder K) (lawful : IsLawful order) where
           absurd (let clash : false ≡ true = sym f ∙ answer in cc)
       refused_next_is_connected is_good rank good_in_range (Some q) place b at answer above f =
           let cmp = position_cmp order.cmp in
-          let total = position_total order.cmp lawful.total in
           let within = good_in_range q at.0 in
           let found = item_at items (rank q) within in
           let x = found.0 in
@@ -340,8 +318,7 @@ module _ {K : Type 0} (order : KeyOrder K) (lawful : IsLawful order) where
                 (starts_at_end order r.end (lower order x.key)) l refused))
             | inr l ↦
                 inl (
-                  λ k. lt_not_le cmp total (end_position order x.key.end)
-                      (lower order r) k ends.0,
+                  λ k. lt_not_le lawful _ _ k ends.0,
                   l,
                 )
           ])
@@ -460,7 +437,6 @@ module _ {K : Type 0} (order : KeyOrder K) (lawful : IsLawful order) where
             (take place items ++ x ∷ drop place items)
             × IsBoundAfter order same items (take place items ++ x ∷ drop place items) r v
         put_in v =
-            let cmp = position_cmp order.cmp in
             let total = position_total order.cmp lawful.total in
             let x : Item (AnyRange K) V = record { key = r; value = v } in
             let c = lower order r in
@@ -474,19 +450,14 @@ module _ {K : Type 0} (order : KeyOrder K) (lawful : IsLawful order) where
             let left =
             left_whole (line_of order lawful same equal) (take place items)
             (drop place items) c whole
-            (every_weaker _ _ (take place items)
-            (λ i h. lt_le cmp total (item_upper order i) c h) front)
-            (every_weaker _ _ (drop place items)
-            (λ i h. lt_le cmp total c (item_lower order i)
-            (lt_trans cmp total c d (item_lower order i) range_good h)) back) in
+            (every_weaker _ _ (take place items) (λ i h. lt_le lawful _ _ h) front)
+            (every_weaker _ _ (drop place items) (λ i h. lt_le lawful _ _
+            (lt_trans lawful _ _ _ range_good h)) back) in
             let right =
             right_whole (line_of order lawful same equal) (take place items)
-            (drop place items) d whole
-            (every_weaker _ _ (take place items)
-            (λ i h. lt_le cmp total (item_upper order i) d
-            (lt_trans cmp total (item_upper order i) c d h range_good)) front)
-            (every_weaker _ _ (drop place items)
-            (λ i h. lt_le cmp total d (item_lower order i) h) back) in
+            (drop place items) d whole (every_weaker _ _ (take place items) (λ i h. lt_le lawful _ _
+            (lt_trans lawful _ _ _ h range_good)) front) (every_weaker _ _ (drop place items)
+            (λ i h. lt_le lawful _ _ h) back) in
             let on_left =
             left_apart (line_of order lawful same equal)
             (take place items ++ drop place items) (take place items) c v left

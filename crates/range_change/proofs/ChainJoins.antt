@@ -16,10 +16,8 @@ module _ {L V X : Type 0} (line : Line L V X) where
       let good = chain_right line front (y ∷ []) chain in
       every_append _ front (y ∷ [])
       (every_weaker _ _ front (λ z h.
-      strictly_leads line z c v
-      (le_lt_trans line.cmp line.total (line.hi z) (line.lo y) c h.0
-      (lt_le_trans line.cmp line.total (line.lo y) (line.hi y) c good.0 leads.0))) before)
-      (leads, tt)
+      strictly_leads line z c v (le_lt_trans line.cmp line.total _ _ _ h.0
+      (lt_le_trans line.cmp line.total _ _ _ good.0 leads.0))) before) (leads, tt)
 
   pub trailing_first : (y : X) (ys : List X) (d : L) (v : V) → IsChain line (y ∷ ys)
       → Trails line d v y → Trailing line d v (y ∷ ys)
@@ -27,9 +25,8 @@ module _ {L V X : Type 0} (line : Line L V X) where
       let above = follows_above line y ys chain.1 in (
         trails,
         every_weaker _ _ ys (λ z h.
-            strictly_trails line z d v
-            (le_lt_trans line.cmp line.total d (line.lo y) (line.lo z) trails.0
-            (lt_le_trans line.cmp line.total (line.lo y) (line.hi y) (line.lo z) chain.0 h))) above,
+            strictly_trails line z d v (le_lt_trans line.cmp line.total _ _ _ trails.0
+            (lt_le_trans line.cmp line.total _ _ _ chain.0 h))) above,
       )
 
   pub left_apart : (items kept : List X) (c : L) (v : V) → IsLeft line items kept c
@@ -41,7 +38,7 @@ module _ {L V X : Type 0} (line : Line L V X) where
     holds =
         λ p W alike l. (
           λ h. (left.holds p W alike l).0
-              (only_first (λ k. lt_not_le line.cmp line.total p c l k.0) h),
+              (only_first (λ k. lt_not_le line.cmp line.total _ _ l k.0) h),
           λ h. inl ((left.holds p W alike l).1 h),
         );
   }
@@ -63,15 +60,14 @@ module _ {L V X : Type 0} (line : Line L V X) where
                   ∙ same_is_symmetric line (line.value y) v alike_value),
             )) before;
         below =
-            le_trans line.cmp line.total (line.lo y) (line.hi y) c
-            (lt_le line.cmp line.total (line.lo y) (line.hi y) good.0) ends.0;
+            le_trans line.cmp line.total _ _ _ (lt_le line.cmp line.total _ _ good.0) ends.0;
         holds = λ p W alike l. (
           λ h. (left.holds p W alike l).0 (elim h [
             | inl k ↦ any_left _ front (y ∷ []) k
             | inr k ↦
                 any_right _ front (y ∷ [])
                 (inl (
-                  (k.0, lt_le_trans line.cmp line.total p c (line.hi y) l reaches),
+                  (k.0, lt_le_trans line.cmp line.total _ _ _ l reaches),
                   alike v (line.value y) (same_is_symmetric line (line.value y) v alike_value) k.1,
                 ))
           ]),
@@ -92,7 +88,7 @@ module _ {L V X : Type 0} (line : Line L V X) where
     holds =
         λ p W alike l. (
           λ h. (right.holds p W alike l).0
-              (only_first (λ k. lt_not_le line.cmp line.total p d k.0 l) h),
+              (only_first (λ k. lt_not_le line.cmp line.total _ _ k.0 l) h),
           λ h. inl ((right.holds p W alike l).1 h),
         );
   }
@@ -115,14 +111,14 @@ module _ {L V X : Type 0} (line : Line L V X) where
             (h.0, λ k s. h.1 k (line.equal.congr (line.value y) v (line.value z) alike_value ∙ s)))
             (follows_trails y behind follows);
         above =
-            le_trans line.cmp line.total d (line.lo y) (line.hi y) right.starts.0
-            (lt_le line.cmp line.total (line.lo y) (line.hi y) right.chain.0);
+            le_trans line.cmp line.total _ _ _ right.starts.0
+            (lt_le line.cmp line.total _ _ right.chain.0);
         holds = λ p W alike l. (
           λ h. (right.holds p W alike l).0 (elim h [
             | inl k ↦ inr k
             | inr k ↦
                 inl (
-                  (le_trans line.cmp line.total (line.lo y) d p reaches l, k.0),
+                  (le_trans line.cmp line.total _ _ _ reaches l, k.0),
                   alike v (line.value y) value_back k.1,
                 )
           ]),
@@ -146,14 +142,14 @@ module _ {L V X : Type 0} (line : Line L V X) where
       | inl below ↦ (
         λ h. (left.holds p W alike below).0
             (only_first (none_below line p d W behind
-            (lt_trans line.cmp line.total p c d below l) right.starts)
+            (lt_trans line.cmp line.total _ _ _ below l) right.starts)
             (any_split _ front behind h)),
         λ h. any_left _ front behind ((left.holds p W alike below).1 h),
       )
       | inr above ↦ (
         λ h. (right.holds p W alike above).0
             (only_second (none_above line p c W front
-            (le_trans line.cmp line.total c d p (lt_le line.cmp line.total c d l) above) left.ends)
+            (le_trans line.cmp line.total _ _ _ (lt_le line.cmp line.total _ _ l) above) left.ends)
             (any_split _ front behind h)),
         λ h. any_right _ front behind ((right.holds p W alike above).1 h),
       )
@@ -166,8 +162,8 @@ module _ {L V X : Type 0} (line : Line L V X) where
   bound_follows m [] e v h k s chain trails = tt
   bound_follows m (y ∷ ys) e v h k s chain trails = (
     (
-      le_trans line.cmp line.total (line.hi m) e (line.lo y) h trails.0.0,
-      λ q t. trails.0.1 (le_trans line.cmp line.total (line.lo y) (line.hi m) e q h)
+      le_trans line.cmp line.total _ _ _ h trails.0.0,
+      λ q t. trails.0.1 (le_trans line.cmp line.total _ _ _ q h)
           (sym (line.equal.congr (line.value m) v (line.value y) s) ∙ t),
     ),
     chain,
@@ -179,25 +175,24 @@ module _ {L V X : Type 0} (line : Line L V X) where
       → line.same (line.value m) v ≡ true → IsBoundTo line items (front ++ m ∷ behind) c d v
   places_between_are_bound items front behind m c d s e v left right l at_lo at_hi alike_value =
       let value_back = same_is_symmetric line (line.value m) v alike_value in
-      let s_low = eq_le line.cmp line.total (line.lo m) s at_lo in
-      let s_high = eq_ge line.cmp line.total (line.lo m) s at_lo in
-      let e_low = eq_le line.cmp line.total (line.hi m) e at_hi in
-      let e_high = eq_ge line.cmp line.total (line.hi m) e at_hi in
+      let s_low = eq_le line.cmp line.total _ _ at_lo in
+      let s_high = eq_ge line.cmp line.total _ _ at_lo in
+      let e_low = eq_le line.cmp line.total _ _ at_hi in
+      let e_high = eq_ge line.cmp line.total _ _ at_hi in
       let good : Lt line.cmp (line.lo m) (line.hi m) =
-      le_lt_trans line.cmp line.total (line.lo m) c (line.hi m)
-      (le_trans line.cmp line.total (line.lo m) s c s_low left.below)
-      (lt_le_trans line.cmp line.total c d (line.hi m) l
-      (le_trans line.cmp line.total d e (line.hi m) right.above e_high)) in
+      le_lt_trans line.cmp line.total _ _ _ (le_trans line.cmp line.total _ _ _ s_low left.below)
+      (lt_le_trans line.cmp line.total _ _ _ l
+      (le_trans line.cmp line.total _ _ _ right.above e_high)) in
       let ends : Every (λ x. Le line.cmp (line.hi x) c) front =
       every_weaker _ _ front (λ z h.
-      le_trans line.cmp line.total (line.hi z) s c h.0 left.below) left.leads in
+      le_trans line.cmp line.total _ _ _ h.0 left.below) left.leads in
       let starts : Every (λ x. Le line.cmp d (line.lo x)) behind =
       every_weaker _ _ behind (λ z h.
-      le_trans line.cmp line.total d e (line.lo z) right.above h.0) right.trails in
+      le_trans line.cmp line.total _ _ _ right.above h.0) right.trails in
       let leads : Leading line (line.lo m) (line.value m) front =
       every_weaker _ _ front (λ z h. (
-        le_trans line.cmp line.total (line.hi z) s (line.lo m) h.0 s_high,
-        λ k t. h.1 (le_trans line.cmp line.total s (line.lo m) (line.hi z) s_high k)
+        le_trans line.cmp line.total _ _ _ h.0 s_high,
+        λ k t. h.1 (le_trans line.cmp line.total _ _ _ s_high k)
             (line.equal.congr (line.value z) (line.value m) v t ∙ alike_value),
       )) left.leads in
       record {
@@ -215,10 +210,10 @@ module _ {L V X : Type 0} (line : Line L V X) where
           λ w. any_right _ front (m ∷ behind)
               (inl (
                 (
-                  le_trans line.cmp line.total (line.lo m) c p
-                      (le_trans line.cmp line.total (line.lo m) s c s_low left.below) from,
-                  lt_le_trans line.cmp line.total p d (line.hi m) upto
-                      (le_trans line.cmp line.total d e (line.hi m) right.above e_high),
+                  le_trans line.cmp line.total _ _ _
+                      (le_trans line.cmp line.total _ _ _ s_low left.below) from,
+                  lt_le_trans line.cmp line.total _ _ _ upto
+                      (le_trans line.cmp line.total _ _ _ right.above e_high),
                 ),
                 alike v (line.value m) value_back w,
               )),
@@ -229,8 +224,8 @@ module _ {L V X : Type 0} (line : Line L V X) where
               | inl k ↦ inl k
               | inr k ↦ let held =
                   only_first (none_below line p d W behind
-                  (lt_trans line.cmp line.total p c d below l) starts) k in inr (
-                    le_trans line.cmp line.total s (line.lo m) p s_high held.0.0,
+                  (lt_trans line.cmp line.total _ _ _ below l) starts) k in inr (
+                    le_trans line.cmp line.total _ _ _ s_high held.0.0,
                     alike (line.value m) v alike_value held.1,
                   )
             ]),
@@ -240,11 +235,10 @@ module _ {L V X : Type 0} (line : Line L V X) where
                   any_right _ front (m ∷ behind)
                   (inl (
                     (
-                      le_trans line.cmp line.total (line.lo m) s p s_low k.0,
-                      lt_le_trans line.cmp line.total p c (line.hi m) below
-                          (le_trans line.cmp line.total c e (line.hi m)
-                          (le_trans line.cmp line.total c d e
-                          (lt_le line.cmp line.total c d l) right.above) e_high),
+                      le_trans line.cmp line.total _ _ _ s_low k.0,
+                      lt_le_trans line.cmp line.total _ _ _ below
+                          (le_trans line.cmp line.total _ _ _ (le_trans line.cmp line.total _ _ _
+                          (lt_le line.cmp line.total _ _ l) right.above) e_high),
                     ),
                     alike v (line.value m) value_back k.1,
                   ))
@@ -254,11 +248,11 @@ module _ {L V X : Type 0} (line : Line L V X) where
             λ h. (right.holds p W alike above).0
                 (elim
                 (only_second (none_above line p c W front
-                (le_trans line.cmp line.total c d p (lt_le line.cmp line.total c d l) above) ends)
+                (le_trans line.cmp line.total _ _ _ (lt_le line.cmp line.total _ _ l) above) ends)
                 (any_split _ front (m ∷ behind) h)) [
                   | inl k ↦
                       inr (
-                        lt_le_trans line.cmp line.total p (line.hi m) e k.0.1 e_low,
+                        lt_le_trans line.cmp line.total _ _ _ k.0.1 e_low,
                         alike (line.value m) v alike_value k.1,
                       )
                   | inr k ↦ inl k
@@ -268,11 +262,11 @@ module _ {L V X : Type 0} (line : Line L V X) where
               | inr k ↦
                   inl (
                     (
-                      le_trans line.cmp line.total (line.lo m) s p s_low
-                          (le_trans line.cmp line.total s c p left.below
-                          (le_trans line.cmp line.total c d p
-                          (lt_le line.cmp line.total c d l) above)),
-                      lt_le_trans line.cmp line.total p e (line.hi m) k.0 e_high,
+                      le_trans line.cmp line.total _ _ _ s_low
+                          (le_trans line.cmp line.total _ _ _ left.below
+                          (le_trans line.cmp line.total _ _ _
+                          (lt_le line.cmp line.total _ _ l) above)),
+                      lt_le_trans line.cmp line.total _ _ _ k.0 e_high,
                     ),
                     alike v (line.value m) value_back k.1,
                   )

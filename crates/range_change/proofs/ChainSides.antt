@@ -21,15 +21,15 @@ module _ {L V X : Type 0} (line : Line L V X) where
       → Every (λ x. Le line.cmp c (line.lo x)) xs → Has line W p xs → ⊥
   none_below p c W xs l all h =
       any_none _ (λ x. Le line.cmp c (line.lo x)) xs all
-      (λ x le held. lt_not_le line.cmp line.total p c l
-      (le_trans line.cmp line.total c (line.lo x) p le held.0.0)) h
+      (λ x le held. lt_not_le line.cmp line.total _ _ l
+      (le_trans line.cmp line.total _ _ _ le held.0.0)) h
 
   pub none_above : (p d : L) (W : V → Bool) (xs : List X) → Le line.cmp d p
       → Every (λ x. Le line.cmp (line.hi x) d) xs → Has line W p xs → ⊥
   none_above p d W xs l all h =
       any_none _ (λ x. Le line.cmp (line.hi x) d) xs all
-      (λ x le held. lt_not_le line.cmp line.total p (line.hi x) held.0.1
-      (le_trans line.cmp line.total (line.hi x) d p le l)) h
+      (λ x le held. lt_not_le line.cmp line.total _ _ held.0.1
+      (le_trans line.cmp line.total _ _ _ le l)) h
 
   -- a front that ends at the place at most, before what starts there at least
   pub left_whole : (front rest : List X) (c : L) → IsChain line (front ++ rest)
@@ -56,18 +56,14 @@ module _ {L V X : Type 0} (line : Line L V X) where
       let whole = chain_right line front (x ∷ rest) chain in
       let above = follows_above line x rest whole.1 in
       let good : Lt line.cmp (line.lo y) (line.hi y) =
-      le_lt_trans line.cmp line.total (line.lo y) (line.lo x) (line.hi y)
-      (eq_le line.cmp line.total (line.lo y) (line.lo x) at_lo)
-      (lt_le_trans line.cmp line.total (line.lo x) c (line.hi y) starts
-      (eq_ge line.cmp line.total (line.hi y) c at_hi)) in
+      le_lt_trans line.cmp line.total _ _ _ (eq_le line.cmp line.total _ _ at_lo)
+      (lt_le_trans line.cmp line.total _ _ _ starts (eq_ge line.cmp line.total _ _ at_hi)) in
       let before = chain_before line front x rest chain in
       let leads : Leading line (line.lo y) (line.value y) front =
       every_weaker _ _ front (λ z h. (
-        le_trans line.cmp line.total (line.hi z) (line.lo x) (line.lo y) h.0
-            (eq_ge line.cmp line.total (line.lo y) (line.lo x) at_lo),
+        le_trans line.cmp line.total _ _ _ h.0 (eq_ge line.cmp line.total _ _ at_lo),
         λ k s.
-            h.1 (le_trans line.cmp line.total (line.lo x) (line.lo y) (line.hi z)
-            (eq_ge line.cmp line.total (line.lo y) (line.lo x) at_lo) k)
+            h.1 (le_trans line.cmp line.total _ _ _ (eq_ge line.cmp line.total _ _ at_lo) k)
             (line.equal.congr (line.value z) (line.value y) (line.value x) s ∙ alike_value),
       ))
       before in
@@ -77,11 +73,9 @@ module _ {L V X : Type 0} (line : Line L V X) where
         ends =
             every_append _ front (y ∷ [])
             (every_weaker _ _ front (λ z h.
-            le_trans line.cmp line.total (line.hi z) (line.lo y) c h.0
-            (le_trans line.cmp line.total (line.lo y) (line.lo x) c
-            (eq_le line.cmp line.total (line.lo y) (line.lo x) at_lo)
-            (lt_le line.cmp line.total (line.lo x) c starts))) leads)
-            (eq_le line.cmp line.total (line.hi y) c at_hi, tt);
+            le_trans line.cmp line.total _ _ _ h.0 (le_trans line.cmp line.total _ _ _
+            (eq_le line.cmp line.total _ _ at_lo) (lt_le line.cmp line.total _ _ starts))) leads)
+            (eq_le line.cmp line.total _ _ at_hi, tt);
         holds = λ p W alike l. (
           λ h. elim (any_split _ front (y ∷ []) h) [
             | inl k ↦ any_left _ front (x ∷ rest) k
@@ -89,9 +83,9 @@ module _ {L V X : Type 0} (line : Line L V X) where
                 only_first (λ e. e) k in any_right _ front (x ∷ rest)
                 (inl (
                   (
-                    le_trans line.cmp line.total (line.lo x) (line.lo y) p
-                        (eq_ge line.cmp line.total (line.lo y) (line.lo x) at_lo) held.0.0,
-                    lt_le_trans line.cmp line.total p c (line.hi x) l reaches,
+                    le_trans line.cmp line.total _ _ _
+                        (eq_ge line.cmp line.total _ _ at_lo) held.0.0,
+                    lt_le_trans line.cmp line.total _ _ _ l reaches,
                   ),
                   alike (line.value y) (line.value x) alike_value held.1,
                 ))
@@ -100,14 +94,13 @@ module _ {L V X : Type 0} (line : Line L V X) where
             | inl k ↦ any_left _ front (y ∷ []) k
             | inr k ↦ let held =
                 only_first (none_below p (line.hi x) W rest
-                (lt_le_trans line.cmp line.total p c (line.hi x) l reaches) above) k in any_right
+                (lt_le_trans line.cmp line.total _ _ _ l reaches) above) k in any_right
                 _ front (y ∷ [])
                 (inl (
                   (
-                    le_trans line.cmp line.total (line.lo y) (line.lo x) p
-                        (eq_le line.cmp line.total (line.lo y) (line.lo x) at_lo) held.0.0,
-                    lt_le_trans line.cmp line.total p c (line.hi y) l
-                        (eq_ge line.cmp line.total (line.hi y) c at_hi),
+                    le_trans line.cmp line.total _ _ _
+                        (eq_le line.cmp line.total _ _ at_lo) held.0.0,
+                    lt_le_trans line.cmp line.total _ _ _ l (eq_ge line.cmp line.total _ _ at_hi),
                   ),
                   alike (line.value x) (line.value y)
                       (same_is_symmetric line (line.value y) (line.value x) alike_value) held.1,
@@ -141,28 +134,26 @@ module _ {L V X : Type 0} (line : Line L V X) where
       let whole = chain_right line rest (x ∷ behind) chain in
       let before = chain_before line rest x behind chain in
       let good : Lt line.cmp (line.lo y) (line.hi y) =
-      le_lt_trans line.cmp line.total (line.lo y) d (line.hi y)
-      (eq_le line.cmp line.total (line.lo y) d at_lo)
-      (lt_le_trans line.cmp line.total d (line.hi x) (line.hi y) ends
-      (eq_ge line.cmp line.total (line.hi y) (line.hi x) at_hi)) in
+      le_lt_trans line.cmp line.total _ _ _ (eq_le line.cmp line.total _ _ at_lo)
+      (lt_le_trans line.cmp line.total _ _ _ ends (eq_ge line.cmp line.total _ _ at_hi)) in
       let follows = follows_like line x y behind at_hi alike_value whole.1 in
       let above = follows_above line x behind whole.1 in
-      let d_low = lt_le line.cmp line.total d (line.hi x) ends in
+      let d_low = lt_le line.cmp line.total _ _ ends in
       record {
         chain = (good, follows);
         starts = (
-          eq_ge line.cmp line.total (line.lo y) d at_lo,
+          eq_ge line.cmp line.total _ _ at_lo,
           every_weaker _ _ behind (λ z h.
-              le_trans line.cmp line.total d (line.hi x) (line.lo z) d_low h) above,
+              le_trans line.cmp line.total _ _ _ d_low h) above,
         );
         holds = λ p W alike l. (
           λ h. any_right _ rest (x ∷ behind) (elim h [
             | inl k ↦
                 inl (
                   (
-                    le_trans line.cmp line.total (line.lo x) d p reaches l,
-                    lt_le_trans line.cmp line.total p (line.hi y) (line.hi x) k.0.1
-                        (eq_le line.cmp line.total (line.hi y) (line.hi x) at_hi),
+                    le_trans line.cmp line.total _ _ _ reaches l,
+                    lt_le_trans line.cmp line.total _ _ _ k.0.1
+                        (eq_le line.cmp line.total _ _ at_hi),
                   ),
                   alike (line.value y) (line.value x) alike_value k.1,
                 )
@@ -171,15 +162,14 @@ module _ {L V X : Type 0} (line : Line L V X) where
           λ h.
               elim (only_second (none_above p d W rest l
               (every_weaker _ _ rest (λ z e.
-              le_trans line.cmp line.total (line.hi z) (line.lo x) d e.0 reaches) before))
+              le_trans line.cmp line.total _ _ _ e.0 reaches) before))
               (any_split _ rest (x ∷ behind) h)) [
                 | inl k ↦
                     inl (
                       (
-                        le_trans line.cmp line.total (line.lo y) d p
-                            (eq_le line.cmp line.total (line.lo y) d at_lo) l,
-                        lt_le_trans line.cmp line.total p (line.hi x) (line.hi y) k.0.1
-                            (eq_ge line.cmp line.total (line.hi y) (line.hi x) at_hi),
+                        le_trans line.cmp line.total _ _ _ (eq_le line.cmp line.total _ _ at_lo) l,
+                        lt_le_trans line.cmp line.total _ _ _ k.0.1
+                            (eq_ge line.cmp line.total _ _ at_hi),
                       ),
                       alike (line.value x) (line.value y)
                           (same_is_symmetric line (line.value y) (line.value x) alike_value) k.1,

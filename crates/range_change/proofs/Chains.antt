@@ -26,10 +26,10 @@ module _ {L V X : Type 0} (line : Line L V X) where
       → Every (λ y. Le line.cmp low (line.lo y)) xs
   follows_from low x [] h f = tt
   follows_from low x (y ∷ ys) h f =
-      let first = le_trans line.cmp line.total low (line.hi x) (line.lo y) h f.0.0 in (
+      let first = le_trans line.cmp line.total _ _ _ h f.0.0 in (
         first,
-        follows_from low y ys (le_trans line.cmp line.total low (line.lo y) (line.hi y) first
-            (lt_le line.cmp line.total (line.lo y) (line.hi y) f.1.0)) f.1.1,
+        follows_from low y ys (le_trans line.cmp line.total _ _ _ first
+            (lt_le line.cmp line.total _ _ f.1.0)) f.1.1,
       )
 
   -- what follows an item starts at its end at least
@@ -41,20 +41,20 @@ module _ {L V X : Type 0} (line : Line L V X) where
       → Le line.cmp low (line.lo x) → Every (λ y. Le line.cmp low (line.lo y)) (x ∷ xs)
   chain_above low x xs h le = (
     le,
-    follows_from low x xs (le_trans line.cmp line.total low (line.lo x) (line.hi x) le
-        (lt_le line.cmp line.total (line.lo x) (line.hi x) h.0)) h.1,
+    follows_from low x xs (le_trans line.cmp line.total _ _ _ le
+        (lt_le line.cmp line.total _ _ h.0)) h.1,
   )
 
   pub strictly_leads : (x : X) (p : L) (v : V) → Lt line.cmp (line.hi x) p → Leads line x p v
   strictly_leads x p v h = (
-    lt_le line.cmp line.total (line.hi x) p h,
-    λ k _. absurd (lt_not_le line.cmp line.total (line.hi x) p h k),
+    lt_le line.cmp line.total _ _ h,
+    λ k _. absurd (lt_not_le line.cmp line.total _ _ h k),
   )
 
   pub strictly_trails : (x : X) (p : L) (v : V) → Lt line.cmp p (line.lo x) → Trails line p v x
   strictly_trails x p v h = (
-    lt_le line.cmp line.total p (line.lo x) h,
-    λ k _. absurd (lt_not_le line.cmp line.total p (line.lo x) h k),
+    lt_le line.cmp line.total _ _ h,
+    λ k _. absurd (lt_not_le line.cmp line.total _ _ h k),
   )
 
   -- all that stand before an item lead to it
@@ -65,9 +65,8 @@ module _ {L V X : Type 0} (line : Line L V X) where
   chain_before (x ∷ x' ∷ xs) y ys h =
       let rest = chain_before (x' ∷ xs) y ys h.1.1 in
       let strict =
-      le_lt_trans line.cmp line.total (line.hi x) (line.lo x') (line.lo y) h.1.0.0
-      (lt_le_trans line.cmp line.total (line.lo x') (line.hi x')
-      (line.lo y) h.1.1.0 rest.0.0) in
+      le_lt_trans line.cmp line.total _ _ _ h.1.0.0
+      (lt_le_trans line.cmp line.total _ _ _ h.1.1.0 rest.0.0) in
       (strictly_leads x (line.lo y) (line.value y) strict, rest)
 
   pub chains_join : (xs : List X) (y : X) (ys : List X) → IsChain line xs → IsChain line (y ∷ ys)
@@ -80,9 +79,8 @@ module _ {L V X : Type 0} (line : Line L V X) where
       → IsChain line ys → Every (λ y. Le line.cmp d (line.lo y)) ys → Follows line x ys
   strict_follows x [] c d h l k e = tt
   strict_follows x (y ∷ ys) c d h l k e = (
-    strictly_leads x (line.lo y) (line.value y)
-        (le_lt_trans line.cmp line.total (line.hi x) c (line.lo y) h
-        (lt_le_trans line.cmp line.total c d (line.lo y) l e.0)),
+    strictly_leads x (line.lo y) (line.value y) (le_lt_trans line.cmp line.total _ _ _ h
+        (lt_le_trans line.cmp line.total _ _ _ l e.0)),
     k,
   )
 
@@ -100,11 +98,9 @@ module _ {L V X : Type 0} (line : Line L V X) where
   follows_like x y [] e s f = tt
   follows_like x y (z ∷ zs) e s f = (
     (
-      le_trans line.cmp line.total (line.hi y) (line.hi x) (line.lo z)
-          (eq_le line.cmp line.total (line.hi y) (line.hi x) e) f.0.0,
+      le_trans line.cmp line.total _ _ _ (eq_le line.cmp line.total _ _ e) f.0.0,
       λ k t.
-          f.0.1 (le_trans line.cmp line.total (line.lo z) (line.hi y) (line.hi x) k
-          (eq_le line.cmp line.total (line.hi y) (line.hi x) e))
+          f.0.1 (le_trans line.cmp line.total _ _ _ k (eq_le line.cmp line.total _ _ e))
           (line.equal.congr (line.value x) (line.value y) (line.value z)
           (same_is_symmetric (line.value y) (line.value x) s) ∙ t),
     ),

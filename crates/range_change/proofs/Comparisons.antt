@@ -15,7 +15,7 @@ use Rattle.range_algebra.specs.Range.{IsKnownRange, IsEmptyRange}
 use Rattle.range_algebra.specs.Compared.{starts_at_end}
 use Rattle.range_algebra.specs.Cuts.{past}
 use Rattle.range_algebra.specs.Intervals.{Lt, Every}
-use Rattle.range_algebra.specs.Orders.{eq_ge, lt_not_le, le_lt_trans, lt_trans}
+use Rattle.range_change.proofs.PlaceOrder.{eq_ge, lt_not_le, le_lt_trans, lt_trans}
 use Rattle.range_algebra.proofs.Lists.{every_at, every_weaker}
 use Rattle.range_algebra.proofs.Places.{flipped_bound_is_past}
 use Rattle.range_store.specs.declared.storage.Item.{Item}
@@ -64,7 +64,6 @@ module _ {K : Type 0} (order : KeyOrder K) (lawful : IsLawful order) where
       → ElementIsBefore order e connected s
   before_later e r s connected known others rise h =
       let cmp = position_cmp order.cmp in
-      let total = position_total order.cmp lawful.total in
       let touch = starts_at_end order e.end (Start r) in
       let old =
       (before_by_parts (is_lt (cmp (Start e) (Start r)))
@@ -72,12 +71,11 @@ module _ {K : Type 0} (order : KeyOrder K) (lawful : IsLawful order) where
       (is_gt (cmp (Start e) (End r))) (starts_at_end order r.end (Start e))
       (is_eq (cmp (Start e) (Start r))) (is_eq (cmp (End e) (End r))) connected).0 h in
       let starts =
-      lt_trans cmp total (Start e) (Start r) (Start s)
-      ((lt_is_less (cmp (Start e) (Start r))).0 old.0) rise in
+      lt_trans lawful _ _ _ ((lt_is_less (cmp (Start e) (Start r))).0 old.0) rise in
       let below = (lt_is_less (cmp (End e) (Start r))).0 old.1 in
-      let ends = lt_trans cmp total (End e) (Start r) (Start s) below rise in
+      let ends = lt_trans lawful _ _ _ below rise in
       let apart =
-      le_lt_trans cmp total (past order (End e)) (Start r) (Start s)
+      le_lt_trans lawful _ _ _
       ((before_is order lawful e.end r.start known.1 others.0).0 below) rise in
       let touch' = starts_at_end order e.end (Start s) in
       (before_by_parts (is_lt (cmp (Start e) (Start s))) (is_lt (cmp (End e) (Start s))) touch'
@@ -86,9 +84,8 @@ module _ {K : Type 0} (order : KeyOrder K) (lawful : IsLawful order) where
       (is_eq (cmp (End e) (End s))) connected).1 (
         (lt_is_less (cmp (Start e) (Start s))).1 starts,
         (lt_is_less (cmp (End e) (Start s))).1 ends,
-        false_is_not_both touch' connected
-            (λ t. lt_not_le cmp total (past order (End e)) (Start s) apart
-            (eq_ge cmp total (past order (End e)) (Start s) (touching_same e.end (Start s) t))),
+        false_is_not_both touch' connected (λ t. lt_not_le lawful _ _ apart
+            (eq_ge lawful _ _ (touching_same e.end (Start s) t))),
       )
 
   module _ {V : Type 0} where
@@ -99,14 +96,11 @@ module _ {K : Type 0} (order : KeyOrder K) (lawful : IsLawful order) where
     starts_rise i [] full rising = tt
     starts_rise i (j ∷ rest) full rising =
         let cmp = position_cmp order.cmp in
-        let total = position_total order.cmp lawful.total in
         let first =
-        le_lt_trans cmp total (Start i.key) (End i.key) (Start j.key)
-        (not_greater (cmp (Start i.key) (End i.key)) full.0) rising.0 in (
+        le_lt_trans lawful _ _ _ (not_greater (cmp (Start i.key) (End i.key)) full.0) rising.0 in (
           first,
           every_weaker _ _ rest (λ k l.
-              lt_trans cmp total (Start i.key) (Start j.key) (Start k.key) first l)
-              (starts_rise j rest full.1 rising.1),
+              lt_trans lawful _ _ _ first l) (starts_rise j rest full.1 rising.1),
         )
 
     -- an element before one item is before each after it

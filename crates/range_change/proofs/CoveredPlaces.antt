@@ -3,19 +3,18 @@ use Rattle.std.proofs.Common.{ℕ, refl, true, Bool, Result, Ok, Err, OnOk, List
 use Rattle.std.specs.Prelude.{insert}
 use Rattle.std.specs.Cmp.{IsEquivalence}
 use Rattle.range_keys.specs.Order.{KeyOrder, IsLawful}
-use Rattle.range_keys.specs.PositionOrder.{position_total}
 use Rattle.range_keys.specs.declared.inner.position.Position.{Position}
 use Rattle.range_algebra.specs.declared.any.AnyRange.{AnyRange}
 use Rattle.range_algebra.specs.Range.{IsKnownRange}
 use Rattle.range_algebra.specs.Cuts.{lower, upper}
 use Rattle.range_change.specs.Chains.{line_of, IsBoundTo}
-use Rattle.range_algebra.specs.Intervals.{Le, Lt, Any, Every}
+use Rattle.range_algebra.specs.Intervals.{Any, Every}
 use Rattle.range_algebra.proofs.Lists.{list_is_take_and_drop, any_left, any_right, any_split}
-use Rattle.range_algebra.specs.Orders.{le_refl, lt_le, le_lt_trans, lt_not_le, cases, not_le}
+use Rattle.range_change.proofs.PlaceOrder.{le_refl, lt_le, le_lt_trans, lt_not_le, cases, not_le, PLe, PLt}
 use Rattle.range_store.specs.declared.storage.Item.{Item}
 use Rattle.range_change.specs.Stored.{item_lower, item_upper}
 use Rattle.range_change.specs.Lookups.{MeetsSome, MeetAlso, Overlap}
-use Rattle.range_change.proofs.Forms.{places, nonempty_good, before_is, Known, Chained, Hold, respects_any}
+use Rattle.range_change.proofs.Forms.{nonempty_good, before_is, Known, Chained, Hold, respects_any}
 
 pub on_ok : {A E : Type 0} (P Q : Type 0) (r : Result A E) → (P → Q) → OnOk r P → OnOk r Q
 on_ok P Q (Ok x) f h = f h
@@ -24,52 +23,47 @@ on_ok P Q (Err e) f h = tt
 module _ {K : Type 0} (order : KeyOrder K) (lawful : IsLawful order) where
   -- two ranges meet where each starts below the other's end
   overlap_is : (r s : AnyRange K) → IsKnownRange order r → IsKnownRange order s → Overlap order r s
-      ↔ (Lt (places order lawful) (lower order r) (upper order s)
-      × Lt (places order lawful) (lower order s) (upper order r))
+      ↔ (PLt lawful (lower order r) (upper order s) × PLt lawful (lower order s) (upper order r))
   overlap_is r s known others =
-      let cmp = places order lawful in
-      let total = position_total order.cmp lawful.total in
       let before = before_is order lawful r.end s.start known.1 others.0 in
       let behind = before_is order lawful s.end r.start others.1 known.0 in (
         λ h. (
-          not_le cmp total (lower order r) (upper order s) (λ k. h.1 (behind.1 k)),
-          not_le cmp total (lower order s) (upper order r) (λ k. h.0 (before.1 k)),
+          not_le lawful (lower order r) (upper order s) (λ k. h.1 (behind.1 k)),
+          not_le lawful (lower order s) (upper order r) (λ k. h.0 (before.1 k)),
         ),
         λ h. (
-          λ k. lt_not_le cmp total (lower order s) (upper order r) h.1 (before.0 k),
-          λ k. lt_not_le cmp total (lower order r) (upper order s) h.0 (behind.0 k),
+          λ k. lt_not_le lawful _ _ h.1 (before.0 k),
+          λ k. lt_not_le lawful _ _ h.0 (behind.0 k),
         ),
       )
 
   -- a place that two ranges share
   record Shares (r s : AnyRange K) : Type 0 where
     place : Position K
-    from : Le (places order lawful) (lower order r) place
-    upto : Lt (places order lawful) place (upper order r)
-    other_from : Le (places order lawful) (lower order s) place
-    other_upto : Lt (places order lawful) place (upper order s)
+    from : PLe lawful (lower order r) place
+    upto : PLt lawful place (upper order r)
+    other_from : PLe lawful (lower order s) place
+    other_upto : PLt lawful place (upper order s)
 
   overlapping_ranges_share_place : (r s : AnyRange K) → IsKnownRange order r → IsKnownRange order s
-      → Lt (places order lawful) (lower order r) (upper order r)
-      → Lt (places order lawful) (lower order s) (upper order s) → Overlap order r s → Shares r s
+      → PLt lawful (lower order r) (upper order r) → PLt lawful (lower order s) (upper order s)
+      → Overlap order r s → Shares r s
   overlapping_ranges_share_place r s known others good good_s h =
-      let cmp = places order lawful in
-      let total = position_total order.cmp lawful.total in
       let met = (overlap_is r s known others).0 h in
-      elim (cases cmp total (lower order r) (lower order s)) [
+      elim (cases lawful (lower order r) (lower order s)) [
         | inl l ↦
             record {
               place = lower order s;
-              from = lt_le cmp total (lower order r) (lower order s) l;
+              from = lt_le lawful _ _ l;
               upto = met.1;
               other_from =
-                  le_refl cmp total (lower order s);
+                  le_refl lawful (lower order s);
               other_upto = good_s;
             }
         | inr g ↦
             record {
               place = lower order r;
-              from = le_refl cmp total (lower order r);
+              from = le_refl lawful (lower order r);
               upto = good;
               other_from = g;
               other_upto = met.0;
@@ -77,21 +71,18 @@ module _ {K : Type 0} (order : KeyOrder K) (lawful : IsLawful order) where
       ]
 
   pub shared_place_is_overlap : (r s : AnyRange K) (p : Position K) → IsKnownRange order r
-      → IsKnownRange order s → Le (places order lawful) (lower order r) p
-      → Lt (places order lawful) p (upper order r) → Le (places order lawful) (lower order s) p
-      → Lt (places order lawful) p (upper order s) → Overlap order r s
+      → IsKnownRange order s → PLe lawful (lower order r) p → PLt lawful p (upper order r)
+      → PLe lawful (lower order s) p → PLt lawful p (upper order s) → Overlap order r s
   shared_place_is_overlap r s p known others from upto other_from other_upto =
-      let cmp = places order lawful in
-      let total = position_total order.cmp lawful.total in
       (overlap_is r s known others).1 (
-        le_lt_trans cmp total (lower order r) p (upper order s) from other_upto,
-        le_lt_trans cmp total (lower order s) p (upper order r) other_from upto,
+        le_lt_trans lawful _ _ _ from other_upto,
+        le_lt_trans lawful _ _ _ other_from upto,
       )
 
   module _ {V : Type 0} (same : V → V → Bool) (equal : IsEquivalence same) where
     pub chained_items_have_places : (items : List (Item (AnyRange K) V))
         → Chained order lawful same equal items
-        → Every (λ i. Lt (places order lawful) (item_lower order i) (item_upper order i)) items
+        → Every (λ i. PLt lawful (item_lower order i) (item_upper order i)) items
     chained_items_have_places [] h = tt
     chained_items_have_places (i ∷ []) h = (h.0, tt)
     chained_items_have_places (i ∷ j ∷ rest) h = (h.0, chained_items_have_places (j ∷ rest) h.1.1)
@@ -99,14 +90,14 @@ module _ {K : Type 0} (order : KeyOrder K) (lawful : IsLawful order) where
     -- a place of the range that some item holds
     pub record IsCovered (s : AnyRange K) (items : List (Item (AnyRange K) V)) : Type 0 where
       pub place : Position K
-      pub from : Le (places order lawful) (lower order s) place
-      pub upto : Lt (places order lawful) place (upper order s)
+      pub from : PLe lawful (lower order s) place
+      pub upto : PLt lawful place (upper order s)
       pub held : Hold order lawful same equal (λ u. true) place items
 
     pub met_range_is_covered : (s : AnyRange K) (items : List (Item (AnyRange K) V))
-        → IsKnownRange order s → Lt (places order lawful) (lower order s) (upper order s)
+        → IsKnownRange order s → PLt lawful (lower order s) (upper order s)
         → Known order lawful same equal items
-        → Every (λ i. Lt (places order lawful) (item_lower order i) (item_upper order i)) items
+        → Every (λ i. PLt lawful (item_lower order i) (item_upper order i)) items
         → MeetsSome order items s → IsCovered s items
     met_range_is_covered s [] known good all full h = absurd h
     met_range_is_covered s (i ∷ rest) known good all full (inl h) =
@@ -122,9 +113,9 @@ module _ {K : Type 0} (order : KeyOrder K) (lawful : IsLawful order) where
         record { place = at.place; from = at.from; upto = at.upto; held = inr at.held }
 
     held_place_is_met : (s : AnyRange K) (items : List (Item (AnyRange K) V)) (p : Position K)
-        → IsKnownRange order s → Known order lawful same equal items
-        → Le (places order lawful) (lower order s) p → Lt (places order lawful) p (upper order s)
-        → Hold order lawful same equal (λ u. true) p items → MeetsSome order items s
+        → IsKnownRange order s → Known order lawful same equal items → PLe lawful (lower order s) p
+        → PLt lawful p (upper order s) → Hold order lawful same equal (λ u. true) p items
+        → MeetsSome order items s
     held_place_is_met s [] p known all from upto h = absurd h
     held_place_is_met s (i ∷ rest) p known all from upto (inl h) =
         inl (shared_place_is_overlap i.key s p all.0 known h.0.0 h.0.1 from upto)
@@ -136,23 +127,21 @@ module _ {K : Type 0} (order : KeyOrder K) (lawful : IsLawful order) where
     pub meets_bound : (items new : List (Item (AnyRange K) V)) (r : AnyRange K) (v : V)
         → Known order lawful same equal items → Known order lawful same equal new
         → Chained order lawful same equal items → IsKnownRange order r
-        → Lt (places order lawful) (lower order r) (upper order r) →
+        → PLt lawful (lower order r) (upper order r) →
         IsBoundTo (line_of order lawful same equal) items new (lower order r) (upper order r) v
         → MeetAlso order items new r
     meets_bound items new r v all all_new chain known good changed = λ s known_s full.
-        let cmp = places order lawful in
-        let total = position_total order.cmp lawful.total in
         let any = respects_any order lawful same equal in
         let good_s = (nonempty_good order lawful s known_s).0 full in (
           λ h.
               let at =
               met_range_is_covered s new known_s good_s all_new
               (chained_items_have_places new changed.chain) h in
-              elim (cases cmp total at.place (lower order r)) [
+              elim (cases lawful at.place (lower order r)) [
                 | inl below ↦
                     inr (held_place_is_met s items at.place known_s all at.from at.upto
                     ((changed.outside at.place (λ u. true) any (inl below)).0 at.held))
-                | inr from ↦ elim (cases cmp total at.place (upper order r)) [
+                | inr from ↦ elim (cases lawful at.place (upper order r)) [
                   | inl upto ↦
                       inl (shared_place_is_overlap r s at.place known known_s from upto at.from
                       at.upto)
@@ -171,9 +160,9 @@ module _ {K : Type 0} (order : KeyOrder K) (lawful : IsLawful order) where
                 met_range_is_covered s items known_s good_s all
                 (chained_items_have_places items chain) met in
                 held_place_is_met s new at.place known_s all_new at.from at.upto
-                (elim (cases cmp total at.place (lower order r)) [
+                (elim (cases lawful at.place (lower order r)) [
                   | inl below ↦ (changed.outside at.place (λ u. true) any (inl below)).1 at.held
-                  | inr from ↦ elim (cases cmp total at.place (upper order r)) [
+                  | inr from ↦ elim (cases lawful at.place (upper order r)) [
                     | inl upto ↦ (changed.inside at.place (λ u. true) any from upto).1 refl
                     | inr above ↦ (changed.outside at.place (λ u. true) any (inr above)).1 at.held
                   ]

@@ -3,12 +3,11 @@ use Rattle.std.proofs.Common.{◌≡◌, ℕ, ◌+◌, ◌-◌, ◌<◌, ◌≤�
 use Rattle.std.proofs.lemmas.List.{append-nil, drop_more}
 use Rattle.std.specs.Cmp.{IsEquivalence}
 use Rattle.range_keys.specs.Order.{KeyOrder, IsLawful}
-use Rattle.range_keys.specs.PositionOrder.{position_total}
 use Rattle.range_keys.specs.declared.inner.position.Position.{Position}
 use Rattle.range_algebra.specs.declared.any.AnyRange.{AnyRange}
 use Rattle.range_store.specs.declared.storage.Item.{Item}
-use Rattle.range_algebra.specs.Intervals.{Le, Lt, Every}
-use Rattle.range_algebra.specs.Orders.{lt_le, le_trans}
+use Rattle.range_algebra.specs.Intervals.{Le, Every}
+use Rattle.range_change.proofs.PlaceOrder.{lt_le, le_trans, PLe, PLt}
 use Rattle.range_change.specs.Chains.{line_of, IsLeft, IsRight, IsUnbound}
 use Rattle.range_change.proofs.Chains.{chain_above, chain_right, chain_before}
 use Rattle.range_change.proofs.ChainSides.{left_whole, left_cut, right_whole, right_cut}
@@ -32,16 +31,16 @@ module _ {K : Type 0} (order : KeyOrder K) (lawful : IsLawful order) {V : Type 0
   -- what stands before the range, where no item starts before it and reaches it
   pub left_all : (items front rest : List (Item (AnyRange K) V)) (c : Position K)
       → items ≡ front ++ rest → Chained order lawful same equal items
-      → Every (λ i. Le (places order lawful) (item_upper order i) c) front
-      → Every (λ i. Le (places order lawful) c (item_lower order i)) rest → Left items front c
+      → Every (λ i. PLe lawful (item_upper order i) c) front
+      → Every (λ i. PLe lawful c (item_lower order i)) rest → Left items front c
   left_all items front rest c split chain ends starts =
       rw split (left_whole (line_of order lawful same equal) front rest c
       (rw split at chain) ends starts)
 
   pub right_all : (items front rest : List (Item (AnyRange K) V)) (d : Position K)
       → items ≡ front ++ rest → Chained order lawful same equal items
-      → Every (λ i. Le (places order lawful) (item_upper order i) d) front
-      → Every (λ i. Le (places order lawful) d (item_lower order i)) rest → Right items rest d
+      → Every (λ i. PLe lawful (item_upper order i) d) front
+      → Every (λ i. PLe lawful d (item_lower order i)) rest → Right items rest d
   right_all items front rest d split chain ends starts =
       rw split (right_whole (line_of order lawful same equal) front rest d
       (rw split at chain) ends starts)
@@ -49,9 +48,9 @@ module _ {K : Type 0} (order : KeyOrder K) (lawful : IsLawful order) {V : Type 0
   left_by : (items front rest : List (Item (AnyRange K) V)) (x : Item (AnyRange K) V)
       (r : AnyRange K) (left : Option (Item (AnyRange K) V)) → items ≡ front ++ x ∷ rest
       → Chained order lawful same equal items
-      → Every (λ i. Le (places order lawful) (item_upper order i) (lower order r)) front
-      → Lt (places order lawful) (lower order r) (item_upper order x)
-      → IsLeftPart order same x r left → Left items (front ++ option_items left) (lower order r)
+      → Every (λ i. PLe lawful (item_upper order i) (lower order r)) front
+      → PLt lawful (lower order r) (item_upper order x) → IsLeftPart order same x r left
+      → Left items (front ++ option_items left) (lower order r)
   left_by items front rest x r None split chain ends reaches part =
       let whole =
       chain_right (line_of order lawful same equal) front (x ∷ rest) (rw split at chain) in
@@ -59,21 +58,18 @@ module _ {K : Type 0} (order : KeyOrder K) (lawful : IsLawful order) {V : Type 0
       (chain_above (line_of order lawful same equal) (lower order r) x rest whole part))
   left_by items front rest x r (Some y) split chain ends reaches part =
       rw split (left_cut (line_of order lawful same equal) front x rest y (lower order r)
-      (rw split at chain) part.0
-      (lt_le (places order lawful) (position_total order.cmp lawful.total) (lower order r)
-      (item_upper order x) reaches) part.1 part.2 part.3)
+      (rw split at chain) part.0 (lt_le lawful _ _ reaches) part.1 part.2 part.3)
 
   -- what the first item that meets a range leaves before it
   pub left_of : (items : List (Item (AnyRange K) V)) (place : ℕ) (d : Item (AnyRange K) V)
       (r : AnyRange K) (left : Option (Item (AnyRange K) V)) → place < length items
       → Chained order lawful same equal items
-      → Every (λ i. Le (places order lawful) (item_upper order i) (lower order r))
-      (take place items)
-      → Every (λ i. Lt (places order lawful) (lower order r) (item_upper order i))
+      → Every (λ i. PLe lawful (item_upper order i) (lower order r)) (take place items)
+      → Every (λ i. PLt lawful (lower order r) (item_upper order i))
       (drop place items) → IsLeftPart order same (get_or items place d) r left
       → Left items (take place items ++ option_items left) (lower order r)
   left_of items place d r left within chain ends reaches part =
-      let first : Every (λ i. Lt (places order lawful) (lower order r) (item_upper order i))
+      let first : Every (λ i. PLt lawful (lower order r) (item_upper order i))
       (get_or items place d ∷ drop (place + 1) items) =
       rw (drop_more items place d within) at reaches in
       left_by items (take place items) (drop (place + 1) items) (get_or items place d) r left
@@ -81,13 +77,10 @@ module _ {K : Type 0} (order : KeyOrder K) (lawful : IsLawful order) {V : Type 0
 
   right_by : (items front rest : List (Item (AnyRange K) V)) (x : Item (AnyRange K) V)
       (r : AnyRange K) (right : Option (Item (AnyRange K) V)) → items ≡ front ++ x ∷ rest
-      → Chained order lawful same equal items
-      → Lt (places order lawful) (item_lower order x) (upper order r)
-      → Every (λ i. Le (places order lawful) (upper order r) (item_lower order i)) rest
+      → Chained order lawful same equal items → PLt lawful (item_lower order x) (upper order r)
+      → Every (λ i. PLe lawful (upper order r) (item_lower order i)) rest
       → IsRightPart order same x r right → Right items (option_items right ++ rest) (upper order r)
   right_by items front rest x r None split chain starts above part =
-      let cmp = places order lawful in
-      let total = position_total order.cmp lawful.total in
       let whole : Chained order lawful same equal (front ++ x ∷ rest) = rw split at chain in
       let before = chain_before (line_of order lawful same equal) front x rest whole in
       let more : items ≡ (front ++ x ∷ []) ++ rest =
@@ -95,19 +88,17 @@ module _ {K : Type 0} (order : KeyOrder K) (lawful : IsLawful order) {V : Type 0
       right_all items (front ++ x ∷ []) rest (upper order r) more chain
       (every_append _ front (x ∷ [])
       (every_weaker _ _ front (λ z h.
-      le_trans cmp total (item_upper order z) (item_lower order x) (upper order r) h.0
-      (lt_le cmp total (item_lower order x) (upper order r) starts)) before) (part, tt)) above
+      le_trans lawful _ _ _ h.0 (lt_le lawful _ _ starts)) before) (part, tt)) above
   right_by items front rest x r (Some y) split chain starts above part =
       rw split (right_cut (line_of order lawful same equal) front x rest y (upper order r)
-      (rw split at chain) (lt_le (places order lawful) (position_total order.cmp lawful.total)
-      (item_lower order x) (upper order r) starts) part.0 part.1 part.2 part.3)
+      (rw split at chain) (lt_le lawful _ _ starts) part.0 part.1 part.2 part.3)
 
   -- what the last item that meets a range leaves after it
   pub right_of : (items : List (Item (AnyRange K) V)) (end : ℕ) (d : Item (AnyRange K) V)
       (r : AnyRange K) (right : Option (Item (AnyRange K) V)) → 0 < end → end ≤ length items
       → Chained order lawful same equal items
-      → Lt (places order lawful) (item_lower order (get_or items (end - 1) d)) (upper order r)
-      → Every (λ i. Le (places order lawful) (upper order r) (item_lower order i)) (drop end items)
+      → PLt lawful (item_lower order (get_or items (end - 1) d)) (upper order r)
+      → Every (λ i. PLe lawful (upper order r) (item_lower order i)) (drop end items)
       → IsRightPart order same (get_or items (end - 1) d) r right
       → Right items (option_items right ++ drop end items) (upper order r)
   right_of items end d r right some within chain starts above part =
@@ -146,7 +137,6 @@ module _ {K : Type 0} (order : KeyOrder K) (lawful : IsLawful order) {V : Type 0
       → IsUnboundAfter order same items items r
   unmet_is_unbound {P} {is_good} {rank} {items} {r} {w} {place} window none =
       let cmp = places order lawful in
-      let total = position_total order.cmp lawful.total in
       let chain = stored_chain order lawful same equal items window.stored in
       let all = stored_known order lawful same equal items window.stored in
       let good = (nonempty_good order lawful r window.known).0 window.nonempty in
@@ -156,15 +146,13 @@ module _ {K : Type 0} (order : KeyOrder K) (lawful : IsLawful order) {V : Type 0
       let on_left =
       left_all items (take place items) (drop place items) (lower order r)
       (list_is_take_and_drop items place) chain window.below
-      (every_weaker _ _ (drop place items)
-      (λ i h. le_trans cmp total (lower order r) (upper order r) (item_lower order i)
-      (lt_le cmp total (lower order r) (upper order r) good) h) behind) in
+      (every_weaker _ _ (drop place items) (λ i h. le_trans lawful _ _ _
+      (lt_le lawful _ _ good) h) behind) in
       let on_right =
       right_all items (take place items) (drop place items) (upper order r)
       (list_is_take_and_drop items place) chain
-      (every_weaker _ _ (take place items)
-      (λ i h. le_trans cmp total (item_upper order i) (lower order r) (upper order r) h
-      (lt_le cmp total (lower order r) (upper order r) good)) window.below) behind in
+      (every_weaker _ _ (take place items) (λ i h. le_trans lawful _ _ _ h
+      (lt_le lawful _ _ good)) window.below) behind in
       let result =
       places_between_are_unbound (line_of order lawful same equal) items (take place items)
       (drop place items) (lower order r) (upper order r) on_left on_right good in

@@ -13,8 +13,7 @@ use Rattle.range_algebra.specs.declared.any.AnyRange.{AnyRange}
 use Rattle.range_algebra.specs.Range.{IsKnownBound, IsKnownRange}
 use Rattle.range_algebra.specs.Compared.{flipped}
 use Rattle.range_algebra.specs.Clones.{SameBound, same_start}
-use Rattle.range_algebra.specs.Intervals.{Lt}
-use Rattle.range_algebra.specs.Orders.{eq_le, eq_ge, le_lt_trans, lt_not_le}
+use Rattle.range_change.proofs.PlaceOrder.{eq_le, eq_ge, le_lt_trans, lt_not_le, PLt}
 use Rattle.range_algebra.specs.Cuts.{past, upper}
 use Rattle.range_change.specs.Edits.{flipped_bound}
 use Rattle.range_algebra.proofs.Places.{reaching_is_before_past, flipped_bound_is_past, flipped_known, unbounded_start, unbounded_end}
@@ -67,7 +66,7 @@ module _ {K : Type 0} (order : KeyOrder K) (lawful : IsLawful order) where
 
   -- the end just before a start bound that is not the first of all
   pub cut_end : (a s b : Bound K) → IsKnownBound order a
-      → Lt (places order lawful) (start_position order a) (start_position order s)
+      → PLt lawful (start_position order a) (start_position order s)
       → SameBound order (flipped_bound s) b
       → places order lawful (past order (end_position order b)) (start_position order s) ≡ Equal
   cut_end a (Included k) b known l h =
@@ -77,9 +76,7 @@ module _ {K : Type 0} (order : KeyOrder K) (lawful : IsLawful order) where
       end_by (Excluded k) (Included k) b
       (flipped_bound_is_past order lawful (Included k) (Excluded k) refl) h
   cut_end a Unbounded b known l h =
-      absurd (lt_not_le (places order lawful) (position_total order.cmp lawful.total)
-      (start_position order a) (start_position order Unbounded) l
-      (unbounded_start order lawful a known))
+      absurd (lt_not_le lawful _ _ l (unbounded_start order lawful a known))
 
   start_by : (e t b : Bound K)
       → places order lawful (past order (end_position order e)) (start_position order t) ≡ Equal
@@ -93,7 +90,7 @@ module _ {K : Type 0} (order : KeyOrder K) (lawful : IsLawful order) where
 
   -- the start just after an end bound that is not the last of all
   pub cut_start : (a e b : Bound K) → IsKnownBound order a
-      → Lt (places order lawful) (past order (end_position order e))
+      → PLt lawful (past order (end_position order e))
       (past order (end_position order a)) → SameBound order (flipped_bound e) b
       → places order lawful (start_position order b) (past order (end_position order e)) ≡ Equal
   cut_start a (Included k) b known l h =
@@ -103,26 +100,21 @@ module _ {K : Type 0} (order : KeyOrder K) (lawful : IsLawful order) where
       start_by (Excluded k) (Included k) b
       (flipped_bound_is_past order lawful (Excluded k) (Included k) refl) h
   cut_start a Unbounded b known l h =
-      absurd (lt_not_le (places order lawful) (position_total order.cmp lawful.total)
-      (past order (end_position order Unbounded)) (past order (end_position order a)) l
-      (unbounded_end order lawful a known))
+      absurd (lt_not_le lawful _ _ l (unbounded_end order lawful a known))
 
   pub same_turned : (b : Bound K) → SameBound order (flipped_bound b) (flipped_bound b)
   same_turned b = same_itself (flipped_bound b)
 
   not_past_all : (e a : Bound K) → None ≡ flipped e → IsKnownBound order a
-      → Lt (places order lawful) (past order (end_position order e))
-      (past order (end_position order a)) → ⊥
+      → PLt lawful (past order (end_position order e)) (past order (end_position order a)) → ⊥
   not_past_all (Included k) a turns known l = cc
   not_past_all (Excluded k) a turns known l = cc
   not_past_all Unbounded a turns known l =
-      lt_not_le (places order lawful) (position_total order.cmp lawful.total)
-      (past order (end_position order Unbounded)) (past order (end_position order a)) l
-      (unbounded_end order lawful a known)
+      lt_not_le lawful _ _ l (unbounded_end order lawful a known)
 
   -- nothing ends after an unbounded end
   pub ends_never : (r i : AnyRange K) → IsKnownRange order i → None ≡ flipped r.end → IsTrue false
-      ↔ Lt (places order lawful) (upper order r) (upper order i)
+      ↔ PLt lawful (upper order r) (upper order i)
   ends_never r i known turns =
       (λ h. absurd (cc), λ l. absurd (not_past_all r.end i.end turns known.1 l))
 
@@ -135,19 +127,15 @@ module _ {K : Type 0} (order : KeyOrder K) (lawful : IsLawful order) where
   pub ends_after_is : (r i : AnyRange K) (s : Bound K) → IsKnownRange order r → IsKnownRange order i
       → Some s ≡ flipped r.end
       → IsTrue (is_le (places order lawful (start_position order s) (end_position order i.end)))
-      ↔ Lt (places order lawful) (upper order r) (upper order i)
+      ↔ PLt lawful (upper order r) (upper order i)
   ends_after_is r i s known others turns =
-      let total = position_total order.cmp lawful.total in
       let cmp = places order lawful in
       let at = flipped_bound_is_past order lawful r.end s (sym turns) in
       let reach =
       reaching_is_before_past order lawful s i.end
       (flipped_known order lawful r.end s (sym turns) known.1) others.1 in
       let test = le_is (cmp (start_position order s) (end_position order i.end)) in (
-        λ h. le_lt_trans cmp total (upper order r) (start_position order s) (upper order i)
-            (eq_le cmp total (upper order r) (start_position order s) at) (reach.0 (test.0 h)),
+        λ h. le_lt_trans lawful _ _ _ (eq_le lawful _ _ at) (reach.0 (test.0 h)),
         λ l.
-            test.1
-            (reach.1 (le_lt_trans cmp total (start_position order s) (upper order r) (upper order i)
-            (eq_ge cmp total (upper order r) (start_position order s) at) l)),
+            test.1 (reach.1 (le_lt_trans lawful _ _ _ (eq_ge lawful _ _ at) l)),
       )

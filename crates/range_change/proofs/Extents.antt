@@ -6,7 +6,6 @@ use Rattle.std.specs.declared.cmp.Ordering.TheVariants.{Less, Equal, Greater}
 use Rattle.std.specs.Ordering.{is_gt}
 use Rattle.range_keys.specs.Order.{KeyOrder, IsLawful, Tells, SameAnswer}
 use Rattle.range_keys.specs.Position.{start_position, end_position, position_cmp, at_told}
-use Rattle.range_keys.specs.PositionOrder.{position_total}
 use Rattle.range_keys.specs.declared.inner.position.Position.{Position}
 use Rattle.range_keys.specs.declared.inner.position.Position.TheVariants.{MinusInfinity, Beside, PlusInfinity}
 use Rattle.range_keys.specs.declared.inner.position.Side.TheVariants.{Before, At, After}
@@ -15,7 +14,8 @@ use Rattle.range_keys.proofs.Orderings.{less_unless_greater, less_unless_equal, 
 use Rattle.range_algebra.specs.Range.{IsKnownBound}
 use Rattle.range_algebra.specs.Compared.{flipped}
 use Rattle.range_algebra.specs.Intervals.{Le, Lt}
-use Rattle.range_algebra.specs.Orders.{eq_le, eq_ge, le_trans, lt_not_le, not_le, not_lt, both, le_lt_trans, lt_trans}
+use Rattle.range_algebra.specs.Orders
+use Rattle.range_change.proofs.PlaceOrder.{eq_le, eq_ge, le_trans, lt_not_le, not_lt, le_lt_trans}
 use Rattle.range_algebra.specs.Cuts.{past}
 use Rattle.range_algebra.proofs.Places.{reaching_is_before_past, flipped_bound_is_past, flipped_known, unbounded_end}
 
@@ -31,20 +31,18 @@ module _ {K : Type 0} (order : KeyOrder K) (lawful : IsLawful order) where
       → IsKnownBound order f → PLe (end_position order e) (end_position order f)
       → PLe (past order (end_position order e)) (past order (end_position order f))
   past_turned e f i turns known known' le =
-      let cmp = position_cmp order.cmp in
-      let total = position_total order.cmp lawful.total in
       let at = flipped_bound_is_past order lawful f i turns in
       let start = flipped_known order lawful f i turns known' in
       let pe = past order (end_position order e) in
       let pf = past order (end_position order f) in
       let s = start_position order i in
-      not_lt cmp total pe pf (λ l.
-      let under = le_lt_trans cmp total s pf pe (eq_ge cmp total pf s at) l in
+      not_lt lawful pe pf (λ l.
+      let under = le_lt_trans lawful _ _ _ (eq_ge lawful _ _ at) l in
       let reached = (reaching_is_before_past order lawful i e start known).1 under in
       let over =
       (reaching_is_before_past order lawful i f start known').0
-      (le_trans cmp total s (end_position order e) (end_position order f) reached le) in
-      lt_not_le cmp total s pf over (eq_le cmp total pf s at))
+      (le_trans lawful _ _ _ reached le) in
+      lt_not_le lawful _ _ over (eq_le lawful _ _ at))
 
   pub past_le : (e f : Bound K) → IsKnownBound order e → IsKnownBound order f
       → PLe (end_position order e) (end_position order f)
@@ -65,9 +63,9 @@ module _ {K : Type 0} (order : KeyOrder K) (lawful : IsLawful order) where
       → order.cmp a b ≡ Less → order.cmp d b ≡ Less
   next_below a b d next key first l =
       let le = lawful.none_between a d b next key l in
-      not_le order.cmp lawful.total d b
+      Orders.not_le order.cmp lawful.total d b
       (λ over. told_none (order.pred d) (order.pred b) a (lawful.succ_pred a d next)
-      (lawful.pred_congr d b (both order.cmp lawful.total d b le over)) first)
+      (lawful.pred_congr d b (Orders.both order.cmp lawful.total d b le over)) first)
 
   at_before : (a b : K) (o : Option K) → order.succ a ≡ o → order.is_key b → order.pred b ≡ None
       → order.cmp a b ≡ Less → PLt (at_told o (Beside a After)) (Beside b At)
@@ -81,12 +79,12 @@ module _ {K : Type 0} (order : KeyOrder K) (lawful : IsLawful order) where
   at_at a b None None next next' key key' l = less_then_any (order.cmp a b) Equal l
   at_at a b None (Some e) next next' key key' l =
       less_then_any (order.cmp a e) Greater
-      (lt_trans order.cmp lawful.total a b e l (lawful.succ_above b e next'))
+      (Orders.lt_trans order.cmp lawful.total a b e l (lawful.succ_above b e next'))
   at_at a b (Some d) None next next' key key' l =
       (less_unless_less (order.cmp d b)).1 (lawful.none_between a d b next key' l)
   at_at a b (Some d) (Some e) next next' key key' l =
       less_then_any (order.cmp d e) Equal
-      (le_lt_trans order.cmp lawful.total d b e (lawful.none_between a d b next key' l)
+      (Orders.le_lt_trans order.cmp lawful.total d b e (lawful.none_between a d b next key' l)
       (lawful.succ_above b e next'))
 
   before_at : (a b : K) (p : Option K) → order.succ b ≡ p → is_gt (order.cmp a b) ≡ false
@@ -94,7 +92,7 @@ module _ {K : Type 0} (order : KeyOrder K) (lawful : IsLawful order) where
   before_at a b None next le = (less_unless_less (order.cmp a b)).1 le
   before_at a b (Some e) next le =
       less_then_any (order.cmp a e) Equal
-      (le_lt_trans order.cmp lawful.total a b e le (lawful.succ_above b e next))
+      (Orders.le_lt_trans order.cmp lawful.total a b e le (lawful.succ_above b e next))
 
   at_infinity : (a : K) (o : Option K) → PLt (at_told o (Beside a After)) PlusInfinity
   at_infinity a None = refl
@@ -130,10 +128,6 @@ module _ {K : Type 0} (order : KeyOrder K) (lawful : IsLawful order) where
       → PLe (past order (end_position order e)) (past order (end_position order f))
       → PLe (end_position order e) (end_position order f)
   end_le e f known known' le =
-      let cmp = position_cmp order.cmp in
-      let total = position_total order.cmp lawful.total in
-      not_lt cmp total (end_position order e) (end_position order f)
-      (λ l. lt_not_le cmp total (past order (end_position order f))
-      (past order (end_position order e))
+      not_lt lawful (end_position order e) (end_position order f) (λ l. lt_not_le lawful _ _
       (past_lt (end_position order f) (end_position order e)
       (ends_lie_at_ends order lawful f known') (ends_lie_at_ends order lawful e known) l) le)

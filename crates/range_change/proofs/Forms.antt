@@ -17,7 +17,7 @@ use Rattle.range_algebra.specs.Range.{Holds, IsKnownBound, IsKnownRange, IsEmpty
 use Rattle.range_algebra.specs.Compared.{flipped, start_is_at, starts_at_end}
 use Rattle.range_store.specs.declared.storage.Item.{Item}
 use Rattle.range_algebra.specs.Intervals.{Le, Lt, Every}
-use Rattle.range_algebra.specs.Orders.{eq_ge, le_trans, lt_not_le, cases, not_le, not_lt, both}
+use Rattle.range_change.proofs.PlaceOrder.{eq_ge, le_trans, lt_not_le, cases, not_le, not_lt, both}
 use Rattle.range_change.specs.Chains.{line_of, IsChain, Has, Respects, IsBoundTo, IsUnbound}
 use Rattle.range_algebra.specs.Cuts.{past, lower, upper}
 use Rattle.range_change.specs.Stored.{IsStored}
@@ -45,14 +45,11 @@ module _ {K : Type 0} (order : KeyOrder K) (lawful : IsLawful order) where
       → places (end_position order e) (start_position order s) ≡ Less
       ↔ Le places (past order (end_position order e)) (start_position order s)
   before_is e s known others =
-      let total = position_total order.cmp lawful.total in
       let reach = reaching_is_before_past order lawful s e others known in (
-        λ h. not_lt places total (past order (end_position order e)) (start_position order s)
-            (λ k. lt_not_le places total (end_position order e) (start_position order s) h
-            (reach.1 k)),
-        λ h. not_le places total (end_position order e) (start_position order s)
-            (λ k. lt_not_le places total (start_position order s)
-            (past order (end_position order e)) (reach.0 k) h),
+        λ h. not_lt lawful (past order (end_position order e)) (start_position order s)
+            (λ k. lt_not_le lawful _ _ h (reach.1 k)),
+        λ h. not_le lawful (end_position order e) (start_position order s)
+            (λ k. lt_not_le lawful _ _ (reach.0 k) h),
       )
 
   pub touches_by : (e i : Bound K) (s : AnyRange K) → flipped e ≡ Some i
@@ -60,18 +57,14 @@ module _ {K : Type 0} (order : KeyOrder K) (lawful : IsLawful order) where
       → IsTrue (start_is_at order (Some i) (lower order s))
       ↔ Le places (lower order s) (past order (end_position order e))
   touches_by e i s turns le =
-      let total = position_total order.cmp lawful.total in
       let at = flipped_bound_is_past order lawful e i turns in
       let other = eq_is_equal (places (start_position order i) (lower order s)) in (
-        λ h. le_trans places total (lower order s) (start_position order i)
-            (past order (end_position order e))
-            (eq_ge places total (start_position order i) (lower order s) (other.0 h))
-            (eq_ge places total (past order (end_position order e)) (start_position order i) at),
+        λ h. le_trans lawful _ _ _ (eq_ge lawful _ _ (other.0 h)) (eq_ge lawful _ _ at),
         λ h.
             other.1
-            (sym (total.congr (past order (end_position order e)) (start_position order i)
+            (sym ((position_total order.cmp lawful.total).congr (past order (end_position order e)) (start_position order i)
             (lower order s) at)
-            ∙ both places total (past order (end_position order e)) (lower order s) le h),
+            ∙ both lawful _ _ le h),
       )
 
   -- a range touches another where the place past it is that of the other
@@ -82,14 +75,12 @@ module _ {K : Type 0} (order : KeyOrder K) (lawful : IsLawful order) where
       ↔ Le places (lower order s) (past order (end_position order e))
   touches_is (Included a) s known good le = touches_by (Included a) (Excluded a) s refl le
   touches_is (Excluded a) s known good le = touches_by (Excluded a) (Included a) s refl le
-  touches_is Unbounded s known good le =
-      let total = position_total order.cmp lawful.total in (
-        λ h. absurd (cc),
-        λ h.
-            absurd (lt_not_le places total (lower order s) (upper order s) good
-            (le_trans places total (upper order s) (past order (end_position order Unbounded))
-            (lower order s) (unbounded_end order lawful s.end known.1) le)),
-      )
+  touches_is Unbounded s known good le = (
+    λ h. absurd (cc),
+    λ h.
+        absurd (lt_not_le lawful _ _ good
+        (le_trans lawful _ _ _ (unbounded_end order lawful s.end known.1) le)),
+  )
 
   module _ {V : Type 0} (same : V → V → Bool) (equal : IsEquivalence same) where
     abbrev pub Known : List (Item (AnyRange K) V) → Type 0
@@ -175,11 +166,10 @@ module _ {K : Type 0} (order : KeyOrder K) (lawful : IsLawful order) where
         → (Holds order r k → ⊥)
         → Lt places (Beside k At) (lower order r) ⊎ Le places (upper order r) (Beside k At)
     unheld_lies_outside r k known key h =
-        let total = position_total order.cmp lawful.total in
-        elim (cases places total (Beside k At) (lower order r)) [
+        elim (cases lawful (Beside k At) (lower order r)) [
           | inl l ↦ inl l
           | inr from ↦
-              inr (not_lt places total (upper order r) (Beside k At)
+              inr (not_lt lawful (upper order r) (Beside k At)
               (λ upto. h ((held_between order lawful r k known key).1 (from, upto))))
         ]
 

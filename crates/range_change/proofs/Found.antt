@@ -9,7 +9,6 @@ use Rattle.std.specs.List.Sorted.{IsPartitionedBy}
 use Rattle.std.proofs.lemmas.List.{take_more}
 use Rattle.range_keys.specs.Order.{KeyOrder, IsLawful}
 use Rattle.range_keys.specs.Position.{start_position, end_position}
-use Rattle.range_keys.specs.PositionOrder.{position_total}
 use Rattle.range_keys.specs.declared.inner.position.Position.{Position}
 use Rattle.range_keys.specs.declared.inner.position.Position.TheVariants.{Beside}
 use Rattle.range_keys.specs.declared.inner.position.Side.TheVariants.{At}
@@ -21,7 +20,8 @@ use Rattle.range_store.specs.declared.storage.Item.{Item}
 use Rattle.range_store.specs.ListPlaces.{IsAt, IsFrontOf}
 use Rattle.range_store.proofs.ListPlaces.{place_at}
 use Rattle.range_algebra.specs.Intervals.{Any, Le, Lt, Every}
-use Rattle.range_algebra.specs.Orders.{lt_le, lt_not_le, le_trans, not_le, not_lt, lt_le_trans, le_lt_trans, lt_trans, lt_of}
+use Rattle.range_algebra.specs.Orders.{lt_of}
+use Rattle.range_change.proofs.PlaceOrder.{lt_le, lt_not_le, le_trans, not_le, not_lt, lt_le_trans, le_lt_trans, lt_trans, PLe, PLt}
 use Rattle.range_change.specs.Stored.{IsStored}
 use Rattle.range_change.specs.Bindings.{IsItemFor, IsStoredFor, IsBound, BindsTo}
 use Rattle.range_change.specs.Window.{IsFound, IsJustBefore, IsLastStarting, place_after}
@@ -53,7 +53,7 @@ module _ {K : Type 0} (order : KeyOrder K) (lawful : IsLawful order) {V : Type 0
   End i = end_position order i.key.end
 
   own_order : (i : Item (AnyRange K) V) → (IsEmptyRange order i.key → ⊥)
-      → Le (places order lawful) (Start i) (End i)
+      → PLe lawful (Start i) (End i)
   own_order i h = not_greater (places order lawful (Start i) (End i)) h
 
   stored_nonempty : (i : Item (AnyRange K) V) (rest : List (Item (AnyRange K) V))
@@ -68,31 +68,27 @@ module _ {K : Type 0} (order : KeyOrder K) (lawful : IsLawful order) {V : Type 0
 
   -- what follows an item starts past its end
   pub starts_rise : (i : Item (AnyRange K) V) (rest : List (Item (AnyRange K) V))
-      → IsListed order lawful same (i ∷ rest)
-      → Every (λ j. Lt (places order lawful) (End i) (Start j)) rest
+      → IsListed order lawful same (i ∷ rest) → Every (λ j. PLt lawful (End i) (Start j)) rest
   starts_rise i [] h = tt
   starts_rise i (j ∷ rest) h =
-      let total = position_total order.cmp lawful.total in
-      let cmp = places order lawful in
       let own = own_order j (stored_nonempty j rest h.4) in (
         h.2,
         every_weaker _ _ rest (λ k l.
-            lt_trans cmp total (End i) (End j) (Start k)
-            (lt_le_trans cmp total (End i) (Start j) (End j) h.2 own) l) (starts_rise j rest h.4),
+            lt_trans lawful _ _ _ (lt_le_trans lawful _ _ _ h.2 own) l) (starts_rise j rest h.4),
       )
 
   pub every_nonempty : (rest : List (Item (AnyRange K) V)) → IsListed order lawful same rest
-      → Every (λ j. Le (places order lawful) (Start j) (End j)) rest
+      → Every (λ j. PLe lawful (Start j) (End j)) rest
   every_nonempty [] h = tt
   every_nonempty (i ∷ rest) h =
       (own_order i (stored_nonempty i rest h), every_nonempty rest (stored_tail i rest h))
 
   -- a test that an item passes where a later one does holds on a front
   listed_partitioned : (test : Item (AnyRange K) V → Bool)
-      → ((x y : Item (AnyRange K) V) → Le (places order lawful) (Start x) (End x)
-      → Lt (places order lawful) (End x) (Start y) → Le (places order lawful) (Start y) (End y)
-      → test y ≡ true → test x ≡ true) → (items : List (Item (AnyRange K) V))
-      → IsListed order lawful same items → IsPartitionedBy test items
+      → ((x y : Item (AnyRange K) V) → PLe lawful (Start x) (End x) → PLt lawful (End x) (Start y)
+      → PLe lawful (Start y) (End y) → test y ≡ true
+      → test x ≡ true) → (items : List (Item (AnyRange K) V)) → IsListed order lawful same items
+      → IsPartitionedBy test items
   listed_partitioned test falls [] h i j d le within passes = absurd (omega arith)
   listed_partitioned test falls (x ∷ xs) h zero zero d le within passes = passes
   listed_partitioned test falls (x ∷ xs) h zero (suc j) d le within passes =
@@ -110,13 +106,10 @@ module _ {K : Type 0} (order : KeyOrder K) (lawful : IsLawful order) {V : Type 0
       → IsStored order same items
       → IsPartitionedBy (λ i. is_lt (places order lawful (End i) p)) items
   found_partitions items p h =
-      let total = position_total order.cmp lawful.total in
       let cmp = places order lawful in
       listed_partitioned (λ i. is_lt (cmp (End i) p))
       (λ x y own rise others passes.
-      (lt_is_less (cmp (End x) p)).1
-      (lt_trans cmp total (End x) (End y) p
-      (lt_le_trans cmp total (End x) (Start y) (End y) rise others)
+      (lt_is_less (cmp (End x) p)).1 (lt_trans lawful _ _ _ (lt_le_trans lawful _ _ _ rise others)
       (lt_of (cmp (End y) p) passes)))
       items (stored_list_is_listed order lawful same items h)
 
@@ -124,13 +117,10 @@ module _ {K : Type 0} (order : KeyOrder K) (lawful : IsLawful order) {V : Type 0
       → IsStored order same items
       → IsPartitionedBy (λ i. is_le (places order lawful (Start i) p)) items
   started_partitions items p h =
-      let total = position_total order.cmp lawful.total in
       let cmp = places order lawful in
       listed_partitioned (λ i. is_le (cmp (Start i) p))
-      (λ x y own rise others passes.
-      (le_is_at_most (cmp (Start x) p)).0
-      (le_trans cmp total (Start x) (Start y) p
-      (lt_le cmp total (Start x) (Start y) (le_lt_trans cmp total (Start x) (End x) (Start y) own
+      (λ x y own rise others passes. (le_is_at_most (cmp (Start x) p)).0 (le_trans lawful _ _ _
+      (lt_le lawful _ _ (le_lt_trans lawful _ _ _ own
       rise)) ((le_is_at_most (cmp (Start y) p)).1 passes)))
       items (stored_list_is_listed order lawful same items h)
 
@@ -142,7 +132,6 @@ module _ {K : Type 0} (order : KeyOrder K) (lawful : IsLawful order) {V : Type 0
   found_at is_good rank items p before from place at previous front =
       let same_place = place_at is_good rank (length items) from place at in
       let cmp = places order lawful in
-      let total = position_total order.cmp lawful.total in
       record {
         position = rw same_place at;
         in_range = rw same_place front.0;
@@ -152,7 +141,7 @@ module _ {K : Type 0} (order : KeyOrder K) (lawful : IsLawful order) {V : Type 0
             (every_take (λ i. is_lt (cmp (End i) p) ≡ true) items place front.0 front.1.0));
         above =
             rw same_place (every_weaker _ _ (drop place items)
-            (λ i e. not_lt cmp total p (End i) (not_less (cmp (End i) p) e))
+            (λ i e. not_lt lawful _ _ (not_less (cmp (End i) p) e))
             (every_drop (λ i. is_lt (cmp (End i) p) ≡ false) items place front.0 front.1.1));
       }
 
@@ -163,7 +152,6 @@ module _ {K : Type 0} (order : KeyOrder K) (lawful : IsLawful order) {V : Type 0
         → IsLastStarting order is_good rank items p last place
     started_by last place at front =
         let cmp = places order lawful in
-        let total = position_total order.cmp lawful.total in
         record {
           position = at;
           upto =
@@ -171,13 +159,12 @@ module _ {K : Type 0} (order : KeyOrder K) (lawful : IsLawful order) {V : Type 0
               (every_take (λ i. is_le (cmp (Start i) p) ≡ true) items place front.0 front.1.0);
           past =
               every_weaker _ _ (drop place items)
-              (λ i e. not_le cmp total p (Start i) (not_at_most (cmp (Start i) p) e))
+              (λ i e. not_le lawful _ _ (not_at_most (cmp (Start i) p) e))
               (every_drop (λ i. is_le (cmp (Start i) p) ≡ false) items place front.0 front.1.1);
         }
 
     pub last_started : (last : Option P)
-        → MatchOption last
-        (IsFrontOf (λ i. is_le (places order lawful (Start i) p)) items 0)
+        → MatchOption last (IsFrontOf (λ i. is_le (places order lawful (Start i) p)) items 0)
         (λ q. is_good q
         × IsFrontOf (λ i. is_le (places order lawful (Start i) p)) items (rank q + 1))
         → IsLastStarting order is_good rank items p last (place_after rank last)
@@ -190,23 +177,21 @@ module _ {K : Type 0} (order : KeyOrder K) (lawful : IsLawful order) {V : Type 0
   not_bound (i ∷ rest) k all (inl h) = all.0 h
   not_bound (i ∷ rest) k all (inr h) = not_bound rest k all.1 h
 
-  below_not : (i : Item (AnyRange K) V) (k : K) → order.is_key k
-      → Lt (places order lawful) (End i) (Beside k At) → Holds order i.key k → ⊥
+  below_not : (i : Item (AnyRange K) V) (k : K) → order.is_key k → PLt lawful (End i) (Beside k At)
+      → Holds order i.key k → ⊥
   below_not i k key l h =
-      lt_not_le (places order lawful) (position_total order.cmp lawful.total) (End i)
-      (Beside k At) l ((holds_by_position order lawful i.key k key).0 h).1
+      lt_not_le lawful _ _ l ((holds_by_position order lawful i.key k key).0 h).1
 
   above_not : (i : Item (AnyRange K) V) (k : K) → order.is_key k
-      → Lt (places order lawful) (Beside k At) (Start i) → Holds order i.key k → ⊥
+      → PLt lawful (Beside k At) (Start i) → Holds order i.key k → ⊥
   above_not i k key l h =
-      lt_not_le (places order lawful) (position_total order.cmp lawful.total) (Beside k At)
-      (Start i) l ((holds_by_position order lawful i.key k key).0 h).0
+      lt_not_le lawful _ _ l ((holds_by_position order lawful i.key k key).0 h).0
 
   -- up to the place all end before the key, and from there on all start past it
   pub apart_bound : (items : List (Item (AnyRange K) V)) (k : K) (place : ℕ) → order.is_key k
-      → Every (λ i. Lt (places order lawful) (End i) (Beside k At)) (take place items)
-      → Every (λ i. Lt (places order lawful) (Beside k At) (Start i)) (drop place items)
-      → IsBound order items k → ⊥
+      → Every (λ i. PLt lawful (End i) (Beside k At)) (take place items)
+      → Every (λ i. PLt lawful (Beside k At) (Start i)) (drop place items) → IsBound order items k
+      → ⊥
   apart_bound items k place key below above =
       let none =
       every_append (λ i. Holds order i.key k → ⊥) (take place items) (drop place items)
@@ -218,12 +203,11 @@ module _ {K : Type 0} (order : KeyOrder K) (lawful : IsLawful order) {V : Type 0
 
   ends_upto_listed : (items : List (Item (AnyRange K) V)) (p : Position K) (place : ℕ)
       (d : Item (AnyRange K) V) → IsListed order lawful same items → place < length items
-      → Lt (places order lawful) (End (get_or items place d)) p
-      → Every (λ i. Lt (places order lawful) (End i) p) (take (suc place) items)
+      → PLt lawful (End (get_or items place d)) p
+      → Every (λ i. PLt lawful (End i) p) (take (suc place) items)
   ends_upto_listed [] p place d h within ends = absurd (omega arith)
   ends_upto_listed (i ∷ rest) p zero d h within ends = (ends, tt)
   ends_upto_listed (i ∷ rest) p (suc place) d h within ends =
-      let total = position_total order.cmp lawful.total in
       let cmp = places order lawful in
       let y = get_or rest place d in
       let rise =
@@ -232,8 +216,7 @@ module _ {K : Type 0} (order : KeyOrder K) (lawful : IsLawful order) {V : Type 0
       let own =
       every_at (λ j. Le cmp (Start j) (End j)) rest place d
       (every_nonempty rest (stored_tail i rest h)) (omega (arith, within)) in (
-        lt_trans cmp total (End i) (End y) p
-            (lt_le_trans cmp total (End i) (Start y) (End y) rise own) ends,
+        lt_trans lawful _ _ _ (lt_le_trans lawful _ _ _ rise own) ends,
         ends_upto_listed rest p place d (stored_tail i rest h) (omega (arith, within)) ends,
       )
 
@@ -241,36 +224,32 @@ module _ {K : Type 0} (order : KeyOrder K) (lawful : IsLawful order) {V : Type 0
   pub ends_upto : (items : List (Item (AnyRange K) V)) (p : Position K) (place : ℕ)
       (x : Item (AnyRange K) V) → IsStored order same items → place < length items
       → x ≡ get_or items place x → true ≡ is_lt (places order lawful (End x) p)
-      → Every (λ i. Lt (places order lawful) (End i) p) (take (place + 1) items)
+      → Every (λ i. PLt lawful (End i) p) (take (place + 1) items)
   ends_upto items p place x stored within read ends =
       let next : suc place ≡ place + 1 = omega arith in
       rw next at (ends_upto_listed items p place x
       (stored_list_is_listed order lawful same items stored) within
-      (subst (λ y. Lt (places order lawful) (End y) p) read
-      (lt_of (places order lawful (End x) p) (sym ends))))
+      (subst (λ y. PLt lawful (End y) p) read (lt_of (places order lawful (End x) p) (sym ends))))
 
   -- the item at the place is the last of those up to it
   pub starts_here : (items : List (Item (AnyRange K) V)) (p : Position K) (place : ℕ)
       (x : Item (AnyRange K) V) → place < length items → x ≡ get_or items place x
-      → Every (λ i. Le (places order lawful) (Start i) p) (take (place + 1) items)
-      → Le (places order lawful) (Start x) p
+      → Every (λ i. PLe lawful (Start i) p) (take (place + 1) items) → PLe lawful (Start x) p
   starts_here items p place x within read upto =
-      subst (λ y. Le (places order lawful) (Start y) p) (sym read)
-      (every_right (λ i. Le (places order lawful) (Start i) p) (take place items)
+      subst (λ y. PLe lawful (Start y) p) (sym read)
+      (every_right (λ i. PLe lawful (Start i) p) (take place items)
       (get_or items place x ∷ []) (rw (take_more items place x within) at upto)).0
 
   -- an item that starts at the key at most and does not end before it holds it
   pub holds_at : (items : List (Item (AnyRange K) V)) (k : K) (place : ℕ) (x : Item (AnyRange K) V)
       → order.is_key k → place < length items → x ≡ get_or items place x
-      → Every (λ i. Le (places order lawful) (Start i) (Beside k At)) (take (place + 1) items)
+      → Every (λ i. PLe lawful (Start i) (Beside k At)) (take (place + 1) items)
       → false ≡ is_lt (places order lawful (End x) (Beside k At)) → Holds order x.key k
   holds_at items k place x key within read upto ends =
       let cmp = places order lawful in
-      let total = position_total order.cmp lawful.total in
       (holds_by_position order lawful x.key k key).1 (
         starts_here items (Beside k At) place x within read upto,
-        not_lt cmp total (Beside k At) (End x)
-            (not_less (cmp (End x) (Beside k At)) (sym ends)),
+        not_lt lawful _ _ (not_less (cmp (End x) (Beside k At)) (sym ends)),
       )
 
   pub item_at : (items : List (Item (AnyRange K) V)) (place : ℕ) (x : Item (AnyRange K) V)

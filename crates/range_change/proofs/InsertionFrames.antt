@@ -5,14 +5,13 @@ use Rattle.std.specs.Cmp.{IsEquivalence}
 use Rattle.std.specs.Option.{unwrap_or}
 use Rattle.std.specs.declared.ops.Bound.{Bound}
 use Rattle.range_keys.specs.Order.{KeyOrder, IsLawful}
-use Rattle.range_keys.specs.PositionOrder.{position_total}
 use Rattle.range_algebra.specs.declared.any.AnyRange.{AnyRange}
 use Rattle.range_algebra.specs.Range.{IsKnownRange}
-use Rattle.range_algebra.specs.Intervals.{Le, Lt, Any, Every}
-use Rattle.range_algebra.specs.Orders.{lt_trans, lt_not_le, le_lt_trans}
+use Rattle.range_algebra.specs.Intervals.{Lt, Any, Every}
+use Rattle.range_change.proofs.PlaceOrder.{lt_trans, lt_not_le, le_lt_trans, PLe, PLt}
 use Rattle.range_change.specs.Chains.{line_of}
 use Rattle.range_change.proofs.Chains.{chain_before}
-use Rattle.range_algebra.specs.Cuts.{lower, upper}
+use Rattle.range_algebra.specs.Cuts.{upper}
 use Rattle.range_algebra.proofs.Lists.{list_is_take_and_drop, parts_at, every_at, any_left, any_right, any_none, every_weaker, every_append, every_left, every_right}
 use Rattle.range_change.proofs.RangeSides.{element_at}
 use Rattle.range_store.specs.declared.storage.Item.{Item}
@@ -172,7 +171,7 @@ module _ {K : Type 0} {order : KeyOrder K} (lawful : IsLawful order) {V : Type 0
 
   front_items_have_places : (xs ys : List (Item (AnyRange K) V))
       → Chained order lawful same equal (xs ++ ys)
-      → Every (λ i. Lt (places order lawful) (item_lower order i) (item_upper order i)) xs
+      → Every (λ i. PLt lawful (item_lower order i) (item_upper order i)) xs
   front_items_have_places [] ys h = tt
   front_items_have_places (x ∷ []) ys h = (h.0, tt)
   front_items_have_places (x ∷ y ∷ xs) ys h = (h.0, front_items_have_places (y ∷ xs) ys h.1.1)
@@ -182,10 +181,7 @@ module _ {K : Type 0} {order : KeyOrder K} (lawful : IsLawful order) {V : Type 0
       (window : IsWindow order same is_good rank items r w place) where
     not_before : Every (λ i. LiesBefore order i.key r → ⊥) (drop place items)
     not_before =
-        let cmp = places order lawful in
-        let total = position_total order.cmp lawful.total in
-        every_weaker _ _ (drop place items)
-        (λ i h k. lt_not_le cmp total (lower order r) (item_upper order i) h.1
+        every_weaker _ _ (drop place items) (λ i h k. lt_not_le lawful _ _ h.1
         ((before_is order lawful i.key.end r.start h.0.1 window.known.0).0 k))
         (every_both (λ i. IsKnownRange order i.key) _ (drop place items)
         (known_drop order lawful same equal items place
@@ -195,7 +191,6 @@ module _ {K : Type 0} {order : KeyOrder K} (lawful : IsLawful order) {V : Type 0
         → Every (λ i. LiesBefore order r i.key → ⊥) (take (place + w.count) items)
     window_items_reach_range d some =
         let cmp = places order lawful in
-        let total = position_total order.cmp lawful.total in
         let chain = stored_chain order lawful same equal items window.stored in
         let all = stored_known order lawful same equal items window.stored in
         let end = place + w.count in
@@ -210,8 +205,7 @@ module _ {K : Type 0} {order : KeyOrder K} (lawful : IsLawful order) {V : Type 0
         let full =
         front_items_have_places (take (end - 1) items) (last ∷ drop (end - 1 + 1) items)
         (rw split at chain) in
-        every_weaker _ _ (take end items)
-        (λ i h k. lt_not_le cmp total (item_lower order i) (upper order r) h.1
+        every_weaker _ _ (take end items) (λ i h k. lt_not_le lawful _ _ h.1
         ((before_is order lawful r.end i.key.start window.known.1 h.0.0).0 k))
         (every_both (λ i. IsKnownRange order i.key) _ (take end items)
         (known_take order lawful same equal items end all)
@@ -219,10 +213,8 @@ module _ {K : Type 0} {order : KeyOrder K} (lawful : IsLawful order) {V : Type 0
         (λ i. Lt cmp (item_lower order i) (upper order r)) ys)
         (sym (take_more items (end - 1) d within) ∙ ap (λ n. take n items) next)
         (every_append _ (take (end - 1) items) (last ∷ [])
-        (every_weaker _ _ (take (end - 1) items)
-        (λ i h. lt_trans cmp total (item_lower order i) (item_upper order i) (upper order r) h.1
-        (le_lt_trans cmp total (item_upper order i) (item_lower order last)
-        (upper order r) h.0.0 meets)) (every_both _ _ (take (end - 1) items) ordered full))
+        (every_weaker _ _ (take (end - 1) items) (λ i h. lt_trans lawful _ _ _ h.1
+        (le_lt_trans lawful _ _ _ h.0.0 meets)) (every_both _ _ (take (end - 1) items) ordered full))
         (meets, tt))))
 
     -- each item of the window meets the range
@@ -276,7 +268,7 @@ module _ {K : Type 0} {order : KeyOrder K} (lawful : IsLawful order) {V : Type 0
     none_meets none =
         let all = stored_known order lawful same equal items window.stored in
         let at : place + w.count ≡ place = omega (arith, none) in
-        let behind : Every (λ i. Le (places order lawful) (upper order r) (item_lower order i))
+        let behind : Every (λ i. PLe lawful (upper order r) (item_lower order i))
         (drop place items) = rw at at window.behind in
         let before =
         every_weaker _ _ (take place items)

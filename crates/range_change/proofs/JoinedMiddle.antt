@@ -7,7 +7,7 @@ use Rattle.std.specs.Option.{unwrap_or}
 use Rattle.std.specs.declared.cmp.Ordering.TheVariants.{Equal}
 use Rattle.std.specs.declared.ops.Bound.{Bound}
 use Rattle.range_keys.specs.Order.{KeyOrder, IsLawful}
-use Rattle.range_keys.specs.Position.{start_position, end_position}
+use Rattle.range_keys.specs.Position.{end_position}
 use Rattle.range_keys.specs.PositionOrder.{position_total}
 use Rattle.range_keys.specs.declared.inner.position.Position.{Position}
 use Rattle.range_algebra.proofs.Lists.{any_left, any_right, every_weaker, every_append, every_left, every_right}
@@ -17,7 +17,7 @@ use Rattle.range_algebra.specs.Clones.{SameBound}
 use Rattle.range_algebra.specs.Compared.{flipped}
 use Rattle.range_algebra.specs.Cuts.{past, lower, upper}
 use Rattle.range_algebra.specs.Intervals.{Le, Lt, Any, Every}
-use Rattle.range_algebra.specs.Orders.{eq_ge, le_lt_trans, le_refl, lt_le, eq_le, le_trans, lt_trans, lt_le_trans, lt_not_le, not_lt}
+use Rattle.range_change.proofs.PlaceOrder.{eq_ge, le_lt_trans, le_refl, lt_le, eq_le, le_trans, lt_trans, lt_le_trans, lt_not_le, not_lt, PLe, PLt}
 use Rattle.range_algebra.specs.Range.{IsKnownBound, IsKnownRange}
 use Rattle.range_algebra.specs.Relations.{Touches}
 use Rattle.range_algebra.specs.declared.any.AnyRange.{AnyRange}
@@ -57,32 +57,26 @@ got_none P o is m e = absurd (let at = sym (ap option_copied is) ∙ e in cc)
 module _ {K : Type 0} (order : KeyOrder K) (lawful : IsLawful order) where
   within_by : (part r : AnyRange K) (o : Option (Bound K)) → o ≡ flipped r.end
       → IsKnownRange order part → IsKnownRange order r
-      → Le (places order lawful) (end_position order part.end) (end_position order r.end)
-      → Lt (places order lawful) (upper order r) (upper order part) → ⊥
+      → PLe lawful (end_position order part.end) (end_position order r.end)
+      → PLt lawful (upper order r) (upper order part) → ⊥
   within_by part r None turns known others within over =
       absurd (let h : IsTrue false = (ends_never order lawful r part known turns).1 over in cc)
   within_by part r (Some s) turns known others within over =
-      let cmp = places order lawful in
-      let total = position_total order.cmp lawful.total in
       let at = flipped_bound_is_past order lawful r.end s (sym turns) in
       let known_s = flipped_known order lawful r.end s (sym turns) others.1 in
       let reach =
-      (reaching_is_before_past order lawful s part.end known_s known.1).1
-      (le_lt_trans cmp total (start_position order s) (upper order r) (upper order part)
-      (eq_ge cmp total (upper order r) (start_position order s) at) over) in
+      (reaching_is_before_past order lawful s part.end known_s known.1).1 (le_lt_trans lawful _ _ _
+      (eq_ge lawful _ _ at) over) in
       let back =
       (reaching_is_before_past order lawful s r.end known_s others.1).0
-      (le_trans cmp total (start_position order s) (end_position order part.end)
-      (end_position order r.end) reach within) in
-      lt_not_le cmp total (start_position order s) (upper order r) back
-      (eq_le cmp total (upper order r) (start_position order s) at)
+      (le_trans lawful _ _ _ reach within) in
+      lt_not_le lawful _ _ back (eq_le lawful _ _ at)
 
   -- a range that ends by another's end ends by its place
   pub within_end : (part r : AnyRange K) → IsKnownRange order part → IsKnownRange order r
-      → LiesIn order part r → Le (places order lawful) (upper order part) (upper order r)
+      → LiesIn order part r → PLe lawful (upper order part) (upper order r)
   within_end part r known others within =
-      not_lt (places order lawful) (position_total order.cmp lawful.total) (upper order part)
-      (upper order r) (λ over.
+      not_lt lawful (upper order part) (upper order r) (λ over.
       within_by part r (flipped r.end) refl known others within.ends over)
 
 joins_none_before : {K V P : Type 0} (is_good : P → Type 0) (rank : P → ℕ)
@@ -126,8 +120,8 @@ module _ {K : Type 0} (order : KeyOrder K) (lawful : IsLawful order) {V : Type 0
     -- the item starts before the range ends, and ends after the range starts
     abbrev pub Crosses : Item (AnyRange K) V → Type 0
     Crosses i =
-        Lt (places order lawful) (item_lower order i) (upper order r)
-        × Lt (places order lawful) (lower order r) (item_upper order i)
+        PLt lawful (item_lower order i) (upper order r)
+        × PLt lawful (lower order r) (item_upper order i)
 
     -- one that crosses the range has the start of an item, and an equal value
     abbrev pub TakesStartOf : Item (AnyRange K) V → List (Item (AnyRange K) V) → Type 0
@@ -182,7 +176,7 @@ module _ {K : Type 0} (order : KeyOrder K) (lawful : IsLawful order) {V : Type 0
       pub touched : Every (λ i. Touches order r i.key
           × TakesEndOf i (with_last_end finish (with_first_start start middle))) extra
       pub reaches : (b : Bound K) → finish ≡ Some b
-          → Lt (places order lawful) (lower order r) (past order (end_position order b))
+          → PLt lawful (lower order r) (past order (end_position order b))
       pub valued : Every (λ j.
           HasValue order same (take count (drop place items) ++ extra) j.value ⊎ HasValue order same
           middle j.value) (option_items rest)
@@ -215,41 +209,36 @@ module _ {K : Type 0} (order : KeyOrder K) (lawful : IsLawful order) {V : Type 0
 
     takes_start : (start : Option (Bound K)) (m : Item (AnyRange K) V)
         (ms : List (Item (AnyRange K) V)) (i : Item (AnyRange K) V) → start ≡ Some i.key.start
-        → Le (places order lawful) (border_start order same start r) (lower order r)
-        → Lt (places order lawful) (lower order r) (upper order r)
-        → Lt (places order lawful) (lower order r) (item_upper order m)
-        → IsTrue (same i.value m.value) → TakesStartOf i (with_first_start start (m ∷ ms))
+        → PLe lawful (border_start order same start r) (lower order r)
+        → PLt lawful (lower order r) (upper order r)
+        → PLt lawful (lower order r) (item_upper order m) → IsTrue (same i.value m.value)
+        → TakesStartOf i (with_first_start start (m ∷ ms))
     takes_start None m ms i is le good over alike = absurd (cc)
     takes_start (Some b) m ms i is le good over alike =
         let bound : b ≡ i.key.start = cc in
         inl (
           bound,
           (
-            le_lt_trans (places order lawful) (position_total order.cmp lawful.total)
-                (start_position order b) (lower order r) (upper order r) le good,
+            le_lt_trans lawful _ _ _ le good,
             over,
           ),
           alike,
         )
 
     left_joining : (m : Item (AnyRange K) V) (ms : List (Item (AnyRange K) V)) (first : Option P)
-        (border : Border K P) (from : Option P)
-        → Lt (places order lawful) (lower order r) (upper order r) → IsStored order same items
+        (border : Border K P) (from : Option P) → PLt lawful (lower order r) (upper order r)
+        → IsStored order same items
         → IsStored order same (m ∷ ms)
         → places order lawful (item_lower order m) (lower order r) ≡ Equal
         → IsLeftPlan order same lawful equal is_good rank items r m.value place count first border
         from → IsLeftFill (m ∷ ms) first border from
     left_joining m ms first border from good stored middle at plan =
-        let cmp = places order lawful in
-        let total = position_total order.cmp lawful.total in
         let chain = stored_chain order lawful same equal (m ∷ ms) middle in
         let le =
-        le_trans cmp total (border_start order same plan.start r) plan.side.s (lower order r)
-        (eq_le cmp total (border_start order same plan.start r) plan.side.s plan.side.starts)
+        le_trans lawful _ _ _ (eq_le lawful _ _ plan.side.starts)
         plan.side.left.below in
         let over =
-        le_lt_trans cmp total (lower order r) (item_lower order m) (item_upper order m)
-        (eq_ge cmp total (item_lower order m) (lower order r) at) chain.0 in
+        le_lt_trans lawful _ _ _ (eq_ge lawful _ _ at) chain.0 in
         record {
           at = plan.at;
           begin = plan.begin;
@@ -281,7 +270,7 @@ module _ {K : Type 0} (order : KeyOrder K) (lawful : IsLawful order) {V : Type 0
 
     left_cutting : (middle : List (Item (AnyRange K) V)) (first : Option P) (border : Border K P)
         (from : Option P) → IsStored order same items → IsStored order same middle
-        → Every (λ i. Lt (places order lawful) (lower order r) (item_lower order i)) middle
+        → Every (λ i. PLt lawful (lower order r) (item_lower order i)) middle
         → IsLeftCutting order same lawful equal is_good rank items r place count first border from →
         IsLeftFill middle first border from
     left_cutting middle first border from stored others starts cut =
@@ -313,23 +302,18 @@ module _ {K : Type 0} (order : KeyOrder K) (lawful : IsLawful order) {V : Type 0
         }
 
     all_later : (m : Item (AnyRange K) V) (ms : List (Item (AnyRange K) V))
-        → Chained order lawful same equal (m ∷ ms)
-        → Lt (places order lawful) (lower order r) (item_lower order m)
-        → Every (λ i. Lt (places order lawful) (lower order r) (item_lower order i)) (m ∷ ms)
+        → Chained order lawful same equal (m ∷ ms) → PLt lawful (lower order r) (item_lower order m)
+        → Every (λ i. PLt lawful (lower order r) (item_lower order i)) (m ∷ ms)
     all_later m ms chain later =
-        let cmp = places order lawful in
-        let total = position_total order.cmp lawful.total in
         let above = follows_above (line_of order lawful same equal) m ms chain.1 in (
           later,
           every_weaker _ _ ms (λ i h.
-              lt_le_trans cmp total (lower order r) (item_upper order m) (item_lower order i)
-              (lt_trans cmp total (lower order r) (item_lower order m)
-              (item_upper order m) later chain.0) h) above,
+              lt_le_trans lawful _ _ _ (lt_trans lawful _ _ _ later chain.0) h) above,
         )
 
     pub left_fill : (middle : List (Item (AnyRange K) V)) (first : Option P) (border : Border K P)
-        (from : Option P) → Lt (places order lawful) (lower order r) (upper order r)
-        → IsStored order same items → IsStored order same middle
+        (from : Option P) → PLt lawful (lower order r) (upper order r) → IsStored order same items
+        → IsStored order same middle
         → IsLeftSeam order same lawful equal is_good rank items r place count
         (slice_get middle 0) first border from → IsLeftFill middle first border from
     left_fill [] first border from good stored others (inl h) = absurd (let e = h.1 in cc)
@@ -391,8 +375,7 @@ module _ {K : Type 0} (order : KeyOrder K) (lawful : IsLawful order) {V : Type 0
 
     right_joining : (middle front init : List (Item (AnyRange K) V)) (m : Item (AnyRange K) V)
         (start : Option (Bound K)) (last : Option P) (border : Border K P) → IsStored order same
-        items
-        → Lt (places order lawful) (lower order r) (upper order r) → middle ≡ init ++ m ∷ []
+        items → PLt lawful (lower order r) (upper order r) → middle ≡ init ++ m ∷ []
         → Filled items middle (front ++ with_first_start start middle) (lower order r)
         → Known order lawful same equal (front ++ with_first_start start middle)
         → places order lawful (item_upper order m) (upper order r) ≡ Equal
@@ -402,7 +385,6 @@ module _ {K : Type 0} (order : KeyOrder K) (lawful : IsLawful order) {V : Type 0
         let own =
         subst (λ ys. HasValue order same ys m.value) (sym split)
         (any_right _ init (m ∷ []) (inl (equal.refl m.value))) in
-        let total = position_total order.cmp lawful.total in
         let s = started_last start init m in
         let z = s.1 in
         let body : with_first_start start middle ≡ s.0 ++ z ∷ [] =
@@ -429,27 +411,19 @@ module _ {K : Type 0} (order : KeyOrder K) (lawful : IsLawful order) {V : Type 0
         let body_end : with_last_end plan.finish (with_first_start start middle) ≡ s.0
         ++ other ∷ [] = ap (with_last_end plan.finish) body ∙ with_last plan.finish s.0 z in
         let full =
-        (chain_right (line_of order lawful same equal) (front ++ s.0)
-        (z ∷ []) filled.chain).0 in
+        (chain_right (line_of order lawful same equal) (front ++ s.0) (z ∷ []) filled.chain).0 in
         let under =
-        le_lt_trans cmp total (item_lower order other) (item_lower order z) (upper order r)
-        (eq_le cmp total (item_lower order other) (item_lower order z)
-        (ended_lower plan.finish z))
-        (lt_le_trans cmp total (item_lower order z) (item_upper order z)
-        (upper order r) full (eq_le cmp total (item_upper order z) (upper order r) z_ends))
+        le_lt_trans lawful _ _ _ (eq_le lawful _ _ (ended_lower plan.finish z))
+        (lt_le_trans lawful _ _ _ full (eq_le lawful _ _ z_ends))
         in
         let above =
-        lt_le_trans cmp total (lower order r)
-        (upper order r) plan.side.e good plan.side.right.above in
+        lt_le_trans lawful _ _ _ good plan.side.right.above in
         let over =
-        lt_le_trans cmp total (lower order r) plan.side.e (item_upper order other) above
-        (eq_ge cmp total (item_upper order other) plan.side.e
+        lt_le_trans lawful _ _ _ above (eq_ge lawful _ _
         (ended_upper plan.finish z plan.side.e plan.side.ends z_ends)) in
         let same_value : m.value ≡ other.value = sym (ended_same plan.finish z ∙ s.4) in
         let beyond =
-        lt_le_trans cmp total (lower order r) plan.side.e
-        (border_end order same plan.finish r) above
-        (eq_ge cmp total (border_end order same plan.finish r) plan.side.e plan.side.ends) in
+        lt_le_trans lawful _ _ _ above (eq_ge lawful _ _ plan.side.ends) in
         let done =
         spliced_joined (line_of order lawful same equal) items middle
         (front ++ s.0) behind z other (lower order r)
@@ -501,9 +475,8 @@ module _ {K : Type 0} (order : KeyOrder K) (lawful : IsLawful order) {V : Type 0
 
     right_cutting : (middle front : List (Item (AnyRange K) V)) (start : Option (Bound K))
         (last : Option P) (border : Border K P) (u : Position K) → IsStored order same items
-        → place + count ≤ length items → Le (places order lawful) (lower order r) u
-        → Lt (places order lawful) u (upper order r)
-        → Every (λ i. Le (places order lawful) (item_upper order i) u) middle
+        → place + count ≤ length items → PLe lawful (lower order r) u → PLt lawful u (upper order r)
+        → Every (λ i. PLe lawful (item_upper order i) u) middle
         → Filled items middle (front ++ with_first_start start middle) (lower order r)
         → Known order lawful same equal (front ++ with_first_start start middle)
         → IsRightCutting order same lawful equal is_good rank items r place count last border
@@ -541,8 +514,7 @@ module _ {K : Type 0} (order : KeyOrder K) (lawful : IsLawful order) {V : Type 0
 
     pub right_fill : (middle front : List (Item (AnyRange K) V)) (start : Option (Bound K))
         (last : Option P) (border : Border K P) → IsStored order same items → IsStored order same
-        middle
-        → AreWithin order middle r → Lt (places order lawful) (lower order r) (upper order r)
+        middle → AreWithin order middle r → PLt lawful (lower order r) (upper order r)
         → place + count ≤ length items
         → Filled items middle (front ++ with_first_start start middle) (lower order r)
         → Known order lawful same equal (front ++ with_first_start start middle)
@@ -553,7 +525,7 @@ module _ {K : Type 0} (order : KeyOrder K) (lawful : IsLawful order) {V : Type 0
         absurd (let e = h.1 in cc)
     right_fill [] front start last border stored others within good in_range fill known (inr h) =
         right_cutting [] front start last border (lower order r) stored in_range
-        (le_refl (places order lawful) (position_total order.cmp lawful.total) (lower order r))
+        (le_refl lawful (lower order r))
         good tt fill known h.1
     right_fill (x ∷ xs) front start last border stored others within good in_range fill known
         (inl h) =
@@ -567,7 +539,6 @@ module _ {K : Type 0} (order : KeyOrder K) (lawful : IsLawful order) {V : Type 0
     right_fill (x ∷ xs) front start last border stored others within good in_range fill known
         (inr h) =
         let cmp = places order lawful in
-        let total = position_total order.cmp lawful.total in
         let end = last_of x xs in
         let m = end.1 in
         let chain =
@@ -578,19 +549,14 @@ module _ {K : Type 0} (order : KeyOrder K) (lawful : IsLawful order) {V : Type 0
         let below =
         every_append (λ i. Le cmp (item_upper order i) (item_upper order m)) end.0 (m ∷ [])
         (every_weaker _ _ end.0 (λ i k.
-        le_trans cmp total (item_upper order i) (item_lower order m)
-        (item_upper order m) k.0
-        (lt_le cmp total (item_lower order m) (item_upper order m) full)) before)
-        (le_refl cmp total (item_upper order m), tt) in
+        le_trans lawful _ _ _ k.0 (lt_le lawful _ _ full)) before)
+        (le_refl lawful (item_upper order m), tt) in
         let inside =
         every_right (λ i. LiesIn order i.key r) end.0 (m ∷ [])
         (subst (λ ys. Every (λ (i : Item (AnyRange K) V). LiesIn order i.key r) ys) end.2
         within) in
         right_cutting (x ∷ xs) front start last border (item_upper order m) stored in_range
-        (le_trans cmp total (lower order r) (item_lower order m)
-        (item_upper order m) inside.0.starts
-        (lt_le cmp total (item_lower order m) (item_upper order m) full)) (h.0 m end.3)
-        (subst (λ ys.
+        (le_trans lawful _ _ _ inside.0.starts (lt_le lawful _ _ full)) (h.0 m end.3) (subst (λ ys.
         Every (λ (i : Item (AnyRange K) V). Le cmp (item_upper order i) (item_upper order m))
         ys) (sym end.2) below) fill known h.1
 

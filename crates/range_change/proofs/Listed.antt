@@ -4,12 +4,11 @@ use Rattle.std.specs.Ordering.{is_gt, is_lt, is_eq}
 use Rattle.std.specs.List.{AllByRecursion}
 use Rattle.range_keys.specs.Order.{KeyOrder, IsLawful}
 use Rattle.range_keys.specs.Position.{start_position, end_position, position_cmp}
-use Rattle.range_keys.specs.PositionOrder.{position_total}
 use Rattle.range_keys.proofs.Orderings.{lt_is_less, not_greater}
 use Rattle.range_algebra.specs.Range.{IsKnownRange, IsEmptyRange}
 use Rattle.range_algebra.specs.Compared.{starts_at_end, is_before}
 use Rattle.range_algebra.specs.declared.ordering.RangeOrdering.TheVariants.{Before, Intersecting, After}
-use Rattle.range_algebra.specs.Orders.{le_lt_trans}
+use Rattle.range_change.proofs.PlaceOrder.{le_lt_trans}
 use Rattle.range_algebra.specs.declared.any.AnyRange.{AnyRange}
 use Rattle.range_store.specs.declared.storage.Item.{Item}
 use Rattle.range_change.specs.Neighbours.{EachNext}
@@ -61,8 +60,7 @@ module _ {K : Type 0} (order : KeyOrder K) (lawful : IsLawful order) {V : Type 0
         λ h. let p = parts.0 h in ((lt_is_less (cmp end other)).0 p.1, test.0 p.2),
         λ h.
             parts.1 (
-              (lt_is_less (cmp start other)).1
-                  (le_lt_trans cmp (position_total order.cmp lawful.total) start end other
+              (lt_is_less (cmp start other)).1 (le_lt_trans lawful _ _ _
                   (not_greater (cmp start end) full) h.0),
               (lt_is_less (cmp end other)).1 h.0,
               test.1 h.1,

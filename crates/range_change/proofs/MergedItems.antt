@@ -2,14 +2,12 @@
 use Rattle.std.proofs.Common.{◌≡◌, refl, Bool, List, [], ◌∷◌, ◌++◌, ◌⊎◌, inl, inr}
 use Rattle.std.specs.Cmp.{IsEquivalence}
 use Rattle.range_keys.specs.Order.{KeyOrder, IsLawful}
-use Rattle.range_keys.specs.Position.{start_position, end_position}
-use Rattle.range_keys.specs.PositionOrder.{position_total}
 use Rattle.range_algebra.proofs.Lists.{any_left, any_right, every_weaker, every_append, every_left, every_right}
 use Rattle.range_change.specs.Chains.{line_of}
 use Rattle.range_change.proofs.Chains.{chain_right, chain_before, follows_above}
 use Rattle.range_algebra.specs.Cuts.{lower, upper}
-use Rattle.range_algebra.specs.Intervals.{Lt, Any, Every}
-use Rattle.range_algebra.specs.Orders.{le_lt_trans, lt_le_trans, lt_trans, lt_not_le}
+use Rattle.range_algebra.specs.Intervals.{Any, Every}
+use Rattle.range_change.proofs.PlaceOrder.{le_lt_trans, lt_le_trans, lt_trans, lt_not_le, PLt}
 use Rattle.range_algebra.specs.Range.{IsKnownRange}
 use Rattle.range_algebra.specs.declared.any.AnyRange.{AnyRange}
 use Rattle.range_algebra.proofs.Places.{reaching_is_before_past}
@@ -18,7 +16,7 @@ use Rattle.range_change.specs.Frames.{IsMergedInto, IsUpdateFrame, IsSpliceFrame
 use Rattle.range_change.specs.Stored.{item_lower, item_upper}
 use Rattle.range_change.specs.Lookups.{IsConnectedTo, Overlap}
 use Rattle.range_change.proofs.RangePieces.{every_with, IsFull}
-use Rattle.range_change.proofs.Forms.{places, Chained}
+use Rattle.range_change.proofs.Forms.{Chained}
 use Rattle.range_change.proofs.ApartRanges.{apart_not}
 
 -- each item is one of the list
@@ -29,30 +27,28 @@ each_is_one (x ∷ xs) = (inl refl, every_weaker _ _ xs (λ y h. inr h) (each_is
 module _ {K : Type 0} (order : KeyOrder K) (lawful : IsLawful order) where
   -- ranges meet where each starts before the other ends
   pub crossing_meets : (s r : AnyRange K) → IsKnownRange order s → IsKnownRange order r
-      → Lt (places order lawful) (lower order s) (upper order r)
-      → Lt (places order lawful) (lower order r) (upper order s) → Overlap order s r
-  crossing_meets s r known others under over =
-      let cmp = places order lawful in
-      let total = position_total order.cmp lawful.total in (
-        λ l. lt_not_le cmp total (end_position order s.end) (start_position order r.start) l
-            ((reaching_is_before_past order lawful r.start s.end others.0 known.1).1 over),
-        λ l. lt_not_le cmp total (end_position order r.end) (start_position order s.start) l
-            ((reaching_is_before_past order lawful s.start r.end known.0 others.1).1 under),
-      )
+      → PLt lawful (lower order s) (upper order r) → PLt lawful (lower order r) (upper order s)
+      → Overlap order s r
+  crossing_meets s r known others under over = (
+    λ l. lt_not_le lawful _ _ l
+        ((reaching_is_before_past order lawful r.start s.end others.0 known.1).1 over),
+    λ l. lt_not_le lawful _ _ l
+        ((reaching_is_before_past order lawful s.start r.end known.0 others.1).1 under),
+  )
 
   module _ {V : Type 0} (same : V → V → Bool) (equal : IsEquivalence same)
       (items : List (Item (AnyRange K) V)) (r : AnyRange K) (known : IsKnownRange order r)
-      (some : Lt (places order lawful) (lower order r) (upper order r))
+      (some : PLt lawful (lower order r) (upper order r))
       (full : Every (IsFull order lawful items r) items)
       (chain : Chained order lawful same equal items) (done rest : List (Item (AnyRange K) V))
       (x : Item (AnyRange K) V) (list : items ≡ done ++ x ∷ rest)
-      (starts : Lt (places order lawful) (item_lower order x) (lower order r))
-      (ends : Lt (places order lawful) (upper order r) (item_upper order x)) where
+      (starts : PLt lawful (item_lower order x) (lower order r))
+      (ends : PLt lawful (upper order r) (item_upper order x)) where
     abbrev IsAlone : Item (AnyRange K) V → Type 0
     IsAlone i = IsConnectedTo order i.key r → Overlap order i.key r
 
     alone_before : (i : Item (AnyRange K) V) → IsFull order lawful items r i
-        → Lt (places order lawful) (item_upper order i) (lower order r) → IsAlone i
+        → PLt lawful (item_upper order i) (lower order r) → IsAlone i
     alone_before i own l =
         let apart = apart_not order lawful i.key r own.0 known own.1 some l in
         λ h.
@@ -63,7 +59,7 @@ module _ {K : Type 0} (order : KeyOrder K) (lawful : IsLawful order) where
         ]
 
     alone_after : (i : Item (AnyRange K) V) → IsFull order lawful items r i
-        → Lt (places order lawful) (upper order r) (item_lower order i) → IsAlone i
+        → PLt lawful (upper order r) (item_lower order i) → IsAlone i
     alone_after i own l =
         let apart = apart_not order lawful r i.key known own.0 some own.1 l in
         λ h.
@@ -75,17 +71,12 @@ module _ {K : Type 0} (order : KeyOrder K) (lawful : IsLawful order) where
 
     alone_around : IsFull order lawful items r x → IsAlone x
     alone_around own = λ h.
-        let cmp = places order lawful in
-        let total = position_total order.cmp lawful.total in
-        crossing_meets x.key r own.0 known
-        (lt_trans cmp total (item_lower order x) (lower order r) (upper order r) starts some)
-        (lt_trans cmp total (lower order r) (upper order r) (item_upper order x) some ends)
+        crossing_meets x.key r own.0 known (lt_trans lawful _ _ _ starts some)
+        (lt_trans lawful _ _ _ some ends)
 
     -- no other item touches a range that one surrounds
     pub surrounded_alone : Every (λ i. IsConnectedTo order i.key r → Overlap order i.key r) items
     surrounded_alone =
-        let cmp = places order lawful in
-        let total = position_total order.cmp lawful.total in
         let whole = rw list at chain in
         let all = rw list at full in
         let own = every_right _ done (x ∷ rest) all in
@@ -95,14 +86,10 @@ module _ {K : Type 0} (order : KeyOrder K) (lawful : IsLawful order) where
         (chain_right (line_of order lawful same equal) done (x ∷ rest) whole).1 in
         let front =
         every_with _ _ IsAlone done before (every_left _ done (x ∷ rest) all)
-        (λ i h f. alone_before i f
-        (le_lt_trans cmp total (item_upper order i) (item_lower order x)
-        (lower order r) h.0 starts)) in
+        (λ i h f. alone_before i f (le_lt_trans lawful _ _ _ h.0 starts)) in
         let behind =
         every_with _ _ IsAlone rest after own.1
-        (λ i h f. alone_after i f
-        (lt_le_trans cmp total (upper order r) (item_upper order x)
-        (item_lower order i) ends h)) in
+        (λ i h f. alone_after i f (lt_le_trans lawful _ _ _ ends h)) in
         rw list (every_append IsAlone done (x ∷ rest) front (alone_around own.0, behind))
 
 -- what holds of a run that gave way may be said otherwise

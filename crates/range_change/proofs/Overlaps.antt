@@ -7,7 +7,6 @@ use Rattle.std.specs.declared.ops.Bound.{Bound}
 use Rattle.std.specs.Ordering.{is_lt}
 use Rattle.range_keys.specs.Order.{KeyOrder, IsLawful, IsComplete}
 use Rattle.range_keys.specs.Position.{start_position, end_position, position_cmp}
-use Rattle.range_keys.specs.PositionOrder.{position_total}
 use Rattle.range_keys.specs.declared.inner.position.Position.{Position}
 use Rattle.range_keys.specs.declared.inner.position.Position.TheVariants.{Beside}
 use Rattle.range_keys.specs.declared.inner.position.Side.TheVariants.{At}
@@ -15,7 +14,7 @@ use Rattle.range_keys.proofs.Orderings.{not_both_greater_and_not, not_greater}
 use Rattle.range_algebra.specs.declared.any.AnyRange.{AnyRange}
 use Rattle.range_algebra.specs.Range.{Holds, IsKnownBound, IsKnownRange, IsEmptyRange}
 use Rattle.range_algebra.specs.Intervals.{Le, Lt, Any, Every}
-use Rattle.range_algebra.specs.Orders.{le_refl, lt_le, le_trans, lt_not_le, cases, not_lt}
+use Rattle.range_change.proofs.PlaceOrder.{le_refl, lt_le, le_trans, lt_not_le, cases, not_lt}
 use Rattle.range_algebra.proofs.Completeness.{nonempty_holds}
 use Rattle.range_algebra.proofs.Holding.{holds_by_position}
 use Rattle.range_algebra.proofs.Lists.{list_is_take_and_drop, any_none, any_split}
@@ -49,14 +48,10 @@ module _ {K : Type 0} (order : KeyOrder K) (lawful : IsLawful order) where
   shared_meets : (r s : AnyRange K) (k : K) → order.is_key k → Holds order r k → Holds order s k
       → Overlap order r s
   shared_meets r s k key h g =
-      let total = position_total order.cmp lawful.total in
-      let cmp = position_cmp order.cmp in
       let in_r = (holds_by_position order lawful r k key).0 h in
       let in_s = (holds_by_position order lawful s k key).0 g in (
-        λ l. lt_not_le cmp total (End r) (Start s) l
-            (le_trans cmp total (Start s) (Beside k At) (End r) in_s.0 in_r.1),
-        λ l. lt_not_le cmp total (End s) (Start r) l
-            (le_trans cmp total (Start r) (Beside k At) (End s) in_r.0 in_s.1),
+        λ l. lt_not_le lawful _ _ l (le_trans lawful _ _ _ in_s.0 in_r.1),
+        λ l. lt_not_le lawful _ _ l (le_trans lawful _ _ _ in_r.0 in_s.1),
       )
 
   held_nonempty : (r : AnyRange K) (k : K) → order.is_key k → Holds order r k → IsEmptyRange order r
@@ -64,8 +59,7 @@ module _ {K : Type 0} (order : KeyOrder K) (lawful : IsLawful order) where
   held_nonempty r k key h e =
       let within = (holds_by_position order lawful r k key).0 h in
       not_both_greater_and_not (position_cmp order.cmp (Start r) (End r))
-      (le_trans (position_cmp order.cmp) (position_total order.cmp lawful.total) (Start r)
-      (Beside k At) (End r) within.0 within.1) e
+      (le_trans lawful _ _ _ within.0 within.1) e
 
   -- the later of two starts
   later_start_exists : (a b : Bound K) → IsKnownBound order a → IsKnownBound order b
@@ -74,17 +68,15 @@ module _ {K : Type 0} (order : KeyOrder K) (lawful : IsLawful order) where
       × ((p : Position K) → PLe (start_position order a) p → PLe (start_position order b) p
       → PLe (start_position order c) p)
   later_start_exists a b known others =
-      let total = position_total order.cmp lawful.total in
-      let cmp = position_cmp order.cmp in
-      elim (cases cmp total (start_position order a) (start_position order b)) [
+      elim (cases lawful (start_position order a) (start_position order b)) [
         | inl l ↦ (
           b,
           others,
-          lt_le cmp total (start_position order a) (start_position order b) l,
-          le_refl cmp total (start_position order b),
+          lt_le lawful _ _ l,
+          le_refl lawful (start_position order b),
           λ p h k. k,
         )
-        | inr l ↦ (a, known, le_refl cmp total (start_position order a), l, λ p h k. h)
+        | inr l ↦ (a, known, le_refl lawful (start_position order a), l, λ p h k. h)
       ]
 
   -- the earlier of two ends
@@ -94,17 +86,15 @@ module _ {K : Type 0} (order : KeyOrder K) (lawful : IsLawful order) where
       × ((p : Position K) → PLe p (end_position order a) → PLe p (end_position order b)
       → PLe p (end_position order c))
   earlier_end_exists a b known others =
-      let total = position_total order.cmp lawful.total in
-      let cmp = position_cmp order.cmp in
-      elim (cases cmp total (end_position order a) (end_position order b)) [
+      elim (cases lawful (end_position order a) (end_position order b)) [
         | inl l ↦ (
           a,
           known,
-          le_refl cmp total (end_position order a),
-          lt_le cmp total (end_position order a) (end_position order b) l,
+          le_refl lawful (end_position order a),
+          lt_le lawful _ _ l,
           λ p h k. h,
         )
-        | inr l ↦ (b, others, l, le_refl cmp total (end_position order b), λ p h k. k)
+        | inr l ↦ (b, others, l, le_refl lawful (end_position order b), λ p h k. k)
       ]
 
   -- over complete keys ranges that meet share a key
@@ -112,16 +102,13 @@ module _ {K : Type 0} (order : KeyOrder K) (lawful : IsLawful order) where
       → (IsEmptyRange order r → ⊥) → (IsEmptyRange order s → ⊥) → Overlap order r s
       → (k : K) × order.is_key k × Holds order r k × Holds order s k
   shared_key r s complete known others full full_s meets =
-      let total = position_total order.cmp lawful.total in
       let cmp = position_cmp order.cmp in
       let from = later_start_exists r.start s.start known.0 others.0 in
       let upto = earlier_end_exists r.end s.end known.1 others.1 in
       let first =
-      from.4 (End r) (not_greater (cmp (Start r) (End r)) full)
-      (not_lt cmp total (Start s) (End r) meets.0) in
+      from.4 (End r) (not_greater (cmp (Start r) (End r)) full) (not_lt lawful _ _ meets.0) in
       let second =
-      from.4 (End s) (not_lt cmp total (Start r) (End s) meets.1)
-      (not_greater (cmp (Start s) (End s)) full_s) in
+      from.4 (End s) (not_lt lawful _ _ meets.1) (not_greater (cmp (Start s) (End s)) full_s) in
       let both : AnyRange K = record { start = from.0; end = upto.0 } in
       let found =
       nonempty_holds order lawful complete both (from.1, upto.1)
@@ -131,14 +118,12 @@ module _ {K : Type 0} (order : KeyOrder K) (lawful : IsLawful order) where
         k,
         found.1,
         (holds_by_position order lawful r k found.1).1 (
-          le_trans cmp total (Start r) (start_position order from.0)
-              (Beside k At) from.2 within.0,
-          le_trans cmp total (Beside k At) (end_position order upto.0) (End r) within.1 upto.2,
+          le_trans lawful _ _ _ from.2 within.0,
+          le_trans lawful (Beside k At) (end_position order upto.0) (End r) within.1 upto.2,
         ),
         (holds_by_position order lawful s k found.1).1 (
-          le_trans cmp total (Start s) (start_position order from.0)
-              (Beside k At) from.3 within.0,
-          le_trans cmp total (Beside k At) (end_position order upto.0) (End s) within.1 upto.3,
+          le_trans lawful _ _ _ from.3 within.0,
+          le_trans lawful (Beside k At) (end_position order upto.0) (End s) within.1 upto.3,
         ),
       )
 
@@ -210,7 +195,6 @@ module _ {K : Type 0} (order : KeyOrder K) (lawful : IsLawful order) where
         )
     last_started_decides same items r p e place x false start end stored full within read upto above
         ends =
-        let total = position_total order.cmp lawful.total in
         let cmp = position_cmp order.cmp in
         let starts = starts_here order lawful same items e place x within read upto in
         let reaches : is_lt (cmp (End x.key) p) ≡ false = sym ends in (
@@ -218,7 +202,7 @@ module _ {K : Type 0} (order : KeyOrder K) (lawful : IsLawful order) where
             full,
             any_at (λ i. Overlap order i.key r) items place x within read (
               λ l. not_less (cmp (End x.key) (Start r)) (rw start at reaches) l,
-              λ l. lt_not_le cmp total (End r) (Start x.key) l (rw end at starts),
+              λ l. lt_not_le lawful _ _ l (rw end at starts),
             ),
           ),
           λ h. refl,

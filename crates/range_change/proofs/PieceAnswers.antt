@@ -27,41 +27,38 @@ use Rattle.range_change.proofs.AnswerLists.{IsFilledUpTo, Gives, Alike, filled_n
 use Rattle.range_change.proofs.Forms.{Known, Hold, before_is, binds_hold, bound_hold, chain_stored, stored_known}
 use Rattle.range_change.proofs.InsertionFrames.{all_meet}
 use Rattle.range_change.proofs.PieceLists.{pieces_are, pieces_are_cut, pieces_are_kept}
-use Rattle.range_change.proofs.PlaceOrder.{le_refl, le_trans, lt_not_le}
-use Rattle.range_change.proofs.RangePieces.{PLe, PLt, Lo, Hi, Rises, IsRight, AreCut, any_unmap, any_use, any_with, every_unmap, every_with, lies_in, rises_right}
+use Rattle.range_change.proofs.PlaceOrder.{le_refl, le_trans, lt_not_le, PLe, PLt}
+use Rattle.range_change.proofs.RangePieces.{Rises, IsRight, AreCut, any_unmap, any_use, any_with, every_unmap, every_with, lies_in, rises_right}
 use Rattle.range_change.proofs.RunItems.{every_back, every_front}
 use Rattle.range_change.proofs.Spelling.{put_keeps_spelling}
+use Rattle.range_algebra.specs.Cuts.{lower, upper}
 
 module _ {K : Type 0} (order : KeyOrder K) (lawful : IsLawful order) {V : Type 0}
     (same : V → V → Bool) (equal : IsEquivalence same) (r : AnyRange K) where
   -- what any answer at the place gives, this one gives
   abbrev IsOnly : Position K → Answered K V → List (Answered K V) → Type 0
   IsOnly p a answers = (W : V → Bool)
-      → Any (λ b.
-      (PLe order lawful (Lo order lawful b.key) p × PLt order lawful p (Hi order lawful b.key))
+      → Any (λ b. (PLe lawful (lower order b.key) p × PLt lawful p (upper order b.key))
       × Gives order lawful same equal r W b.answer) answers
       ↔ Gives order lawful same equal r W a.answer
 
   -- one answer alone is to a piece that holds the place
   only_one : (p : Position K) (answers : List (Answered K V))
-      → Rises order lawful (map piece_of answers)
-      → Any (λ a. PLe order lawful (Lo order lawful a.key) p
-      × PLt order lawful p (Hi order lawful a.key)) answers
-      → Any (λ a.
-      (PLe order lawful (Lo order lawful a.key) p × PLt order lawful p (Hi order lawful a.key))
+      → Rises order lawful (map piece_of answers) → Any (λ a. PLe lawful (lower order a.key) p
+      × PLt lawful p (upper order a.key)) answers
+      → Any (λ a. (PLe lawful (lower order a.key) p × PLt lawful p (upper order a.key))
       × IsOnly p a answers) answers
   only_one p [] rising h = h
   only_one p (a ∷ rest) rising (inl h) =
       let above = every_unmap piece_of (λ q.
-      PLe order lawful (Hi order lawful a.key) (Lo order lawful q.key)) rest rising.0 in
+      PLe lawful (upper order a.key) (lower order q.key)) rest rising.0 in
       inl (
         h,
         λ W. (
           λ g. elim g [
             | inl e ↦ e.1
             | inr e ↦
-                absurd
-                (any_use _ _ rest e above (λ b t le. lt_not_le lawful _ _ h.1
+                absurd (any_use _ _ rest e above (λ b t le. lt_not_le lawful _ _ h.1
                 (le_trans lawful _ _ _ le t.0.0)))
           ],
           λ g. inl (h, g),
@@ -69,10 +66,8 @@ module _ {K : Type 0} (order : KeyOrder K) (lawful : IsLawful order) {V : Type 0
       )
   only_one p (a ∷ rest) rising (inr h) =
       let above = every_unmap piece_of (λ q.
-      PLe order lawful (Hi order lawful a.key) (Lo order lawful q.key)) rest rising.0 in
-      inr
-      (any_with _ _ (λ b.
-      (PLe order lawful (Lo order lawful b.key) p × PLt order lawful p (Hi order lawful b.key))
+      PLe lawful (upper order a.key) (lower order q.key)) rest rising.0 in
+      inr (any_with _ _ (λ b. (PLe lawful (lower order b.key) p × PLt lawful p (upper order b.key))
       × IsOnly p b (a ∷ rest)) rest (only_one p rest rising.1 h) above (λ b t le. (
         t.0,
         λ W. (
@@ -85,8 +80,7 @@ module _ {K : Type 0} (order : KeyOrder K) (lawful : IsLawful order) {V : Type 0
       )))
 
   as_answered : (new : List (Item (AnyRange K) V)) (k : K) → Known order lawful same equal new
-      → order.is_key k → (answer b : Option V)
-      → ((W : V → Bool) → Alike order lawful same equal r W
+      → order.is_key k → (answer b : Option V) → ((W : V → Bool) → Alike order lawful same equal r W
       → Hold order lawful same equal W (Beside k At) new ↔ Gives order lawful same equal r W answer)
       → Binds order same new k b ↔ IsAsAnswered same answer b
   as_answered new k known_new key None None h =
@@ -120,7 +114,7 @@ module _ {K : Type 0} (order : KeyOrder K) (lawful : IsLawful order) {V : Type 0
       pub list : pieces ≡ map piece_of answers ++ rest
       pub given : Every (λ a. MayAnswer calls f a.value (Ok a.answer)) answers
       pub from : Position K
-      pub ahead : Every (λ p. PLe order lawful from (Lo order lawful p.key)) rest
+      pub ahead : Every (λ p. PLe lawful from (lower order p.key)) rest
       pub filled : IsFilledUpTo order lawful same equal r from answers middle
 
 -- the pieces of a range whose window is known
@@ -164,15 +158,14 @@ module _ {K : Type 0} {order : KeyOrder K} (lawful : IsLawful order) {V : Type 0
     answers = [];
     list = refl;
     given = tt;
-    from = Lo order lawful r;
+    from = lower order r;
     ahead = every_weaker _ _ Pieces (λ p h. h.1) cut.inside;
-    filled = filled_none order lawful same equal r (Lo order lawful r);
+    filled = filled_none order lawful same equal r (lower order r);
   }
 
   module _ {F E : Type 0} {calls : Shared F (Option (Bor V) × Unit {0}) (Result (Option V) E)}
       {f : F} {key : AnyRange K} {value : Option V} {rest : List (Item (AnyRange K) (Option V))}
-      {old : List (Item (AnyRange K) V)}
-      (was : IsUnderway order lawful same equal r calls f Pieces
+      {old : List (Item (AnyRange K) V)} (was : IsUnderway order lawful same equal r calls f Pieces
       (record { key = key; value = value } ∷ rest) old) where
     abbrev Done : List (Item (AnyRange K) (Option V))
     Done = map piece_of was.answers
@@ -216,10 +209,10 @@ module _ {K : Type 0} {order : KeyOrder K} (lawful : IsLawful order) {V : Type 0
                 ∙ sym (ap (λ ps. ps ++ rest) (map-append piece_of was.answers (a ∷ []))
                 ∙ append_assoc Done (piece_of a ∷ []) rest);
             given = every_append _ was.answers (a ∷ []) was.given (says, tt);
-            from = Hi order lawful key;
+            from = upper order key;
             ahead = (rises_right order lawful Done _ (rw was.list at cut.rising)).0;
             filled =
-                fill_more order lawful same equal r was.from (Hi order lawful key) was.answers key
+                fill_more order lawful same equal r was.from (upper order key) was.answers key
                 inside was.ahead.0 (le_refl lawful _) is_clone clones value answer old new
                 was.filled put;
           }

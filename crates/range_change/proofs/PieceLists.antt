@@ -27,8 +27,8 @@ use Rattle.range_change.specs.Runs.{AreOverlapping}
 use Rattle.range_change.specs.Stored.{IsStored}
 use Rattle.range_change.proofs.Chains.{chain_above, chain_right, follows_above}
 use Rattle.range_change.proofs.Forms.{Known, Chained, before_is, stored_chain, stored_known, nonempty_good}
-use Rattle.range_change.proofs.PlaceOrder.{le_refl, lt_le, eq_le, eq_ge, le_trans, cases, not_le, not_lt, lt_not_le, lt_le_trans}
-use Rattle.range_change.proofs.RangePieces.{PLe, PLt, Lo, Hi, Rises, IsFull, IsRight, IsInside, AreCut, all_full, any_over, any_with, common_is, common_place_is_not_clear, common_within, cut_all, every_with, free_apart, free_inside}
+use Rattle.range_change.proofs.PlaceOrder.{le_refl, lt_le, eq_le, eq_ge, le_trans, cases, not_le, not_lt, lt_not_le, lt_le_trans, PLe, PLt}
+use Rattle.range_change.proofs.RangePieces.{Rises, IsFull, IsRight, IsInside, AreCut, all_full, any_over, any_with, common_is, common_place_is_not_clear, common_within, cut_all, every_with, free_apart, free_inside}
 use Rattle.range_change.proofs.Spelling.{IsKeptIn, gap_start_is_kept, gap_end_is_kept, common_start_is_kept, common_end_is_kept}
 use Rattle.range_change.proofs.Tests.{not_both}
 
@@ -43,16 +43,16 @@ module _ {K : Type 0} {order : KeyOrder K} (lawful : IsLawful order) {V : Type 0
     (r : AnyRange K) (stored : IsStored order same items) (known : IsKnownRange order r)
     (nonempty : IsEmptyRange order r → ⊥) where
   abbrev Le' : Position K → Position K → Type 0
-  Le' p q = PLe order lawful p q
+  Le' p q = PLe lawful p q
 
   abbrev Lt' : Position K → Position K → Type 0
-  Lt' p q = PLt order lawful p q
+  Lt' p q = PLt lawful p q
 
   abbrev Low : AnyRange K → Position K
-  Low = Lo order lawful
+  Low = lower order
 
   abbrev High : AnyRange K → Position K
-  High = Hi order lawful
+  High = upper order
 
   abbrev IsGood : Item (AnyRange K) (Option V) → Type 0
   IsGood p =
@@ -327,8 +327,7 @@ module _ {K : Type 0} {order : KeyOrder K} (lawful : IsLawful order) {V : Type 0
         let own = le_refl lawful (High r) in
         rw append-nil at (with_gap {rest = []} ready own (every_with _ _ _ are.after are.above
         (every_right _ met are.after (every_right _ are.before (met ++ are.after) parts))
-        (λ i l k. (before_is order lawful r.end i.key.start known.1 k.0.0).0 l)) (inl own)
-        (record {
+        (λ i l k. (before_is order lawful r.end i.key.start known.1 k.0.0).0 l)) (inl own) (record {
           each = tt;
           rising = tt;
           covered = λ m h k upto. absurd (lt_not_le lawful _ _ upto k);

@@ -9,10 +9,10 @@ use Rattle.range_algebra.specs.Intervals.{Le, Lt}
 use Rattle.range_algebra.specs.Orders
 
 module _ {K : Type 0} {order : KeyOrder K} (lawful : IsLawful order) where
-  abbrev PLe : Position K → Position K → Type 0
+  abbrev pub PLe : Position K → Position K → Type 0
   PLe p q = Le (position_cmp order.cmp) p q
 
-  abbrev PLt : Position K → Position K → Type 0
+  abbrev pub PLt : Position K → Position K → Type 0
   PLt p q = Lt (position_cmp order.cmp) p q
 
   pub le_refl : (p : Position K) → PLe p p

@@ -12,7 +12,7 @@ use Rattle.range_algebra.specs.declared.any.AnyRange.{AnyRange}
 use Rattle.range_algebra.specs.Range.{IsKnownRange}
 use Rattle.range_algebra.specs.RangeOrder.{range_cmp}
 use Rattle.range_algebra.specs.Intervals.{Le, Lt, Any, Every}
-use Rattle.range_algebra.specs.Orders.{le_refl, lt_le, eq_le, eq_ge, le_trans, lt_not_le, cases, both, le_lt_trans, lt_le_trans}
+use Rattle.range_change.proofs.PlaceOrder.{le_refl, lt_le, eq_le, eq_ge, le_trans, lt_not_le, cases, both, le_lt_trans, lt_le_trans}
 use Rattle.range_algebra.proofs.Lists.{every_at, every_weaker, parts_at}
 use Rattle.range_change.specs.Chains.{line_of}
 use Rattle.range_change.proofs.Chains.{follows_above, chain_tail}
@@ -108,12 +108,12 @@ module _ {K : Type 0} (order : KeyOrder K) (lawful : IsLawful order) where
   later_by : (p q : Position K) (b : Bool) → is_gt (position_cmp order.cmp p q) ≡ b
       → PLe p (if b then p else q) × PLe q (if b then p else q)
   later_by p q true e = (
-    le_refl (position_cmp order.cmp) (position_total order.cmp lawful.total) p,
+    le_refl lawful p,
     gt_le (position_cmp order.cmp) (position_total order.cmp lawful.total) p q
         (gt_is_greater (position_cmp order.cmp p q) e),
   )
   later_by p q false e =
-      (e, le_refl (position_cmp order.cmp) (position_total order.cmp lawful.total) q)
+      (e, le_refl lawful q)
 
   pub later_over : (p q : Position K) → PLe p (later order p q) × PLe q (later order p q)
   later_over p q = later_by p q (is_gt (position_cmp order.cmp p q)) refl
@@ -123,10 +123,10 @@ module _ {K : Type 0} (order : KeyOrder K) (lawful : IsLawful order) where
   earlier_by p q true e = (
     gt_le (position_cmp order.cmp) (position_total order.cmp lawful.total) p q
         (gt_is_greater (position_cmp order.cmp p q) e),
-    le_refl (position_cmp order.cmp) (position_total order.cmp lawful.total) q,
+    le_refl lawful q,
   )
   earlier_by p q false e =
-      (le_refl (position_cmp order.cmp) (position_total order.cmp lawful.total) p, e)
+      (le_refl lawful p, e)
 
   pub earlier_under : (p q : Position K) → PLe (earlier order p q) p × PLe (earlier order p q) q
   earlier_under p q = earlier_by p q (is_gt (position_cmp order.cmp p q)) refl
@@ -140,7 +140,6 @@ module _ {K : Type 0} (order : KeyOrder K) (lawful : IsLawful order) where
   pub common_is : (r i : AnyRange K) → IsCommonPart order r i (common order i r)
   common_is r i =
       let cmp = position_cmp order.cmp in
-      let total = position_total order.cmp lawful.total in
       let c = common order i r in
       let s = start_position order c.start in
       let e = end_position order c.end in
@@ -154,12 +153,11 @@ module _ {K : Type 0} (order : KeyOrder K) (lawful : IsLawful order) where
       let first = earlier_under u v in
       record {
         starts =
-            both cmp total s (later order p q)
-            (later_is order lawful i.start r.start
+            both lawful _ _ (later_is order lawful i.start r.start
             (λ b. PLe (start_position order b) (later order p q)) latest.1 latest.0)
             (either_choice_holds (λ x. PLe x s) (is_gt (cmp p q)) p q over.1 over.0);
         ends =
-            both cmp total e (earlier order u v)
+            both lawful _ _
             (either_choice_holds (λ x. PLe e x) (is_gt (cmp u v)) v u under.0 under.1)
             (earlier_is order lawful i.end r.end
             (λ b. PLe (earlier order u v) (end_position order b)) first.1 first.0);
@@ -170,8 +168,6 @@ module _ {K : Type 0} (order : KeyOrder K) (lawful : IsLawful order) where
       → IsKnownRange order part → IsCommonPart order r i part
       → PLe (Lo r) (Lo part) × PLe (Lo i) (Lo part) × PLe (Hi part) (Hi r) × PLe (Hi part) (Hi i)
   common_within r i part known known' known'' h =
-      let cmp = position_cmp order.cmp in
-      let total = position_total order.cmp lawful.total in
       let p = start_position order r.start in
       let q = start_position order i.start in
       let u = end_position order r.end in
@@ -180,14 +176,12 @@ module _ {K : Type 0} (order : KeyOrder K) (lawful : IsLawful order) where
       let e = end_position order part.end in
       let latest = later_over p q in
       let first = earlier_under u v in
-      let at = eq_ge cmp total s (later order p q) h.starts in
-      let to = eq_le cmp total e (earlier order u v) h.ends in (
-        le_trans cmp total p (later order p q) s latest.0 at,
-        le_trans cmp total q (later order p q) s latest.1 at,
-        past_le order lawful part.end r.end known''.1 known.1
-            (le_trans cmp total e (earlier order u v) u to first.0),
-        past_le order lawful part.end i.end known''.1 known'.1
-            (le_trans cmp total e (earlier order u v) v to first.1),
+      let at = eq_ge lawful _ _ h.starts in
+      let to = eq_le lawful _ _ h.ends in (
+        le_trans lawful _ _ _ latest.0 at,
+        le_trans lawful _ _ _ latest.1 at,
+        past_le order lawful part.end r.end known''.1 known.1 (le_trans lawful _ _ _ to first.0),
+        past_le order lawful part.end i.end known''.1 known'.1 (le_trans lawful _ _ _ to first.1),
       )
 
   lies_places : (r s : AnyRange K) → IsKnownRange order r → IsKnownRange order s → LiesIn order r s
@@ -204,19 +198,17 @@ module _ {K : Type 0} (order : KeyOrder K) (lawful : IsLawful order) where
   apart_of : (i r : AnyRange K) → IsKnownRange order i → IsKnownRange order r
       → (Overlap order i r → ⊥) → PLe (Hi i) (Lo r) ⊎ PLe (Hi r) (Lo i)
   apart_of i r known known' none =
-      let cmp = position_cmp order.cmp in
-      let total = position_total order.cmp lawful.total in
       let first = before_is order lawful i.end r.start known.1 known'.0 in
       let other = before_is order lawful r.end i.start known'.1 known.0 in
-      elim (cases cmp total (Lo r) (Hi i)) [
+      elim (cases lawful (Lo r) (Hi i)) [
         | inr le ↦ inl le
-        | inl l ↦ elim (cases cmp total (Lo i) (Hi r)) [
+        | inl l ↦ elim (cases lawful (Lo i) (Hi r)) [
           | inr le ↦ inr le
           | inl m ↦
               absurd
               (none (
-                λ b. lt_not_le cmp total (Lo r) (Hi i) l (first.0 b),
-                λ b. lt_not_le cmp total (Lo i) (Hi r) m (other.0 b),
+                λ b. lt_not_le lawful _ _ l (first.0 b),
+                λ b. lt_not_le lawful _ _ m (other.0 b),
               ))
         ]
       ]
@@ -289,20 +281,16 @@ module _ {K : Type 0} (order : KeyOrder K) (lawful : IsLawful order) where
             → Every (λ i. IsFull i × (PLe (Hi i.key) (Lo other) ⊎ PLe (Hi other) (Lo i.key))) items
             → PLt (Lo key) (Hi other) → PLe (Lo key) (Lo other)
         starts_after key other h from apart meets =
-            let cmp = position_cmp order.cmp in
-            let total = position_total order.cmp lawful.total in
             elim h.left [
-              | inl le ↦ le_trans cmp total (Lo key) (Lo r) (Lo other) le from
+              | inl le ↦ le_trans lawful _ _ _ le from
               | inr bounded ↦
                   any_use (λ i. PLe (Lo key) (Hi i.key) × PLe (Hi i.key) (Lo key))
                   (λ i. IsFull i × (PLe (Hi i.key) (Lo other) ⊎ PLe (Hi other) (Lo i.key))) items
                   bounded apart (λ i at a. elim a.1 [
-                    | inl le ↦ le_trans cmp total (Lo key) (Hi i.key) (Lo other) at.0 le
+                    | inl le ↦ le_trans lawful _ _ _ at.0 le
                     | inr le ↦
-                        absurd (lt_not_le cmp total (Lo key) (Hi other) meets
-                        (le_trans cmp total (Hi other) (Lo i.key) (Lo key) le
-                        (le_trans cmp total (Lo i.key) (Hi i.key) (Lo key)
-                        (lt_le cmp total (Lo i.key) (Hi i.key) a.0.1) at.1)))
+                        absurd (lt_not_le lawful _ _ meets (le_trans lawful _ _ _ le
+                        (le_trans lawful _ _ _ (lt_le lawful _ _ a.0.1) at.1)))
                   ])
             ]
 
@@ -310,20 +298,16 @@ module _ {K : Type 0} (order : KeyOrder K) (lawful : IsLawful order) where
             → Every (λ i. IsFull i × (PLe (Hi i.key) (Lo other) ⊎ PLe (Hi other) (Lo i.key))) items
             → PLt (Lo other) (Hi key) → PLe (Hi other) (Hi key)
         ends_before key other h upto apart meets =
-            let cmp = position_cmp order.cmp in
-            let total = position_total order.cmp lawful.total in
             elim h.right [
-              | inl le ↦ le_trans cmp total (Hi other) (Hi r) (Hi key) upto le
+              | inl le ↦ le_trans lawful _ _ _ upto le
               | inr bounded ↦
                   any_use (λ i. PLe (Hi key) (Lo i.key) × PLe (Lo i.key) (Hi key))
                   (λ i. IsFull i × (PLe (Hi i.key) (Lo other) ⊎ PLe (Hi other) (Lo i.key))) items
                   bounded apart (λ i at a. elim a.1 [
                     | inl le ↦
-                        absurd (lt_not_le cmp total (Lo other) (Hi key) meets
-                        (le_trans cmp total (Hi key) (Lo i.key) (Lo other) at.0
-                        (le_trans cmp total (Lo i.key) (Hi i.key) (Lo other)
-                        (lt_le cmp total (Lo i.key) (Hi i.key) a.0.1) le)))
-                    | inr le ↦ le_trans cmp total (Hi other) (Lo i.key) (Hi key) le at.1
+                        absurd (lt_not_le lawful _ _ meets (le_trans lawful _ _ _ at.0
+                        (le_trans lawful _ _ _ (lt_le lawful _ _ a.0.1) le)))
+                    | inr le ↦ le_trans lawful _ _ _ le at.1
                   ])
             ]
 
@@ -334,30 +318,22 @@ module _ {K : Type 0} (order : KeyOrder K) (lawful : IsLawful order) where
         a_piece key None inside h = (
           free_part key inside h,
           λ other free wide.
-              let cmp = position_cmp order.cmp in
-              let total = position_total order.cmp lawful.total in
               let others = free_inside other free in
               let apart = free_apart other free in
               let over = lies_places key other inside.0 free.known wide in
               lies_in other key free.known inside.0
-              (starts_after key other h others.1 apart
-              (lt_le_trans cmp total (Lo key) (Hi key) (Hi other) inside.2 over.1))
-              (ends_before key other h others.3 apart
-              (le_lt_trans cmp total (Lo other) (Lo key) (Hi key) over.0 inside.2)),
+              (starts_after key other h others.1 apart (lt_le_trans lawful _ _ _ inside.2 over.1))
+              (ends_before key other h others.3 apart (le_lt_trans lawful _ _ _ over.0 inside.2)),
         )
 
         same_extent : (key part : AnyRange K) → LiesIn order key part → LiesIn order part key
             → range_cmp order key part ≡ Equal
         same_extent key part h k =
             let cmp = position_cmp order.cmp in
-            let total = position_total order.cmp lawful.total in
             equal_then_equal (cmp (start_position order key.start)
             (start_position order part.start))
             (cmp (end_position order key.end) (end_position order part.end))
-            (both cmp total (start_position order key.start)
-            (start_position order part.start) k.starts h.starts)
-            (both cmp total (end_position order key.end)
-            (end_position order part.end) h.ends k.ends)
+            (both lawful _ _ k.starts h.starts) (both lawful _ _ h.ends k.ends)
 
         same_common : (i key part : AnyRange K) → IsCommonPart order r i key
             → IsCommonPart order r i part → range_cmp order key part ≡ Equal
@@ -390,37 +366,27 @@ module _ {K : Type 0} (order : KeyOrder K) (lawful : IsLawful order) where
               inr (both_held p P Q xs (chain_tail (line_of order lawful same equal) x xs chain.1) h
               k)
           both_held p P Q (x ∷ xs) chain (inl h) (inr k) =
-              let cmp = position_cmp order.cmp in
-              let total = position_total order.cmp lawful.total in
               any_use (λ i. Q i × Holding p i) (λ i. PLe (Hi x.key) (Lo i.key)) xs k
-              (follows_above (line_of order lawful same equal) x xs chain.1)
-              (λ i g le.
-              absurd (lt_not_le cmp total p (Hi x.key) h.1.1
-              (le_trans cmp total (Hi x.key) (Lo i.key) p le g.1.0)))
+              (follows_above (line_of order lawful same equal) x xs chain.1) (λ i g le.
+              absurd (lt_not_le lawful _ _ h.1.1 (le_trans lawful _ _ _ le g.1.0)))
           both_held p P Q (x ∷ xs) chain (inr h) (inl k) =
-              let cmp = position_cmp order.cmp in
-              let total = position_total order.cmp lawful.total in
               any_use (λ i. P i × Holding p i) (λ i. PLe (Hi x.key) (Lo i.key)) xs h
-              (follows_above (line_of order lawful same equal) x xs chain.1)
-              (λ i g le.
-              absurd (lt_not_le cmp total p (Hi x.key) k.1.1
-              (le_trans cmp total (Hi x.key) (Lo i.key) p le g.1.0)))
+              (follows_above (line_of order lawful same equal) x xs chain.1) (λ i g le.
+              absurd (lt_not_le lawful _ _ k.1.1 (le_trans lawful _ _ _ le g.1.0)))
 
           common_held : (p : Position K) (key : AnyRange K) (v : V) → IsKnownRange order key
               → Any (λ i. IsCommonPart order r i.key key × (i.value ≡ v)) items → PLe (Lo key) p
               → PLt p (Hi key)
               → Any (λ i. (IsCommonPart order r i.key key × (i.value ≡ v)) × Holding p i) items
           common_held p key v known h from upto =
-              let cmp = position_cmp order.cmp in
-              let total = position_total order.cmp lawful.total in
               any_with (λ i. IsCommonPart order r i.key key × (i.value ≡ v)) IsFull
               (λ i. (IsCommonPart order r i.key key × (i.value ≡ v)) × Holding p i) items h full
               (λ i c f.
               let within = common_within r i.key key known_r f.0 known c.0 in (
                 c,
                 (
-                  le_trans cmp total (Lo i.key) (Lo key) p within.1 from,
-                  lt_le_trans cmp total p (Hi key) (Hi i.key) upto within.3,
+                  le_trans lawful _ _ _ within.1 from,
+                  lt_le_trans lawful _ _ _ upto within.3,
                 ),
               ))
 
@@ -431,17 +397,13 @@ module _ {K : Type 0} (order : KeyOrder K) (lawful : IsLawful order) where
               → Every (λ i. PLe (Hi i.key) (Lo clear) ⊎ PLe (Hi clear) (Lo i.key)) items
               → PLe (Lo clear) p → PLt p (Hi clear) → ⊥
           common_place_is_not_clear p key clear v known h from upto free from' upto' =
-              let cmp = position_cmp order.cmp in
-              let total = position_total order.cmp lawful.total in
               any_use (λ i. (IsCommonPart order r i.key key × (i.value ≡ v)) × Holding p i)
               (λ i. PLe (Hi i.key) (Lo clear) ⊎ PLe (Hi clear) (Lo i.key)) items
               (common_held p key v known h from upto) free (λ i g a. elim a [
                 | inl le ↦
-                    lt_not_le cmp total p (Hi i.key) g.1.1
-                    (le_trans cmp total (Hi i.key) (Lo clear) p le from')
+                    lt_not_le lawful _ _ g.1.1 (le_trans lawful _ _ _ le from')
                 | inr le ↦
-                    lt_not_le cmp total p (Hi clear) upto'
-                    (le_trans cmp total (Hi clear) (Lo i.key) p le g.1.0)
+                    lt_not_le lawful _ _ upto' (le_trans lawful _ _ _ le g.1.0)
               ])
 
           any_here : {R : Type 0} (P : Item (AnyRange K) V → Type 0)
@@ -458,21 +420,16 @@ module _ {K : Type 0} (order : KeyOrder K) (lawful : IsLawful order) where
               → PLe (Lo key) (Lo part) → PLt (Lo part) (Hi key)
               → (range_cmp order key part ≡ Equal) × (value ≡ binding)
           same_piece key part (Some w) (Some v) chain inside h known piece from upto =
-              let cmp = position_cmp order.cmp in
-              let total = position_total order.cmp lawful.total in
               let good = (nonempty_good order lawful part known).0 piece.0 in
               let held = common_held (Lo part) key w inside.0 h from upto in
               let other =
-              common_held (Lo part) part v known piece.1
-              (le_refl cmp total (Lo part)) good in
+              common_held (Lo part) part v known piece.1 (le_refl lawful (Lo part)) good in
               any_here (λ i. (IsCommonPart order r i.key key × (i.value ≡ w))
               × (IsCommonPart order r i.key part × (i.value ≡ v))) items
               (both_held (Lo part) (λ i. IsCommonPart order r i.key key × (i.value ≡ w))
               (λ i. IsCommonPart order r i.key part × (i.value ≡ v)) items chain held other)
               (λ i g. (same_common i.key key part g.0.0 g.1.0, ap Some (sym g.0.1 ∙ g.1.1)))
           same_piece key part (Some w) None chain inside h known piece from upto =
-              let cmp = position_cmp order.cmp in
-              let total = position_total order.cmp lawful.total in
               let others = free_inside part piece.0 in
               let apart =
               every_weaker (λ i. IsFull i
@@ -480,13 +437,11 @@ module _ {K : Type 0} (order : KeyOrder K) (lawful : IsLawful order) where
               (λ i. PLe (Hi i.key) (Lo part) ⊎ PLe (Hi part) (Lo i.key)) items (λ i a. a.1)
               (free_apart part piece.0) in
               absurd (common_place_is_not_clear (Lo part) key part w inside.0 h from upto apart
-              (le_refl cmp total (Lo part)) others.2)
+              (le_refl lawful (Lo part)) others.2)
           same_piece key part None (Some v) chain inside h known piece from upto =
-              let cmp = position_cmp order.cmp in
-              let total = position_total order.cmp lawful.total in
               let good = (nonempty_good order lawful part known).0 piece.0 in
               absurd (common_place_is_not_clear (Lo part) part key v known piece.1
-              (le_refl cmp total (Lo part)) good h.free from upto)
+              (le_refl lawful (Lo part)) good h.free from upto)
           same_piece key part None None chain inside h known piece from upto =
               let others = free_inside part piece.0 in
               let inward =
@@ -500,16 +455,14 @@ module _ {K : Type 0} (order : KeyOrder K) (lawful : IsLawful order) where
       piece_inside full part None known piece =
           let h = free_inside full part piece.0 in (
             h.1,
-            lt_le_trans (position_cmp order.cmp) (position_total order.cmp lawful.total) (Lo part)
-                (Hi part) (Hi r) h.2 h.3,
+            lt_le_trans lawful _ _ _ h.2 h.3,
           )
       piece_inside full part (Some v) known piece =
           any_use (λ i. IsCommonPart order r i.key part × (i.value ≡ v)) IsFull items piece.1 full
           (λ i c f.
           let within = common_within r i.key part known_r f.0 known c.0 in (
             within.0,
-            lt_le_trans (position_cmp order.cmp) (position_total order.cmp lawful.total) (Lo part)
-                (Hi part) (Hi r) ((nonempty_good order lawful part known).0 piece.0) within.2,
+            lt_le_trans lawful _ _ _ ((nonempty_good order lawful part known).0 piece.0) within.2,
           ))
 
       rising_apart : (pieces : List (Item (AnyRange K) (Option V)))
@@ -524,8 +477,8 @@ module _ {K : Type 0} (order : KeyOrder K) (lawful : IsLawful order) where
 
       -- such parts are the pieces of the range
       pub cut_all : (same : V → V → Bool) (equal : IsEquivalence same) (full : Every IsFull items)
-          → Chained order lawful same equal items
-          → (pieces : List (Item (AnyRange K) (Option V))) → AreCut pieces
+          → Chained order lawful same equal items → (pieces : List (Item (AnyRange K) (Option V)))
+          → AreCut pieces
           → ArePieces order items r pieces
       cut_all same equal full chain pieces was =
           let each =

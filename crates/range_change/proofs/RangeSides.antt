@@ -9,8 +9,8 @@ use Rattle.range_keys.specs.PositionOrder.{position_total}
 use Rattle.range_algebra.specs.declared.any.AnyRange.{AnyRange}
 use Rattle.range_algebra.specs.Range.{IsKnownRange}
 use Rattle.range_store.specs.declared.storage.Item.{Item}
-use Rattle.range_algebra.specs.Intervals.{Le, Lt, Every}
-use Rattle.range_algebra.specs.Orders.{lt_le, le_trans}
+use Rattle.range_algebra.specs.Intervals.{Every}
+use Rattle.range_change.proofs.PlaceOrder.{eq_le, eq_ge, lt_le, le_trans, PLe, PLt}
 use Rattle.range_change.specs.Chains.{line_of, Leads, Trails}
 use Rattle.range_change.proofs.ChainJoins.{places_between_are_unbound, left_apart, left_joined, right_apart, right_joined, leading_last, trailing_first, places_between_are_bound}
 use Rattle.range_algebra.specs.Cuts.{past, lower, upper}
@@ -22,7 +22,6 @@ use Rattle.range_algebra.proofs.Lists.{every_at, list_is_take_and_drop, every_we
 use Rattle.std.specs.Cmp.{tied_itself}
 use Rattle.std.specs.declared.ops.Bound.{Bound}
 use Rattle.std.specs.Option.{unwrap_or}
-use Rattle.range_algebra.specs.Orders.{eq_le, eq_ge}
 use Rattle.range_algebra.specs.Relations.{Touches}
 use Rattle.range_change.specs.Changes.{IsInserted, IsRemoved}
 use Rattle.range_change.specs.Lookups.{Overlap}
@@ -72,37 +71,31 @@ module _ {K : Type 0} {order : KeyOrder K} (lawful : IsLawful order) {V : Type 0
   module _ {P : Type 0} {is_good : P → Type 0} {rank : P → ℕ} {items : List (Item (AnyRange K) V)}
       {r : AnyRange K} {w : Window P} {place : ℕ}
       (window : IsWindow order same is_good rank items r w place) where
-    range_has_places : Lt (places order lawful) (lower order r) (upper order r)
+    range_has_places : PLt lawful (lower order r) (upper order r)
     range_has_places = (nonempty_good order lawful r window.known).0 window.nonempty
 
     rest_starts_after_range : w.count ≡ 0
-        → Every (λ i. Le (places order lawful) (upper order r) (item_lower order i))
-        (drop place items)
+        → Every (λ i. PLe lawful (upper order r) (item_lower order i)) (drop place items)
     rest_starts_after_range none = let at : place + w.count ≡ place =
         omega (arith, none) in rw at at window.behind
 
     left_reaches : (x y : Item (AnyRange K) V) (rest : Option (Item (AnyRange K) V))
         → IsLeftPart order same x r rest → rest ≡ Some y
-        → Le (places order lawful) (lower order r) (item_upper order y)
+        → PLe lawful (lower order r) (item_upper order y)
     left_reaches x y None part e = absurd (cc)
     left_reaches x y (Some z) part e = let at : z ≡ y =
-        cc in rw (← at) (eq_ge (places order lawful) (position_total order.cmp lawful.total)
-        (item_upper order z) (lower order r) part.2)
+        cc in rw (← at) (eq_ge lawful _ _ part.2)
 
     pub left_rest_none : w.count ≡ 0 → IsLeftRest order same lawful equal items r place None
     left_rest_none none =
-        let cmp = places order lawful in
-        let total = position_total order.cmp lawful.total in
         record {
           left =
               rw (append-nil (take place items))
               (left_all order lawful same equal items (take place items) (drop place items)
               (lower order r) (list_is_take_and_drop items place)
               (stored_chain order lawful same equal items window.stored) window.below
-              (every_weaker _ _ (drop place items)
-              (λ i h. le_trans cmp total (lower order r) (upper order r) (item_lower order i)
-              (lt_le cmp total (lower order r) (upper order r) range_has_places) h)
-              (rest_starts_after_range none)));
+              (every_weaker _ _ (drop place items) (λ i h. le_trans lawful _ _ _
+              (lt_le lawful _ _ range_has_places) h) (rest_starts_after_range none)));
           known = tt;
           reaches = λ y e. absurd (cc);
         }
@@ -122,27 +115,22 @@ module _ {K : Type 0} {order : KeyOrder K} (lawful : IsLawful order) {V : Type 0
 
     right_reaches : (x y : Item (AnyRange K) V) (rest : Option (Item (AnyRange K) V))
         → IsRightPart order same x r rest → rest ≡ Some y
-        → Le (places order lawful) (item_lower order y) (upper order r)
+        → PLe lawful (item_lower order y) (upper order r)
     right_reaches x y None part e = absurd (cc)
     right_reaches x y (Some z) part e = let at : z ≡ y =
-        cc in rw (← at) (eq_le (places order lawful) (position_total order.cmp lawful.total)
-        (item_lower order z) (upper order r) part.1)
+        cc in rw (← at) (eq_le lawful _ _ part.1)
 
     pub right_rest_none : w.count ≡ 0
         → IsRightRest order same lawful equal items r (place + w.count) None
     right_rest_none none =
-        let cmp = places order lawful in
-        let total = position_total order.cmp lawful.total in
         let at : place + w.count ≡ place = omega (arith, none) in
         rw at (record {
           right =
               right_all order lawful same equal items (take place items) (drop place items)
               (upper order r) (list_is_take_and_drop items place)
               (stored_chain order lawful same equal items window.stored)
-              (every_weaker _ _ (take place items)
-              (λ i h. le_trans cmp total (item_upper order i) (lower order r) (upper order r) h
-              (lt_le cmp total (lower order r) (upper order r) range_has_places)) window.below)
-              (rest_starts_after_range none);
+              (every_weaker _ _ (take place items) (λ i h. le_trans lawful _ _ _ h
+              (lt_le lawful _ _ range_has_places)) window.below) (rest_starts_after_range none);
           known = tt;
           reaches = λ y e. absurd (cc);
         })
@@ -195,8 +183,8 @@ module _ {K : Type 0} {order : KeyOrder K} (lawful : IsLawful order) {V : Type 0
 
     -- an item that starts before the range
     pub left_rest_cut : (x : Item (AnyRange K) V) → x ≡ get_or items place x → 0 < w.count
-        → Lt (places order lawful) (item_lower order x) (lower order r) → (b : Bound K)
-        → IsKnownBound order b → SameBound order (flipped_bound r.start) b
+        → PLt lawful (item_lower order x) (lower order r) → (b : Bound K) → IsKnownBound order b
+        → SameBound order (flipped_bound r.start) b
         → IsLeftRest order same lawful equal items r place (Some (with_end x b))
     left_rest_cut x read some starts b known_b same_b =
         let known_x = known_at place x (omega (arith, window.in_range)) read in
@@ -214,10 +202,9 @@ module _ {K : Type 0} {order : KeyOrder K} (lawful : IsLawful order) {V : Type 0
 
     -- an item that ends after the range, with a value that equals its own
     pub right_rest_cut : (x : Item (AnyRange K) V) → x ≡ get_or items (place + w.count - 1) x
-        → 0 < w.count → Lt (places order lawful) (upper order r) (item_upper order x)
-        → (b : Bound K) → IsKnownBound order b → SameBound order (flipped_bound r.end) b → (u : V)
-        → same u x.value ≡ true
-        → IsRightRest order same lawful equal items r (place + w.count)
+        → 0 < w.count → PLt lawful (upper order r) (item_upper order x) → (b : Bound K)
+        → IsKnownBound order b → SameBound order (flipped_bound r.end) b → (u : V)
+        → same u x.value ≡ true → IsRightRest order same lawful equal items r (place + w.count)
         (Some (record { key = record { start = b; end = x.key.end }; value = u }))
     right_rest_cut x read some ends b known_b same_b u values =
         let known_x = known_at (place + w.count - 1) x (omega (arith, window.in_range)) read in
@@ -232,15 +219,13 @@ module _ {K : Type 0} {order : KeyOrder K} (lawful : IsLawful order) {V : Type 0
 
     -- the item has an equal value: the range takes its start
     pub left_border_inside : (v : V) (x : Item (AnyRange K) V) → x ≡ get_or items place x
-        → 0 < w.count → Lt (places order lawful) (item_lower order x) (lower order r)
-        → same x.value v ≡ true
+        → 0 < w.count → PLt lawful (item_lower order x) (lower order r) → same x.value v ≡ true
         → IsLeftBorder order same lawful equal items r v place None (Some x.key.start)
     left_border_inside v x read some starts values =
         let total = position_total order.cmp lawful.total in
         let rest =
         left_rest_cut x read some starts (flipped_bound r.start)
-        (known_turned order lawful r.start window.known.0)
-        (same_turned order lawful r.start) in
+        (known_turned order lawful r.start window.known.0) (same_turned order lawful r.start) in
         let y = with_end x (flipped_bound r.start) in
         record {
           s = item_lower order x;
@@ -284,7 +269,6 @@ module _ {K : Type 0} {order : KeyOrder K} (lawful : IsLawful order) {V : Type 0
         → x ≡ get_or items n x → TouchesBefore order same items place r v
         → IsLeftBorder order same lawful equal items r v n None (Some x.key.start)
     left_border_joined v n x rest at within read touching =
-        let cmp = places order lawful in
         let total = position_total order.cmp lawful.total in
         let before : place - 1 ≡ n = omega (arith, at) in
         let same_item : get_or items (place - 1) x ≡ x =
@@ -343,8 +327,7 @@ module _ {K : Type 0} {order : KeyOrder K} (lawful : IsLawful order) {V : Type 0
         (lower order r) v whole.chain (
           ends.0,
           λ k t.
-              apart
-              ((touches_is order lawful
+              apart ((touches_is order lawful
               (get_or items n d).key.end r window.known range_has_places ends.0).1 k) t,
         )))
 
@@ -379,7 +362,7 @@ module _ {K : Type 0} {order : KeyOrder K} (lawful : IsLawful order) {V : Type 0
 
     pub right_border_inside : (v : V) (x : Item (AnyRange K) V)
         → x ≡ get_or items (place + w.count - 1) x → 0 < w.count
-        → Lt (places order lawful) (upper order r) (item_upper order x) → same x.value v ≡ true
+        → PLt lawful (upper order r) (item_upper order x) → same x.value v ≡ true
         → IsRightBorder order same lawful equal items r v (place + w.count) None (Some x.key.end)
     right_border_inside v x read some ends values =
         let total = position_total order.cmp lawful.total in
@@ -482,8 +465,7 @@ module _ {K : Type 0} {order : KeyOrder K} (lawful : IsLawful order) {V : Type 0
           ends = tied_itself total (upper order r);
           right =
               right_apart (line_of order lawful same equal) items (drop end items)
-              (upper order r) v rest.right
-              (all_trail end v (drop end items) others rest.right
+              (upper order r) v rest.right (all_trail end v (drop end items) others rest.right
               (λ d some. let at : get_or (drop end items) 0 d
               ≡ get_or items end d =
               get_or-drop end items 0 d

@@ -5,13 +5,11 @@ use Rattle.std.proofs.lemmas.Option.{same_Some}
 use Rattle.std.specs.Cmp.{IsEquivalence}
 use Rattle.std.specs.declared.ops.Bound.{Bound}
 use Rattle.range_keys.specs.Order.{KeyOrder, IsLawful}
-use Rattle.range_keys.specs.Position.{end_position}
-use Rattle.range_keys.specs.PositionOrder.{position_total}
 use Rattle.range_algebra.specs.declared.any.AnyRange.{AnyRange}
 use Rattle.range_algebra.specs.Clones.{same_itself}
 use Rattle.range_algebra.specs.Cuts.{lower, upper}
-use Rattle.range_algebra.specs.Intervals.{Lt, Every}
-use Rattle.range_algebra.specs.Orders.{lt_le, eq_le, eq_ge, lt_not_le, lt_trans}
+use Rattle.range_algebra.specs.Intervals.{Every}
+use Rattle.range_change.proofs.PlaceOrder.{lt_le, eq_le, eq_ge, lt_not_le, lt_trans, PLt}
 use Rattle.range_algebra.specs.Range.{IsKnownRange}
 use Rattle.range_algebra.proofs.Lists.{every_weaker, every_append, every_left, every_right, list_is_take_and_drop}
 use Rattle.range_algebra.proofs.Places.{reaching_is_before_past}
@@ -29,7 +27,7 @@ use Rattle.range_change.specs.declared.reach.Reach.{Reach}
 use Rattle.range_change.specs.declared.window.Window.{Window}
 use Rattle.range_change.proofs.RangePieces.{any_use, listed_at, item_at}
 use Rattle.range_change.proofs.Extents.{past_le, end_le}
-use Rattle.range_change.proofs.Forms.{places, Known, Chained, stored_known, stored_chain, nonempty_good}
+use Rattle.range_change.proofs.Forms.{Known, Chained, stored_known, stored_chain, nonempty_good}
 use Rattle.range_change.proofs.Spelling.{own_spelling, start_is_kept, end_is_kept, cut_end_is_kept, cut_start_is_kept}
 use Rattle.range_change.proofs.Surrounded.{reach_is_met}
 
@@ -93,7 +91,7 @@ module _ {K : Type 0} {order : KeyOrder K} (lawful : IsLawful order) {V : Type 0
         let x_is : x ≡ get_or items place x = read ∙ ap (λ n. get_or items n x) at_is in
         let above = rw (drop_more items place x within) at found.window.above in
         let ends =
-        subst (λ y. Lt (places order lawful) (lower order r) (item_upper order y)) (sym x_is)
+        subst (λ y. PLt lawful (lower order r) (item_upper order y)) (sym x_is)
         above.0 in
         let spelled = one_is_spelled place x within x_is in (
           rw is (
@@ -135,7 +133,7 @@ module _ {K : Type 0} {order : KeyOrder K} (lawful : IsLawful order) {V : Type 0
         let x_is : x ≡ get_or items (place + count - 1) x =
         read ∙ ap (λ n. get_or items n x) at_is in
         let starts =
-        subst (λ y. Lt (places order lawful) (item_lower order y) (upper order r)) (sym x_is)
+        subst (λ y. PLt lawful (item_lower order y) (upper order r)) (sym x_is)
         (found.window.meets x after.2) in
         let spelled = one_is_spelled upto x within read in (
           rw is (
@@ -214,52 +212,41 @@ module _ {K : Type 0} {order : KeyOrder K} (lawful : IsLawful order) {V : Type 0
     known_x : IsKnownRange order x.key
     known_x = item_at (λ i. IsKnownRange order i.key) items place x known is_listed here
 
-    some : Lt (places order lawful) (lower order r) (upper order r)
+    some : PLt lawful (lower order r) (upper order r)
     some = (nonempty_good order lawful r within.window.known).0 within.window.nonempty
 
-    starts : Lt (places order lawful) (lower order x.key) (lower order r)
+    starts : PLt lawful (lower order x.key) (lower order r)
     starts = within.starts x here
 
-    ends : Lt (places order lawful) (upper order r) (upper order x.key)
+    ends : PLt lawful (upper order r) (upper order x.key)
     ends = within.ends x here
 
-    starts_before_end : Lt (places order lawful) (lower order x.key) (upper order r)
+    starts_before_end : PLt lawful (lower order x.key) (upper order r)
     starts_before_end =
-        lt_trans (places order lawful) (position_total order.cmp lawful.total)
-        (lower order x.key) (lower order r) (upper order r) starts some
+        lt_trans lawful _ _ _ starts some
 
-    ends_after_start : Lt (places order lawful) (lower order r) (upper order x.key)
+    ends_after_start : PLt lawful (lower order r) (upper order x.key)
     ends_after_start =
-        lt_trans (places order lawful) (position_total order.cmp lawful.total)
-        (lower order r) (upper order r) (upper order x.key) some ends
+        lt_trans lawful _ _ _ some ends
 
     start_within : IsStartAsIn order items r.start
     start_within =
         let known_r = within.window.known in
         start_is_kept order lawful same equal items known chain (take place items)
         (drop (place + 1) items) x list r.start r.start (same_itself order lawful r.start)
-        (lt_le (places order lawful) (position_total order.cmp lawful.total)
-        (lower order x.key) (lower order r) starts)
+        (lt_le lawful _ _ starts)
         ((reaching_is_before_past order lawful r.start x.key.end known_r.0 known_x.1).1
-        ends_after_start) (λ e. absurd (lt_not_le (places order lawful)
-        (position_total order.cmp lawful.total) (lower order x.key) (lower order r) starts
-        (eq_ge (places order lawful) (position_total order.cmp lawful.total) (lower order x.key)
-        (lower order r) e)))
+        ends_after_start) (λ e. absurd (lt_not_le lawful _ _ starts (eq_ge lawful _ _ e)))
 
     end_within : IsEndAsIn order items r.end
     end_within =
-        let cmp = places order lawful in
-        let total = position_total order.cmp lawful.total in
         let known_r = within.window.known in
         end_is_kept order lawful same equal items known chain (take place items)
         (drop (place + 1) items) x list r.end r.end (same_itself order lawful r.end)
         ((reaching_is_before_past order lawful x.key.start r.end known_x.0 known_r.1).1
-        starts_before_end)
-        (end_le order lawful r.end x.key.end known_r.1 known_x.1
-        (lt_le cmp total (upper order r) (upper order x.key) ends))
-        (λ e. absurd (lt_not_le cmp total (upper order r) (upper order x.key) ends
-        (past_le order lawful x.key.end r.end known_x.1 known_r.1
-        (eq_le cmp total (end_position order x.key.end) (end_position order r.end) e))))
+        starts_before_end) (end_le order lawful r.end x.key.end known_r.1 known_x.1
+        (lt_le lawful _ _ ends)) (λ e. absurd (lt_not_le lawful _ _ ends
+        (past_le order lawful x.key.end r.end known_x.1 known_r.1 (eq_le lawful _ _ e))))
 
     module _ (run : List (Item (AnyRange K) V)) (all : KeepsSpelling order items run)
         (b : Bound K) where

@@ -14,8 +14,8 @@ use Rattle.range_algebra.specs.declared.any.AnyRange.{AnyRange}
 use Rattle.range_algebra.specs.Clones.{IsBoundClone, SameBound, same_start, same_end, same_itself}
 use Rattle.range_algebra.specs.Combined.{common}
 use Rattle.range_algebra.specs.Cuts.{past, lower, upper}
-use Rattle.range_algebra.specs.Intervals.{Le, Lt, Every}
-use Rattle.range_algebra.specs.Orders.{le_refl, lt_le, eq_le, eq_ge, lt_not_le, lt_le_trans, le_lt_trans}
+use Rattle.range_algebra.specs.Intervals.{Every}
+use Rattle.range_change.proofs.PlaceOrder.{le_refl, lt_le, eq_le, eq_ge, lt_not_le, lt_le_trans, le_lt_trans, PLe, PLt}
 use Rattle.range_algebra.specs.Range.{IsKnownRange}
 use Rattle.range_algebra.proofs.Commons.{gt_le}
 use Rattle.range_algebra.proofs.Lists.{every_weaker, every_append, every_left, every_right, every_at}
@@ -51,48 +51,41 @@ module _ {K : Type 0} (order : KeyOrder K) (lawful : IsLawful order) where
 
   -- a known range starts below the place past its end
   abbrev IsOpen : AnyRange K → Type 0
-  IsOpen s = IsKnownRange order s × Lt (places order lawful) (lower order s) (upper order s)
+  IsOpen s = IsKnownRange order s × PLt lawful (lower order s) (upper order s)
 
   reaches : (s : AnyRange K) → IsOpen s
-      → Le (places order lawful) (start_position order s.start) (end_position order s.end)
+      → PLe lawful (start_position order s.start) (end_position order s.end)
   reaches s h = (reaching_is_before_past order lawful s.start s.end h.0.0 h.0.1).1 h.1
 
   module _ (s : AnyRange K) (p : Position K) (whole : IsOpen s) where
-    off_above : Lt (places order lawful) (end_position order s.end) p → IsOff p s
+    off_above : PLt lawful (end_position order s.end) p → IsOff p s
     off_above l =
-        let cmp = places order lawful in
-        let total = position_total order.cmp lawful.total in
         let start = start_position order s.start in
         let end = end_position order s.end in (
-          λ e. lt_not_le cmp total start p (le_lt_trans cmp total start end p (reaches s whole) l)
-              (eq_ge cmp total start p e),
-          λ e. lt_not_le cmp total end p l (eq_ge cmp total end p e),
+          λ e. lt_not_le lawful _ _ (le_lt_trans lawful _ _ _ (reaches s whole) l)
+              (eq_ge lawful _ _ e),
+          λ e. lt_not_le lawful _ _ l (eq_ge lawful _ _ e),
         )
 
-    off_below : Lt (places order lawful) p (start_position order s.start) → IsOff p s
+    off_below : PLt lawful p (start_position order s.start) → IsOff p s
     off_below l =
-        let cmp = places order lawful in
-        let total = position_total order.cmp lawful.total in
         let start = start_position order s.start in
         let end = end_position order s.end in (
-          λ e. lt_not_le cmp total p start l (eq_le cmp total start p e),
-          λ e. lt_not_le cmp total p end (lt_le_trans cmp total p start end l (reaches s whole))
-              (eq_le cmp total end p e),
+          λ e. lt_not_le lawful _ _ l (eq_le lawful _ _ e),
+          λ e. lt_not_le lawful _ _ (lt_le_trans lawful _ _ _ l (reaches s whole))
+              (eq_le lawful _ _ e),
         )
 
     -- what lies apart from a range is off each place of it
     off_apart : (x : AnyRange K) → IsKnownRange order x
-        → Le (places order lawful) (upper order s) (lower order x) ⊎ Le (places order lawful)
-        (upper order x) (lower order s)
-        → Le (places order lawful) (start_position order x.start) p
-        → Le (places order lawful) p (end_position order x.end) → IsOff p s
+        → PLe lawful (upper order s) (lower order x) ⊎ PLe lawful (upper order x) (lower order s)
+        → PLe lawful (start_position order x.start) p → PLe lawful p (end_position order x.end)
+        → IsOff p s
     off_apart x known (inl le) low high =
-        off_above (lt_le_trans (places order lawful) (position_total order.cmp lawful.total)
-        (end_position order s.end) (start_position order x.start) p
+        off_above (lt_le_trans lawful _ _ _
         ((before_is order lawful s.end x.start whole.0.1 known.0).1 le) low)
     off_apart x known (inr le) low high =
-        off_below (le_lt_trans (places order lawful) (position_total order.cmp lawful.total) p
-        (end_position order x.end) (start_position order s.start) high
+        off_below (le_lt_trans lawful _ _ _ high
         ((before_is order lawful x.end s.start known.1 whole.0.0).1 le))
 
   same_place : (s a b : Position K) → places order lawful a b ≡ Equal
@@ -137,15 +130,14 @@ module _ {K : Type 0} (order : KeyOrder K) (lawful : IsLawful order) where
 
       -- a range that no item meets
       module _ (gap : AnyRange K) (whole : IsOpen gap)
-          (free : Every (λ i. Le (places order lawful) (upper order i.key) (lower order gap)
-          ⊎ Le (places order lawful) (upper order gap) (lower order i.key)) items) where
-        off_all : (p : Position K) → Le (places order lawful) (start_position order gap.start) p
-            → Le (places order lawful) p (end_position order gap.end)
-            → Every (λ i. IsOff p i.key) items
+          (free : Every (λ i. PLe lawful (upper order i.key) (lower order gap)
+          ⊎ PLe lawful (upper order gap) (lower order i.key)) items) where
+        off_all : (p : Position K) → PLe lawful (start_position order gap.start) p
+            → PLe lawful p (end_position order gap.end) → Every (λ i. IsOff p i.key) items
         off_all p low high =
             every_with (λ i. IsOpen i.key) (λ i.
-            Le (places order lawful) (upper order i.key) (lower order gap)
-            ⊎ Le (places order lawful) (upper order gap) (lower order i.key))
+            PLe lawful (upper order i.key) (lower order gap)
+            ⊎ PLe lawful (upper order gap) (lower order i.key))
             (λ i. IsOff p i.key) items (open_each items known chain) free
             (λ i f apart. off_apart i.key p f gap whole.0 apart low high)
 
@@ -153,14 +145,12 @@ module _ {K : Type 0} (order : KeyOrder K) (lawful : IsLawful order) where
             → IsStartAsIn order items b
         gap_start_is_kept b clone =
             off_starts gap.start b clone items (off_all (start_position order gap.start)
-            (le_refl (places order lawful) (position_total order.cmp lawful.total)
-            (start_position order gap.start)) (reaches gap whole))
+            (le_refl lawful (start_position order gap.start)) (reaches gap whole))
 
         pub gap_end_is_kept : (b : Bound K) → SameBound order gap.end b → IsEndAsIn order items b
         gap_end_is_kept b clone =
             off_ends gap.end b clone items (off_all (end_position order gap.end)
-            (reaches gap whole) (le_refl (places order lawful)
-            (position_total order.cmp lawful.total) (end_position order gap.end)))
+            (reaches gap whole) (le_refl lawful (end_position order gap.end)))
 
       -- an item of the list
       module _ (done rest : List (Item (AnyRange K) V)) (x : Item (AnyRange K) V)
@@ -170,9 +160,8 @@ module _ {K : Type 0} (order : KeyOrder K) (lawful : IsLawful order) where
             let all = rw list at (open_each items known chain) in
             (every_right (λ i. IsOpen i.key) done (x ∷ rest) all).0
 
-        off_others : (p : Position K)
-            → Le (places order lawful) (start_position order x.key.start) p
-            → Le (places order lawful) p (end_position order x.key.end)
+        off_others : (p : Position K) → PLe lawful (start_position order x.key.start) p
+            → PLe lawful p (end_position order x.key.end)
             → Every (λ i. IsOff p i.key) done × Every (λ i. IsOff p i.key) rest
         off_others p low high =
             let line = line_of order lawful same equal in
@@ -190,8 +179,8 @@ module _ {K : Type 0} (order : KeyOrder K) (lawful : IsLawful order) where
 
         -- a start within its range, which is its own where it lies at its own
         pub start_is_kept : (a b : Bound K) → SameBound order a b
-            → Le (places order lawful) (start_position order x.key.start) (start_position order a)
-            → Le (places order lawful) (start_position order a) (end_position order x.key.end)
+            → PLe lawful (start_position order x.key.start) (start_position order a)
+            → PLe lawful (start_position order a) (end_position order x.key.end)
             → (places order lawful (start_position order x.key.start) (start_position order a)
             ≡ Equal → a ≡ x.key.start) → IsStartAsIn order items b
         start_is_kept a b clone low high is_own =
@@ -204,8 +193,8 @@ module _ {K : Type 0} (order : KeyOrder K) (lawful : IsLawful order) where
             ))
 
         pub end_is_kept : (a b : Bound K) → SameBound order a b
-            → Le (places order lawful) (start_position order x.key.start) (end_position order a)
-            → Le (places order lawful) (end_position order a) (end_position order x.key.end)
+            → PLe lawful (start_position order x.key.start) (end_position order a)
+            → PLe lawful (end_position order a) (end_position order x.key.end)
             → (places order lawful (end_position order x.key.end) (end_position order a)
             ≡ Equal → a ≡ x.key.end) → IsEndAsIn order items b
         end_is_kept a b clone low high is_own =
@@ -220,31 +209,25 @@ module _ {K : Type 0} (order : KeyOrder K) (lawful : IsLawful order) where
         pub own_start_is_kept : (b : Bound K) → SameBound order x.key.start b
             → IsStartAsIn order items b
         own_start_is_kept b clone =
-            start_is_kept x.key.start b clone
-            (le_refl (places order lawful) (position_total order.cmp lawful.total)
+            start_is_kept x.key.start b clone (le_refl lawful
             (start_position order x.key.start)) (reaches x.key own) (λ e. refl)
 
         pub own_end_is_kept : (b : Bound K) → SameBound order x.key.end b
             → IsEndAsIn order items b
         own_end_is_kept b clone =
-            end_is_kept x.key.end b clone (reaches x.key own)
-            (le_refl (places order lawful) (position_total order.cmp lawful.total)
+            end_is_kept x.key.end b clone (reaches x.key own) (le_refl lawful
             (end_position order x.key.end)) (λ e. refl)
 
         -- what it has in common with a range
         module _ (r : AnyRange K) (known_r : IsKnownRange order r)
-            (starts : Lt (places order lawful) (lower order x.key) (upper order r))
-            (ends : Lt (places order lawful) (lower order r) (upper order x.key))
-            (b : Bound K) where
-          common_start_by : (o : Ordering)
-              → places order lawful (start_position order x.key.start)
+            (starts : PLt lawful (lower order x.key) (upper order r))
+            (ends : PLt lawful (lower order r) (upper order x.key)) (b : Bound K) where
+          common_start_by : (o : Ordering) → places order lawful (start_position order x.key.start)
               (start_position order r.start) ≡ o
               → SameBound order (if is_lt o then r.start else x.key.start) b
               → IsStartAsIn order items b
           common_start_by Less e h =
-              start_is_kept r.start b h (lt_le (places order lawful)
-              (position_total order.cmp lawful.total) (start_position order x.key.start)
-              (start_position order r.start) e)
+              start_is_kept r.start b h (lt_le lawful _ _ e)
               ((reaching_is_before_past order lawful r.start x.key.end known_r.0 own.0.1).1 ends)
               (λ eq. absurd (cc))
           common_start_by Equal e h = own_start_is_kept b h
@@ -276,12 +259,10 @@ module _ {K : Type 0} (order : KeyOrder K) (lawful : IsLawful order) where
 
         -- an end just before the start of a range that it reaches from before
         pub cut_end_is_kept : (r : AnyRange K) → IsKnownRange order r
-            → Lt (places order lawful) (lower order x.key) (lower order r)
-            → Lt (places order lawful) (lower order r) (upper order x.key) → (b : Bound K)
+            → PLt lawful (lower order x.key) (lower order r)
+            → PLt lawful (lower order r) (upper order x.key) → (b : Bound K)
             → SameBound order (flipped_bound r.start) b → IsEndAsIn order items b
         cut_end_is_kept r known_r starts ends b clone =
-            let cmp = places order lawful in
-            let total = position_total order.cmp lawful.total in
             let a = flipped_bound r.start in
             let known_a = known_turned order lawful r.start known_r.0 in
             let past_a = past order (end_position order a) in
@@ -290,27 +271,20 @@ module _ {K : Type 0} (order : KeyOrder K) (lawful : IsLawful order) where
             (same_turned order lawful r.start) in
             let low =
             (reaching_is_before_past order lawful x.key.start a own.0.0 known_a).1
-            (lt_le_trans cmp total (lower order x.key) (lower order r) past_a starts
-            (eq_ge cmp total past_a (lower order r) at)) in
+            (lt_le_trans lawful _ _ _ starts (eq_ge lawful _ _ at)) in
             let high =
-            lt_le_trans cmp total (end_position order a) (start_position order r.start)
-            (end_position order x.key.end) ((before_is order lawful a r.start known_a known_r.0).1
-            (eq_le cmp total past_a (lower order r) at))
+            lt_le_trans lawful _ _ _ ((before_is order lawful a r.start known_a known_r.0).1
+            (eq_le lawful _ _ at))
             ((reaching_is_before_past order lawful r.start x.key.end known_r.0 own.0.1).1 ends) in
-            end_is_kept a b clone low
-            (lt_le cmp total (end_position order a) (end_position order x.key.end) high)
-            (λ e. absurd (lt_not_le cmp total (end_position order a)
-            (end_position order x.key.end) high
-            (eq_le cmp total (end_position order x.key.end) (end_position order a) e)))
+            end_is_kept a b clone low (lt_le lawful _ _ high)
+            (λ e. absurd (lt_not_le lawful _ _ high (eq_le lawful _ _ e)))
 
         -- a start just after the end of a range out of which it reaches
         pub cut_start_is_kept : (r : AnyRange K) → IsKnownRange order r
-            → Lt (places order lawful) (lower order x.key) (upper order r)
-            → Lt (places order lawful) (upper order r) (upper order x.key) → (b : Bound K)
+            → PLt lawful (lower order x.key) (upper order r)
+            → PLt lawful (upper order r) (upper order x.key) → (b : Bound K)
             → SameBound order (flipped_bound r.end) b → IsStartAsIn order items b
         cut_start_is_kept r known_r starts ends b clone =
-            let cmp = places order lawful in
-            let total = position_total order.cmp lawful.total in
             let a = flipped_bound r.end in
             let known_a = known_turned order lawful r.end known_r.1 in
             let p = start_position order a in
@@ -318,15 +292,12 @@ module _ {K : Type 0} (order : KeyOrder K) (lawful : IsLawful order) where
             cut_start order lawful x.key.end r.end a own.0.1 ends
             (same_turned order lawful r.end) in
             let low =
-            lt_le_trans cmp total (lower order x.key) (upper order r) p starts
-            (eq_ge cmp total p (upper order r) at) in
+            lt_le_trans lawful _ _ _ starts (eq_ge lawful _ _ at) in
             let high =
             (reaching_is_before_past order lawful a x.key.end known_a own.0.1).1
-            (le_lt_trans cmp total p (upper order r) (upper order x.key)
-            (eq_le cmp total p (upper order r) at) ends) in
-            start_is_kept a b clone (lt_le cmp total (lower order x.key) p low) high
-            (λ e. absurd (lt_not_le cmp total (lower order x.key) p low
-            (eq_ge cmp total (lower order x.key) p e)))
+            (le_lt_trans lawful _ _ _ (eq_le lawful _ _ at) ends) in
+            start_is_kept a b clone (lt_le lawful _ _ low) high
+            (λ e. absurd (lt_not_le lawful _ _ low (eq_ge lawful _ _ e)))
 
       own_by : (done rest : List (Item (AnyRange K) V)) → items ≡ done ++ rest
           → Every (λ j. IsSpelledAsIn order items j.key) rest

@@ -36,7 +36,7 @@ module _ {L V X : Type 0} (line : Line L V X) where
       chains_join line front m ms chain other
       (every_weaker _ _ front (λ z h.
       strictly_leads line z (line.lo m) (line.value m)
-      (le_lt_trans line.cmp line.total (line.hi z) c (line.lo m) h starts.0)) ends)
+      (le_lt_trans line.cmp line.total _ _ _ h starts.0)) ends)
 
   -- a middle that starts later than the place
   pub filled_apart : (items front middle : List X) (c : L) → IsLeft line items front c
@@ -44,12 +44,12 @@ module _ {L V X : Type 0} (line : Line L V X) where
       → IsFilled items middle (front ++ middle) c
   filled_apart items front middle c left chain starts =
       let above =
-      every_weaker _ _ middle (λ z h. lt_le line.cmp line.total c (line.lo z) h) starts in
+      every_weaker _ _ middle (λ z h. lt_le line.cmp line.total _ _ h) starts in
       record {
         chain = chain_apart front middle c left.chain left.ends chain starts;
         ends =
             λ u le all. every_append _ front middle
-            (every_weaker _ _ front (λ z h. le_trans line.cmp line.total (line.hi z) c u h le)
+            (every_weaker _ _ front (λ z h. le_trans line.cmp line.total _ _ _ h le)
             left.ends) all;
         below = λ p W alike l. (
           λ h. (left.holds p W alike l).0
@@ -71,27 +71,27 @@ module _ {L V X : Type 0} (line : Line L V X) where
       → IsFilled items (m ∷ ms) (front ++ other ∷ ms) c
   filled_joined items front m other ms c s left chain at_c at_s at_hi alike_value =
       let value_back = same_is_symmetric line (line.value other) (line.value m) alike_value in
-      let c_low = eq_le line.cmp line.total (line.lo m) c at_c in
-      let c_high = eq_ge line.cmp line.total (line.lo m) c at_c in
-      let s_low = eq_le line.cmp line.total (line.lo other) s at_s in
-      let s_high = eq_ge line.cmp line.total (line.lo other) s at_s in
-      let hi_low = eq_le line.cmp line.total (line.hi other) (line.hi m) at_hi in
-      let hi_high = eq_ge line.cmp line.total (line.hi other) (line.hi m) at_hi in
-      let low = le_trans line.cmp line.total (line.lo other) s c s_low left.below in
+      let c_low = eq_le line.cmp line.total _ _ at_c in
+      let c_high = eq_ge line.cmp line.total _ _ at_c in
+      let s_low = eq_le line.cmp line.total _ _ at_s in
+      let s_high = eq_ge line.cmp line.total _ _ at_s in
+      let hi_low = eq_le line.cmp line.total _ _ at_hi in
+      let hi_high = eq_ge line.cmp line.total _ _ at_hi in
+      let low = le_trans line.cmp line.total _ _ _ s_low left.below in
       let reaches : Lt line.cmp c (line.hi other) =
-      lt_le_trans line.cmp line.total c (line.hi m) (line.hi other)
-      (le_lt_trans line.cmp line.total c (line.lo m) (line.hi m) c_high chain.0) hi_high in
-      let good = le_lt_trans line.cmp line.total (line.lo other) c (line.hi other) low reaches in
+      lt_le_trans line.cmp line.total _ _ _
+      (le_lt_trans line.cmp line.total _ _ _ c_high chain.0) hi_high in
+      let good = le_lt_trans line.cmp line.total _ _ _ low reaches in
       let leads : Leading line (line.lo other) (line.value other) front =
       every_weaker _ _ front (λ z h. (
-        le_trans line.cmp line.total (line.hi z) s (line.lo other) h.0 s_high,
-        λ k t. h.1 (le_trans line.cmp line.total s (line.lo other) (line.hi z) s_high k)
+        le_trans line.cmp line.total _ _ _ h.0 s_high,
+        λ k t. h.1 (le_trans line.cmp line.total _ _ _ s_high k)
             (line.equal.congr (line.value z) (line.value other) (line.value m) t ∙ alike_value),
       ))
       left.leads in
       let ends : Every (λ x. Le line.cmp (line.hi x) c) front =
       every_weaker _ _ front (λ z h.
-      le_trans line.cmp line.total (line.hi z) s c h.0 left.below) left.leads in
+      le_trans line.cmp line.total _ _ _ h.0 left.below) left.leads in
       let above = chain_above line c m ms chain c_high in
       record {
         chain =
@@ -99,14 +99,14 @@ module _ {L V X : Type 0} (line : Line L V X) where
             (good, follows_like line m other ms at_hi alike_value chain.1) leads;
         ends =
             λ u le all. every_append _ front (other ∷ ms)
-            (every_weaker _ _ front (λ z h. le_trans line.cmp line.total (line.hi z) c u h le) ends)
-            (le_trans line.cmp line.total (line.hi other) (line.hi m) u hi_low all.0, all.1);
+            (every_weaker _ _ front (λ z h. le_trans line.cmp line.total _ _ _ h le) ends)
+            (le_trans line.cmp line.total _ _ _ hi_low all.0, all.1);
         below = λ p W alike l. (
           λ h. (left.holds p W alike l).0 (elim (any_split _ front (other ∷ ms) h) [
             | inl k ↦ inl k
             | inr k ↦ let held =
                 only_first (none_below line p c W ms l above.1) k in inr (
-                  le_trans line.cmp line.total s (line.lo other) p s_high held.0.0,
+                  le_trans line.cmp line.total _ _ _ s_high held.0.0,
                   alike (line.value other) (line.value m) alike_value held.1,
                 )
           ]),
@@ -116,8 +116,8 @@ module _ {L V X : Type 0} (line : Line L V X) where
                 any_right _ front (other ∷ ms)
                 (inl (
                   (
-                    le_trans line.cmp line.total (line.lo other) s p s_low k.0,
-                    lt_trans line.cmp line.total p c (line.hi other) l reaches,
+                    le_trans line.cmp line.total _ _ _ s_low k.0,
+                    lt_trans line.cmp line.total _ _ _ l reaches,
                   ),
                   alike (line.value m) (line.value other) value_back k.1,
                 ))
@@ -130,8 +130,8 @@ module _ {L V X : Type 0} (line : Line L V X) where
                 | inl k ↦
                     inl (
                       (
-                        le_trans line.cmp line.total (line.lo m) c p c_low le,
-                        lt_le_trans line.cmp line.total p (line.hi other) (line.hi m) k.0.1 hi_low,
+                        le_trans line.cmp line.total _ _ _ c_low le,
+                        lt_le_trans line.cmp line.total _ _ _ k.0.1 hi_low,
                       ),
                       alike (line.value other) (line.value m) alike_value k.1,
                     )
@@ -141,8 +141,8 @@ module _ {L V X : Type 0} (line : Line L V X) where
             | inl k ↦
                 inl (
                   (
-                    le_trans line.cmp line.total (line.lo other) c p low le,
-                    lt_le_trans line.cmp line.total p (line.hi m) (line.hi other) k.0.1 hi_high,
+                    le_trans line.cmp line.total _ _ _ low le,
+                    lt_le_trans line.cmp line.total _ _ _ k.0.1 hi_high,
                   ),
                   alike (line.value m) (line.value other) value_back k.1,
                 )
@@ -160,7 +160,7 @@ module _ {L V X : Type 0} (line : Line L V X) where
       let ends = fill.ends u le all in
       let below =
       every_weaker _ _ filled (λ z h.
-      le_trans line.cmp line.total (line.hi z) u d h (lt_le line.cmp line.total u d lt))
+      le_trans line.cmp line.total _ _ _ h (lt_le line.cmp line.total _ _ lt))
       ends in
       record {
         chain = join_apart line filled behind u d lt fill.chain right.chain ends right.starts;
@@ -174,7 +174,7 @@ module _ {L V X : Type 0} (line : Line L V X) where
           | inl l ↦ (
             λ h. (fill.below p W alike l).0
                 (only_first (none_below line p d W behind
-                (lt_trans line.cmp line.total p c d l (le_lt_trans line.cmp line.total c u d le lt))
+                (lt_trans line.cmp line.total _ _ _ l (le_lt_trans line.cmp line.total _ _ _ le lt))
                 right.starts) (any_split _ filled behind h)),
             λ h. any_left _ filled behind ((fill.below p W alike l).1 h),
           )
@@ -193,8 +193,8 @@ module _ {L V X : Type 0} (line : Line L V X) where
   trailing_follows m [] e v h k s chain trails = tt
   trailing_follows m (y ∷ ys) e v h k s chain trails = (
     (
-      le_trans line.cmp line.total (line.hi m) e (line.lo y) h trails.0.0,
-      λ q t. trails.0.1 (le_trans line.cmp line.total (line.lo y) (line.hi m) e q h)
+      le_trans line.cmp line.total _ _ _ h trails.0.0,
+      λ q t. trails.0.1 (le_trans line.cmp line.total _ _ _ q h)
           (sym (line.equal.congr (line.value m) v (line.value y) s) ∙ t),
     ),
     chain,
@@ -209,32 +209,30 @@ module _ {L V X : Type 0} (line : Line L V X) where
       → IsSpliced items middle (front ++ other ∷ behind) c d
   spliced_joined items middle front behind z other c d e fill lt at_d right at_lo at_e alike_value =
       let value_back = same_is_symmetric line (line.value other) (line.value z) alike_value in
-      let lo_low = eq_le line.cmp line.total (line.lo other) (line.lo z) at_lo in
-      let lo_high = eq_ge line.cmp line.total (line.lo other) (line.lo z) at_lo in
-      let e_low = eq_le line.cmp line.total (line.hi other) e at_e in
-      let e_high = eq_ge line.cmp line.total (line.hi other) e at_e in
+      let lo_low = eq_le line.cmp line.total _ _ at_lo in
+      let lo_high = eq_ge line.cmp line.total _ _ at_lo in
+      let e_low = eq_le line.cmp line.total _ _ at_e in
+      let e_high = eq_ge line.cmp line.total _ _ at_e in
       let whole = chain_right line front (z ∷ []) fill.chain in
       let before = chain_before line front z [] fill.chain in
       let z_d : Lt line.cmp (line.lo z) d =
-      lt_le_trans line.cmp line.total (line.lo z) (line.hi z) d whole.0
-      (eq_le line.cmp line.total (line.hi z) d at_d) in
+      lt_le_trans line.cmp line.total _ _ _ whole.0 (eq_le line.cmp line.total _ _ at_d) in
       let d_high : Le line.cmp d (line.hi other) =
-      le_trans line.cmp line.total d e (line.hi other) right.above e_high in
+      le_trans line.cmp line.total _ _ _ right.above e_high in
       let low : Lt line.cmp (line.lo other) d =
-      le_lt_trans line.cmp line.total (line.lo other) (line.lo z) d lo_low z_d in
-      let good = lt_le_trans line.cmp line.total (line.lo other) d (line.hi other) low d_high in
+      le_lt_trans line.cmp line.total _ _ _ lo_low z_d in
+      let good = lt_le_trans line.cmp line.total _ _ _ low d_high in
       let ends : Every (λ x. Le line.cmp (line.hi x) d) front =
       every_weaker _ _ front (λ x h.
-      le_trans line.cmp line.total (line.hi x) (line.lo z) d h.0
-      (lt_le line.cmp line.total (line.lo z) d z_d)) before in
+      le_trans line.cmp line.total _ _ _ h.0 (lt_le line.cmp line.total _ _ z_d)) before in
       let starts : Every (λ x. Le line.cmp d (line.lo x)) behind =
       every_weaker _ _ behind (λ x h.
-      le_trans line.cmp line.total d e (line.lo x) right.above h.0) right.trails in
+      le_trans line.cmp line.total _ _ _ right.above h.0) right.trails in
       let leads : Leading line (line.lo other) (line.value other) front =
       every_weaker _ _ front (λ x h. (
-        le_trans line.cmp line.total (line.hi x) (line.lo z) (line.lo other) h.0 lo_high,
+        le_trans line.cmp line.total _ _ _ h.0 lo_high,
         λ k t.
-            h.1 (le_trans line.cmp line.total (line.lo z) (line.lo other) (line.hi x) lo_high k)
+            h.1 (le_trans line.cmp line.total _ _ _ lo_high k)
             (line.equal.congr (line.value x) (line.value other) (line.value z) t ∙ alike_value),
       ))
       before in
@@ -247,9 +245,8 @@ module _ {L V X : Type 0} (line : Line L V X) where
               only_first (none_below line p d W behind l starts) k in any_right _ front (z ∷ [])
               (inl (
                 (
-                  le_trans line.cmp line.total (line.lo z) (line.lo other) p lo_high held.0.0,
-                  lt_le_trans line.cmp line.total p d (line.hi z) l
-                      (eq_ge line.cmp line.total (line.hi z) d at_d),
+                  le_trans line.cmp line.total _ _ _ lo_high held.0.0,
+                  lt_le_trans line.cmp line.total _ _ _ l (eq_ge line.cmp line.total _ _ at_d),
                 ),
                 alike (line.value other) (line.value z) alike_value held.1,
               ))
@@ -260,8 +257,8 @@ module _ {L V X : Type 0} (line : Line L V X) where
               only_first (λ n. n) k in any_right _ front (other ∷ behind)
               (inl (
                 (
-                  le_trans line.cmp line.total (line.lo other) (line.lo z) p lo_low held.0.0,
-                  lt_le_trans line.cmp line.total p d (line.hi other) l d_high,
+                  le_trans line.cmp line.total _ _ _ lo_low held.0.0,
+                  lt_le_trans line.cmp line.total _ _ _ l d_high,
                 ),
                 alike (line.value z) (line.value other) value_back held.1,
               ))
@@ -281,7 +278,7 @@ module _ {L V X : Type 0} (line : Line L V X) where
             );
         outside = λ p W alike where_. elim where_ [
           | inl l ↦ let under =
-              lt_trans line.cmp line.total p c d l
+              lt_trans line.cmp line.total _ _ _ l
               lt in (
                 λ h. (fill.below p W alike l).0 ((upto p W alike under).0 h),
                 λ h. (upto p W alike under).1 ((fill.below p W alike l).1 h),
@@ -292,7 +289,7 @@ module _ {L V X : Type 0} (line : Line L V X) where
                 (any_split _ front (other ∷ behind) h)) [
                   | inl k ↦
                       inr (
-                        lt_le_trans line.cmp line.total p (line.hi other) e k.0.1 e_low,
+                        lt_le_trans line.cmp line.total _ _ _ k.0.1 e_low,
                         alike (line.value other) (line.value z) alike_value k.1,
                       )
                   | inr k ↦ inl k
@@ -302,9 +299,8 @@ module _ {L V X : Type 0} (line : Line L V X) where
               | inr k ↦
                   inl (
                     (
-                      le_trans line.cmp line.total (line.lo other) d p
-                          (lt_le line.cmp line.total (line.lo other) d low) above,
-                      lt_le_trans line.cmp line.total p e (line.hi other) k.0 e_high,
+                      le_trans line.cmp line.total _ _ _ (lt_le line.cmp line.total _ _ low) above,
+                      lt_le_trans line.cmp line.total _ _ _ k.0 e_high,
                     ),
                     alike (line.value z) (line.value other) value_back k.1,
                   )

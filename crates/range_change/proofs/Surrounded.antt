@@ -25,13 +25,14 @@ use Rattle.range_change.specs.declared.reach.Reach.{Reach}
 use Rattle.range_change.specs.declared.window.Window.{Window}
 use Rattle.range_change.proofs.RangePieces.{IsFull, all_full, item_at, listed_at}
 use Rattle.range_change.proofs.RangeSides.{borders_insert, borders_remove, left_border_inside, right_border_inside, left_rest_cut, right_rest_cut, left_border_rest, right_border_rest}
-use Rattle.range_change.proofs.Forms.{places, Chained, stored_known, stored_chain, nonempty_good}
+use Rattle.range_change.proofs.Forms.{Chained, stored_known, stored_chain, nonempty_good}
 use Rattle.range_change.proofs.InsertionFrames.{insertion_frame, cut_way}
 use Rattle.range_change.proofs.Lengths.{changed_length}
 use Rattle.range_change.proofs.MergedItems.{surrounded_alone}
 use Rattle.range_change.proofs.BoundEdits.{standing_item_splits_list}
 use Rattle.range_change.proofs.InsertionPlans.{left_frame_inside, left_frame_cut, right_frame_inside, right_frame_cut, left_part, right_part}
 use Rattle.range_change.proofs.UpdatedLists.{whole_piece, whole_answer}
+use Rattle.range_change.proofs.PlaceOrder.{PLt}
 
 none_of : {P : Type 0} (o : Option P) → length (option_items o) ≤ 0 → o ≡ None
 none_of None few = refl
@@ -134,8 +135,7 @@ module _ {K : Type 0} {order : KeyOrder K} (lawful : IsLawful order) {V : Type 0
       (omega (arith, window.in_range, some)) here next in
       let frame =
       insertion_frame lawful equal window items v x place (place + w.count) None None
-      (Some x.key.start) (Some x.key.end)
-      (left_frame_inside lawful equal window v x here some)
+      (Some x.key.start) (Some x.key.end) (left_frame_inside lawful equal window v x here some)
       (right_frame_inside lawful equal window v x here_end some)
       (omega arith) refl refl values (λ e. absurd (omega (arith, within.one, e))) list in
       borders_insert lawful equal window items v x place (place + w.count) None None
@@ -187,8 +187,7 @@ module _ {K : Type 0} {order : KeyOrder K} (lawful : IsLawful order) {V : Type 0
         let other : same parts.value v ≡ false =
         equal.congr parts.value x.value v copied ∙ differs in
         let left =
-        left_border_rest lawful equal window v front
-        (left_rest_cut lawful equal window x here some
+        left_border_rest lawful equal window v front (left_rest_cut lawful equal window x here some
         (within.starts x here) parts.end end_is.0 end_is.1) differs in
         let right =
         right_border_rest lawful equal window (place + w.count) v behind window.in_range
@@ -239,7 +238,7 @@ module _ {K : Type 0} {order : KeyOrder K} (lawful : IsLawful order) {V : Type 0
       all_full order lawful same equal r items
       (stored_known order lawful same equal items within.window.stored) chain
 
-  good : Lt (places order lawful) (lower order r) (upper order r)
+  good : PLt lawful (lower order r) (upper order r)
   good = (nonempty_good order lawful r within.window.known).0 within.window.nonempty
 
   -- no other item touches the range

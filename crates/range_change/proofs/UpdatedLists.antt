@@ -6,11 +6,10 @@ use Rattle.std.specs.Ordering.{is_gt}
 use Rattle.std.specs.Cmp.{IsEquivalence}
 use Rattle.range_keys.specs.Order.{KeyOrder, IsLawful}
 use Rattle.range_keys.specs.Position.{start_position, end_position, position_cmp}
-use Rattle.range_keys.specs.PositionOrder.{position_total}
 use Rattle.range_algebra.specs.declared.any.AnyRange.{AnyRange}
 use Rattle.range_algebra.specs.Range.{Holds, IsKnownRange}
 use Rattle.range_algebra.specs.Intervals.{Any, Every}
-use Rattle.range_algebra.specs.Orders.{le_refl, lt_le, both}
+use Rattle.range_change.proofs.PlaceOrder.{le_refl, lt_le, both, PLe, PLt}
 use Rattle.range_algebra.proofs.Lists.{any_right, every_weaker, every_left, every_right}
 use Rattle.range_store.specs.declared.storage.Item.{Item}
 use Rattle.range_change.specs.Answers.{MayAnswer, Answered, IsAsAnswered, IsGivenBy, IsGathered, IsUpdated, AreAnswersTo}
@@ -18,12 +17,13 @@ use Rattle.range_change.specs.Bindings.{Binds, IsSomeOf}
 use Rattle.range_change.specs.Changes.{IsInserted, IsRemoved}
 use Rattle.range_change.specs.Frames.{IsUpdateFrame, IsMergedInto, IsMergeFrame, HasValue, JoinsOrMeets, IsNewItem, IsPart, IsInsertionFrame, IsRemovalFrame}
 use Rattle.range_change.specs.Lookups.{IsConnectedTo, Overlap}
-use Rattle.range_change.specs.Pieces.{later, earlier, IsCommonPart, IsPiece}
+use Rattle.range_change.specs.Pieces.{IsCommonPart, IsPiece}
 use Rattle.range_change.specs.Replaced.{IsReplaced}
-use Rattle.range_change.proofs.RangePieces.{PLe, PLt, Lo, Hi, IsFull, IsInside, IsRight, any_use, any_over, every_with, later_over, earlier_under, either_choice_holds, cut_all, a_piece}
+use Rattle.range_change.proofs.RangePieces.{IsFull, IsInside, IsRight, any_use, any_over, every_with, later_over, earlier_under, either_choice_holds, cut_all, a_piece}
 use Rattle.range_change.proofs.Extents.{end_le}
 use Rattle.range_change.proofs.Forms.{Chained}
 use Rattle.range_change.proofs.MergedItems.{rest_stands, way_follows}
+use Rattle.range_algebra.specs.Cuts.{lower, upper}
 
 module _ {K : Type 0} (order : KeyOrder K) {V : Type 0} (same : V → V → Bool)
     (equal : IsEquivalence same) {F E : Type 0}
@@ -176,39 +176,36 @@ module _ {K : Type 0} (order : KeyOrder K) (lawful : IsLawful order) {V : Type 0
     (r : AnyRange K) (known : IsKnownRange order r)
     (full : Every (IsFull order lawful items r) items)
     (chain : Chained order lawful same equal items)
-    (some : PLt order lawful (Lo order lawful r) (Hi order lawful r))
+    (some : PLt lawful (lower order r) (upper order r))
     (done rest : List (Item (AnyRange K) V)) (x : Item (AnyRange K) V)
     (list : items ≡ done ++ x ∷ rest) (known_x : IsKnownRange order x.key)
-    (starts : PLt order lawful (Lo order lawful x.key) (Lo order lawful r))
-    (ends : PLt order lawful (Hi order lawful r) (Hi order lawful x.key)) where
+    (starts : PLt lawful (lower order x.key) (lower order r))
+    (ends : PLt lawful (upper order r) (upper order x.key)) where
   whole_inside : IsInside order lawful items r r
   whole_inside = (
     known,
-    le_refl (position_cmp order.cmp) (position_total order.cmp lawful.total) (Lo order lawful r),
+    le_refl lawful (lower order r),
     some,
-    le_refl (position_cmp order.cmp) (position_total order.cmp lawful.total) (Hi order lawful r),
+    le_refl lawful (upper order r),
   )
 
   whole_common : IsCommonPart order r x.key r
   whole_common =
       let cmp = position_cmp order.cmp in
-      let total = position_total order.cmp lawful.total in
       let p = start_position order r.start in
       let q = start_position order x.key.start in
       let u = end_position order r.end in
       let v = end_position order x.key.end in
       let under =
-      end_le order lawful r.end x.key.end known.1 known_x.1
-      (lt_le cmp total (Hi order lawful r) (Hi order lawful x.key) ends) in
+      end_le order lawful r.end x.key.end known.1 known_x.1 (lt_le lawful _ _ ends) in
       record {
         starts =
-            both cmp total p (later order p q) (later_over order lawful p q).0
-            (either_choice_holds order lawful (λ y. PLe order lawful y p) (is_gt (cmp p q)) p q
-            (le_refl cmp total p) (lt_le cmp total q p starts));
+            both lawful _ _ (later_over order lawful p q).0
+            (either_choice_holds order lawful (λ y. PLe lawful y p) (is_gt (cmp p q)) p q
+            (le_refl lawful p) (lt_le lawful _ _ starts));
         ends =
-            both cmp total u (earlier order u v)
-            (either_choice_holds order lawful (λ y. PLe order lawful u y)
-            (is_gt (cmp u v)) v u under (le_refl cmp total u)) (earlier_under order lawful u v).0;
+            both lawful _ _ (either_choice_holds order lawful (λ y. PLe lawful u y)
+            (is_gt (cmp u v)) v u under (le_refl lawful u)) (earlier_under order lawful u v).0;
       }
 
   whole_right : IsRight order lawful items r r (Some x.value)

@@ -9,7 +9,7 @@ use Rattle.range_algebra.specs.declared.any.AnyRange.{AnyRange}
 use Rattle.range_algebra.specs.Range.{IsEmptyRange, IsKnownRange}
 use Rattle.range_store.specs.declared.storage.Item.{Item}
 use Rattle.range_store.specs.ListPlaces.{place_before}
-use Rattle.range_algebra.specs.Intervals.{Le, Lt, Every}
+use Rattle.range_algebra.specs.Intervals.{Every}
 use Rattle.range_change.specs.Chains.{line_of}
 use Rattle.range_change.proofs.Chains.{chain_above, chain_right}
 use Rattle.range_algebra.specs.Cuts.{lower, upper}
@@ -18,6 +18,7 @@ use Rattle.range_change.specs.Window.{IsFound, IsWalk, IsWindow}
 use Rattle.range_algebra.proofs.Places.{reaching_is_before_past}
 use Rattle.range_change.proofs.Forms.{places, before_is, Known, Chained, stored_known, stored_chain}
 use Rattle.range_algebra.proofs.Lists.{every_at, list_is_take_and_drop, every_weaker, every_left, every_right}
+use Rattle.range_change.proofs.PlaceOrder.{PLe, PLt}
 
 pub every_both : {X : Type 0} (P Q : X → Type 0) (xs : List X) → Every P xs → Every Q xs
     → Every (λ x. P x × Q x) xs
@@ -28,10 +29,9 @@ module _ {K : Type 0} (order : KeyOrder K) (lawful : IsLawful order) {V : Type 0
     (same : V → V → Bool) (equal : IsEquivalence same) where
   rest_starts_after_range : (e : Position K) (r : AnyRange K) (ys : List (Item (AnyRange K) V))
       → e ≡ end_position order r.end → IsKnownRange order r → Known order lawful same equal ys
-      → Chained order lawful same equal ys
-      → ((d : Item (AnyRange K) V) → 0 < length ys
-      → Lt (places order lawful) e (start_position order (get_or ys 0 d).key.start))
-      → Every (λ i. Le (places order lawful) (upper order r) (item_lower order i)) ys
+      → Chained order lawful same equal ys → ((d : Item (AnyRange K) V) → 0 < length ys
+      → PLt lawful e (start_position order (get_or ys 0 d).key.start))
+      → Every (λ i. PLe lawful (upper order r) (item_lower order i)) ys
   rest_starts_after_range e r [] at known others chain h = tt
   rest_starts_after_range e r (y ∷ ys) at known others chain h =
       chain_above (line_of order lawful same equal) (upper order r) y ys chain
