@@ -4,7 +4,7 @@ ghost use Rattle.range_keys.specs.Order.{IsComplete};
 ghost use Rattle.range_algebra.specs.Intervals.{Every};
 ghost use Rattle.range_algebra.specs.Clones.{IsBoundClone};
 ghost use Rattle.range_algebra.specs.Range.{ClonesAreEqual, IsEmptyRange};
-ghost use Rattle.range_change.specs.Answers.{MayAnswer, MayBeAsked, FailsAt, SucceedsAt, IsUpdated};
+ghost use Rattle.range_change.specs.Answers.{MayAnswer, MayBeAsked, FailsAt, SucceedsAtFirst, IsUpdated};
 ghost use Rattle.range_map.specs.Askable.{MayBeAskedOfEach};
 ghost use Rattle.range_change.specs.Clones.{ClonesNeverFail};
 ghost use Rattle.range_change.specs.Bindings.{IsCoarse, IsOnlyCoarse};
@@ -57,7 +57,7 @@ fn update_within<
     ensures closure { (e : E) → result ≡ Err (ClosureError e)
         → FailsAt K.order V.eq F.Fn f.now (C.items stored.old) range e }
     ensures memory { result ≡ Err MemoryError
-        → SucceedsAt K.order V.eq F.Fn f.now (C.items stored.old) range }
+        → SucceedsAtFirst K.order V.eq F.Fn f.now (C.items stored.old) range }
     ensures refused { OnErr result (C.items stored.new ≡ C.items stored.old) }
 {
     match f(Some(&stored.get(p).value)) {
@@ -99,7 +99,7 @@ fn update_pieces<
     ensures closure { (e : E) → result ≡ Err (ClosureError e)
         → FailsAt K.order V.eq F.Fn f.now (C.items stored.old) range e }
     ensures memory { result ≡ Err MemoryError
-        → SucceedsAt K.order V.eq F.Fn f.now (C.items stored.old) range }
+        → SucceedsAtFirst K.order V.eq F.Fn f.now (C.items stored.old) range }
     ensures refused { OnErr result (C.items stored.new ≡ C.items stored.old) }
 {
     let mut steps = Steps::new();
@@ -141,8 +141,8 @@ impl<K: Measure + Clone, V: Eq + Clone, C: Storage<Item<AnyRange<K>, V>>> RangeM
     /// Allocates a list of what the closure returns, and clones of the bounds of its pieces and of
     /// the stored ranges that are cut. It also allocates where more ranges are stored than the
     /// container has capacity for. Fails with `Memory` where an allocation does: over keys whose
-    /// clones never fail, only once the closure returned no error. Costs one search, and a step for
-    /// each stored range that the range meets or touches.
+    /// clones never fail, only once the closure returned no error for the first piece. Costs one
+    /// search, and a step for each stored range that the range meets or touches.
     ///
     /// ```
     /// // of a map that binds 0..=5 to 1
@@ -177,7 +177,7 @@ impl<K: Measure + Clone, V: Eq + Clone, C: Storage<Item<AnyRange<K>, V>>> RangeM
         ensures closure { (e : E) → result ≡ Err (ClosureError e)
             → FailsAt K.order V.eq F.Fn f (C.items self.old) (R.range range) e }
         ensures memory { ClonesNeverFail K.is_infallible → result ≡ Err MemoryError
-            → SucceedsAt K.order V.eq F.Fn f (C.items self.old) (R.range range) }
+            → SucceedsAtFirst K.order V.eq F.Fn f (C.items self.old) (R.range range) }
         ensures refused { OnErr result (C.items self.new ≡ C.items self.old) }
         ensures empty { IsEmptyRange K.order (R.range range) → IsOk result }
         ensures empty_unchanged { IsEmptyRange K.order (R.range range)

@@ -1,4 +1,5 @@
-use Rattle.range_map.proofs.Common.{rules, Some, None, Ok, Err, MayAnswer, by_insertion, by_removal}
+use Rattle.range_map.proofs.Common.{arith, rules, [], ◌∷◌, Some, None, Ok, Err, MayAnswer, by_insertion, by_removal}
+use Rattle.range_map.proofs.ClosureAnswers.{all_succeed}
 use Rattle.range_change.proofs.Surrounded.{alone, piece, answer_is_to_piece}
 use Rattle.range_change.proofs.SpelledChanges.{inserted_keeps_spelling, removed_keeps_spelling}
 use Rattle.range_map.proofs.map.update.update_within.Goals as goal
@@ -61,28 +62,18 @@ pub returns-in_err-bind_inside-in-Ok-Some-clause-memory :
     goal.returns-in_err-bind_inside-in-Ok-Some-clause-memory
 returns-in_err-bind_inside-in-Ok-Some-clause-memory g c = λ failed.
     let x = c.get.result.now in
-    let says : MayAnswer g.F.Fn c.args.f.now (Some x.value) (Ok (Some c.in-Ok-Some.value)) = search rules in (
-      Some c.in-Ok-Some.value,
-      record {
-        piece = c.args.range;
-        value = Some x.value;
-        is_piece =
-            piece g.met.K.PartialEnum.lawful g.met.V.Eq.laws c.requires.within x c.get.ensures;
-        says = says;
-      },
-    )
+    let says : MayAnswer g.F.Fn c.args.f.now (Some x.value) (Ok (Some c.in-Ok-Some.value)) = search rules in
+    all_succeed g.K.MaybeBounded.order g.V.PartialEq.eq g.F.Fn c.args.f.now _ _
+    (record { key = c.args.range; value = Some x.value; answer = Some c.in-Ok-Some.value } ∷ [])
+    (answer_is_to_piece g.met.K.PartialEnum.lawful g.met.V.Eq.laws c.requires.within x c.get.ensures
+    (Some c.in-Ok-Some.value)) (says, tt) (omega arith)
 
 pub returns-in_err-unbind_inside-in-Ok-None-clause-memory :
     goal.returns-in_err-unbind_inside-in-Ok-None-clause-memory
 returns-in_err-unbind_inside-in-Ok-None-clause-memory g c = λ failed.
     let x = c.get.result.now in
-    let says : MayAnswer g.F.Fn c.args.f.now (Some x.value) (Ok None) = search rules in (
-      None,
-      record {
-        piece = c.args.range;
-        value = Some x.value;
-        is_piece =
-            piece g.met.K.PartialEnum.lawful g.met.V.Eq.laws c.requires.within x c.get.ensures;
-        says = says;
-      },
-    )
+    let says : MayAnswer g.F.Fn c.args.f.now (Some x.value) (Ok None) = search rules in
+    all_succeed g.K.MaybeBounded.order g.V.PartialEq.eq g.F.Fn c.args.f.now _ _
+    (record { key = c.args.range; value = Some x.value; answer = None } ∷ [])
+    (answer_is_to_piece g.met.K.PartialEnum.lawful g.met.V.Eq.laws c.requires.within x c.get.ensures
+    None) (says, tt) (omega arith)
