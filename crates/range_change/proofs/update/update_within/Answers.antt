@@ -1,8 +1,10 @@
-use Rattle.range_map.proofs.Common.{arith, rules, [], ◌∷◌, Some, None, Ok, Err, MayAnswer, by_insertion, by_removal}
-use Rattle.range_map.proofs.ClosureAnswers.{all_succeed}
+use Rattle.std.proofs.Common.{arith, rules, [], ◌∷◌, Some, None, Ok, Err}
+use Rattle.range_change.specs.Answers.{MayAnswer}
+use Rattle.range_change.proofs.UpdatedLists.{by_insertion, by_removal}
+use Rattle.range_change.proofs.Succeeding.{all_succeed}
 use Rattle.range_change.proofs.Surrounded.{alone, piece, answer_is_to_piece}
 use Rattle.range_change.proofs.SpelledChanges.{inserted_keeps_spelling, removed_keeps_spelling}
-use Rattle.range_map.proofs.map.update.update_within.Goals as goal
+use Rattle.range_change.proofs.update.update_within.Goals as goal
 
 pub returns-in_ok-bind_inside-in-Ok-Some : goal.returns-in_ok-bind_inside-in-Ok-Some
 returns-in_ok-bind_inside-in-Ok-Some g c =

@@ -1,8 +1,11 @@
 use Rattle.std.proofs.lemmas.Bool.{cases_lt}
-use Rattle.range_map.proofs.Common.{inl, inr, length, arith, false≢true, common_steps, by_middle}
-use Rattle.range_map.proofs.ClosureAnswers.{gathered_succeeds}
+use Rattle.std.proofs.lemmas.Bool.{false≢true}
+use Rattle.std.proofs.lemmas.Grind.{common_steps}
+use Rattle.std.proofs.Common.{inl, inr, length, arith}
+use Rattle.range_change.proofs.UpdatedLists.{by_middle}
+use Rattle.range_change.proofs.Succeeding.{gathered_succeeds}
 use Rattle.range_change.proofs.Surrounded.{surrounded_by}
-use Rattle.range_map.proofs.map.update.update_pieces.Goals as goal
+use Rattle.range_change.proofs.update.update_pieces.Goals as goal
 
 pub returns-clause-ok : goal.returns-clause-ok
 returns-clause-ok g c =
