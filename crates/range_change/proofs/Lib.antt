@@ -37,6 +37,7 @@ pub mod RunItems
 pub mod SpelledChanges
 pub mod Spelling
 pub mod Splices
+pub mod Succeeding
 pub mod Surrounded
 pub mod Tests
 pub mod UpdatedLists
