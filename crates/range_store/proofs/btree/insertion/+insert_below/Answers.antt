@@ -1,4 +1,4 @@
-use Rattle.std.proofs.Common.{◌≡◌, ℕ, ◌<◌, ◌≤◌, ◌+◌, ◌-◌, length, get_or, ap, ◌∙◌, arith, Some, None}
+use Rattle.std.proofs.Common.{◌≡◌, ℕ, ◌<◌, ◌≤◌, ◌+◌, ◌-◌, length, get_or, refl, ap, ◌∙◌, arith, Some, None}
 use Rattle.std.specs.List.{insert}
 use Rattle.std.proofs.lemmas.List.Edits.{length-insert}
 use Rattle.range_store.specs.Heap.{node_of, items_of, children_of}
@@ -102,49 +102,8 @@ seen_above-requires-clause-index g t c =
       c.requires.shaped.node.fits,
     )
 
-pub returns-in-None-clause-replaces : goal.returns-in-None-clause-replaces
-returns-in-None-clause-replaces g t c =
-    let i = turn c.args.edge in
-    let low = below_turn c.if-below-eq0.false c.requires.shaped c.args.edge c.requires.edge in
-    let rest =
-    place c.args.nodes.now (c.args.below - 1)
-    (get_or (children_of (node_of c.args.nodes.now c.args.number)) (turn c.args.edge) 0)
-    (inside c.args.edge) in
-    let within = below_most c.if-below-eq0.false c.requires.shaped i (inside c.args.edge) low
-    (below_inside c.if-below-eq0.false c.requires.shaped c.args.edge c.requires.edge) in
-    let child =
-    rw c.in-None.is at
-    (rw (c.child_at-child.ensures, c.first_turn-index.ensures, c.seen_inside.ensures) at
-    c.insert_below-inserted.ensures.replaces) in
-    rw (below_here c.if-below-eq0.false c.requires.shaped c.args.edge) (none_replaces i rest
-    c.args.item c.if-below-eq0.false c.requires.shaped c.requires.owned low within child)
-
-pub returns-in-None-clause-edge : goal.returns-in-None-clause-edge
-returns-in-None-clause-edge g t c =
-    let i = turn c.args.edge in
-    let low = below_turn c.if-below-eq0.false c.requires.shaped c.args.edge c.requires.edge in
-    let rest =
-    place c.args.nodes.now (c.args.below - 1)
-    (get_or (children_of (node_of c.args.nodes.now c.args.number)) (turn c.args.edge) 0)
-    (inside c.args.edge) in
-    let within = below_most c.if-below-eq0.false c.requires.shaped i (inside c.args.edge) low
-    (below_inside c.if-below-eq0.false c.requires.shaped c.args.edge c.requires.edge) in
-    let child =
-    rw c.in-None.is at
-    (rw (c.child_at-child.ensures, c.first_turn-index.ensures, c.seen_inside.ensures) at
-    c.insert_below-inserted.ensures.replaces) in
-    let seat =
-    rw c.in-None.is at (rw (c.child_at-child.ensures, c.first_turn-index.ensures) at
-    c.insert_below-inserted.ensures.edge) in
-    let edge = none_edge i rest c.args.item c.if-below-eq0.false c.requires.shaped c.requires.owned
-    low within child c.insert_below-inserted.result.side c.insert_below-inserted.result.edge
-    c.seen_above.result (c.seen_above.ensures.turn ∙ c.first_turn-index.ensures)
-    c.seen_above.ensures.inside seat in
-    (seat_alone c.insert_below-inserted.new.nodes c.args.below c.args.number c.seen_above.result
-    None edge.0).0
-
-pub returns-in-None-clause-place : goal.returns-in-None-clause-place
-returns-in-None-clause-place g t c =
+pub returns-in-None : goal.returns-in-None
+returns-in-None g t c =
     let i = turn c.args.edge in
     let low = below_turn c.if-below-eq0.false c.requires.shaped c.args.edge c.requires.edge in
     let rest =
@@ -168,14 +127,21 @@ returns-in-None-clause-place g t c =
     low within child c.insert_below-inserted.result.side c.insert_below-inserted.result.edge
     c.seen_above.result (c.seen_above.ensures.turn ∙ c.first_turn-index.ensures)
     c.seen_above.ensures.inside seat in
-    omega (
-      arith,
-      (seat_alone c.insert_below-inserted.new.nodes c.args.below c.args.number c.seen_above.result
-          None edge.0).1,
-      edge.1,
-      at,
-      below_here c.if-below-eq0.false c.requires.shaped c.args.edge,
-    )
+    let alone = seat_alone c.insert_below-inserted.new.nodes c.args.below c.args.number
+    c.seen_above.result None edge.0 in
+    record {
+      replaces = rw (below_here c.if-below-eq0.false c.requires.shaped c.args.edge) (none_replaces i rest
+          c.args.item c.if-below-eq0.false c.requires.shaped c.requires.owned low within child);
+      left_whole = λ few. refl;
+      edge = alone.0;
+      place = omega (
+        arith,
+        alone.1,
+        edge.1,
+        at,
+        below_here c.if-below-eq0.false c.requires.shaped c.args.edge,
+      );
+    }
 
 pub seen_above-requires-clause-path : goal.seen_above-requires-clause-path
 seen_above-requires-clause-path g t c =

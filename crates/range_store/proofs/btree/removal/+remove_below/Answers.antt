@@ -1,4 +1,4 @@
-use Rattle.std.proofs.Common.{◌≡◌, ◌+◌, ◌-◌, length, get_or, map, refl, ap, ◌∙◌, arith}
+use Rattle.std.proofs.Common.{◌≡◌, ◌+◌, ◌-◌, length, get_or, map, refl, ap, ◌∙◌, arith, rules}
 use Rattle.std.proofs.lemmas.List.Edits.{length-remove}
 use Rattle.range_store.specs.Heap.{node_of, items_of, children_of}
 use Rattle.range_store.specs.declared.btree.nodes.TheConstants.{CAPACITY, MIN_LEN}
@@ -125,43 +125,8 @@ rebalance-edge-requires g t c =
       ) edge;
     }
 
-pub returns-clause-shrinks : goal.returns-clause-shrinks
-returns-clause-shrinks g t c =
-    let i = turn c.args.edge in
-    let low = below_turn c.if-below-eq0.false c.requires.shaped c.args.edge c.requires.edge in
-    let back = level_of_children c.if-below-eq0.false c.requires.shaped in
-    let child =
-    rw (c.child_at-child.ensures, c.first_turn-index.ensures, c.seen_inside.ensures) at
-    c.remove_below-taken.ensures.shrinks in
-    let listed = rw back at child.listed in
-    let moved = rw back at child.moved in
-    let at =
-    rw (c.child_at-child.ensures, c.first_turn-index.ensures, c.seen_inside.ensures) at
-    c.remove_below-taken.ensures.place in
-    let q =
-    place c.args.nodes.now (c.args.below - 1)
-    (get_or (children_of (node_of c.args.nodes.now c.args.number)) (turn c.args.edge) 0)
-    (inside c.args.edge) in
-    let within = below_most c.if-below-eq0.false c.requires.shaped i (inside c.args.edge) low
-    (below_inside c.if-below-eq0.false c.requires.shaped c.args.edge c.requires.edge) in
-    let same : length (before (items_of (node_of c.args.nodes.now c.args.number))
-    (map (items_below c.args.nodes.now c.args.below)
-    (children_of (node_of c.args.nodes.now c.args.number))) i) + (q - 1)
-    ≡ place c.args.nodes.now c.args.below c.args.number c.args.edge - 1 =
-    omega (
-      arith,
-      below_here c.if-below-eq0.false c.requires.shaped c.args.edge,
-      at,
-    ) in
-    rw (← same) (shorter_child_shrinks_node i (q - 1) c.if-below-eq0.false c.requires.shaped
-    c.requires.owned low (omega (arith, within, at)) child c.rebalance-edge.ensures.shrinks)
-
-pub returns-clause-edge : goal.returns-clause-edge
-returns-clause-edge g t c = rw (level_of_children c.if-below-eq0.false c.requires.shaped) at
-    c.rebalance-edge.ensures.edge
-
-pub returns-clause-place : goal.returns-clause-place
-returns-clause-place g t c =
+pub returns : goal.returns
+returns g t c =
     let i = turn c.args.edge in
     let low = below_turn c.if-below-eq0.false c.requires.shaped c.args.edge c.requires.edge in
     let back = level_of_children c.if-below-eq0.false c.requires.shaped in
@@ -192,10 +157,25 @@ returns-clause-place g t c =
     let front' = rw
     (kid_kept i _ c.if-below-eq0.false c.requires.shaped c.requires.owned low listed moved) at front
     in
+    let same : length (before (items_of (node_of c.args.nodes.now c.args.number))
+    (map (items_below c.args.nodes.now c.args.below)
+    (children_of (node_of c.args.nodes.now c.args.number))) i) + (q - 1)
+    ≡ place c.args.nodes.now c.args.below c.args.number c.args.edge - 1 =
     omega (
       arith,
-      kid,
-      front',
-      at,
       below_here c.if-below-eq0.false c.requires.shaped c.args.edge,
-    )
+      at,
+    ) in
+    record {
+      item = search rules;
+      shrinks = rw (← same) (shorter_child_shrinks_node i (q - 1) c.if-below-eq0.false c.requires.shaped
+          c.requires.owned low (omega (arith, within, at)) child c.rebalance-edge.ensures.shrinks);
+      edge = rw back at c.rebalance-edge.ensures.edge;
+      place = omega (
+        arith,
+        kid,
+        front',
+        at,
+        below_here c.if-below-eq0.false c.requires.shaped c.args.edge,
+      );
+    }
