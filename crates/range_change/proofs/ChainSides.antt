@@ -1,10 +1,10 @@
 -- What stands on each side of a range that is cut out of a chain.
-use Rattle.std.proofs.Common.{◌≡◌, ◌∙◌, Bool, true, List, [], ◌∷◌, ◌++◌, ◌⊎◌, inl, inr}
+use Rattle.std.proofs.Common.{◌≡◌, ◌∙◌, Bool, true, List, [], ◌∷◌, ◌++◌, ◌⊎◌, ◌↔◌, inl, inr}
 use Rattle.std.specs.declared.cmp.Ordering.TheVariants.{Equal}
 use Rattle.range_algebra.specs.Intervals.{Le, Lt, Every}
 use Rattle.range_algebra.specs.Orders.{lt_le, eq_le, eq_ge, le_trans, lt_not_le, lt_le_trans, le_lt_trans}
 use Rattle.range_algebra.proofs.Lists.{any_left, any_right, any_split, any_none, every_weaker, every_append}
-use Rattle.range_change.specs.Chains.{Line, IsChain, Has, Leading, IsLeft, IsRight}
+use Rattle.range_change.specs.Chains.{Line, IsChain, Has, Held, Respects, Leading, IsLeft, IsRight}
 use Rattle.range_change.proofs.Chains.{same_is_symmetric, chain_left, chain_right, follows_above, chain_before, chains_join, follows_like}
 
 pub only_first : {A B : Type 0} → (B → ⊥) → A ⊎ B → A
@@ -30,6 +30,28 @@ module _ {L V X : Type 0} (line : Line L V X) where
       any_none _ (λ x. Le line.cmp (line.hi x) d) xs all
       (λ x le held. lt_not_le line.cmp line.total _ _ held.0.1
       (le_trans line.cmp line.total _ _ _ le l)) h
+
+  -- a place that an item of a chain holds has that item's value and no other
+  pub held_alone : (front : List X) (x : X) (rest : List X) (p : L) (W : V → Bool) (v : V)
+      → IsChain line (front ++ x ∷ rest) → Held line p x → Respects line W
+      → line.same (line.value x) v ≡ true → Has line W p (front ++ x ∷ rest) ↔ (W v ≡ true)
+  held_alone front x rest p W v chain held alike alike_value =
+      let whole = chain_right line front (x ∷ rest) chain in
+      let above = follows_above line x rest whole.1 in
+      let ends : Every (λ z. Le line.cmp (line.hi z) (line.lo x)) front =
+      every_weaker _ _ front (λ z h. h.0) (chain_before line front x rest chain) in (
+        λ h.
+            elim (only_second (none_above p (line.lo x) W front held.0 ends)
+            (any_split _ front (x ∷ rest) h)) [
+              | inl k ↦ alike (line.value x) v alike_value k.1
+              | inr k ↦ absurd (none_below p (line.hi x) W rest held.1 above k)
+            ],
+        λ w. any_right _ front (x ∷ rest)
+            (inl (
+              held,
+              alike v (line.value x) (same_is_symmetric line (line.value x) v alike_value) w,
+            )),
+      )
 
   -- a front that ends at the place at most, before what starts there at least
   pub left_whole : (front rest : List X) (c : L) → IsChain line (front ++ rest)

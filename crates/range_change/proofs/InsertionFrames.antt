@@ -22,9 +22,9 @@ use Rattle.range_change.specs.Window.{IsWindow, option_items}
 use Rattle.range_change.specs.declared.window.Window.{Window}
 use Rattle.range_change.specs.Frames.{IsStartOf, IsEndOf, HasValue, IsNewItem, IsInsertionFrame, IsPart, IsRemovalFrame}
 use Rattle.range_change.specs.Plans.{IsLeftFrame, IsRightFrame}
-use Rattle.range_change.proofs.Forms.{places, before_is, Chained, stored_known, stored_chain}
+use Rattle.range_change.proofs.Forms.{places, before_is, Chained, stored_known, stored_chain, known_take, known_drop}
+use Rattle.range_change.proofs.Lengths.{one_item}
 use Rattle.range_change.proofs.Windows.{every_both}
-use Rattle.range_change.proofs.CutOut.{known_take, known_drop}
 
 any_at : {X : Type 0} (P : X → Type 0) (xs : List X) (k : ℕ) (d : X) → k < length xs
     → P (get_or xs k d) → Any P xs
@@ -92,63 +92,35 @@ module _ {K : Type 0} {order : KeyOrder K} (lawful : IsLawful order) {V : Type 0
   abbrev Stored : Type 0
   Stored = Item (AnyRange K) V
 
-  start_more : (run more : List (Item (AnyRange K) V)) (r : AnyRange K) (b : Bound K)
-      → IsStartOf order run r b → IsStartOf order (run ++ more) r b
-  start_more run more r b (inl h) = inl h
-  start_more run more r b (inr (inl h)) = inr (inl (any_left (λ i. b ≡ i.key.start) run more h))
-  start_more run more r b (inr (inr h)) = inr (inr h)
+  start_within : (run wider : List (Item (AnyRange K) V))
+      → ((Q : Item (AnyRange K) V → Type 0) → Any Q run → Any Q wider) → (r : AnyRange K)
+      (b : Bound K) → IsStartOf order run r b → IsStartOf order wider r b
+  start_within run wider inside r b h = elim h [
+    | inl own ↦ inl own
+    | inr other ↦ inr (elim other [ inl k ↦ inl (inside (λ i. b ≡ i.key.start) k) | inr k ↦ inr k ])
+  ]
 
-  start_later : (more run : List (Item (AnyRange K) V)) (r : AnyRange K) (b : Bound K)
-      → IsStartOf order run r b → IsStartOf order (more ++ run) r b
-  start_later more run r b (inl h) = inl h
-  start_later more run r b (inr (inl h)) = inr (inl (any_right (λ i. b ≡ i.key.start) more run h))
-  start_later more run r b (inr (inr h)) = inr (inr h)
+  end_within : (run wider : List (Item (AnyRange K) V))
+      → ((Q : Item (AnyRange K) V → Type 0) → Any Q run → Any Q wider) → (r : AnyRange K)
+      (b : Bound K) → IsEndOf order run r b → IsEndOf order wider r b
+  end_within run wider inside r b h = elim h [
+    | inl own ↦ inl own
+    | inr other ↦ inr (elim other [ inl k ↦ inl (inside (λ i. b ≡ i.key.end) k) | inr k ↦ inr k ])
+  ]
 
-  end_more : (run more : List (Item (AnyRange K) V)) (r : AnyRange K) (b : Bound K)
-      → IsEndOf order run r b → IsEndOf order (run ++ more) r b
-  end_more run more r b (inl h) = inl h
-  end_more run more r b (inr (inl h)) = inr (inl (any_left (λ i. b ≡ i.key.end) run more h))
-  end_more run more r b (inr (inr h)) = inr (inr h)
-
-  end_later : (more run : List (Item (AnyRange K) V)) (r : AnyRange K) (b : Bound K)
-      → IsEndOf order run r b → IsEndOf order (more ++ run) r b
-  end_later more run r b (inl h) = inl h
-  end_later more run r b (inr (inl h)) = inr (inl (any_right (λ i. b ≡ i.key.end) more run h))
-  end_later more run r b (inr (inr h)) = inr (inr h)
-
-  value_more : (run more : List (Item (AnyRange K) V)) (v u : V)
-      → IsTrue (same u v) ⊎ HasValue order same run u
-      → IsTrue (same u v) ⊎ HasValue order same (run ++ more) u
-  value_more run more v u (inl h) = inl h
-  value_more run more v u (inr h) = inr (any_left (λ i. IsTrue (same u i.value)) run more h)
-
-  value_later : (more run : List (Item (AnyRange K) V)) (v u : V)
-      → IsTrue (same u v) ⊎ HasValue order same run u
-      → IsTrue (same u v) ⊎ HasValue order same (more ++ run) u
-  value_later more run v u (inl h) = inl h
-  value_later more run v u (inr h) = inr (any_right (λ i. IsTrue (same u i.value)) more run h)
-
-  made_more : (run more made : List (Item (AnyRange K) V)) (r : AnyRange K) (v : V)
-      → Every (IsNewItem order same run r v) made
-      → Every (IsNewItem order same (run ++ more) r v) made
-  made_more run more made r v all =
+  -- what is put in the place of a run is put so in that of a wider one
+  made_within : (run wider made : List (Item (AnyRange K) V))
+      → ((Q : Item (AnyRange K) V → Type 0) → Any Q run → Any Q wider) → (r : AnyRange K) (v : V)
+      → Every (IsNewItem order same run r v) made → Every (IsNewItem order same wider r v) made
+  made_within run wider made inside r v all =
       every_weaker _ _ made (λ j h.
       record {
-        start = start_more run more r j.key.start h.start;
-        end = end_more run more r j.key.end h.end;
-        value = value_more run more v j.value h.value;
-      })
-      all
-
-  made_later : (more run made : List (Item (AnyRange K) V)) (r : AnyRange K) (v : V)
-      → Every (IsNewItem order same run r v) made
-      → Every (IsNewItem order same (more ++ run) r v) made
-  made_later more run made r v all =
-      every_weaker _ _ made (λ j h.
-      record {
-        start = start_later more run r j.key.start h.start;
-        end = end_later more run r j.key.end h.end;
-        value = value_later more run v j.value h.value;
+        start = start_within run wider inside r j.key.start h.start;
+        end = end_within run wider inside r j.key.end h.end;
+        value = elim h.value [
+          | inl e ↦ inl e
+          | inr k ↦ inr (inside (λ i. IsTrue (same j.value i.value)) k)
+        ];
       })
       all
 
@@ -302,11 +274,10 @@ module _ {K : Type 0} {order : KeyOrder K} (lawful : IsLawful order) {V : Type 0
         → 0 < w.count →
         Every (IsPart order same (take w.count (drop place items)) r) (option_items left)
         → Every (IsPart order same (take w.count (drop place items)) r) (option_items right) →
-        length (option_items left) ≤ 1 → length (option_items right) ≤ 1 →
         new ≡ take place items ++ option_items left ++ [] ++ option_items right
         ++ drop (place + w.count) items →
         IsRemovalFrame order same items new r
-    cut_way new left right some made_left made_right few_left few_right list =
+    cut_way new left right some made_left made_right list =
         let met = take w.count (drop place items) in
         let size = run_size items place w.count window.in_range in
         record {
@@ -330,8 +301,8 @@ module _ {K : Type 0} {order : KeyOrder K} (lawful : IsLawful order) {V : Type 0
                   arith,
                   some,
                   size,
-                  few_left,
-                  few_right,
+                  one_item left,
+                  one_item right,
                   length-append (option_items left) (option_items right),
                 );
             whole = λ e. absurd (run_some items place w.count window.in_range some e);
@@ -360,21 +331,24 @@ module _ {K : Type 0} {order : KeyOrder K} (lawful : IsLawful order) {V : Type 0
         append_assoc on_left.extra met on_right.extra in
         let middle : drop place items ≡ met ++ drop (place + w.count) items =
         parts_of items place w.count in
+        let on_start = λ (Q : Item (AnyRange K) V → Type 0) (h : Any Q (on_left.extra ++ met)).
+        any_left Q (on_left.extra ++ met) on_right.extra h in
         let made_left =
-        made_more (on_left.extra ++ met) on_right.extra
-        (option_items left) r v on_left.made in
+        made_within (on_left.extra ++ met) run (option_items left) on_start r v on_left.made in
         let made_right : Every (IsNewItem order same run r v) (option_items right) =
-        rw regroup (made_later on_left.extra (met ++ on_right.extra)
-        (option_items right) r v on_right.made) in
+        rw regroup (made_within (met ++ on_right.extra) (on_left.extra ++ (met ++ on_right.extra))
+        (option_items right) (λ Q h. any_right Q on_left.extra (met ++ on_right.extra) h) r v
+        on_right.made) in
         let own_end : IsEndOf order run r m.key.end =
         rw (
           regroup,
           ends,
-        ) (end_later on_left.extra (met ++ on_right.extra) r
+        ) (end_within (met ++ on_right.extra) (on_left.extra ++ (met ++ on_right.extra))
+        (λ Q h. any_right Q on_left.extra (met ++ on_right.extra) h) r
         (unwrap_or finish r.end) on_right.end_of) in
         let own : IsNewItem order same run r v m = record {
           start =
-              rw starts (start_more (on_left.extra ++ met) on_right.extra r
+              rw starts (start_within (on_left.extra ++ met) run on_start r
               (unwrap_or start r.start) on_left.start_of);
           end = own_end;
           value = inl values;

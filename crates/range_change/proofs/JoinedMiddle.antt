@@ -11,9 +11,8 @@ use Rattle.range_keys.specs.Position.{end_position}
 use Rattle.range_keys.specs.PositionOrder.{position_total}
 use Rattle.range_keys.specs.declared.inner.position.Position.{Position}
 use Rattle.range_algebra.proofs.Lists.{any_left, any_right, every_weaker, every_append, every_left, every_right}
-use Rattle.range_change.specs.Chains.{line_of, IsLeftOf, IsRightOf}
+use Rattle.range_change.specs.Chains.{line_of, IsLeftOf, IsRightOf, IsSpliced}
 use Rattle.range_change.proofs.Chains.{chain_before, chain_right, follows_above}
-use Rattle.range_algebra.specs.Clones.{SameBound}
 use Rattle.range_algebra.specs.Compared.{flipped}
 use Rattle.range_algebra.specs.Cuts.{past, lower, upper}
 use Rattle.range_algebra.specs.Intervals.{Le, Lt, Any, Every}
@@ -27,8 +26,8 @@ use Rattle.range_store.specs.ListPlaces.{IsAt}
 use Rattle.range_change.specs.declared.borders.Border.{Border}
 use Rattle.range_change.specs.declared.borders.Border.TheVariants.{Plain, Cut, Joined}
 use Rattle.range_change.specs.declared.window.Window.{Window}
-use Rattle.range_change.specs.Borders.{IsLeftShape, IsRightShape, IsRunStart, joined_count, border_at, seam_border, border_start, border_end, TouchesBefore, TouchesNoneBefore, TouchesAfter, TouchesNoneAfter}
-use Rattle.range_change.specs.Edits.{flipped_bound, with_start}
+use Rattle.range_change.specs.Borders.{IsLeftShape, IsRightShape, IsRunStart, joined_count, seam_border, border_start, border_end, TouchesBefore, TouchesNoneBefore, TouchesAfter, TouchesNoneAfter}
+use Rattle.range_change.specs.Edits.{with_start}
 use Rattle.range_change.specs.Frames.{HasValue}
 use Rattle.range_change.specs.Stored.{item_lower, item_upper, IsStored}
 use Rattle.range_change.specs.Pieces.{LiesIn}
@@ -37,13 +36,12 @@ use Rattle.range_change.specs.Reach.{ReachesBefore, ReachesAfter}
 use Rattle.range_change.specs.Replaced.{AreWithin}
 use Rattle.range_change.specs.Seams.{with_first_start, with_last_end, IsLeftCutting, IsRightCutting, IsLeftSeam, IsRightSeam}
 use Rattle.range_change.specs.Window.{IsWindow, option_items}
-use Rattle.range_change.proofs.CutOut.{known_take, known_drop}
 use Rattle.range_change.proofs.CutParts.{ends_never}
-use Rattle.range_change.proofs.OuterBounds.{last_of, regrouped_last, item_with_end, with_last, started_last}
-use Rattle.range_change.proofs.Forms.{places, Known, Chained, stored_known, stored_chain}
+use Rattle.range_change.proofs.OuterBounds.{last_of, item_with_end, with_last, started_last}
+use Rattle.range_change.proofs.Forms.{places, Known, Chained, stored_known, stored_chain, known_take, known_drop}
 use Rattle.range_change.proofs.BoundEdits.{cut_joins_none}
-use Rattle.range_change.proofs.InsertionPlans.{left_cut_plan, right_cut_plan, left_plan_free, left_joined_at, right_joined_at, right_plan_plain}
-use Rattle.range_change.proofs.Splices.{IsFilled, IsSpliced, filled_apart, filled_joined, spliced_apart, spliced_joined}
+use Rattle.range_change.proofs.InsertionPlans.{left_plan_free, left_joined_at, right_joined_at, right_plan_plain}
+use Rattle.range_change.proofs.Splices.{IsFilled, filled_apart, filled_joined, spliced_apart, spliced_joined}
 
 pub got_only : {X : Type 0} (P : X → Type 0) (o : Option (Bor X)) (i : Bor X) → o ≡ Some i → P i.now
     → (m : X) → option_copied o ≡ Some m → P m
@@ -107,8 +105,9 @@ seam_count (Some q) reaching b = refl
 module _ {K : Type 0} (order : KeyOrder K) (lawful : IsLawful order) {V : Type 0}
     (same : V → V → Bool) (equal : IsEquivalence same) where
   abbrev pub Filled : List (Item (AnyRange K) V) → List (Item (AnyRange K) V)
-      → List (Item (AnyRange K) V) → Position K → Type 0
-  Filled items middle new c = IsFilled (line_of order lawful same equal) items middle new c
+      → List (Item (AnyRange K) V) → List (Item (AnyRange K) V) → Position K → Type 0
+  Filled items front wide middle c =
+      IsFilled (line_of order lawful same equal) items front wide middle c
 
   abbrev pub Spliced : List (Item (AnyRange K) V) → List (Item (AnyRange K) V)
       → List (Item (AnyRange K) V) → AnyRange K → Type 0
@@ -143,8 +142,8 @@ module _ {K : Type 0} (order : KeyOrder K) (lawful : IsLawful order) {V : Type 0
       pub shape : IsLeftShape is_good rank items border at begin rest start
       pub run : IsAt is_good rank (length items) from begin
       pub begins : begin + joined_count border ≡ place + length (option_items first)
-      pub filled : Filled items middle
-          ((take at items ++ option_items rest) ++ with_first_start start middle) (lower order r)
+      pub filled : Filled items (take at items ++ option_items rest)
+          (with_first_start start middle) middle (lower order r)
       pub known : Known order lawful same equal
           ((take at items ++ option_items rest) ++ with_first_start start middle)
       pub extra : List (Item (AnyRange K) V)
@@ -187,7 +186,7 @@ module _ {K : Type 0} (order : KeyOrder K) (lawful : IsLawful order) {V : Type 0
         → IsLeftOf (line_of order lawful same equal) items front (lower order r) s m.value
         → Chained order lawful same equal (m ∷ ms)
         → places order lawful (item_lower order m) (lower order r) ≡ Equal
-        → Filled items (m ∷ ms) (front ++ with_first_start start (m ∷ ms)) (lower order r)
+        → Filled items front (with_first_start start (m ∷ ms)) (m ∷ ms) (lower order r)
     start_filled None front ms m s starts left chain at =
         let total = position_total order.cmp lawful.total in
         filled_joined (line_of order lawful same equal) items front m m ms
@@ -298,7 +297,7 @@ module _ {K : Type 0} (order : KeyOrder K) (lawful : IsLawful order) {V : Type 0
           extra = [];
           split = sym (append-nil (take place items));
           touched = tt;
-          valued = every_weaker _ _ (option_items cut.rest) (λ j h. inl h) cut.valued;
+          valued = every_weaker _ _ (option_items cut.rest) (λ j h. inl h.value) cut.made;
         }
 
     all_later : (m : Item (AnyRange K) V) (ms : List (Item (AnyRange K) V))
@@ -376,7 +375,7 @@ module _ {K : Type 0} (order : KeyOrder K) (lawful : IsLawful order) {V : Type 0
     right_joining : (middle front init : List (Item (AnyRange K) V)) (m : Item (AnyRange K) V)
         (start : Option (Bound K)) (last : Option P) (border : Border K P) → IsStored order same
         items → PLt lawful (lower order r) (upper order r) → middle ≡ init ++ m ∷ []
-        → Filled items middle (front ++ with_first_start start middle) (lower order r)
+        → Filled items front (with_first_start start middle) middle (lower order r)
         → Known order lawful same equal (front ++ with_first_start start middle)
         → places order lawful (item_upper order m) (upper order r) ≡ Equal
         → IsRightPlan order same lawful equal is_good rank items r m.value place count last border
@@ -391,27 +390,26 @@ module _ {K : Type 0} (order : KeyOrder K) (lawful : IsLawful order) {V : Type 0
         ap (with_first_start start) split ∙ s.2 in
         let other = item_with_end plan.finish z in
         let behind = option_items plan.rest ++ drop plan.end items in
-        let grouped : front ++ with_first_start start middle ≡ (front ++ s.0) ++ z ∷ [] =
-        ap (λ ys. front ++ ys) body ∙ sym (append_assoc front s.0 (z ∷ [])) in
+        let body_end : with_last_end plan.finish (with_first_start start middle) ≡ s.0
+        ++ other ∷ [] = ap (with_last_end plan.finish) body ∙ with_last plan.finish s.0 z in
         let list : (front ++ with_last_end plan.finish (with_first_start start middle))
-        ++ behind ≡ (front ++ s.0) ++ other ∷ behind =
-        ap (λ ys. (front ++ ys) ++ behind)
-        (ap (with_last_end plan.finish) body ∙ with_last plan.finish s.0 z)
-        ∙ regrouped_last front s.0 behind other in
+        ++ behind ≡ front ++ ((s.0 ++ other ∷ []) ++ behind) =
+        ap (λ ys. (front ++ ys) ++ behind) body_end ∙ append_assoc front (s.0 ++ other ∷ []) behind
+        in
         let z_ends : places order lawful (item_upper order z) (upper order r) ≡ Equal =
         subst (λ (b : Bound K). places order lawful (past order (end_position order b))
         (upper order r) ≡ Equal) (sym s.3) at in
         let right =
         subst (λ (v : V). IsRightOf (line_of order lawful same equal) items behind
         (upper order r) plan.side.e v) (sym s.4) plan.side.right in
-        let filled = subst (λ ys. Filled items middle ys (lower order r)) grouped fill in
-        let all = subst (λ ys. Known order lawful same equal ys) grouped known in
-        let known_z = every_right _ (front ++ s.0) (z ∷ []) all in
+        let filled = subst (λ ys. Filled items front ys middle (lower order r)) body fill in
+        let all : Known order lawful same equal (front ++ (s.0 ++ z ∷ [])) = rw body at known in
+        let own_all = every_right _ front (s.0 ++ z ∷ []) all in
+        let known_z = every_right _ s.0 (z ∷ []) own_all in
         let cmp = places order lawful in
-        let body_end : with_last_end plan.finish (with_first_start start middle) ≡ s.0
-        ++ other ∷ [] = ap (with_last_end plan.finish) body ∙ with_last plan.finish s.0 z in
         let full =
-        (chain_right (line_of order lawful same equal) (front ++ s.0) (z ∷ []) filled.chain).0 in
+        (chain_right (line_of order lawful same equal) s.0 (z ∷ [])
+        (chain_right (line_of order lawful same equal) front (s.0 ++ z ∷ []) filled.chain)).0 in
         let under =
         le_lt_trans lawful _ _ _ (eq_le lawful _ _ (ended_lower plan.finish z))
         (lt_le_trans lawful _ _ _ full (eq_le lawful _ _ z_ends))
@@ -425,19 +423,18 @@ module _ {K : Type 0} (order : KeyOrder K) (lawful : IsLawful order) {V : Type 0
         let beyond =
         lt_le_trans lawful _ _ _ above (eq_ge lawful _ _ plan.side.ends) in
         let done =
-        spliced_joined (line_of order lawful same equal) items middle
-        (front ++ s.0) behind z other (lower order r)
-        (upper order r) plan.side.e filled good z_ends right (ended_lower plan.finish z)
+        spliced_joined (line_of order lawful same equal) items front s.0 middle behind z other
+        (lower order r) (upper order r) plan.side.e filled good z_ends right (ended_lower plan.finish z)
         (ended_upper plan.finish z plan.side.e plan.side.ends z_ends)
         (ended_value plan.finish z) in
         let known_new =
-        every_append _ (front ++ s.0) (other ∷ behind)
-        (every_left _ (front ++ s.0) (z ∷ []) all) (
-          ended_known plan.finish z known_z.0 plan.side.known_end,
-          every_append _ (option_items plan.rest) (drop plan.end items) plan.side.known
-              (known_drop order lawful same equal items plan.end
-              (stored_known order lawful same equal items stored)),
-        ) in
+        every_append _ front ((s.0 ++ other ∷ []) ++ behind) (every_left _ front _ all)
+        (every_append _ (s.0 ++ other ∷ []) behind
+        (every_append _ s.0 (other ∷ []) (every_left _ s.0 (z ∷ []) own_all)
+        (ended_known plan.finish z known_z.0 plan.side.known_end, tt))
+        (every_append _ (option_items plan.rest) (drop plan.end items) plan.side.known
+        (known_drop order lawful same equal items plan.end
+        (stored_known order lawful same equal items stored)))) in
         record {
           upto = plan.upto;
           end = plan.end;
@@ -477,7 +474,7 @@ module _ {K : Type 0} (order : KeyOrder K) (lawful : IsLawful order) {V : Type 0
         (last : Option P) (border : Border K P) (u : Position K) → IsStored order same items
         → place + count ≤ length items → PLe lawful (lower order r) u → PLt lawful u (upper order r)
         → Every (λ i. PLe lawful (item_upper order i) u) middle
-        → Filled items middle (front ++ with_first_start start middle) (lower order r)
+        → Filled items front (with_first_start start middle) middle (lower order r)
         → Known order lawful same equal (front ++ with_first_start start middle)
         → IsRightCutting order same lawful equal is_good rank items r place count last border
         → IsRightFill middle front start last border
@@ -495,8 +492,8 @@ module _ {K : Type 0} (order : KeyOrder K) (lawful : IsLawful order) {V : Type 0
           ends = omega (arith, none, cut.ends);
           in_range = within;
           spliced =
-              spliced_apart (line_of order lawful same equal) items middle
-              (front ++ with_first_start start middle) behind (lower order r) u
+              spliced_apart (line_of order lawful same equal) items front
+              (with_first_start start middle) middle behind (lower order r) u
               (upper order r) fill le lt all cut.side.right;
           known =
               every_append _ (front ++ with_first_start start middle) behind known
@@ -509,14 +506,14 @@ module _ {K : Type 0} (order : KeyOrder K) (lawful : IsLawful order) {V : Type 0
           reaches = λ b is. absurd (cc);
           valued =
               every_weaker _ _ (option_items cut.rest)
-              (λ j h. inl (any_left _ (take count (drop place items)) [] h)) cut.valued;
+              (λ j h. inl (any_left _ (take count (drop place items)) [] h.value)) cut.made;
         }
 
     pub right_fill : (middle front : List (Item (AnyRange K) V)) (start : Option (Bound K))
         (last : Option P) (border : Border K P) → IsStored order same items → IsStored order same
         middle → AreWithin order middle r → PLt lawful (lower order r) (upper order r)
         → place + count ≤ length items
-        → Filled items middle (front ++ with_first_start start middle) (lower order r)
+        → Filled items front (with_first_start start middle) middle (lower order r)
         → Known order lawful same equal (front ++ with_first_start start middle)
         → IsRightSeam order same lawful equal is_good rank items r place count
         (slice_get middle (length middle - 1)) last border → IsRightFill middle front start last
@@ -564,23 +561,6 @@ module _ {K : Type 0} {order : KeyOrder K} (lawful : IsLawful order) {V : Type 0
     {same : V → V → Bool} (equal : IsEquivalence same) {P : Type 0} {is_good : P → Type 0}
     {rank : P → ℕ} {items : List (Item (AnyRange K) V)} {r : AnyRange K} {w : Window P} {place : ℕ}
     (window : IsWindow order same is_good rank items r w place) where
-  -- an item that reaches out of the range is cut
-  pub left_cut_out : (first : Option P) (b : Bound K) (from : Option P)
-      → ReachesBefore order is_good rank items r place w.count first → IsKnownBound order b
-      → SameBound order (flipped_bound r.start) b
-      → IsAt is_good rank (length items) from (place + length (option_items first))
-      → IsLeftCutting order same lawful equal is_good rank items r place w.count first
-      (border_at first b) from
-  left_cut_out first b from reach known_b same_b next =
-      let cut = left_cut_plan lawful equal window first b reach known_b same_b in
-      record {
-        rest = cut.rest;
-        shape = cut.shape;
-        side = cut.side;
-        run = next;
-        valued = every_weaker _ _ (option_items cut.rest) (λ j h. h.value) cut.made;
-      }
-
   -- no item reaches out of it, and the one before may join
   pub left_touched : (v : V) (joined : Option P) (b : Bound K) (at : Option P)
       → ((p : P) → is_good p → rank p < length items)
@@ -597,33 +577,6 @@ module _ {K : Type 0} {order : KeyOrder K} (lawful : IsLawful order) {V : Type 0
   left_touched v (Some q) b at in_range reach found start =
       rw start (left_joined_at lawful equal window v q reach found.0 found.1
       (in_range q found.0) found.2)
-
-  right_cut_from : (last : Option P) (b : Bound K) (upto : ℕ)
-      → upto + length (option_items last) ≡ place + w.count
-      → ReachesAfter order is_good rank items r place w.count last → IsKnownBound order b
-      → SameBound order (flipped_bound r.end) b
-      → IsRightCutting order same lawful equal is_good rank items r place w.count last
-      (border_at last b)
-  right_cut_from last b upto at reach known_b same_b =
-      let cut = right_cut_plan lawful equal window last b upto at reach known_b same_b in
-      record {
-        upto = upto;
-        rest = cut.rest;
-        shape = cut.shape;
-        side = cut.side;
-        valued = every_weaker _ _ (option_items cut.rest) (λ j h. h.value) cut.made;
-        ends = at;
-      }
-
-  pub right_cut_any : (last : Option P) (b : Bound K)
-      → ReachesAfter order is_good rank items r place w.count last → IsKnownBound order b
-      → SameBound order (flipped_bound r.end) b
-      → IsRightCutting order same lawful equal is_good rank items r place w.count last
-      (border_at last b)
-  right_cut_any None b reach known_b same_b =
-      right_cut_from None b (place + w.count) (omega arith) reach known_b same_b
-  right_cut_any (Some p) b reach known_b same_b =
-      right_cut_from (Some p) b (place + w.count - 1) (omega (arith, reach.2)) reach known_b same_b
 
   pub right_touched : (v : V) (joined : Option P) (b : Bound K)
       → ((p : P) → is_good p → rank p < length items)

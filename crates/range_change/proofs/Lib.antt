@@ -7,7 +7,6 @@ pub mod ChainSides
 pub mod Chains
 pub mod Comparisons
 pub mod CoveredPlaces
-pub mod CutOut
 pub mod CutParts
 pub mod DividedItems
 pub mod Extents

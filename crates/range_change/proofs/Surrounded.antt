@@ -24,7 +24,7 @@ use Rattle.range_change.specs.declared.cut.DividedItem.{DividedItem}
 use Rattle.range_change.specs.declared.reach.Reach.{Reach}
 use Rattle.range_change.specs.declared.window.Window.{Window}
 use Rattle.range_change.proofs.RangePieces.{IsFull, all_full, item_at, listed_at}
-use Rattle.range_change.proofs.RangeSides.{borders_insert, borders_remove, left_border_inside, right_border_inside, left_rest_cut, right_rest_cut, left_border_rest, right_border_rest}
+use Rattle.range_change.proofs.RangeSides.{borders_insert, borders_remove, left_border_at, right_border_at, first_reaches, last_starts, left_rest_cut, right_rest_cut, left_border_rest, right_border_rest}
 use Rattle.range_change.proofs.Forms.{Chained, stored_known, stored_chain, nonempty_good}
 use Rattle.range_change.proofs.InsertionFrames.{insertion_frame, cut_way}
 use Rattle.range_change.proofs.Lengths.{changed_length}
@@ -32,7 +32,7 @@ use Rattle.range_change.proofs.MergedItems.{surrounded_alone}
 use Rattle.range_change.proofs.BoundEdits.{standing_item_splits_list}
 use Rattle.range_change.proofs.InsertionPlans.{left_frame_inside, left_frame_cut, right_frame_inside, right_frame_cut, left_part, right_part}
 use Rattle.range_change.proofs.UpdatedLists.{whole_piece, whole_answer}
-use Rattle.range_change.proofs.PlaceOrder.{PLt}
+use Rattle.range_change.proofs.PlaceOrder.{PLt, lt_le}
 
 none_of : {P : Type 0} (o : Option P) → length (option_items o) ≤ 0 → o ≡ None
 none_of None few = refl
@@ -122,14 +122,21 @@ module _ {K : Type 0} {order : KeyOrder K} (lawful : IsLawful order) {V : Type 0
   some : 0 < w.count
   some = omega (arith, within.one)
 
+  within_list : place < length items
+  within_list = omega (arith, within.window.in_range, some)
+
   -- it has an equal value: nothing changes
   pub stands : (v : V) → same x.value v ≡ true → IsInserted order same items items r v
   stands v values =
       let window = within.window in
-      let left = left_border_inside lawful equal window v x here some (within.starts x here)
+      let left =
+      left_border_at lawful equal window v place x within_list here
+      (lt_le lawful _ _ (within.starts x here)) (first_reaches lawful equal window x here some)
       values in
       let right =
-      right_border_inside lawful equal window v x here_end some (within.ends x here) values in
+      right_border_at lawful equal window (place + w.count) place v x (sym next) within_list here
+      (last_starts lawful equal window x here_end some) (lt_le lawful _ _ (within.ends x here))
+      values in
       let list =
       standing_item_splits_list items place (place + w.count) x
       (omega (arith, window.in_range, some)) here next in
@@ -220,12 +227,9 @@ module _ {K : Type 0} {order : KeyOrder K} (lawful : IsLawful order) {V : Type 0
           right_part lawful equal window x here_end some parts.start parts.value start_is.1
               copied,
           tt,
-        ) (omega arith) (omega arith) list in
+        ) list in
         borders_remove lawful equal window new place (place + w.count) (Some front)
         (Some behind) left right frame list
-
-  within_list : place < length items
-  within_list = omega (arith, within.window.in_range, some)
 
   split : items ≡ take place items ++ x ∷ drop (place + 1) items
   split = listed_at items place x within_list here

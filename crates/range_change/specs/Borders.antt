@@ -21,10 +21,9 @@ use Rattle.range_store.specs.declared.inner.cursor.Cursor.{Cursor}
 use Rattle.range_store.specs.declared.storage.Item.{Item}
 use Rattle.range_change.specs.declared.cut.DividedItem.{DividedItem}
 use Rattle.range_change.specs.declared.window.Window.{Window}
-use Rattle.range_algebra.specs.Intervals.{Every, Le}
+use Rattle.range_algebra.specs.Intervals.{Every}
 use Rattle.range_change.specs.Chains.{line_of, IsLeft, IsRight, IsLeftOf, IsRightOf}
 use Rattle.range_algebra.specs.Cuts.{past, lower, upper}
-use Rattle.range_change.specs.Stored.{item_lower, item_upper}
 use Rattle.range_algebra.specs.Relations.{Touches}
 use Rattle.range_change.specs.Reach.{inner_count}
 use Rattle.range_change.specs.Window.{option_items}
@@ -68,16 +67,12 @@ module _ {K : Type 0} (order : KeyOrder K) {V : Type 0} (same : V → V → Bool
       pub left : IsLeft (line_of order lawful same equal) items
           (take place items ++ option_items rest) (lower order r)
       pub known : Every (λ i. IsKnownRange order i.key) (option_items rest)
-      pub reaches : (y : Item (AnyRange K) V) → rest ≡ Some y
-          → Le (position_cmp order.cmp) (lower order r) (item_upper order y)
 
     pub record IsRightRest (items : List (Item (AnyRange K) V)) (r : AnyRange K) (end : ℕ)
         (rest : Option (Item (AnyRange K) V)) : Type 0 where
       pub right : IsRight (line_of order lawful same equal) items
           (option_items rest ++ drop end items) (upper order r)
       pub known : Every (λ i. IsKnownRange order i.key) (option_items rest)
-      pub reaches : (y : Item (AnyRange K) V) → rest ≡ Some y
-          → Le (position_cmp order.cmp) (item_lower order y) (upper order r)
 
     -- what stands before the range when it is bound to v: the first `at` items and a rest, after
     -- which the range starts at `start`

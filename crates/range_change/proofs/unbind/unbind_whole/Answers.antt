@@ -25,8 +25,7 @@ returns g c =
       append-nil (take place items),
     ) c.remove_rest.ensures.list in
     let frame =
-    cut_way lawful equal window new None None c.requires.some tt tt (omega arith)
-    (omega arith) done in
+    cut_way lawful equal window new None None c.requires.some tt tt done in
     let left =
     left_rest_whole lawful equal window (rw c.requires.first at c.requires.reach.first) in
     let right =
