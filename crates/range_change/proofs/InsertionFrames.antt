@@ -10,10 +10,11 @@ use Rattle.range_algebra.specs.Range.{IsKnownRange}
 use Rattle.range_algebra.specs.Intervals.{Lt, Any, Every}
 use Rattle.range_change.proofs.PlaceOrder.{lt_trans, lt_not_le, le_lt_trans, PLe, PLt}
 use Rattle.range_change.specs.Chains.{line_of}
-use Rattle.range_change.proofs.Chains.{chain_before}
+use Rattle.range_change.proofs.Chains.{chain_before, chain_left}
 use Rattle.range_algebra.specs.Cuts.{upper}
 use Rattle.range_algebra.proofs.Lists.{list_is_take_and_drop, parts_at, every_at, any_left, any_right, any_none, every_weaker, every_append, every_left, every_right}
-use Rattle.range_change.proofs.RangeSides.{element_at}
+use Rattle.range_change.proofs.CoveredPlaces.{chained_items_have_places}
+use Rattle.range_change.proofs.ItemPlaces.{element_at, element_at_is_read, listed_at, upto_item}
 use Rattle.range_store.specs.declared.storage.Item.{Item}
 use Rattle.range_change.specs.Stored.{item_lower, item_upper}
 use Rattle.range_algebra.specs.Relations.{LiesBefore}
@@ -141,13 +142,6 @@ module _ {K : Type 0} {order : KeyOrder K} (lawful : IsLawful order) {V : Type 0
   no_rest run r v (Some y) all made apart =
       absurd (apart.0 (has_equal run y.value v made.0.value all))
 
-  front_items_have_places : (xs ys : List (Item (AnyRange K) V))
-      → Chained order lawful same equal (xs ++ ys)
-      → Every (λ i. PLt lawful (item_lower order i) (item_upper order i)) xs
-  front_items_have_places [] ys h = tt
-  front_items_have_places (x ∷ []) ys h = (h.0, tt)
-  front_items_have_places (x ∷ y ∷ xs) ys h = (h.0, front_items_have_places (y ∷ xs) ys h.1.1)
-
   module _ {P : Type 0} {is_good : P → Type 0} {rank : P → ℕ} {items : List (Item (AnyRange K) V)}
       {r : AnyRange K} {w : Window P} {place : ℕ}
       (window : IsWindow order same is_good rank items r w place) where
@@ -159,40 +153,40 @@ module _ {K : Type 0} {order : KeyOrder K} (lawful : IsLawful order) {V : Type 0
         (known_drop order lawful same equal items place
         (stored_known order lawful same equal items window.stored)) window.above)
 
-    window_items_reach_range : (d : Item (AnyRange K) V) → 0 < w.count
+    window_items_reach_range : 0 < w.count
         → Every (λ i. LiesBefore order r i.key → ⊥) (take (place + w.count) items)
-    window_items_reach_range d some =
-        let cmp = places order lawful in
-        let chain = stored_chain order lawful same equal items window.stored in
+    window_items_reach_range some =
         let all = stored_known order lawful same equal items window.stored in
         let end = place + w.count in
-        let last = get_or items (end - 1) d in
-        let next : end - 1 + 1 ≡ end = omega (arith, some) in
-        let within : end - 1 < length items = omega (arith, some, window.in_range) in
-        let split = parts_at items (end - 1) d within in
-        let ordered =
-        chain_before (line_of order lawful same equal) (take (end - 1) items) last
-        (drop (end - 1 + 1) items) (rw split at chain) in
-        let meets = window.meets d some in
-        let full =
-        front_items_have_places (take (end - 1) items) (last ∷ drop (end - 1 + 1) items)
-        (rw split at chain) in
+        let k = end - 1 in
+        let within : k < length items = omega (arith, some, window.in_range) in
+        let x = element_at items k within in
+        let read = element_at_is_read items k within x in
+        let whole =
+        rw (listed_at items k x within read) at (stored_chain order lawful same equal items
+        window.stored) in
+        let front =
+        every_both _ _ (take k items)
+        (chain_before (line_of order lawful same equal) (take k items) x (drop (k + 1) items) whole)
+        (chained_items_have_places order lawful same equal (take k items)
+        (chain_left (line_of order lawful same equal) (take k items) (x ∷ drop (k + 1) items)
+        whole)) in
+        let starts : Every (λ i. PLt lawful (item_lower order i) (upper order r)) (take end items) =
+        rw (upto_item items k end x (omega (arith, some)) within read)
+        (every_append _ (take k items) (x ∷ [])
+        (every_weaker _ _ (take k items) (λ i h. lt_trans lawful _ _ _ h.1
+        (le_lt_trans lawful _ _ _ h.0.0 (rw (← read) at (window.meets x some)))) front)
+        (rw (← read) at (window.meets x some), tt)) in
         every_weaker _ _ (take end items) (λ i h k. lt_not_le lawful _ _ h.1
         ((before_is order lawful r.end i.key.start window.known.1 h.0.0).0 k))
         (every_both (λ i. IsKnownRange order i.key) _ (take end items)
-        (known_take order lawful same equal items end all)
-        (subst (λ (ys : List (Item (AnyRange K) V)). Every
-        (λ i. Lt cmp (item_lower order i) (upper order r)) ys)
-        (sym (take_more items (end - 1) d within) ∙ ap (λ n. take n items) next)
-        (every_append _ (take (end - 1) items) (last ∷ [])
-        (every_weaker _ _ (take (end - 1) items) (λ i h. lt_trans lawful _ _ _ h.1
-        (le_lt_trans lawful _ _ _ h.0.0 meets)) (every_both _ _ (take (end - 1) items) ordered full))
-        (meets, tt))))
+        (known_take order lawful same equal items end all) starts)
 
     -- each item of the window meets the range
-    pub window_meets : (d : Item (AnyRange K) V) → 0 < w.count
+    meets_by : (n : ℕ) → w.count ≡ n
         → Every (λ i. Overlap order i.key r) (take w.count (drop place items))
-    window_meets d some =
+    meets_by zero e = rw e tt
+    meets_by (suc n) e =
         let before =
         every_left (λ i. LiesBefore order i.key r → ⊥) (take w.count (drop place items))
         (drop w.count (drop place items))
@@ -201,15 +195,9 @@ module _ {K : Type 0} {order : KeyOrder K} (lawful : IsLawful order) {V : Type 0
         let behind =
         every_right (λ i. LiesBefore order r i.key → ⊥) (take place front)
         (drop place front) (rw (list_is_take_and_drop front place) at
-        (window_items_reach_range d some)) in
+        (window_items_reach_range (omega (arith, e)))) in
         every_both (λ i. LiesBefore order i.key r → ⊥) (λ i. LiesBefore order r i.key → ⊥)
         (take w.count (drop place items)) before (rw (drop-take place w.count items) at behind)
-
-    meets_by : (n : ℕ) → w.count ≡ n
-        → Every (λ i. Overlap order i.key r) (take w.count (drop place items))
-    meets_by zero e = rw e tt
-    meets_by (suc n) e =
-        window_meets (element_at items place (omega (arith, e, window.in_range))) (omega arith)
 
     pub all_meet : Every (λ i. Overlap order i.key r) (take w.count (drop place items))
     all_meet = meets_by w.count refl

@@ -21,7 +21,8 @@ use Rattle.range_change.specs.Reach.{ReachesBefore, ReachesAfter}
 use Rattle.range_change.specs.Borders.{border_at, TouchesBefore, TouchesNoneBefore, TouchesAfter, TouchesNoneAfter}
 use Rattle.range_change.specs.Plans.{IsLeftFrame, IsRightFrame, IsLeftPlan, IsRightPlan}
 use Rattle.range_change.specs.declared.borders.Border.TheVariants.{Plain, Cut, Joined}
-use Rattle.range_change.proofs.RangeSides.{element_at, element_at_is_read, left_rest_whole, left_rest_cut, right_rest_whole, right_rest_cut, left_border_at, left_border_rest, left_border_none, right_border_at, right_border_rest, right_border_none, first_reaches, last_starts, touching_before, touching_after}
+use Rattle.range_change.proofs.RangeSides.{left_rest_whole, left_rest_cut, right_rest_whole, right_rest_cut, left_border_at, left_border_rest, left_border_none, right_border_at, right_border_rest, right_border_none, first_reaches, last_starts, touching_before, touching_after}
+use Rattle.range_change.proofs.ItemPlaces.{element_at, element_at_is_read, upto_item, from_item}
 use Rattle.range_change.proofs.PlaceOrder.{lt_le}
 
 none_last : {X : Type 0} (xs : List X) (y : X) → xs ++ y ∷ [] ≡ [] → ⊥
@@ -219,13 +220,14 @@ module _ {K : Type 0} {order : KeyOrder K} (lawful : IsLawful order) {V : Type 0
         begins = omega arith;
       }
 
-  pub left_plan_joined : (q : P) (x : Item (AnyRange K) V)
-      → ReachesBefore order is_good rank items r place w.count None → is_good q → rank q + 1 ≡ place
-      → rank q < length items → x ≡ get_or items (rank q) x
+  pub left_plan_joined : (q : P) → ReachesBefore order is_good rank items r place w.count None
+      → is_good q → rank q + 1 ≡ place → rank q < length items
       → TouchesBefore order same items place r v
       → IsLeftPlan order same lawful equal is_good rank items r v place w.count None (Joined q)
       (Some q)
-  left_plan_joined q x reach is at within read touching =
+  left_plan_joined q reach is at within touching =
+      let x = element_at items (rank q) within in
+      let read = element_at_is_read items (rank q) within x in
       let touch = touched_before (rank q) x at read touching in
       let up = touching_before lawful equal window (rank q) x at within read touch.0 in record {
         at = rank q;
@@ -239,9 +241,7 @@ module _ {K : Type 0} {order : KeyOrder K} (lawful : IsLawful order) {V : Type 0
         frame = record {
           extra = x ∷ [];
           split =
-              ap (λ n. take n items) (sym at)
-              ∙ (take_more items (rank q) x within
-              ∙ ap (λ y. take (rank q) items ++ y ∷ []) (sym read));
+              upto_item items (rank q) place x at within read;
           touched = ((touch.0, touch.1, refl), tt);
           start_of = inr (inl (inl refl));
           made = tt;
@@ -251,16 +251,6 @@ module _ {K : Type 0} {order : KeyOrder K} (lawful : IsLawful order) {V : Type 0
         few = omega arith;
         begins = omega (arith, at);
       }
-
-  -- the item is the one at the position
-  pub left_joined_at : (q : P) → ReachesBefore order is_good rank items r place w.count None
-      → is_good q → rank q + 1 ≡ place → rank q < length items
-      → TouchesBefore order same items place r v
-      → IsLeftPlan order same lawful equal is_good rank items r v place w.count None (Joined q)
-      (Some q)
-  left_joined_at q reach is at within touching =
-      left_plan_joined q (element_at items (rank q) within) reach is at within
-      (element_at_is_read items (rank q) within (element_at items (rank q) within)) touching
 
   pub left_plan_free : (from : Option P) → IsAt is_good rank (length items) from place
       → ReachesBefore order is_good rank items r place w.count None
@@ -338,12 +328,13 @@ module _ {K : Type 0} {order : KeyOrder K} (lawful : IsLawful order) {V : Type 0
         ends = omega (arith, reach.2);
       }
 
-  pub right_plan_joined : (q : P) (x : Item (AnyRange K) V)
-      → ReachesAfter order is_good rank items r place w.count None → is_good q
-      → rank q ≡ place + w.count → rank q < length items → x ≡ get_or items (rank q) x
+  pub right_plan_joined : (q : P) → ReachesAfter order is_good rank items r place w.count None
+      → is_good q → rank q ≡ place + w.count → rank q < length items
       → TouchesAfter order same items (place + w.count) r v
       → IsRightPlan order same lawful equal is_good rank items r v place w.count None (Joined q)
-  right_plan_joined q x reach is at within read touching =
+  right_plan_joined q reach is at within touching =
+      let x = element_at items (rank q) within in
+      let read = element_at_is_read items (rank q) within x in
       let here : x ≡ get_or items (place + w.count) x = read ∙ ap (λ n. get_or items n x) at in
       let within' : place + w.count < length items = omega (arith, at, within) in
       let touch = touched_after x here touching in
@@ -360,8 +351,7 @@ module _ {K : Type 0} {order : KeyOrder K} (lawful : IsLawful order) {V : Type 0
         frame = record {
           extra = x ∷ [];
           split =
-              drop_more items (place + w.count) x within'
-              ∙ ap (λ y. y ∷ drop (place + w.count + 1) items) (sym here);
+              from_item items (place + w.count) x within' here;
           touched = ((touch.0, touch.1, refl), tt);
           end_of =
               inr
@@ -374,14 +364,6 @@ module _ {K : Type 0} {order : KeyOrder K} (lawful : IsLawful order) {V : Type 0
         few = omega arith;
         ends = omega arith;
       }
-
-  pub right_joined_at : (q : P) → ReachesAfter order is_good rank items r place w.count None
-      → is_good q → rank q ≡ place + w.count → rank q < length items
-      → TouchesAfter order same items (place + w.count) r v
-      → IsRightPlan order same lawful equal is_good rank items r v place w.count None (Joined q)
-  right_joined_at q reach is at within touching =
-      right_plan_joined q (element_at items (rank q) within) reach is at within
-      (element_at_is_read items (rank q) within (element_at items (rank q) within)) touching
 
   pub right_plan_plain : ReachesAfter order is_good rank items r place w.count None
       → TouchesNoneAfter order same items (place + w.count) r v

@@ -40,7 +40,7 @@ use Rattle.range_change.proofs.CutParts.{ends_never}
 use Rattle.range_change.proofs.OuterBounds.{last_of, item_with_end, with_last, started_last}
 use Rattle.range_change.proofs.Forms.{places, Known, Chained, stored_known, stored_chain, known_take, known_drop}
 use Rattle.range_change.proofs.BoundEdits.{cut_joins_none}
-use Rattle.range_change.proofs.InsertionPlans.{left_plan_free, left_joined_at, right_joined_at, right_plan_plain}
+use Rattle.range_change.proofs.InsertionPlans.{left_plan_free, left_plan_joined, right_plan_joined, right_plan_plain}
 use Rattle.range_change.proofs.Splices.{IsFilled, filled_apart, filled_joined, spliced_apart, spliced_joined}
 
 pub got_only : {X : Type 0} (P : X → Type 0) (o : Option (Bor X)) (i : Bor X) → o ≡ Some i → P i.now
@@ -575,7 +575,7 @@ module _ {K : Type 0} {order : KeyOrder K} (lawful : IsLawful order) {V : Type 0
       left_plan_free lawful equal window v at
       (subst (λ n. IsAt is_good rank (length items) at n) plus start) reach none
   left_touched v (Some q) b at in_range reach found start =
-      rw start (left_joined_at lawful equal window v q reach found.0 found.1
+      rw start (left_plan_joined lawful equal window v q reach found.0 found.1
       (in_range q found.0) found.2)
 
   pub right_touched : (v : V) (joined : Option P) (b : Bound K)
@@ -588,4 +588,4 @@ module _ {K : Type 0} {order : KeyOrder K} (lawful : IsLawful order) {V : Type 0
       (seam_border joined None b)
   right_touched v None b in_range reach none = right_plan_plain lawful equal window v reach none
   right_touched v (Some q) b in_range reach found =
-      right_joined_at lawful equal window v q reach found.0 found.1 (in_range q found.0) found.2
+      right_plan_joined lawful equal window v q reach found.0 found.1 (in_range q found.0) found.2

@@ -16,6 +16,7 @@ pub mod FreeReach
 pub mod Freeing
 pub mod InsertionFrames
 pub mod InsertionPlans
+pub mod ItemPlaces
 pub mod JoinedMiddle
 pub mod Lengths
 pub mod Listed

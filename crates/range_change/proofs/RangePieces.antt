@@ -31,12 +31,6 @@ pub item_at : {X : Type 0} (P : X → Type 0) (items : List X) (k : ℕ) (x : X)
     → k < length items → x ≡ get_or items k x → P x
 item_at P items k x all within read = subst P (sym read) (every_at P items k x all within)
 
--- the items up to one, that one, and those after it
-pub listed_at : {X : Type 0} (items : List X) (n : ℕ) (x : X) → n < length items
-    → x ≡ get_or items n x → items ≡ take n items ++ x ∷ drop (n + 1) items
-listed_at items n x within read =
-    parts_at items n x within ∙ ap (λ y. take n items ++ y ∷ drop (n + 1) items) (sym read)
-
 -- some item is such and is used so
 pub any_use : {X R : Type 0} (P Q : X → Type 0) (xs : List X) → Any P xs → Every Q xs
     → ((x : X) → P x → Q x → R) → R

@@ -39,21 +39,10 @@ use Rattle.range_change.proofs.BoundEdits.{opening_regroups, regrouped_out}
 use Rattle.range_change.proofs.CutParts.{cut_end, cut_start}
 use Rattle.range_change.specs.Borders.{IsLeftRest, IsRightRest, IsLeftBorder, IsRightBorder, TouchesNoneBefore, TouchesNoneAfter, border_start, border_end}
 use Rattle.range_change.proofs.Forms.{touches_is, bound_after}
+use Rattle.range_change.proofs.ItemPlaces.{element_at, element_at_is_read, listed_at, upto_item, from_item}
 
 both_truths : (b : Bool) → b ≡ true → b ≡ false → ⊥
 both_truths b e f = let clash : true ≡ false = sym e ∙ f in cc
-
-pub element_at : {X : Type 0} (xs : List X) (n : ℕ) → n < length xs → X
-element_at [] n within = absurd (omega arith)
-element_at (x ∷ xs) zero within = x
-element_at (x ∷ xs) (suc n) within = element_at xs n (omega arith)
-
-pub element_at_is_read : {X : Type 0} (xs : List X) (n : ℕ) (within : n < length xs) (d : X)
-    → element_at xs n within ≡ get_or xs n d
-unfolding element_at
-element_at_is_read [] n within d = absurd (omega arith)
-element_at_is_read (x ∷ xs) zero within d = refl
-element_at_is_read (x ∷ xs) (suc n) within d = element_at_is_read xs n (omega arith) d
 
 border_start_is : {K : Type 0} (order : KeyOrder K) {V : Type 0} (same : V → V → Bool)
     (o : Option (Bound K)) (r : AnyRange K)
@@ -84,29 +73,17 @@ module _ {K : Type 0} {order : KeyOrder K} (lawful : IsLawful order) {V : Type 0
         every_at (λ i. IsKnownRange order i.key) items n x
         (stored_known order lawful same equal items window.stored) within in rw (← read) at at
 
-    item_splits : (n : ℕ) (x : Item (AnyRange K) V) → n < length items → x ≡ get_or items n x
-        → items ≡ take n items ++ x ∷ drop (n + 1) items
-    item_splits n x within read =
-        parts_at items n x within ∙ ap (λ y. take n items ++ y ∷ drop (n + 1) items) (sym read)
-
     -- the first item of the window ends after the range starts, and the last starts before it ends
     pub first_reaches : (x : Item (AnyRange K) V) → x ≡ get_or items place x → 0 < w.count
         → PLe lawful (lower order r) (item_upper order x)
     first_reaches x read some =
         let within : place < length items = omega (arith, some, window.in_range) in
-        let first = rw (drop_more items place x within) at window.above in
-        rw (← read) at (lt_le lawful _ _ first.0)
+        let first = rw (from_item items place x within read) at window.above in
+        lt_le lawful _ _ first.0
 
     pub last_starts : (x : Item (AnyRange K) V) → x ≡ get_or items (place + w.count - 1) x
         → 0 < w.count → PLe lawful (item_lower order x) (upper order r)
     last_starts x read some = rw (← read) at (lt_le lawful _ _ (window.meets x some))
-
-    -- an item at a place is the last of those up to it
-    last_item : (n end : ℕ) (x : Item (AnyRange K) V) → n + 1 ≡ end → n < length items
-        → x ≡ get_or items n x → take end items ≡ take n items ++ x ∷ []
-    last_item n end x at within read =
-        ap (λ m. take m items) (sym at)
-        ∙ (take_more items n x within ∙ ap (λ y. take n items ++ y ∷ []) (sym read))
 
     -- an item beside the window that touches the range lies up to it
     pub touching_before : (n : ℕ) (x : Item (AnyRange K) V) → n + 1 ≡ place → n < length items
@@ -116,10 +93,10 @@ module _ {K : Type 0} {order : KeyOrder K} (lawful : IsLawful order) {V : Type 0
     touching_before n x at within read touching =
         let full =
         chain_right (line_of order lawful same equal) (take n items) (x ∷ drop (n + 1) items)
-        (rw (item_splits n x within read) at in_order) in
+        (rw (listed_at items n x within read) at in_order) in
         let ends : Every (λ i. PLe lawful (item_upper order i) (lower order r)) (x ∷ []) =
         every_right _ (take n items) (x ∷ [])
-        (rw (last_item n place x at within read) at window.below) in (
+        (rw (upto_item items n place x at within read) at window.below) in (
           le_trans lawful _ _ _ (lt_le lawful _ _ full.0) ends.0,
           (touches_is order lawful x.key.end r window.known range_has_places ends.0).0 touching,
         )
@@ -132,12 +109,11 @@ module _ {K : Type 0} {order : KeyOrder K} (lawful : IsLawful order) {V : Type 0
         let full =
         chain_right (line_of order lawful same equal) (take (place + w.count) items)
         (x ∷ drop (place + w.count + 1) items)
-        (rw (item_splits (place + w.count) x within read) at in_order) in
-        let first = rw (drop_more items (place + w.count) x within) at window.behind in
-        let starts : PLe lawful (upper order r) (item_lower order x) = rw (← read) at first.0 in
+        (rw (listed_at items (place + w.count) x within read) at in_order) in
+        let starts = rw (from_item items (place + w.count) x within read) at window.behind in
         let known_x = known_at (place + w.count) x within read in (
-          (touches_is order lawful r.end x.key known_x full.0 starts).0 touching,
-          le_trans lawful _ _ _ starts (lt_le lawful _ _ full.0),
+          (touches_is order lawful r.end x.key known_x full.0 starts.0).0 touching,
+          le_trans lawful _ _ _ starts.0 (lt_le lawful _ _ full.0),
         )
 
     -- no item of the window starts before the range
@@ -156,10 +132,8 @@ module _ {K : Type 0} {order : KeyOrder K} (lawful : IsLawful order) {V : Type 0
         let rest = drop (place + 1) items in
         let whole =
         chain_right (line_of order lawful same equal) (take place items) (x ∷ rest)
-        (rw (item_splits place x within read) at in_order) in
-        let first : drop place items ≡ x ∷ rest =
-        drop_more items place x within ∙ ap (λ y. y ∷ rest) (sym read) in
-        rw first (chain_above (line_of order lawful same equal) (lower order r) x rest whole
+        (rw (listed_at items place x within read) at in_order) in
+        rw (from_item items place x within read) (chain_above (line_of order lawful same equal) (lower order r) x rest whole
         (reach x (omega (arith, e)) read))
 
     -- no item of the window ends after the range
@@ -177,8 +151,8 @@ module _ {K : Type 0} {order : KeyOrder K} (lawful : IsLawful order) {V : Type 0
         let some : 0 < w.count = omega (arith, e) in
         let before =
         chain_before (line_of order lawful same equal) (take k items) x (drop (k + 1) items)
-        (rw (item_splits k x within read) at in_order) in
-        rw (last_item k (place + w.count) x (omega (arith, e)) within read)
+        (rw (listed_at items k x within read) at in_order) in
+        rw (upto_item items k (place + w.count) x (omega (arith, e)) within read)
         (every_append _ (take k items) (x ∷ [])
         (every_weaker _ _ (take k items)
         (λ i h. le_trans lawful _ _ _ h.0 (last_starts x read some)) before)
@@ -207,7 +181,7 @@ module _ {K : Type 0} {order : KeyOrder K} (lawful : IsLawful order) {V : Type 0
     left_rest_cut x read some starts b known_b same_b =
         let within : place < length items = omega (arith, some, window.in_range) in
         let known_x = known_at place x within read in
-        let split = item_splits place x within read in
+        let split = listed_at items place x within read in
         record {
           left =
               subst (λ ys. IsLeft (line_of order lawful same equal) ys
@@ -251,7 +225,7 @@ module _ {K : Type 0} {order : KeyOrder K} (lawful : IsLawful order) {V : Type 0
         let y : Item (AnyRange K) V =
         record { key = record { start = b; end = x.key.end }; value = u } in
         let split : items ≡ take k items ++ x ∷ drop end items =
-        item_splits k x within read ∙ ap (λ m. take k items ++ x ∷ drop m items) next in
+        listed_at items k x within read ∙ ap (λ m. take k items ++ x ∷ drop m items) next in
         record {
           right =
               subst (λ ys. IsRight (line_of order lawful same equal) ys (y ∷ drop end items)
@@ -269,7 +243,7 @@ module _ {K : Type 0} {order : KeyOrder K} (lawful : IsLawful order) {V : Type 0
         → PLe lawful (lower order r) (item_upper order x) → same x.value v ≡ true
         → IsLeftBorder order same lawful equal items r v n None (Some x.key.start)
     left_border_at v n x within read starts reaches values =
-        let split = item_splits n x within read in
+        let split = listed_at items n x within read in
         record {
           s = item_lower order x;
           starts = tied_itself (position_total order.cmp lawful.total) (item_lower order x);
@@ -313,7 +287,7 @@ module _ {K : Type 0} {order : KeyOrder K} (lawful : IsLawful order) {V : Type 0
         let within : n < length items = omega (arith, e, window.in_range) in
         let x = element_at items n within in
         let read = element_at_is_read items n within x in
-        let last = last_item n place x next within read in
+        let last = upto_item items n place x next within read in
         let before : place - 1 ≡ n = omega (arith, e) in
         let ends = every_right _ (take n items) (x ∷ []) (rw last at window.below) in
         let apart : Touches order x.key r → same x.value v ≡ true → ⊥ =
@@ -348,7 +322,7 @@ module _ {K : Type 0} {order : KeyOrder K} (lawful : IsLawful order) {V : Type 0
         → IsRightBorder order same lawful equal items r v end None (Some x.key.end)
     right_border_at end n v x at within read reaches ends values =
         let split : items ≡ take n items ++ x ∷ drop end items =
-        item_splits n x within read ∙ ap (λ m. take n items ++ x ∷ drop m items) at in
+        listed_at items n x within read ∙ ap (λ m. take n items ++ x ∷ drop m items) at in
         record {
           in_range = omega (arith, at, within);
           e = item_upper order x;

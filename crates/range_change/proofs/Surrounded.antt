@@ -23,7 +23,8 @@ use Rattle.range_change.specs.Window.{option_items}
 use Rattle.range_change.specs.declared.cut.DividedItem.{DividedItem}
 use Rattle.range_change.specs.declared.reach.Reach.{Reach}
 use Rattle.range_change.specs.declared.window.Window.{Window}
-use Rattle.range_change.proofs.RangePieces.{IsFull, all_full, item_at, listed_at}
+use Rattle.range_change.proofs.RangePieces.{IsFull, all_full, item_at}
+use Rattle.range_change.proofs.ItemPlaces.{listed_at}
 use Rattle.range_change.proofs.RangeSides.{borders_insert, borders_remove, left_border_at, right_border_at, first_reaches, last_starts, left_rest_cut, right_rest_cut, left_border_rest, right_border_rest}
 use Rattle.range_change.proofs.Forms.{Chained, stored_known, stored_chain, nonempty_good}
 use Rattle.range_change.proofs.InsertionFrames.{insertion_frame, cut_way}
