@@ -184,7 +184,7 @@ module _ {K : Type 0} {order : KeyOrder K} (lawful : IsLawful order) {V : Type 0
         begin = place;
         rest = None;
         start = Some x.key.start;
-        shape = (reach.0, reach.1, refl, refl, (x, here, refl));
+        shape = (reach.0, reach.1, refl, refl, (x, read, refl));
         side =
             left_border_at lawful equal window v place x
             (omega (arith, reach.2, window.in_range)) here (lt_le lawful _ _ (reach.3 x here))

@@ -26,7 +26,7 @@ use Rattle.range_store.specs.ListPlaces.{IsAt}
 use Rattle.range_change.specs.declared.borders.Border.{Border}
 use Rattle.range_change.specs.declared.borders.Border.TheVariants.{Plain, Cut, Joined}
 use Rattle.range_change.specs.declared.window.Window.{Window}
-use Rattle.range_change.specs.Borders.{IsLeftShape, IsRightShape, IsRunStart, joined_count, seam_border, border_start, border_end, TouchesBefore, TouchesNoneBefore, TouchesAfter, TouchesNoneAfter}
+use Rattle.range_change.specs.Borders.{IsLeftShape, IsRightShape, IsRunStart, left_side, right_side, joined_count, seam_border, border_start, border_end, TouchesBefore, TouchesNoneBefore, TouchesAfter, TouchesNoneAfter}
 use Rattle.range_change.specs.Edits.{with_start}
 use Rattle.range_change.specs.Frames.{HasValue}
 use Rattle.range_change.specs.Stored.{item_lower, item_upper, IsStored}
@@ -40,6 +40,7 @@ use Rattle.range_change.proofs.CutParts.{ends_never}
 use Rattle.range_change.proofs.OuterBounds.{last_of, item_with_end, with_last, started_last}
 use Rattle.range_change.proofs.Forms.{places, Known, Chained, stored_known, stored_chain, known_take, known_drop}
 use Rattle.range_change.proofs.BoundEdits.{cut_joins_none}
+use Rattle.range_change.proofs.Lengths.{border_joins_none}
 use Rattle.range_change.proofs.InsertionPlans.{left_plan_free, left_plan_joined, right_plan_joined, right_plan_plain}
 use Rattle.range_change.proofs.Splices.{IsFilled, filled_apart, filled_joined, spliced_apart, spliced_joined}
 
@@ -76,25 +77,6 @@ module _ {K : Type 0} (order : KeyOrder K) (lawful : IsLawful order) where
   within_end part r known others within =
       not_lt lawful (upper order part) (upper order r) (λ over.
       within_by part r (flipped r.end) refl known others within.ends over)
-
-joins_none_before : {K V P : Type 0} (is_good : P → Type 0) (rank : P → ℕ)
-    (items : List (Item (AnyRange K) V)) (border : Border K P) (at from : ℕ)
-    (rest : Option (Item (AnyRange K) V)) → IsLeftShape is_good rank items border at from rest None
-    → joined_count border ≡ 0
-joins_none_before is_good rank items Plain at from rest shape = refl
-joins_none_before is_good rank items (Cut p b) at from rest shape = refl
-joins_none_before is_good rank items (Joined p) at from rest shape =
-    absurd (let e = shape.4.2 in cc)
-
-joins_none_after : {K V P : Type 0} (is_good : P → Type 0) (rank : P → ℕ)
-    (items : List (Item (AnyRange K) V)) (border : Border K P) (upto end : ℕ)
-    (rest : Option (Item (AnyRange K) V)) → IsRightShape is_good rank items border upto end rest
-    None
-    → joined_count border ≡ 0
-joins_none_after is_good rank items Plain upto end rest shape = refl
-joins_none_after is_good rank items (Cut p b) upto end rest shape = refl
-joins_none_after is_good rank items (Joined p) upto end rest shape =
-    absurd (let e = shape.4.2 in cc)
 
 -- only an item that joins gives way beyond the window
 pub seam_count : {K P : Type 0} (joined reaching : Option P) (b : Bound K)
@@ -274,7 +256,7 @@ module _ {K : Type 0} (order : KeyOrder K) (lawful : IsLawful order) {V : Type 0
         IsLeftFill middle first border from
     left_cutting middle first border from stored others starts cut =
         let none =
-        joins_none_before is_good rank items border place
+        border_joins_none is_good rank items left_side border place
         (place + length (option_items first)) cut.rest cut.shape in
         record {
           at = place;
@@ -480,7 +462,7 @@ module _ {K : Type 0} (order : KeyOrder K) (lawful : IsLawful order) {V : Type 0
         → IsRightFill middle front start last border
     right_cutting middle front start last border u stored within le lt all fill known cut =
         let none =
-        joins_none_after is_good rank items border cut.upto
+        border_joins_none is_good rank items right_side border cut.upto
         (place + count) cut.rest cut.shape in
         let behind = option_items cut.rest ++ drop (place + count) items in
         record {

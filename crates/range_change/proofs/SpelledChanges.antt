@@ -107,9 +107,9 @@ module _ {K : Type 0} {order : KeyOrder K} (lawful : IsLawful order) {V : Type 0
     left_is_spelled (Some q) first at begin rest start (good, here, next, none, (x, read, is)) size
         few before =
         let one : begin + 1 ≡ place + length (option_items first) = size in
-        let within : at < length items =
-        omega (arith, found.window.in_range, one, few, next) in
-        let spelled = one_is_spelled at x within read in (
+        let within : rank q < length items =
+        omega (arith, found.window.in_range, one, few, next, here) in
+        let spelled = one_is_spelled (rank q) x within read in (
           rw none tt,
           λ b e. subst (IsStartAsIn order items) (same_Some x.key.start b (sym is ∙ e)) spelled.0,
         )

@@ -105,8 +105,34 @@ pub record IsOpened {K V : Type 0} (items new : List (Item (AnyRange K) V))
   pub front : take from new ≡ take at items ++ option_items before
   pub behind : drop upto new ≡ option_items after ++ drop end items
 
+-- one side of a range: an item there with another bound towards the range, with another outer one, its
+-- outer bound, and the place at which the range joins it
+pub record BorderSide (K V : Type 0) : Type 0 where
+  pub shortened : Item (AnyRange K) V → Bound K → Item (AnyRange K) V
+  pub extended : Item (AnyRange K) V → Bound K → Item (AnyRange K) V
+  pub outer : Item (AnyRange K) V → Bound K
+  pub place : ℕ → ℕ
+
+abbrev pub left_side : {K V : Type 0} → BorderSide K V
+left_side =
+    record {
+      shortened = with_end;
+      extended = with_start;
+      outer = λ i. i.key.start;
+      place = λ n. n;
+    }
+
+abbrev pub right_side : {K V : Type 0} → BorderSide K V
+right_side =
+    record {
+      shortened = with_start;
+      extended = with_end;
+      outer = λ i. i.key.end;
+      place = λ n. n + 1;
+    }
+
 module _ {K P : Type 0} where
-  -- how many items an border adds to those that give way
+  -- how many items a border adds to those that give way
   abbrev pub joined_count : Border K P → ℕ
   joined_count Plain = 0
   joined_count (Cut p b) = 0
@@ -136,55 +162,51 @@ module _ {K P : Type 0} where
   IsGoodBorder is_good (Joined p) = is_good p
 
   module _ {V : Type 0} where
-    -- how an border before a range changes the items, and the start that it gives the range
+    -- how a border changes the items, and the bound that it gives the range
+    abbrev pub IsBorderEdit : BorderSide K V → (P → ℕ) → List (Item (AnyRange K) V)
+        → List (Item (AnyRange K) V) → Border K P → Option (Bound K) → Type 0
+    IsBorderEdit side rank items new Plain given = (new ≡ items) × (given ≡ None)
+    IsBorderEdit side rank items new (Cut p b) given =
+        ((d : Item (AnyRange K) V)
+        → new ≡ slice_set items (rank p) (side.shortened (slice_index_or items (rank p) d) b))
+        × (given ≡ None)
+    IsBorderEdit side rank items new (Joined p) given = (d : Item (AnyRange K) V)
+        → (new ≡ slice_set items (rank p)
+        (side.extended (slice_index_or items (rank p) d) Unbounded))
+        × (given ≡ Some (side.outer (slice_index_or items (rank p) d)))
+
     abbrev pub IsLeftEdited : (P → ℕ) → List (Item (AnyRange K) V) → List (Item (AnyRange K) V)
         → Border K P → Option (Bound K) → Type 0
-    IsLeftEdited rank items new Plain start = (new ≡ items) × (start ≡ None)
-    IsLeftEdited rank items new (Cut p b) start =
-        ((d : Item (AnyRange K) V)
-        → new ≡ slice_set items (rank p) (with_end (slice_index_or items (rank p) d) b))
-        × (start ≡ None)
-    IsLeftEdited rank items new (Joined p) start = (d : Item (AnyRange K) V)
-        → (new ≡ slice_set items (rank p) (with_start (slice_index_or items (rank p) d) Unbounded))
-        × (start ≡ Some (slice_index_or items (rank p) d).key.start)
+    IsLeftEdited = IsBorderEdit left_side
 
     abbrev pub IsRightEdited : (P → ℕ) → List (Item (AnyRange K) V) → List (Item (AnyRange K) V)
         → Border K P → Option (Bound K) → Type 0
-    IsRightEdited rank items new Plain finish = (new ≡ items) × (finish ≡ None)
-    IsRightEdited rank items new (Cut p b) finish =
-        ((d : Item (AnyRange K) V)
-        → new ≡ slice_set items (rank p) (with_start (slice_index_or items (rank p) d) b))
-        × (finish ≡ None)
-    IsRightEdited rank items new (Joined p) finish = (d : Item (AnyRange K) V)
-        → (new ≡ slice_set items (rank p) (with_end (slice_index_or items (rank p) d) Unbounded))
-        × (finish ≡ Some (slice_index_or items (rank p) d).key.end)
+    IsRightEdited = IsBorderEdit right_side
+
+    -- from one place to another lies what is cut, and a rest of it stays; or an item is joined there,
+    -- and its outer bound given
+    abbrev pub IsBorderShape : BorderSide K V → (P → Type 0) → (P → ℕ) → List (Item (AnyRange K) V)
+        → Border K P → ℕ → ℕ → Option (Item (AnyRange K) V) → Option (Bound K) → Type 0
+    IsBorderShape side is_good rank items Plain low high rest given =
+        (high ≡ low) × (rest ≡ None) × (given ≡ None)
+    IsBorderShape side is_good rank items (Cut p b) low high rest given =
+        is_good p × (rank p ≡ low) × (high ≡ low + 1) × (given ≡ None)
+        × ((x : Item (AnyRange K) V) × (x ≡ slice_index_or items low x)
+        × (rest ≡ Some (side.shortened x b)))
+    IsBorderShape side is_good rank items (Joined p) low high rest given =
+        is_good p × (side.place (rank p) ≡ low) × (high ≡ low) × (rest ≡ None)
+        × ((x : Item (AnyRange K) V) × (x ≡ slice_index_or items (rank p) x)
+        × (given ≡ Some (side.outer x)))
 
     -- `at` items and a rest stand before the run, which begins at `from`
     abbrev pub IsLeftShape : (P → Type 0) → (P → ℕ) → List (Item (AnyRange K) V) → Border K P
         → ℕ → ℕ → Option (Item (AnyRange K) V) → Option (Bound K) → Type 0
-    IsLeftShape is_good rank items Plain at from rest start =
-        (from ≡ at) × (rest ≡ None) × (start ≡ None)
-    IsLeftShape is_good rank items (Cut p b) at from rest start =
-        is_good p × (rank p ≡ at) × (from ≡ at + 1) × (start ≡ None)
-        × ((x : Item (AnyRange K) V) × (x ≡ slice_index_or items at x)
-        × (rest ≡ Some (with_end x b)))
-    IsLeftShape is_good rank items (Joined p) at from rest start =
-        is_good p × (rank p ≡ at) × (from ≡ at) × (rest ≡ None)
-        × ((x : Item (AnyRange K) V) × (x ≡ slice_index_or items at x) × (start ≡ Some x.key.start))
+    IsLeftShape = IsBorderShape left_side
 
     -- a rest and the items from `end` on stand after the run, which ends at `upto`
     abbrev pub IsRightShape : (P → Type 0) → (P → ℕ) → List (Item (AnyRange K) V) → Border K P
         → ℕ → ℕ → Option (Item (AnyRange K) V) → Option (Bound K) → Type 0
-    IsRightShape is_good rank items Plain upto end rest finish =
-        (upto ≡ end) × (rest ≡ None) × (finish ≡ None)
-    IsRightShape is_good rank items (Cut p b) upto end rest finish =
-        is_good p × (rank p ≡ upto) × (end ≡ upto + 1) × (finish ≡ None)
-        × ((x : Item (AnyRange K) V) × (x ≡ slice_index_or items upto x)
-        × (rest ≡ Some (with_start x b)))
-    IsRightShape is_good rank items (Joined p) upto end rest finish =
-        is_good p × (rank p + 1 ≡ upto) × (upto ≡ end) × (rest ≡ None)
-        × ((x : Item (AnyRange K) V) × (x ≡ slice_index_or items (rank p) x)
-        × (finish ≡ Some x.key.end))
+    IsRightShape = IsBorderShape right_side
 
     -- the items beside a run are edited as the borders say
     abbrev pub AreOpened : (P → Type 0) → (P → ℕ) → List (Item (AnyRange K) V)
