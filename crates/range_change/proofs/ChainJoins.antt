@@ -6,7 +6,7 @@ use Rattle.range_algebra.specs.Orders.{cases, le_refl, lt_le, eq_le, eq_ge, le_t
 use Rattle.range_algebra.proofs.Lists.{any_left, any_right, any_split, every_weaker, every_append}
 use Rattle.range_change.specs.Chains.{Line, Leads, Trails, Follows, IsChain, Has, Respects, Leading, Trailing, IsLeft, IsRight, IsLeftOf, IsRightOf, IsMade, IsBoundTo, IsUnbound, IsSpliced}
 use Rattle.range_change.proofs.Chains.{same_is_symmetric, chain_right, chain_tail, chain_above, follows_above, strictly_leads, strictly_trails, chain_before, chains_join, join_apart}
-use Rattle.range_change.proofs.ChainSides.{none_below, none_above, only_first, only_second, held_alone, left_whole}
+use Rattle.range_change.proofs.ChainSides.{none_below, none_above, only_first, only_second, held_alone, leading_like, left_whole}
 
 pub both_ways : {A B C : Type 0} → A ↔ B → C ↔ B → A ↔ C
 both_ways f g = (λ a. g.1 (f.0 a), λ c. f.1 (g.0 c))
@@ -213,17 +213,6 @@ module _ {L V X : Type 0} (line : Line L V X) where
     chain,
   )
 
-  pub leading_like : (front : List X) (m : X) (s : L) (v : V) → Leading line s v front
-      → line.cmp (line.lo m) s ≡ Equal → line.same (line.value m) v ≡ true
-      → Leading line (line.lo m) (line.value m) front
-  leading_like front m s v leads at alike_value =
-      let high = eq_ge line.cmp line.total _ _ at in
-      every_weaker _ _ front (λ z h. (
-        le_trans line.cmp line.total _ _ _ h.0 high,
-        λ k t. h.1 (le_trans line.cmp line.total _ _ _ high k)
-            (line.equal.congr (line.value z) (line.value m) v t ∙ alike_value),
-      )) leads
-
   -- the new item is all that the hull holds
   pub places_between_are_bound : (items front behind : List X) (m : X) (c d s e : L) (v : V)
       → IsLeftOf line items front c s v → IsRightOf line items behind d e v → Lt line.cmp c d
@@ -243,7 +232,7 @@ module _ {L V X : Type 0} (line : Line L V X) where
       chains_join line front m behind left.left.chain (
         good,
         trailing_follows m behind e v e_low e_high alike_value right.right.chain right.trails,
-      ) (leading_like front m s v left.leads at_lo alike_value) in
+      ) (leading_like line front m s v left.leads at_lo alike_value) in
       let made =
       places_between_hold items front (m ∷ []) behind s e left.left right.right wide chain
       (eq_ge line.cmp line.total _ _ at_lo, tt) (e_low, tt) in

@@ -7,7 +7,7 @@ use Rattle.std.specs.Option.{unwrap_or}
 use Rattle.std.specs.declared.cmp.Ordering.TheVariants.{Equal}
 use Rattle.std.specs.declared.ops.Bound.{Bound}
 use Rattle.range_keys.specs.Order.{KeyOrder, IsLawful}
-use Rattle.range_keys.specs.Position.{end_position}
+use Rattle.range_keys.specs.Position.{start_position, end_position}
 use Rattle.range_keys.specs.PositionOrder.{position_total}
 use Rattle.range_keys.specs.declared.inner.position.Position.{Position}
 use Rattle.range_algebra.proofs.Lists.{any_left, any_right, every_weaker, every_append, every_left, every_right}
@@ -26,7 +26,7 @@ use Rattle.range_store.specs.ListPlaces.{IsAt}
 use Rattle.range_change.specs.declared.borders.Border.{Border}
 use Rattle.range_change.specs.declared.borders.Border.TheVariants.{Plain, Cut, Joined}
 use Rattle.range_change.specs.declared.window.Window.{Window}
-use Rattle.range_change.specs.Borders.{IsLeftShape, IsRightShape, IsRunStart, left_side, right_side, joined_count, seam_border, border_start, border_end, TouchesBefore, TouchesNoneBefore, TouchesAfter, TouchesNoneAfter}
+use Rattle.range_change.specs.Borders.{IsLeftShape, IsRightShape, IsRunStart, left_side, right_side, joined_count, seam_border, TouchesBefore, TouchesNoneBefore, TouchesAfter, TouchesNoneAfter}
 use Rattle.range_change.specs.Edits.{with_start}
 use Rattle.range_change.specs.Frames.{HasValue}
 use Rattle.range_change.specs.Stored.{item_lower, item_upper, IsStored}
@@ -163,22 +163,22 @@ module _ {K : Type 0} (order : KeyOrder K) (lawful : IsLawful order) {V : Type 0
           middle j.value) (option_items rest)
 
     start_filled : (start : Option (Bound K)) (front ms : List (Item (AnyRange K) V))
-        (m : Item (AnyRange K) V) (s : Position K)
-        → places order lawful (border_start order same start r) s ≡ Equal
-        → IsLeftOf (line_of order lawful same equal) items front (lower order r) s m.value
+        (m : Item (AnyRange K) V)
+        → IsLeftOf (line_of order lawful same equal) items front (lower order r)
+        (start_position order (unwrap_or start r.start)) m.value
         → Chained order lawful same equal (m ∷ ms)
         → places order lawful (item_lower order m) (lower order r) ≡ Equal
         → Filled items front (with_first_start start (m ∷ ms)) (m ∷ ms) (lower order r)
-    start_filled None front ms m s starts left chain at =
-        let total = position_total order.cmp lawful.total in
-        filled_joined (line_of order lawful same equal) items front m m ms
-        (lower order r) s left chain at
-        (total.congr (item_lower order m) (lower order r) s at ∙ starts)
-        (tied_itself total (item_upper order m)) (equal.refl m.value)
-    start_filled (Some b) front ms m s starts left chain at =
+    start_filled None front ms m left chain at =
+        filled_joined (line_of order lawful same equal) items front m m ms (lower order r)
+        (lower order r) left chain at at
+        (tied_itself (position_total order.cmp lawful.total) (item_upper order m))
+        (equal.refl m.value)
+    start_filled (Some b) front ms m left chain at =
         let total = position_total order.cmp lawful.total in
         filled_joined (line_of order lawful same equal) items front m (with_start m b) ms
-        (lower order r) s left chain at starts (tied_itself total (item_upper order m))
+        (lower order r) (start_position order b) left chain at
+        (tied_itself total (start_position order b)) (tied_itself total (item_upper order m))
         (equal.refl m.value)
 
     start_known : (start : Option (Bound K)) (m : Item (AnyRange K) V)
@@ -190,7 +190,7 @@ module _ {K : Type 0} (order : KeyOrder K) (lawful : IsLawful order) {V : Type 0
 
     takes_start : (start : Option (Bound K)) (m : Item (AnyRange K) V)
         (ms : List (Item (AnyRange K) V)) (i : Item (AnyRange K) V) → start ≡ Some i.key.start
-        → PLe lawful (border_start order same start r) (lower order r)
+        → PLe lawful (start_position order (unwrap_or start r.start)) (lower order r)
         → PLt lawful (lower order r) (upper order r)
         → PLt lawful (lower order r) (item_upper order m) → IsTrue (same i.value m.value)
         → TakesStartOf i (with_first_start start (m ∷ ms))
@@ -215,9 +215,7 @@ module _ {K : Type 0} (order : KeyOrder K) (lawful : IsLawful order) {V : Type 0
         from → IsLeftFill (m ∷ ms) first border from
     left_joining m ms first border from good stored middle at plan =
         let chain = stored_chain order lawful same equal (m ∷ ms) middle in
-        let le =
-        le_trans lawful _ _ _ (eq_le lawful _ _ plan.side.starts)
-        plan.side.left.below in
+        let le = plan.side.left.below in
         let over =
         le_lt_trans lawful _ _ _ (eq_ge lawful _ _ at) chain.0 in
         record {
@@ -230,7 +228,7 @@ module _ {K : Type 0} (order : KeyOrder K) (lawful : IsLawful order) {V : Type 0
           begins = plan.begins;
           filled =
               start_filled plan.start (take plan.at items ++ option_items plan.rest) ms m
-              plan.side.s plan.side.starts plan.side.left chain at;
+              plan.side.left chain at;
           known =
               every_append _ (take plan.at items ++ option_items plan.rest)
               (with_first_start plan.start (m ∷ ms))
@@ -324,14 +322,13 @@ module _ {K : Type 0} (order : KeyOrder K) (lawful : IsLawful order) {V : Type 0
     ended_lower (Some b) z =
         tied_itself (position_total order.cmp lawful.total) (item_lower order z)
 
-    ended_upper : (finish : Option (Bound K)) (z : Item (AnyRange K) V) (e : Position K)
-        → places order lawful (border_end order same finish r) e ≡ Equal
+    ended_upper : (finish : Option (Bound K)) (z : Item (AnyRange K) V)
         → places order lawful (item_upper order z) (upper order r) ≡ Equal
-        → places order lawful (item_upper order (item_with_end finish z)) e ≡ Equal
-    ended_upper None z e ends at =
-        (position_total order.cmp lawful.total).congr (item_upper order z) (upper order r) e at
-        ∙ ends
-    ended_upper (Some b) z e ends at = ends
+        → places order lawful (item_upper order (item_with_end finish z))
+        (past order (end_position order (unwrap_or finish r.end))) ≡ Equal
+    ended_upper None z at = at
+    ended_upper (Some b) z at =
+        tied_itself (position_total order.cmp lawful.total) (past order (end_position order b))
 
     ended_value : (finish : Option (Bound K)) (z : Item (AnyRange K) V)
         → same (item_with_end finish z).value z.value ≡ true
@@ -381,9 +378,10 @@ module _ {K : Type 0} (order : KeyOrder K) (lawful : IsLawful order) {V : Type 0
         let z_ends : places order lawful (item_upper order z) (upper order r) ≡ Equal =
         subst (λ (b : Bound K). places order lawful (past order (end_position order b))
         (upper order r) ≡ Equal) (sym s.3) at in
+        let e = past order (end_position order (unwrap_or plan.finish r.end)) in
         let right =
         subst (λ (v : V). IsRightOf (line_of order lawful same equal) items behind
-        (upper order r) plan.side.e v) (sym s.4) plan.side.right in
+        (upper order r) e v) (sym s.4) plan.side.right in
         let filled = subst (λ ys. Filled items front ys middle (lower order r)) body fill in
         let all : Known order lawful same equal (front ++ (s.0 ++ z ∷ [])) = rw body at known in
         let own_all = every_right _ front (s.0 ++ z ∷ []) all in
@@ -400,14 +398,12 @@ module _ {K : Type 0} (order : KeyOrder K) (lawful : IsLawful order) {V : Type 0
         lt_le_trans lawful _ _ _ good plan.side.right.above in
         let over =
         lt_le_trans lawful _ _ _ above (eq_ge lawful _ _
-        (ended_upper plan.finish z plan.side.e plan.side.ends z_ends)) in
+        (ended_upper plan.finish z z_ends)) in
         let same_value : m.value ≡ other.value = sym (ended_same plan.finish z ∙ s.4) in
-        let beyond =
-        lt_le_trans lawful _ _ _ above (eq_ge lawful _ _ plan.side.ends) in
         let done =
         spliced_joined (line_of order lawful same equal) items front s.0 middle behind z other
-        (lower order r) (upper order r) plan.side.e filled good z_ends right (ended_lower plan.finish z)
-        (ended_upper plan.finish z plan.side.e plan.side.ends z_ends)
+        (lower order r) (upper order r) e filled good z_ends right (ended_lower plan.finish z)
+        (ended_upper plan.finish z z_ends)
         (ended_value plan.finish z) in
         let known_new =
         every_append _ front ((s.0 ++ other ∷ []) ++ behind) (every_left _ front _ all)
@@ -441,8 +437,8 @@ module _ {K : Type 0} (order : KeyOrder K) (lawful : IsLawful order) {V : Type 0
                       subst (λ v. IsTrue (same i.value v)) same_value h.1,
                     ))),
               )) plan.frame.touched;
-          reaches = λ b is. subst (λ o. Lt cmp (lower order r) (border_end order same o r)) is
-              beyond;
+          reaches = λ b is. subst (λ o. Lt cmp (lower order r)
+              (past order (end_position order (unwrap_or o r.end)))) is above;
           valued =
               every_weaker _ _ (option_items plan.rest)
               (λ j h.

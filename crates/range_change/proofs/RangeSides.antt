@@ -37,24 +37,12 @@ use Rattle.range_algebra.specs.Range.{IsKnownBound}
 use Rattle.range_change.proofs.CoveredPlaces.{meets_bound}
 use Rattle.range_change.proofs.BoundEdits.{opening_regroups, regrouped_out}
 use Rattle.range_change.proofs.CutParts.{cut_end, cut_start}
-use Rattle.range_change.specs.Borders.{IsLeftRest, IsRightRest, IsLeftBorder, IsRightBorder, TouchesNoneBefore, TouchesNoneAfter, border_start, border_end}
+use Rattle.range_change.specs.Borders.{IsLeftRest, IsRightRest, IsLeftBorder, IsRightBorder, TouchesNoneBefore, TouchesNoneAfter}
 use Rattle.range_change.proofs.Forms.{touches_is, bound_after}
 use Rattle.range_change.proofs.ItemPlaces.{element_at, element_at_is_read, listed_at, upto_item, from_item}
 
 both_truths : (b : Bool) → b ≡ true → b ≡ false → ⊥
 both_truths b e f = let clash : true ≡ false = sym e ∙ f in cc
-
-border_start_is : {K : Type 0} (order : KeyOrder K) {V : Type 0} (same : V → V → Bool)
-    (o : Option (Bound K)) (r : AnyRange K)
-    → start_position order (unwrap_or o r.start) ≡ border_start order same o r
-border_start_is order same None r = refl
-border_start_is order same (Some b) r = refl
-
-border_end_is : {K : Type 0} (order : KeyOrder K) {V : Type 0} (same : V → V → Bool)
-    (o : Option (Bound K)) (r : AnyRange K)
-    → past order (end_position order (unwrap_or o r.end)) ≡ border_end order same o r
-border_end_is order same None r = refl
-border_end_is order same (Some b) r = refl
 
 module _ {K : Type 0} {order : KeyOrder K} (lawful : IsLawful order) {V : Type 0}
     {same : V → V → Bool} (equal : IsEquivalence same) where
@@ -245,8 +233,6 @@ module _ {K : Type 0} {order : KeyOrder K} (lawful : IsLawful order) {V : Type 0
     left_border_at v n x within read starts reaches values =
         let split = listed_at items n x within read in
         record {
-          s = item_lower order x;
-          starts = tied_itself (position_total order.cmp lawful.total) (item_lower order x);
           left =
               rw (append-nil (take n items))
               (subst (λ ys. IsLeftOf (line_of order lawful same equal) ys (take n items)
@@ -262,11 +248,8 @@ module _ {K : Type 0} {order : KeyOrder K} (lawful : IsLawful order) {V : Type 0
         → IsLeftRest order same lawful equal items r place (Some y) → same y.value v ≡ false
         → IsLeftBorder order same lawful equal items r v place (Some y) None
     left_border_rest v y rest values =
-        let total = position_total order.cmp lawful.total in
         let ends = every_right _ (take place items) (y ∷ []) rest.left.ends in
         record {
-          s = lower order r;
-          starts = tied_itself total (lower order r);
           left =
               left_apart (line_of order lawful same equal) items (take place items ++ y ∷ [])
               (lower order r) v rest.left
@@ -304,10 +287,7 @@ module _ {K : Type 0} {order : KeyOrder K} (lawful : IsLawful order) {V : Type 0
         → TouchesNoneBefore order same items place r v
         → IsLeftBorder order same lawful equal items r v place None None
     left_border_none v rest none =
-        let total = position_total order.cmp lawful.total in
         record {
-          s = lower order r;
-          starts = tied_itself total (lower order r);
           left =
               left_apart (line_of order lawful same equal) items (take place items ++ [])
               (lower order r) v rest.left
@@ -325,8 +305,6 @@ module _ {K : Type 0} {order : KeyOrder K} (lawful : IsLawful order) {V : Type 0
         listed_at items n x within read ∙ ap (λ m. take n items ++ x ∷ drop m items) at in
         record {
           in_range = omega (arith, at, within);
-          e = item_upper order x;
-          ends = tied_itself (position_total order.cmp lawful.total) (item_upper order x);
           right =
               subst (λ ys. IsRightOf (line_of order lawful same equal) ys (drop end items)
               (upper order r) (item_upper order x) v) (sym split)
@@ -340,11 +318,8 @@ module _ {K : Type 0} {order : KeyOrder K} (lawful : IsLawful order) {V : Type 0
         → IsRightRest order same lawful equal items r end (Some y) → same y.value v ≡ false
         → IsRightBorder order same lawful equal items r v end (Some y) None
     right_border_rest end v y within rest values =
-        let total = position_total order.cmp lawful.total in
         record {
           in_range = within;
-          e = upper order r;
-          ends = tied_itself total (upper order r);
           right =
               right_apart (line_of order lawful same equal) items (y ∷ drop end items)
               (upper order r) v rest.right
@@ -376,15 +351,12 @@ module _ {K : Type 0} {order : KeyOrder K} (lawful : IsLawful order) {V : Type 0
         → TouchesNoneAfter order same items end r v
         → IsRightBorder order same lawful equal items r v end None None
     right_border_none end v within rest none =
-        let total = position_total order.cmp lawful.total in
         let plus : end + 0 ≡ end = omega arith in
         let others =
         known_drop order lawful same equal items end
         (stored_known order lawful same equal items window.stored) in
         record {
           in_range = within;
-          e = upper order r;
-          ends = tied_itself total (upper order r);
           right =
               right_apart (line_of order lawful same equal) items (drop end items)
               (upper order r) v rest.right (all_trail end v (drop end items) others rest.right
@@ -417,13 +389,16 @@ module _ {K : Type 0} {order : KeyOrder K} (lawful : IsLawful order) {V : Type 0
         changed
         ∙ sym (opening_regroups (take at items) (option_items left) (option_items right)
         (drop end items) m) in
-        let at_start : places order lawful (item_lower order m) on_left.s ≡ Equal =
-        rw starts (rw (border_start_is order same start r) on_left.starts) in
-        let at_end : places order lawful (item_upper order m) on_right.e ≡ Equal =
-        rw ends (rw (border_end_is order same finish r) on_right.ends) in
+        let total = position_total order.cmp lawful.total in
+        let s = start_position order (unwrap_or start r.start) in
+        let e = past order (end_position order (unwrap_or finish r.end)) in
+        let at_start : places order lawful (item_lower order m) s ≡ Equal =
+        rw starts (tied_itself total s) in
+        let at_end : places order lawful (item_upper order m) e ≡ Equal =
+        rw ends (tied_itself total e) in
         let result =
         places_between_are_bound (line_of order lawful same equal) items front behind m
-        (lower order r) (upper order r) on_left.s on_right.e v on_left.left on_right.right
+        (lower order r) (upper order r) s e v on_left.left on_right.right
         range_has_places at_start at_end values in
         let known_m : IsKnownRange order m.key =
         (rw starts on_left.known_start, rw ends on_right.known_end) in
@@ -468,17 +443,13 @@ module _ {K : Type 0} {order : KeyOrder K} (lawful : IsLawful order) {V : Type 0
         let result =
         places_between_are_unbound (line_of order lawful same equal) items front behind
         (lower order r) (upper order r) on_left.left on_right.right range_has_places in
-        let others = every_append _ front behind
-        (every_append _ (take at items) (option_items left)
-        (known_take order lawful same equal items at all) on_left.known)
-        (every_append _ (option_items right) (drop end items) on_right.known
-        (known_drop order lawful same equal items end all)) in
         let known_front =
         every_append _ (take at items) (option_items left)
         (known_take order lawful same equal items at all) on_left.known in
         let known_behind =
         every_append _ (option_items right) (drop end items) on_right.known
         (known_drop order lawful same equal items end all) in
+        let others = every_append _ front behind known_front known_behind in
         let before =
         every_weaker _ _ front (λ i h m.
         m.0 ((before_is order lawful i.key.end r.start h.0.1 window.known.0).1 h.1))

@@ -7,8 +7,8 @@ use Rattle.range_algebra.specs.Orders.{le_refl, lt_le, eq_le, eq_ge, le_trans, l
 use Rattle.range_algebra.proofs.Lists.{any_left, any_right, any_split, every_weaker, every_append, every_left, every_right}
 use Rattle.range_change.specs.Chains.{Line, IsChain, Has, Held, Respects, IsLeft, IsRight, IsLeftOf, IsRightOf, IsSpliced}
 use Rattle.range_change.proofs.Chains.{same_is_symmetric, chain_left, chain_right, chain_above, strictly_leads, chain_before, chains_join, join_apart, follows_like}
-use Rattle.range_change.proofs.ChainSides.{held_alone}
-use Rattle.range_change.proofs.ChainJoins.{both_ways, hull, leading_like, places_between_hold, trailing_follows}
+use Rattle.range_change.proofs.ChainSides.{held_alone, like_item, leading_like}
+use Rattle.range_change.proofs.ChainJoins.{both_ways, hull, places_between_hold, trailing_follows}
 
 module _ {L V X : Type 0} (line : Line L V X) where
   -- a list that starts at a place before another: what stands before it, and that it holds up to
@@ -23,19 +23,6 @@ module _ {L V X : Type 0} (line : Line L V X) where
         → Every (λ x. Le line.cmp (line.hi x) u) wide
     pub hulled : (new : List X) (d : L) → Lt line.cmp c d → IsSpliced line items wide new start d
         → IsSpliced line items middle new c d
-
-  -- an item in the place of another, at a place that both hold
-  like_item : (front behind : List X) (x y : X) (p : L) (W : V → Bool) → Respects line W
-      → line.same (line.value x) (line.value y) ≡ true → (Held line p x → Held line p y)
-      → Has line W p (front ++ x ∷ behind) → Has line W p (front ++ y ∷ behind)
-  like_item front behind x y p W alike alike_value held h =
-      elim (any_split _ front (x ∷ behind) h) [
-        | inl k ↦ any_left _ front (y ∷ behind) k
-        | inr k ↦ any_right _ front (y ∷ behind) (elim k [
-          | inl e ↦ inl (held e.0, alike (line.value x) (line.value y) alike_value e.1)
-          | inr e ↦ inr e
-        ])
-      ]
 
   chain_apart : (front middle : List X) (c : L) → IsChain line front
       → Every (λ x. Le line.cmp (line.hi x) c) front → IsChain line middle
@@ -95,14 +82,14 @@ module _ {L V X : Type 0} (line : Line L V X) where
         hulled = λ new d l made. hull line items new c d s d (λ p W. Has line W p (other ∷ ms))
             (λ p W. Has line W p (m ∷ ms)) left.below l (le_refl line.cmp line.total d) made
             (λ p W alike from upto. (
-              like_item [] ms other m p W alike alike_value (λ h. (
+              like_item line [] [] ms ms other m p W alike alike_value (λ h. (
                 le_trans line.cmp line.total _ _ _ c_low from,
                 lt_le_trans line.cmp line.total _ _ _ h.1 hi_low,
-              )),
-              like_item [] ms m other p W alike value_back (λ h. (
+              )) (λ k. k) (λ k. k),
+              like_item line [] [] ms ms m other p W alike value_back (λ h. (
                 le_trans line.cmp line.total _ _ _ low from,
                 lt_le_trans line.cmp line.total _ _ _ h.1 hi_high,
-              )),
+              )) (λ k. k) (λ k. k),
             ))
             (λ p W alike where_. elim where_ [
               | inl k ↦
@@ -203,15 +190,15 @@ module _ {L V X : Type 0} (line : Line L V X) where
       (λ p W. Has line W p (init ++ z ∷ [])) (le_refl line.cmp line.total fill.start) begun
       right.above made
       (λ p W alike from upto. (
-        like_item init [] other z p W alike alike_value (λ h. (
+        like_item line init init [] [] other z p W alike alike_value (λ h. (
           le_trans line.cmp line.total _ _ _ lo_high h.0,
           lt_le_trans line.cmp line.total _ _ _ upto d_high,
-        )),
-        like_item init [] z other p W alike value_back (λ h. (
+        )) (λ k. k) (λ k. k),
+        like_item line init init [] [] z other p W alike value_back (λ h. (
           le_trans line.cmp line.total _ _ _ lo_low h.0,
           lt_le_trans line.cmp line.total _ _ _ upto
               (le_trans line.cmp line.total _ _ _ right.above e_high),
-        )),
+        )) (λ k. k) (λ k. k),
       ))
       (λ p W alike where_. elim where_ [
         | inl k ↦ absurd (lt_not_le line.cmp line.total _ _ k.1 k.0)

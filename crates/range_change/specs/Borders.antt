@@ -29,15 +29,6 @@ use Rattle.range_change.specs.Reach.{inner_count}
 use Rattle.range_change.specs.Window.{option_items}
 
 module _ {K : Type 0} (order : KeyOrder K) {V : Type 0} (same : V → V → Bool) where
-  -- where a range starts that has another start bound in the place of its own
-  abbrev pub border_start : Option (Bound K) → AnyRange K → Position K
-  border_start None r = lower order r
-  border_start (Some b) r = start_position order b
-
-  abbrev pub border_end : Option (Bound K) → AnyRange K → Position K
-  border_end None r = upper order r
-  border_end (Some b) r = past order (end_position order b)
-
   -- no item just before the place touches the range with an equal value
   abbrev pub TouchesNoneBefore : List (Item (AnyRange K) V) → ℕ → AnyRange K → V → Type 0
   TouchesNoneBefore items place r v = (d : Item (AnyRange K) V) → 0 < place
@@ -78,10 +69,9 @@ module _ {K : Type 0} (order : KeyOrder K) {V : Type 0} (same : V → V → Bool
     -- which the range starts at `start`
     pub record IsLeftBorder (items : List (Item (AnyRange K) V)) (r : AnyRange K) (v : V) (at : ℕ)
         (rest : Option (Item (AnyRange K) V)) (start : Option (Bound K)) : Type 0 where
-      pub s : Position K
-      pub starts : position_cmp order.cmp (border_start start r) s ≡ Equal
       pub left : IsLeftOf (line_of order lawful same equal) items
-          (take at items ++ option_items rest) (lower order r) s v
+          (take at items ++ option_items rest) (lower order r)
+          (start_position order (unwrap_or start r.start)) v
       pub known : Every (λ i. IsKnownRange order i.key) (option_items rest)
       pub known_start : IsKnownBound order (unwrap_or start r.start)
 
@@ -89,10 +79,9 @@ module _ {K : Type 0} (order : KeyOrder K) {V : Type 0} (same : V → V → Bool
     pub record IsRightBorder (items : List (Item (AnyRange K) V)) (r : AnyRange K) (v : V) (end : ℕ)
         (rest : Option (Item (AnyRange K) V)) (finish : Option (Bound K)) : Type 0 where
       pub in_range : end ≤ length items
-      pub e : Position K
-      pub ends : position_cmp order.cmp (border_end finish r) e ≡ Equal
       pub right : IsRightOf (line_of order lawful same equal) items
-          (option_items rest ++ drop end items) (upper order r) e v
+          (option_items rest ++ drop end items) (upper order r)
+          (past order (end_position order (unwrap_or finish r.end))) v
       pub known : Every (λ i. IsKnownRange order i.key) (option_items rest)
       pub known_end : IsKnownBound order (unwrap_or finish r.end)
 
