@@ -1,13 +1,11 @@
 -- A range that lies apart from all stored ones, and the list with it.
-use Rattle.std.proofs.Common.{◌≡◌, ℕ, zero, suc, ◌+◌, ◌<◌, List, [], ◌∷◌, ◌++◌, length, take, drop, get_or, refl, ap, sym, subst, ◌∙◌, arith, Option, Some, None, Bool, true, false, ◌&&◌, IsTrue, ◌⊎◌, ◌↔◌, inl, inr}
+use Rattle.std.proofs.Common.{◌≡◌, ℕ, ◌+◌, ◌<◌, List, [], ◌∷◌, ◌++◌, length, take, drop, get_or, refl, ap, sym, subst, ◌∙◌, arith, Option, Some, None, Bool, true, false, ◌&&◌, IsTrue, ◌⊎◌, ◌↔◌, inl, inr}
 use Rattle.std.specs.Prelude.{insert, IfSome, MatchOption}
 use Rattle.std.specs.Option.{ForSome}
-use Rattle.std.specs.Cmp.{IsEquivalence, tied_itself}
+use Rattle.std.specs.Cmp.{IsEquivalence}
 use Rattle.std.specs.declared.ops.Bound.{Bound}
-use Rattle.std.proofs.lemmas.List.{drop_more, take_more}
 use Rattle.range_keys.specs.Order.{KeyOrder, IsLawful}
 use Rattle.range_keys.specs.Position.{end_position, position_cmp, start_position}
-use Rattle.range_keys.specs.PositionOrder.{position_total}
 use Rattle.range_keys.specs.declared.inner.position.Position.{Position}
 use Rattle.range_keys.proofs.Orderings.{less_or_not}
 use Rattle.range_change.specs.Chains.{line_of}
@@ -406,7 +404,6 @@ module _ {K : Type 0} (order : KeyOrder K) (lawful : IsLawful order) where
             (take place items ++ x ∷ drop place items)
             × IsBoundAfter order same items (take place items ++ x ∷ drop place items) r v
         put_in v =
-            let total = position_total order.cmp lawful.total in
             let x : Item (AnyRange K) V = record { key = r; value = v } in
             let c = lower order r in
             let d = upper order r in
@@ -440,8 +437,7 @@ module _ {K : Type 0} (order : KeyOrder K) (lawful : IsLawful order) where
             let changed =
             places_between_are_bound (line_of order lawful same equal)
             (take place items ++ drop place items) (take place items)
-            (drop place items) x c d c d v on_left on_right range_good (tied_itself total c)
-            (tied_itself total d) (equal.refl v) in
+            (drop place items) x c d v on_left on_right range_good (equal.refl v) in
             let new_known : Known order lawful same equal
             (take place items ++ x ∷ drop place items) =
             every_append (λ i. IsKnownRange order i.key) (take place items)

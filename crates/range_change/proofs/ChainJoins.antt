@@ -1,10 +1,10 @@
 -- What a range joins beside it, and the chain in which it is bound or unbound.
 use Rattle.std.proofs.Common.{◌≡◌, sym, ◌∙◌, Bool, true, List, [], ◌∷◌, ◌++◌, ◌↔◌, ◌⊎◌, inl, inr}
-use Rattle.std.specs.declared.cmp.Ordering.TheVariants.{Equal}
+use Rattle.std.specs.Cmp.{tied_itself}
 use Rattle.range_algebra.specs.Intervals.{Le, Lt, Every}
-use Rattle.range_algebra.specs.Orders.{cases, le_refl, lt_le, eq_le, eq_ge, le_trans, lt_not_le, lt_le_trans, le_lt_trans}
+use Rattle.range_algebra.specs.Orders.{cases, le_refl, lt_le, le_trans, lt_not_le, lt_le_trans, le_lt_trans}
 use Rattle.range_algebra.proofs.Lists.{any_left, any_right, any_split, every_weaker, every_append}
-use Rattle.range_change.specs.Chains.{Line, Leads, Trails, Follows, IsChain, Has, Respects, Leading, Trailing, IsLeft, IsRight, IsLeftOf, IsRightOf, IsMade, IsBoundTo, IsUnbound, IsSpliced}
+use Rattle.range_change.specs.Chains.{Line, Leads, Trails, Follows, IsChain, Has, Held, Respects, Leading, Trailing, IsLeft, IsRight, IsLeftOf, IsRightOf, IsMade, IsBoundTo, IsUnbound, IsSpliced}
 use Rattle.range_change.proofs.Chains.{same_is_symmetric, chain_right, chain_tail, chain_above, follows_above, strictly_leads, strictly_trails, chain_before, chains_join, join_apart}
 use Rattle.range_change.proofs.ChainSides.{none_below, none_above, only_first, only_second, held_alone, leading_like, left_whole}
 
@@ -214,45 +214,45 @@ module _ {L V X : Type 0} (line : Line L V X) where
   )
 
   -- the new item is all that the hull holds
-  pub places_between_are_bound : (items front behind : List X) (m : X) (c d s e : L) (v : V)
-      → IsLeftOf line items front c s v → IsRightOf line items behind d e v → Lt line.cmp c d
-      → line.cmp (line.lo m) s ≡ Equal → line.cmp (line.hi m) e ≡ Equal
-      → line.same (line.value m) v ≡ true → IsBoundTo line items (front ++ m ∷ behind) c d v
-  places_between_are_bound items front behind m c d s e v left right l at_lo at_hi alike_value =
-      let s_low = eq_le line.cmp line.total _ _ at_lo in
-      let e_low = eq_le line.cmp line.total _ _ at_hi in
-      let e_high = eq_ge line.cmp line.total _ _ at_hi in
-      let wide : Lt line.cmp s e =
+  pub places_between_are_bound : (items front behind : List X) (m : X) (c d : L) (v : V)
+      → IsLeftOf line items front c (line.lo m) v → IsRightOf line items behind d (line.hi m) v
+      → Lt line.cmp c d → line.same (line.value m) v ≡ true
+      → IsBoundTo line items (front ++ m ∷ behind) c d v
+  places_between_are_bound items front behind m c d v left right l alike_value =
+      let high = le_trans line.cmp line.total _ _ _ (lt_le line.cmp line.total _ _ l) right.above in
+      let good : Lt line.cmp (line.lo m) (line.hi m) =
       le_lt_trans line.cmp line.total _ _ _ left.below
       (lt_le_trans line.cmp line.total _ _ _ l right.above) in
-      let good : Lt line.cmp (line.lo m) (line.hi m) =
-      le_lt_trans line.cmp line.total _ _ _ s_low
-      (lt_le_trans line.cmp line.total _ _ _ wide e_high) in
       let chain =
       chains_join line front m behind left.left.chain (
         good,
-        trailing_follows m behind e v e_low e_high alike_value right.right.chain right.trails,
-      ) (leading_like line front m s v left.leads at_lo alike_value) in
+        trailing_follows m behind (line.hi m) v (le_refl line.cmp line.total (line.hi m))
+            (le_refl line.cmp line.total (line.hi m)) alike_value right.right.chain right.trails,
+      )
+      (leading_like line front m (line.lo m) v left.leads
+      (tied_itself line.total (line.lo m)) alike_value) in
       let made =
-      places_between_hold items front (m ∷ []) behind s e left.left right.right wide chain
-      (eq_ge line.cmp line.total _ _ at_lo, tt) (e_low, tt) in
-      let own : (p : L) (W : V → Bool) → Respects line W → Le line.cmp s p → Lt line.cmp p e
+      places_between_hold items front (m ∷ []) behind (line.lo m) (line.hi m) left.left right.right
+      good chain (le_refl line.cmp line.total (line.lo m), tt)
+      (le_refl line.cmp line.total (line.hi m), tt) in
+      let own : (p : L) (W : V → Bool) → Respects line W → Held line p m
       → Has line W p (m ∷ []) ↔ (W v ≡ true) =
-      λ p W alike from upto. held_alone line [] m [] p W v (good, tt) (
-        le_trans line.cmp line.total _ _ _ s_low from,
-        lt_le_trans line.cmp line.total _ _ _ upto e_high,
-      ) alike alike_value in
-      hull items (front ++ m ∷ behind) c d s e (λ p W. Has line W p (m ∷ []))
-      (λ p W. W v ≡ true) left.below l right.above made
-      (λ p W alike from upto. own p W alike (le_trans line.cmp line.total _ _ _ left.below from)
-      (lt_le_trans line.cmp line.total _ _ _ upto right.above))
+      λ p W alike held. held_alone line [] m [] p W v (good, tt) held alike alike_value in
+      hull items (front ++ m ∷ behind) c d (line.lo m) (line.hi m)
+      (λ p W. Has line W p (m ∷ [])) (λ p W. W v ≡ true) left.below l right.above made
+      (λ p W alike from upto. own p W alike (
+        le_trans line.cmp line.total _ _ _ left.below from,
+        lt_le_trans line.cmp line.total _ _ _ upto right.above,
+      ))
       (λ p W alike where_. elim where_ [
         | inl k ↦
             both_ways (left.joined p W alike k.0 k.1)
-            (own p W alike k.0 (lt_le_trans line.cmp line.total _ _ _ k.1
-            (le_trans line.cmp line.total _ _ _ (lt_le line.cmp line.total _ _ l) right.above)))
+            (own p W alike (k.0, lt_le_trans line.cmp line.total _ _ _ k.1 high))
         | inr k ↦
             both_ways (right.joined p W alike k.0 k.1)
-            (own p W alike (le_trans line.cmp line.total _ _ _ left.below
-            (le_trans line.cmp line.total _ _ _ (lt_le line.cmp line.total _ _ l) k.0)) k.1)
+            (own p W alike (
+              le_trans line.cmp line.total _ _ _ left.below
+                  (le_trans line.cmp line.total _ _ _ (lt_le line.cmp line.total _ _ l) k.0),
+              k.1,
+            ))
       ])

@@ -1,29 +1,30 @@
 -- Which items give way to a range, and what stands in their place.
 use Rattle.std.proofs.Common.{◌≡◌, ℕ, zero, suc, ◌+◌, ◌-◌, ◌<◌, ◌≤◌, List, [], ◌∷◌, ◌++◌, length, take, drop, get_or, refl, ap, sym, ◌∙◌, arith, subst, Option, Some, None, Bool, true, IsTrue, ◌⊎◌, inl, inr, length-append, length-drop, append_assoc}
-use Rattle.std.proofs.lemmas.List.{append-nil, get_or-drop, get_or-take, drop-take, drop-drop, take_more, length-take-le}
+use Rattle.std.proofs.lemmas.List.{append-nil, get_or-drop, get_or-take, drop-take, drop-drop, length-take-le}
 use Rattle.std.specs.Cmp.{IsEquivalence}
 use Rattle.std.specs.Option.{unwrap_or}
 use Rattle.std.specs.declared.ops.Bound.{Bound}
 use Rattle.range_keys.specs.Order.{KeyOrder, IsLawful}
 use Rattle.range_algebra.specs.declared.any.AnyRange.{AnyRange}
 use Rattle.range_algebra.specs.Range.{IsKnownRange}
-use Rattle.range_algebra.specs.Intervals.{Lt, Any, Every}
+use Rattle.range_algebra.specs.Intervals.{Any, Every}
 use Rattle.range_change.proofs.PlaceOrder.{lt_trans, lt_not_le, le_lt_trans, PLe, PLt}
 use Rattle.range_change.specs.Chains.{line_of}
 use Rattle.range_change.proofs.Chains.{chain_before, chain_left}
 use Rattle.range_algebra.specs.Cuts.{upper}
-use Rattle.range_algebra.proofs.Lists.{list_is_take_and_drop, parts_at, every_at, any_left, any_right, any_none, every_weaker, every_append, every_left, every_right}
+use Rattle.range_algebra.proofs.Lists.{list_is_take_and_drop, every_at, any_left, any_right, any_none, every_weaker, every_append, every_left, every_right}
 use Rattle.range_change.proofs.CoveredPlaces.{chained_items_have_places}
 use Rattle.range_change.proofs.ItemPlaces.{element_at, element_at_is_read, listed_at, upto_item}
 use Rattle.range_store.specs.declared.storage.Item.{Item}
-use Rattle.range_change.specs.Stored.{item_lower, item_upper}
+use Rattle.range_change.specs.Stored.{item_lower}
 use Rattle.range_algebra.specs.Relations.{LiesBefore}
 use Rattle.range_change.specs.Lookups.{MeetsSome, Overlap}
 use Rattle.range_change.specs.Window.{IsWindow, option_items}
 use Rattle.range_change.specs.declared.window.Window.{Window}
 use Rattle.range_change.specs.Frames.{IsStartOf, IsEndOf, HasValue, IsNewItem, IsInsertionFrame, IsPart, IsRemovalFrame}
+use Rattle.range_change.specs.Borders.{joined_item}
 use Rattle.range_change.specs.Plans.{IsLeftFrame, IsRightFrame}
-use Rattle.range_change.proofs.Forms.{places, before_is, Chained, stored_known, stored_chain, known_take, known_drop}
+use Rattle.range_change.proofs.Forms.{before_is, stored_known, stored_chain, known_take, known_drop}
 use Rattle.range_change.proofs.Lengths.{one_item}
 use Rattle.range_change.proofs.Windows.{every_both}
 
@@ -77,16 +78,6 @@ append_reassociates a b c d e = simp append_assoc
 pub reassociate_pieces : {X : Type 0} (a b c d e : List X)
     → a ++ b ++ c ++ d ++ e ≡ a ++ (b ++ c ++ d) ++ e
 reassociate_pieces a b c d e = simp append_assoc
-
-item_is : {K V : Type 0} (m : Item (AnyRange K) V) (r : AnyRange K) (v : V) → m.key.start ≡ r.start
-    → m.key.end ≡ r.end → m.value ≡ v → m ≡ record { key = r; value = v }
-item_is {K} {V} m r v e f h =
-    let by_start : Bound K → Item (AnyRange K) V =
-    λ b. record { key = record { start = b; end = m.key.end }; value = m.value } in
-    let by_end : Bound K → Item (AnyRange K) V =
-    λ b. record { key = record { start = r.start; end = b }; value = m.value } in
-    let by_value : V → Item (AnyRange K) V = λ u. record { key = r; value = u } in
-    ap by_start e ∙ (ap by_end f ∙ ap by_value h)
 
 module _ {K : Type 0} {order : KeyOrder K} (lawful : IsLawful order) {V : Type 0}
     {same : V → V → Bool} (equal : IsEquivalence same) where
@@ -298,19 +289,19 @@ module _ {K : Type 0} {order : KeyOrder K} (lawful : IsLawful order) {V : Type 0
           };
         }
 
-    pub insertion_frame : (new : List (Item (AnyRange K) V)) (v : V) (m : Item (AnyRange K) V)
-        (at end : ℕ)
+    pub insertion_frame : (new : List (Item (AnyRange K) V)) (v u : V) (at end : ℕ)
         (left right : Option (Item (AnyRange K) V)) (start finish : Option (Bound K)) →
         IsLeftFrame order same items r v place w.count at left start
         → IsRightFrame order same items r v place w.count end right finish →
         length (option_items left) + length (option_items right) ≤ w.count + 1 →
-        m.key.start ≡ unwrap_or start r.start → m.key.end ≡ unwrap_or finish r.end
-        → same m.value v ≡ true → (w.count ≡ 0 → m.value ≡ v) →
-        new ≡ take at items ++ option_items left ++ option_items (Some m) ++ option_items right
-        ++ drop end items →
+        same u v ≡ true → (w.count ≡ 0 → u ≡ v) →
+        new ≡ take at items ++ option_items left
+        ++ option_items (Some (joined_item (record { key = r; value = u }) start finish))
+        ++ option_items right ++ drop end items →
         IsInsertionFrame order same items new r v
-    insertion_frame new v m at end left right start finish on_left on_right few starts ends values
-        own_value list =
+    insertion_frame new v u at end left right start finish on_left on_right few values own_value
+        list =
+        let m : Item (AnyRange K) V = joined_item (record { key = r; value = u }) start finish in
         let met = take w.count (drop place items) in
         let run = on_left.extra ++ met ++ on_right.extra in
         let pieces = option_items left ++ option_items (Some m) ++ option_items right in
@@ -327,17 +318,14 @@ module _ {K : Type 0} {order : KeyOrder K} (lawful : IsLawful order) {V : Type 0
         rw regroup (made_within (met ++ on_right.extra) (on_left.extra ++ (met ++ on_right.extra))
         (option_items right) (λ Q h. any_right Q on_left.extra (met ++ on_right.extra) h) r v
         on_right.made) in
-        let own_end : IsEndOf order run r m.key.end =
-        rw (
-          regroup,
-          ends,
-        ) (end_within (met ++ on_right.extra) (on_left.extra ++ (met ++ on_right.extra))
+        let own_end : IsEndOf order run r (unwrap_or finish r.end) =
+        rw regroup (end_within (met ++ on_right.extra) (on_left.extra ++ (met ++ on_right.extra))
         (λ Q h. any_right Q on_left.extra (met ++ on_right.extra) h) r
         (unwrap_or finish r.end) on_right.end_of) in
         let own : IsNewItem order same run r v m = record {
           start =
-              rw starts (start_within (on_left.extra ++ met) run on_start r
-              (unwrap_or start r.start) on_left.start_of);
+              start_within (on_left.extra ++ met) run on_start r
+              (unwrap_or start r.start) on_left.start_of;
           end = own_end;
           value = inl values;
         } in
@@ -379,10 +367,8 @@ module _ {K : Type 0} {order : KeyOrder K} (lawful : IsLawful order) {V : Type 0
                 on_right.whole (none_right on_left.extra (met ++ on_right.extra)
                 (sym regroup ∙ e)) in let none : w.count ≡ 0 = sym size
                 ∙ ap length (none_right on_left.extra met
-                (none_left (on_left.extra ++ met) on_right.extra e)) in let item = item_is m r v
-                (starts ∙ ap (λ o. unwrap_or o r.start) l.1)
-                (ends ∙ ap (λ o. unwrap_or o r.end) k.1) (own_value none) in rw (l.0, k.0)
-                (ap (λ y. y ∷ []) item);
+                (none_left (on_left.extra ++ met) on_right.extra e)) in rw (l.0, k.0, l.1, k.1)
+                (ap (λ (y : V). record { key = r; value = y } ∷ []) (own_value none));
             one = λ all.
                 let on_left_none =
                 no_rest (on_left.extra ++ met) r v left

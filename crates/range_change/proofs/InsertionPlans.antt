@@ -1,6 +1,6 @@
 -- What is to become of the items on each side of a range that is bound.
 use Rattle.std.proofs.Common.{◌≡◌, ℕ, ◌+◌, ◌-◌, ◌<◌, List, length, get_or, refl, ap, sym, ◌∙◌, arith, subst, Option, Some, None, Bool, true, false, IsTrue, [], ◌∷◌, ◌++◌, take, drop, inl, inr}
-use Rattle.std.proofs.lemmas.List.{append-nil, take_more, drop_more}
+use Rattle.std.proofs.lemmas.List.{append-nil}
 use Rattle.range_algebra.proofs.Lists.{any_left, any_right}
 use Rattle.range_algebra.specs.Relations.{Touches}
 use Rattle.range_change.specs.Frames.{IsPart, IsNewItem}

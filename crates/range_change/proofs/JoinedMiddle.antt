@@ -24,7 +24,6 @@ use Rattle.range_algebra.proofs.Places.{reaching_is_before_past, flipped_bound_i
 use Rattle.range_store.specs.declared.storage.Item.{Item}
 use Rattle.range_store.specs.ListPlaces.{IsAt}
 use Rattle.range_change.specs.declared.borders.Border.{Border}
-use Rattle.range_change.specs.declared.borders.Border.TheVariants.{Plain, Cut, Joined}
 use Rattle.range_change.specs.declared.window.Window.{Window}
 use Rattle.range_change.specs.Borders.{IsLeftShape, IsRightShape, IsRunStart, left_side, right_side, joined_count, seam_border, TouchesBefore, TouchesNoneBefore, TouchesAfter, TouchesNoneAfter}
 use Rattle.range_change.specs.Edits.{with_start}

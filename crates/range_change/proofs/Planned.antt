@@ -1,7 +1,7 @@
 -- What a change makes of a list where both sides of a range are planned.
 use Rattle.std.proofs.Common.{◌≡◌, ℕ, ◌+◌, ◌-◌, ◌*◌, ◌≤◌, List, ◌++◌, length, take, drop, refl, ap, sym, ◌∙◌, arith, subst, Option, Some, Bool}
 use Rattle.std.specs.Cmp.{IsEquivalence}
-use Rattle.std.specs.Option.{ForSome, unwrap_or}
+use Rattle.std.specs.Option.{ForSome}
 use Rattle.std.specs.declared.ops.Bound.{Bound}
 use Rattle.range_keys.specs.Order.{KeyOrder, IsLawful}
 use Rattle.range_algebra.specs.declared.any.AnyRange.{AnyRange}
@@ -9,13 +9,12 @@ use Rattle.range_store.specs.ListPlaces.{place_before, IsAt}
 use Rattle.range_store.specs.declared.storage.Item.{Item}
 use Rattle.range_store.proofs.ListPlaces.{place_at, kept_at, good_at}
 use Rattle.range_change.specs.Changes.{IsInserted}
-use Rattle.range_change.specs.Borders.{joined_count, IsGoodBorder, IsLeftShape, IsRightShape, left_side, right_side}
+use Rattle.range_change.specs.Borders.{joined_item, joined_count, IsGoodBorder, IsLeftShape, IsRightShape, left_side, right_side}
 use Rattle.range_change.specs.Plans.{IsLeftPlan, IsRightPlan}
 use Rattle.range_change.specs.Window.{option_items, IsWindow}
 use Rattle.range_change.specs.declared.borders.Border.{Border}
 use Rattle.range_change.specs.declared.window.Window.{Window}
 use Rattle.range_change.proofs.RangeSides.{borders_insert}
-use Rattle.range_change.proofs.InsertionFrames.{insertion_frame}
 use Rattle.range_change.proofs.Lengths.{one_item, changed_length, border_length}
 use Rattle.range_change.proofs.BoundEdits.{shape_kept, border_good}
 
@@ -84,27 +83,15 @@ module _ {K : Type 0} {order : KeyOrder K} {lawful : IsLawful order} {V : Type 0
     (apart : length (option_items first) + length (option_items last) ≤ w.count) where
   -- the range with the bounds of those that it joins
   abbrev made_item : Item (AnyRange K) V
-  made_item =
-      record {
-        key = record {
-          start = unwrap_or left.start r.start;
-          end = unwrap_or right.finish r.end;
-        };
-        value = v;
-      }
+  made_item = joined_item (record { key = r; value = v }) left.start right.finish
 
   pub planned_insert : (new : List (Item (AnyRange K) V))
       → new ≡ take left.at items ++ option_items left.rest ++ option_items (Some made_item)
       ++ option_items right.rest ++ drop right.end items → IsInserted order same items new r v
   planned_insert new made =
-      let few : length (option_items left.rest) + length (option_items right.rest) ≤ w.count + 1 =
-      omega (arith, left.few, right.few, apart) in
-      let frame =
-      insertion_frame lawful equal window new v made_item left.at right.end left.rest right.rest
-      left.start right.finish left.frame right.frame few refl refl (equal.refl v)
-      (λ e. refl) made in
-      borders_insert lawful equal window new v made_item left.at right.end left.rest right.rest
-      left.start right.finish left.side right.side refl refl (equal.refl v) frame made
+      borders_insert lawful equal window new v v left.at right.end left.rest right.rest left.start
+      right.finish left.side right.side left.frame right.frame
+      (omega (arith, left.few, right.few, apart)) (equal.refl v) (λ e. refl) made
 
   pub planned_size : (new : List (Item (AnyRange K) V))
       → new ≡ take left.at items ++ option_items left.rest ++ option_items (Some made_item)

@@ -1,10 +1,8 @@
 -- What stands on each side of a range, and the list in which it is bound or unbound.
 use Rattle.std.proofs.Common.{◌≡◌, ℕ, zero, suc, ◌+◌, ◌-◌, ◌<◌, ◌≤◌, List, [], ◌∷◌, ◌++◌, length, take, drop, get_or, refl, ap, sym, ◌∙◌, arith, subst, Option, Some, None, Bool, true, false, length-drop}
-use Rattle.std.proofs.lemmas.List.{append-nil, drop_more, take_more, get_or-drop}
-use Rattle.std.specs.declared.cmp.Ordering.TheVariants.{Equal}
+use Rattle.std.proofs.lemmas.List.{append-nil, get_or-drop}
 use Rattle.std.specs.Cmp.{IsEquivalence}
 use Rattle.range_keys.specs.Order.{KeyOrder, IsLawful}
-use Rattle.range_keys.specs.Position.{start_position, end_position}
 use Rattle.range_keys.specs.PositionOrder.{position_total}
 use Rattle.range_algebra.specs.declared.any.AnyRange.{AnyRange}
 use Rattle.range_algebra.specs.Range.{IsKnownRange}
@@ -15,19 +13,20 @@ use Rattle.range_change.specs.Chains.{line_of, Leads, Trails, IsLeft, IsRight, I
 use Rattle.range_change.proofs.Chains.{chain_above, chain_before, chain_right}
 use Rattle.range_change.proofs.ChainSides.{left_whole, left_cut, right_whole, right_cut}
 use Rattle.range_change.proofs.ChainJoins.{places_between_are_unbound, left_apart, left_joined, right_apart, right_joined, leading_last, trailing_first, places_between_are_bound}
-use Rattle.range_algebra.specs.Cuts.{past, lower, upper}
+use Rattle.range_algebra.specs.Cuts.{lower, upper}
 use Rattle.range_change.specs.Stored.{item_lower, item_upper}
 use Rattle.range_change.specs.Window.{IsWindow, option_items}
 use Rattle.range_change.specs.declared.window.Window.{Window}
-use Rattle.range_change.proofs.Forms.{places, nonempty_good, Known, Chained, stored_known, stored_chain, known_take, known_drop, chain_stored, unbound_after}
-use Rattle.range_algebra.proofs.Lists.{every_at, parts_at, list_is_take_and_drop, every_weaker, every_append, every_right}
+use Rattle.range_change.proofs.Forms.{nonempty_good, Known, Chained, stored_known, stored_chain, known_take, known_drop, chain_stored, unbound_after}
+use Rattle.range_algebra.proofs.Lists.{every_at, list_is_take_and_drop, every_weaker, every_append, every_right}
 use Rattle.std.specs.Cmp.{tied_itself}
 use Rattle.std.specs.declared.ops.Bound.{Bound}
-use Rattle.std.specs.Option.{unwrap_or}
 use Rattle.range_algebra.specs.Relations.{Touches}
 use Rattle.range_change.specs.Changes.{IsInserted, IsRemoved}
 use Rattle.range_change.specs.Lookups.{Overlap}
-use Rattle.range_change.specs.Frames.{IsInsertionFrame, IsRemovalFrame}
+use Rattle.range_change.specs.Frames.{IsPart, IsRemovalFrame}
+use Rattle.range_change.specs.Plans.{IsLeftFrame, IsRightFrame}
+use Rattle.range_change.proofs.InsertionFrames.{insertion_frame, cut_way, not_cut}
 use Rattle.range_change.proofs.Forms.{before_is}
 use Rattle.range_change.proofs.Windows.{every_both}
 use Rattle.range_change.specs.Reach.{ReachesBefore, ReachesAfter}
@@ -37,7 +36,7 @@ use Rattle.range_algebra.specs.Range.{IsKnownBound}
 use Rattle.range_change.proofs.CoveredPlaces.{meets_bound}
 use Rattle.range_change.proofs.BoundEdits.{opening_regroups, regrouped_out}
 use Rattle.range_change.proofs.CutParts.{cut_end, cut_start}
-use Rattle.range_change.specs.Borders.{IsLeftRest, IsRightRest, IsLeftBorder, IsRightBorder, TouchesNoneBefore, TouchesNoneAfter}
+use Rattle.range_change.specs.Borders.{joined_item, IsLeftRest, IsRightRest, IsLeftBorder, IsRightBorder, TouchesNoneBefore, TouchesNoneAfter}
 use Rattle.range_change.proofs.Forms.{touches_is, bound_after}
 use Rattle.range_change.proofs.ItemPlaces.{element_at, element_at_is_read, listed_at, upto_item, from_item}
 
@@ -370,18 +369,21 @@ module _ {K : Type 0} {order : KeyOrder K} (lawful : IsLawful order) {V : Type 0
         }
 
     -- the list with the range bound to v
-    pub borders_insert : (new : List (Item (AnyRange K) V)) (v : V) (m : Item (AnyRange K) V)
-        (at end : ℕ) (left right : Option (Item (AnyRange K) V)) (start finish : Option (Bound K)) →
+    pub borders_insert : (new : List (Item (AnyRange K) V)) (v u : V) (at end : ℕ)
+        (left right : Option (Item (AnyRange K) V)) (start finish : Option (Bound K)) →
         IsLeftBorder order same lawful equal items r v at left start
         → IsRightBorder order same lawful equal items r v end right finish →
-        m.key.start ≡ unwrap_or start r.start → m.key.end ≡ unwrap_or finish r.end
-        → same m.value v ≡ true →
-        IsInsertionFrame order same items new r v →
-        new ≡ take at items ++ option_items left ++ option_items (Some m) ++ option_items right
-        ++ drop end items →
+        IsLeftFrame order same items r v place w.count at left start
+        → IsRightFrame order same items r v place w.count end right finish →
+        length (option_items left) + length (option_items right) ≤ w.count + 1 →
+        same u v ≡ true → (w.count ≡ 0 → u ≡ v) →
+        new ≡ take at items ++ option_items left
+        ++ option_items (Some (joined_item (record { key = r; value = u }) start finish))
+        ++ option_items right ++ drop end items →
         IsInserted order same items new r v
-    borders_insert new v m at end left right start finish on_left on_right starts ends values frame
-        changed =
+    borders_insert new v u at end left right start finish on_left on_right frame_left frame_right
+        few values own_value changed =
+        let m : Item (AnyRange K) V = joined_item (record { key = r; value = u }) start finish in
         let all = stored_known order lawful same equal items window.stored in
         let front = take at items ++ option_items left in
         let behind = option_items right ++ drop end items in
@@ -389,19 +391,10 @@ module _ {K : Type 0} {order : KeyOrder K} (lawful : IsLawful order) {V : Type 0
         changed
         ∙ sym (opening_regroups (take at items) (option_items left) (option_items right)
         (drop end items) m) in
-        let total = position_total order.cmp lawful.total in
-        let s = start_position order (unwrap_or start r.start) in
-        let e = past order (end_position order (unwrap_or finish r.end)) in
-        let at_start : places order lawful (item_lower order m) s ≡ Equal =
-        rw starts (tied_itself total s) in
-        let at_end : places order lawful (item_upper order m) e ≡ Equal =
-        rw ends (tied_itself total e) in
         let result =
         places_between_are_bound (line_of order lawful same equal) items front behind m
-        (lower order r) (upper order r) s e v on_left.left on_right.right
-        range_has_places at_start at_end values in
-        let known_m : IsKnownRange order m.key =
-        (rw starts on_left.known_start, rw ends on_right.known_end) in
+        (lower order r) (upper order r) v on_left.left on_right.right range_has_places values in
+        let known_m : IsKnownRange order m.key = (on_left.known_start, on_right.known_end) in
         let others = every_append _ front (m ∷ behind)
         (every_append _ (take at items) (option_items left)
         (known_take order lawful same equal items at all) on_left.known) (
@@ -415,7 +408,9 @@ module _ {K : Type 0} {order : KeyOrder K} (lawful : IsLawful order) {V : Type 0
           bound =
               rw list (bound_after order lawful same equal items
               (front ++ m ∷ behind) r v window.known all others result);
-          frame = frame;
+          frame =
+              insertion_frame lawful equal window new v u at end left right start finish frame_left
+              frame_right few values own_value changed;
           meets =
               rw list (meets_bound order lawful same equal items
               (front ++ m ∷ behind) r v all others
@@ -425,14 +420,14 @@ module _ {K : Type 0} {order : KeyOrder K} (lawful : IsLawful order) {V : Type 0
         }
 
     -- the list with the range unbound
-    pub borders_remove : (new : List (Item (AnyRange K) V)) (at end : ℕ)
+    removed_by : (new : List (Item (AnyRange K) V)) (at end : ℕ)
         (left right : Option (Item (AnyRange K) V)) →
         IsLeftRest order same lawful equal items r at left
         → IsRightRest order same lawful equal items r end right →
         IsRemovalFrame order same items new r →
         new ≡ take at items ++ option_items left ++ [] ++ option_items right ++ drop end items →
         IsRemoved order same items new r
-    borders_remove new at end left right on_left on_right frame changed =
+    removed_by new at end left right on_left on_right frame changed =
         let all = stored_known order lawful same equal items window.stored in
         let front = take at items ++ option_items left in
         let behind = option_items right ++ drop end items in
@@ -470,10 +465,22 @@ module _ {K : Type 0} {order : KeyOrder K} (lawful : IsLawful order) {V : Type 0
           frame = frame;
         }
 
+    pub borders_remove : (new : List (Item (AnyRange K) V))
+        (left right : Option (Item (AnyRange K) V)) → 0 < w.count →
+        IsLeftRest order same lawful equal items r place left
+        → IsRightRest order same lawful equal items r (place + w.count) right →
+        Every (IsPart order same (take w.count (drop place items)) r) (option_items left)
+        → Every (IsPart order same (take w.count (drop place items)) r) (option_items right) →
+        new ≡ take place items ++ option_items left ++ [] ++ option_items right
+        ++ drop (place + w.count) items →
+        IsRemoved order same items new r
+    borders_remove new left right some on_left on_right made_left made_right changed =
+        removed_by new place (place + w.count) left right on_left on_right
+        (cut_way lawful equal window new left right some made_left made_right changed) changed
+
     -- a range that meets nothing is unbound
-    pub unmet_is_unbound : w.count ≡ 0 → IsRemovalFrame order same items items r
-        → IsRemoved order same items items r
-    unmet_is_unbound none frame =
+    pub unmet_is_unbound : w.count ≡ 0 → IsRemoved order same items items r
+    unmet_is_unbound none =
         let at : place + w.count ≡ place = omega (arith, none) in
         let list : items ≡ take place items ++ [] ++ [] ++ [] ++ drop (place + w.count) items =
         rw (
@@ -482,6 +489,7 @@ module _ {K : Type 0} {order : KeyOrder K} (lawful : IsLawful order) {V : Type 0
           append-nil (take place items),
           append-nil (take place items),
         ) (list_is_take_and_drop items place) in
-        borders_remove items place (place + w.count) None None
+        removed_by items place (place + w.count) None None
         (left_rest_whole (λ x some read. absurd (omega (arith, some, none))))
-        (right_rest_whole (λ x some read. absurd (omega (arith, some, none)))) frame list
+        (right_rest_whole (λ x some read. absurd (omega (arith, some, none))))
+        (not_cut lawful equal window) list

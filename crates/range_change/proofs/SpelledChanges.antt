@@ -1,6 +1,5 @@
 -- That what a change puts in the place of a range is spelled as what it replaces.
 use Rattle.std.proofs.Common.{◌≡◌, refl, sym, ap, subst, ◌∙◌, ℕ, ◌+◌, ◌-◌, ◌<◌, ◌≤◌, arith, Option, Some, None, Bool, List, [], ◌∷◌, ◌++◌, inl, inr, length, get_or, take, drop}
-use Rattle.std.proofs.lemmas.List.{drop_more}
 use Rattle.std.proofs.lemmas.Option.{same_Some}
 use Rattle.std.specs.Cmp.{IsEquivalence}
 use Rattle.std.specs.declared.ops.Bound.{Bound}
@@ -21,7 +20,7 @@ use Rattle.range_change.specs.Frames.{IsStartOf, IsEndOf, IsNewItem, IsPart}
 use Rattle.range_change.specs.Reach.{ReachesBefore, ReachesAfter, IsReach, IsSurrounded}
 use Rattle.range_change.specs.Seams.{with_first_start, with_last_end}
 use Rattle.range_change.specs.Spelling.{IsStartAsIn, IsEndAsIn, IsSpelledAsIn, KeepsSpelling}
-use Rattle.range_change.specs.Stored.{IsStored, item_lower, item_upper}
+use Rattle.range_change.specs.Stored.{IsStored, item_lower}
 use Rattle.range_change.specs.Window.{option_items}
 use Rattle.range_change.specs.declared.reach.Reach.{Reach}
 use Rattle.range_change.specs.declared.window.Window.{Window}

@@ -1,7 +1,7 @@
 use Rattle.std.proofs.lemmas.Grind.{common_steps}
 use Rattle.std.proofs.Common.{rules, refl, arith}
 use Rattle.range_change.proofs.RangeSides.{unmet_is_unbound}
-use Rattle.range_change.proofs.InsertionFrames.{some_meets, not_cut}
+use Rattle.range_change.proofs.InsertionFrames.{some_meets}
 use Rattle.range_change.proofs.unbind.unbind.Goals as goal
 
 pub returns-then-window-eq0 : goal.returns-then-window-eq0
@@ -16,7 +16,7 @@ returns-then-window-eq0 g c =
           let lawful = g.met.K.PartialEnum.lawful in
           let equal = g.met.V.Eq.laws in
           let window = c.find_window-window.ensures.window in
-          unmet_is_unbound lawful equal window c.if-window-eq0.true (not_cut lawful equal window);
+          unmet_is_unbound lawful equal window c.if-window-eq0.true;
       most =
           grind (arith, common_steps);
       least =

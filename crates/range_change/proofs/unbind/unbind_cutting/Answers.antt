@@ -3,7 +3,6 @@ use Rattle.std.proofs.lemmas.Bool.{false≢true}
 use Rattle.range_store.specs.ListPlaces.{place_before}
 use Rattle.range_change.specs.Borders.{joined_count, seam_border}
 use Rattle.range_change.specs.Window.{option_items}
-use Rattle.range_change.proofs.InsertionFrames.{cut_way}
 use Rattle.range_change.proofs.Lengths.{one_item, changed_length}
 use Rattle.range_change.proofs.RangeSides.{borders_remove}
 use Rattle.range_change.proofs.Planned.{plan_fits}
@@ -108,16 +107,13 @@ returns g c =
     c.change.ensures.list place end left.rest right.rest None None (rw before.at fit.on_left)
     (rw behind.at fit.on_right) (omega (arith, none, none_behind)) in
     let new = storage.items c.change.new.stored in
-    let frame =
-    cut_way lawful equal window new left.rest right.rest c.requires.some left.made
-    right.made done in
     let size =
     changed_length items new (option_items left.rest) [] (option_items right.rest) place end
     (omega (arith, window.in_range)) window.in_range done in
     record {
       ok =
-          borders_remove lawful equal window new place end left.rest right.rest left.side right.side
-          frame done;
+          borders_remove lawful equal window new left.rest right.rest c.requires.some left.side
+          right.side left.made right.made done;
       few = omega (arith, size, one_item left.rest, one_item right.rest, c.requires.some);
       refused = tt;
       space = c.change.ensures.space;
