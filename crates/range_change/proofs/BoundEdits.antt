@@ -41,11 +41,11 @@ cut_joins_none None b = refl
 cut_joins_none (Some p) b = refl
 
 -- a change that keeps positions and the length keeps places
-pub kept_place : {P : Type 0} (is_good is_good' : P → Type 0) (rank rank' : P → ℕ) (len len' : ℕ)
-    (at : Option P) → ((p : P) → is_good p → is_good' p × (rank' p ≡ rank p)) → len' ≡ len
+pub kept_place : {P : Type 0} {is_good is_good' : P → Type 0} {rank rank' : P → ℕ} {len len' : ℕ}
+    → ((p : P) → is_good p → is_good' p × (rank' p ≡ rank p)) → len' ≡ len → (at : Option P)
     → ForSome at is_good → place_before rank' len' at ≡ place_before rank len at
-kept_place is_good is_good' rank rank' len len' None kept size h = size
-kept_place is_good is_good' rank rank' len len' (Some p) kept size h = (kept p (h p refl)).1
+kept_place kept size None h = size
+kept_place kept size (Some p) h = (kept p (h p refl)).1
 
 same_at : {X : Type 0} (xs ys : List X) (n : ℕ) (d : X) → drop n xs ≡ drop n ys
     → get_or xs n d ≡ get_or ys n d
@@ -181,8 +181,8 @@ module _ {K V P : Type 0} (is_good : P → Type 0) (rank : P → ℕ) (items : L
         size = rw new_is (length-set base i (with_end x Unbounded));
       }
 
-module _ {K V P : Type 0} (is_good is_good' : P → Type 0) (rank rank' : P → ℕ)
-    (items items' : List (Item (AnyRange K) V))
+module _ {K V P : Type 0} {is_good is_good' : P → Type 0} {rank rank' : P → ℕ}
+    {items items' : List (Item (AnyRange K) V)}
     (kept : (p : P) → is_good p → is_good' p × (rank' p ≡ rank p)) (same : items' ≡ items) where
   -- a change that keeps positions and items keeps what is planned on a side
   pub shape_kept : (side : BorderSide K V) (border : Border K P) (low high : ℕ)

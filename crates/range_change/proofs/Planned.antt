@@ -54,21 +54,21 @@ module _ {K V P : Type 0} {is_good is_good' : P → Type 0} {rank rank' : P → 
       border_length is_good rank items right_side right upto end after finish on_right in
       record {
         left_good =
-            border_good is_good is_good' rank rank' items items' kept same_list left_side left at
+            border_good kept same_list left_side left at
             begin before start on_left;
         right_good =
-            border_good is_good is_good' rank rank' items items' kept same_list right_side right
+            border_good kept same_list right_side right
             upto end after finish on_right;
         good = good_at is_good' rank' (length items) from begin moved;
         in_range = rw (here, size, sum) (omega (arith, least, within));
         on_left =
             subst (λ n. IsLeftShape is_good' rank' items' left at n before start) (sym here)
-            (shape_kept is_good is_good' rank rank' items items' kept same_list left_side left at
+            (shape_kept kept same_list left_side left at
             begin before start on_left);
         on_right =
             subst (λ n. IsRightShape is_good' rank' items' right n end after finish)
             (sym (ap (λ n. n + count) here ∙ sum))
-            (shape_kept is_good is_good' rank rank' items items' kept same_list right_side right
+            (shape_kept kept same_list right_side right
             upto end after finish on_right);
       }
 
