@@ -10,7 +10,7 @@ use Rattle.std.specs.Option.{ForSome}
 use Rattle.range_store.specs.ListPlaces.{place_before}
 use Rattle.range_change.specs.Edits.{with_start, with_end}
 use Rattle.range_change.specs.Window.{option_items}
-use Rattle.range_algebra.proofs.Lists.{parts_at}
+use Rattle.range_change.proofs.ItemPlaces.{listed_at}
 use Rattle.range_change.specs.Borders.{BorderSide, IsBorderShape, joined_count, border_at, IsGoodBorder, IsLeftShape, IsRightShape, IsLeftEdited, IsRightEdited}
 use Rattle.range_change.specs.declared.borders.Border.{Border}
 use Rattle.range_change.specs.declared.borders.Border.TheVariants.{Plain, Cut, Joined}
@@ -28,9 +28,7 @@ pub standing_item_splits_list : {X : Type 0} (xs : List X) (n m : ℕ) (x : X) �
     → x ≡ get_or xs n x → m ≡ n + 1 → xs ≡ take n xs ++ [] ++ (x ∷ []) ++ [] ++ drop m xs
 standing_item_splits_list xs n m x within read next =
     let split : xs ≡ take n xs ++ x ∷ drop m xs =
-    parts_at xs n x within
-    ∙ (ap (λ y. take n xs ++ y ∷ drop (n + 1) xs) (sym read)
-    ∙ ap (λ k. take n xs ++ x ∷ drop k xs) (sym next)) in
+    listed_at xs n x within read ∙ ap (λ k. take n xs ++ x ∷ drop k xs) (sym next) in
     split
     ∙ (ap (λ ys. ys ++ x ∷ drop m xs) (sym (append-nil (take n xs)))
     ∙ opening_regroups (take n xs) [] [] (drop m xs) x)

@@ -2,6 +2,7 @@
 use Rattle.std.proofs.Common.{◌≡◌, ℕ, ◌+◌, ◌-◌, ◌<◌, List, length, get_or, refl, ap, sym, ◌∙◌, arith, subst, Option, Some, None, Bool, true, false, IsTrue, [], ◌∷◌, ◌++◌, take, drop, inl, inr}
 use Rattle.std.proofs.lemmas.List.{append-nil}
 use Rattle.range_algebra.proofs.Lists.{any_left, any_right}
+use Rattle.range_algebra.specs.Intervals.{Any}
 use Rattle.range_algebra.specs.Relations.{Touches}
 use Rattle.range_change.specs.Frames.{IsPart, IsNewItem}
 use Rattle.range_change.specs.Seams.{IsLeftCutting, IsRightCutting}
@@ -33,57 +34,46 @@ module _ {K : Type 0} {order : KeyOrder K} (lawful : IsLawful order) {V : Type 0
     {same : V → V → Bool} (equal : IsEquivalence same) {P : Type 0} {is_good : P → Type 0}
     {rank : P → ℕ} {items : List (Item (AnyRange K) V)} {r : AnyRange K} {w : Window P} {place : ℕ}
     (window : IsWindow order same is_good rank items r w place) where
-  -- what is left of the first item of a window, and of the last
+  -- the first item of a window is one of the run, and so is the last
+  first_met : (x : Item (AnyRange K) V) → x ≡ get_or items place x → 0 < w.count
+      → (Q : Item (AnyRange K) V → Type 0) → Q x → Any Q (take w.count (drop place items))
+  first_met x here some Q h =
+      let plus : place ≡ place + 0 = omega arith in
+      any_of_run Q items place w.count 0 x window.in_range some
+      (here ∙ ap (λ n. get_or items n x) plus) h
+
+  last_met : (x : Item (AnyRange K) V) → x ≡ get_or items (place + w.count - 1) x → 0 < w.count
+      → (Q : Item (AnyRange K) V → Type 0) → Q x → Any Q (take w.count (drop place items))
+  last_met x here some Q h =
+      let plus : place + w.count - 1 ≡ place + (w.count - 1) = omega arith in
+      any_of_run Q items place w.count (w.count - 1) x window.in_range (omega (arith, some))
+      (here ∙ ap (λ n. get_or items n x) plus) h
+
+  -- what is left of them
   pub left_part : (x : Item (AnyRange K) V) → x ≡ get_or items place x → 0 < w.count → (b : Bound K)
       → SameBound order (flipped_bound r.start) b
       → IsPart order same (take w.count (drop place items)) r (with_end x b)
-  left_part x here some b same_b =
-      let plus : place ≡ place + 0 = omega arith in
-      let read : x ≡ get_or items (place + 0) x = here ∙ ap (λ n. get_or items n x) plus in
-      record {
-        start =
-            inr
-            (inl (any_of_run (λ i. x.key.start ≡ i.key.start) items place w.count 0 x
-            window.in_range some read refl));
-        end = inr (inr same_b);
-        value =
-            any_of_run (λ i. IsTrue (same x.value i.value)) items place w.count 0 x window.in_range
-            some read (equal.refl x.value);
-      }
+  left_part x here some b same_b = record {
+    start = inr (inl (first_met x here some (λ i. x.key.start ≡ i.key.start) refl));
+    end = inr (inr same_b);
+    value = first_met x here some (λ i. IsTrue (same x.value i.value)) (equal.refl x.value);
+  }
 
   pub right_part : (x : Item (AnyRange K) V) → x ≡ get_or items (place + w.count - 1) x
       → 0 < w.count → (b : Bound K) (u : V) → SameBound order (flipped_bound r.end) b
       → same u x.value ≡ true
       → IsPart order same (take w.count (drop place items)) r
       (record { key = record { start = b; end = x.key.end }; value = u })
-  right_part x here some b u same_b values =
-      let plus : place + w.count - 1 ≡ place + (w.count - 1) = omega arith in
-      let read : x ≡ get_or items (place + (w.count - 1)) x =
-      here ∙ ap (λ n. get_or items n x) plus in
-      record {
-        start = inr (inr same_b);
-        end =
-            inr
-            (inl (any_of_run (λ i. x.key.end ≡ i.key.end) items place w.count
-            (w.count - 1) x window.in_range (omega (arith, some)) read refl));
-        value =
-            any_of_run (λ i. IsTrue (same u i.value)) items place w.count
-            (w.count - 1) x window.in_range (omega (arith, some)) read values;
-      }
+  right_part x here some b u same_b values = record {
+    start = inr (inr same_b);
+    end = inr (inl (last_met x here some (λ i. x.key.end ≡ i.key.end) refl));
+    value = last_met x here some (λ i. IsTrue (same u i.value)) values;
+  }
 
 module _ {K : Type 0} {order : KeyOrder K} (lawful : IsLawful order) {V : Type 0}
     {same : V → V → Bool} (equal : IsEquivalence same) {P : Type 0} {is_good : P → Type 0}
     {rank : P → ℕ} {items : List (Item (AnyRange K) V)} {r : AnyRange K} {w : Window P} {place : ℕ}
     (window : IsWindow order same is_good rank items r w place) (v : V) where
-  first_read : (x : Item (AnyRange K) V) → x ≡ get_or items place x → x ≡ get_or items (place + 0) x
-  first_read x read = let plus : place ≡ place + 0 =
-      omega arith in read ∙ ap (λ n. get_or items n x) plus
-
-  last_read : (x : Item (AnyRange K) V) → 0 < w.count → x ≡ get_or items (place + w.count - 1) x
-      → x ≡ get_or items (place + (w.count - 1)) x
-  last_read x some read = let plus : place + w.count - 1 ≡ place + (w.count - 1) =
-      omega arith in read ∙ ap (λ n. get_or items n x) plus
-
   pub left_frame_inside : (x : Item (AnyRange K) V) → x ≡ get_or items place x → 0 < w.count
       → IsLeftFrame order same items r v place w.count place None (Some x.key.start)
   left_frame_inside x here some = record {
@@ -92,8 +82,7 @@ module _ {K : Type 0} {order : KeyOrder K} (lawful : IsLawful order) {V : Type 0
     touched = tt;
     start_of =
         inr
-        (inl (any_of_run (λ i. x.key.start ≡ i.key.start) items place w.count 0 x window.in_range
-        some (first_read x here) refl));
+        (inl (first_met lawful equal window x here some (λ i. x.key.start ≡ i.key.start) refl));
     made = tt;
     apart = tt;
     whole = λ e. absurd (run_some items place w.count window.in_range some e);
@@ -126,8 +115,7 @@ module _ {K : Type 0} {order : KeyOrder K} (lawful : IsLawful order) {V : Type 0
     end_of =
         inr
         (inl (any_left (λ i. x.key.end ≡ i.key.end) (take w.count (drop place items)) []
-        (any_of_run (λ i. x.key.end ≡ i.key.end) items place w.count (w.count - 1) x window.in_range
-        (omega (arith, some)) (last_read x some here) refl)));
+        (last_met lawful equal window x here some (λ i. x.key.end ≡ i.key.end) refl)));
     made = tt;
     apart = tt;
     whole =
