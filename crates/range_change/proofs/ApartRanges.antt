@@ -8,7 +8,7 @@ use Rattle.range_keys.specs.Order.{KeyOrder, IsLawful}
 use Rattle.range_keys.specs.Position.{end_position, position_cmp, start_position}
 use Rattle.range_keys.specs.declared.inner.position.Position.{Position}
 use Rattle.range_keys.proofs.Orderings.{less_or_not}
-use Rattle.range_change.specs.Chains.{line_of}
+use Rattle.range_change.specs.Chains.{line_of, IsBoundTo}
 use Rattle.range_change.proofs.Chains.{chain_above, chain_before, chain_right, strictly_leads, strictly_trails}
 use Rattle.range_change.proofs.ChainSides.{left_whole, right_whole}
 use Rattle.range_change.proofs.ChainJoins.{places_between_are_bound, left_apart, right_apart}
@@ -28,7 +28,7 @@ use Rattle.range_change.specs.Stored.{item_lower, item_upper, IsStored}
 use Rattle.range_change.specs.Lookups.{IsConnectedTo, IsConnectedToSome, Overlap}
 use Rattle.range_algebra.specs.Relations.{LiesBefore, Touches}
 use Rattle.range_change.specs.Window.{IsFound, IsJustBefore}
-use Rattle.range_change.proofs.Forms.{Chained, Known, before_is, bound_after, chain_stored, nonempty_good, stored_chain, stored_known, touches_by, touches_is}
+use Rattle.range_change.proofs.Forms.{known_take, known_drop, Chained, Known, before_is, bound_after, chain_stored, nonempty_good, stored_chain, stored_known, touches_by, touches_is}
 use Rattle.range_change.proofs.Overlaps.{any_at}
 use Rattle.range_change.proofs.Comparisons.{touching_same}
 use Rattle.range_change.proofs.CoveredPlaces.{chained_items_have_places}
@@ -365,27 +365,22 @@ module _ {K : Type 0} (order : KeyOrder K) (lawful : IsLawful order) where
         -- a range with such a place is connected to no item
         pub free_not : IsConnectedToSome order items r → ⊥
         free_not h =
-            let split : items ≡ take place items ++ drop place items =
-            list_is_take_and_drop items place in
-            let all_known : Known order lawful same equal (take place items ++ drop place items) =
-            rw split at (stored_known order lawful same equal items stored) in
-            let whole : Chained order lawful same equal (take place items ++ drop place items) =
-            rw split at (stored_chain order lawful same equal items stored) in
+            let split = list_is_take_and_drop items place in
             let both =
-            every_both (λ i. IsKnownRange order i.key) Good
-            (take place items ++ drop place items) all_known
-            (chained_items_have_places order lawful same equal (take place items ++ drop place items)
-            whole) in
+            every_both (λ i. IsKnownRange order i.key) Good items
+            (stored_known order lawful same equal items stored)
+            (chained_items_have_places order lawful same equal items in_order) in
+            let all = rw split at both in
             let some : IsConnectedToSome order (take place items ++ drop place items) r =
             rw split at h in
             let first =
             every_both (λ i. IsKnownRange order i.key × Good i) (Before r)
             (take place items) (every_left (λ i. IsKnownRange order i.key × Good i)
-            (take place items) (drop place items) both) front in
+            (take place items) (drop place items) all) front in
             let second =
             every_both (λ i. IsKnownRange order i.key × Good i) (Behind r)
             (drop place items) (every_right (λ i. IsKnownRange order i.key × Good i)
-            (take place items) (drop place items) both) back in
+            (take place items) (drop place items) all) back in
             elim (any_split (λ i. IsConnectedTo order i.key r) (take place items)
             (drop place items) some) [
               | inl k ↦
@@ -404,56 +399,40 @@ module _ {K : Type 0} (order : KeyOrder K) (lawful : IsLawful order) where
             (take place items ++ x ∷ drop place items)
             × IsBoundAfter order same items (take place items ++ x ∷ drop place items) r v
         put_in v =
+            let line = line_of order lawful same equal in
             let x : Item (AnyRange K) V = record { key = r; value = v } in
             let c = lower order r in
             let d = upper order r in
-            let split : items ≡ take place items ++ drop place items =
-            list_is_take_and_drop items place in
-            let all_known : Known order lawful same equal (take place items ++ drop place items) =
-            rw split at (stored_known order lawful same equal items stored) in
+            let new = take place items ++ x ∷ drop place items in
+            let parts = list_is_take_and_drop items place in
+            let all = stored_known order lawful same equal items stored in
             let whole : Chained order lawful same equal (take place items ++ drop place items) =
-            rw split at (stored_chain order lawful same equal items stored) in
+            rw parts at in_order in
             let left =
-            left_whole (line_of order lawful same equal) (take place items)
-            (drop place items) c whole
+            left_whole line (take place items) (drop place items) c whole
             (every_weaker _ _ (take place items) (λ i h. lt_le lawful _ _ h) front)
             (every_weaker _ _ (drop place items) (λ i h. lt_le lawful _ _
             (lt_trans lawful _ _ _ range_good h)) back) in
             let right =
-            right_whole (line_of order lawful same equal) (take place items)
-            (drop place items) d whole (every_weaker _ _ (take place items) (λ i h. lt_le lawful _ _
+            right_whole line (take place items) (drop place items) d whole
+            (every_weaker _ _ (take place items) (λ i h. lt_le lawful _ _
             (lt_trans lawful _ _ _ h range_good)) front) (every_weaker _ _ (drop place items)
             (λ i h. lt_le lawful _ _ h) back) in
             let on_left =
-            left_apart (line_of order lawful same equal)
-            (take place items ++ drop place items) (take place items) c v left
-            (every_weaker _ _ (take place items)
-            (λ i h. strictly_leads (line_of order lawful same equal) i c v h) front) in
+            left_apart line (take place items ++ drop place items) (take place items) c v left
+            (every_weaker _ _ (take place items) (λ i h. strictly_leads line i c v h) front) in
             let on_right =
-            right_apart (line_of order lawful same equal)
-            (take place items ++ drop place items) (drop place items) d v right
-            (every_weaker _ _ (drop place items)
-            (λ i h. strictly_trails (line_of order lawful same equal) i d v h) back) in
+            right_apart line (take place items ++ drop place items) (drop place items) d v right
+            (every_weaker _ _ (drop place items) (λ i h. strictly_trails line i d v h) back) in
             let changed =
-            places_between_are_bound (line_of order lawful same equal)
-            (take place items ++ drop place items) (take place items)
-            (drop place items) x c d v on_left on_right range_good (equal.refl v) in
-            let new_known : Known order lawful same equal
-            (take place items ++ x ∷ drop place items) =
+            subst (λ ys. IsBoundTo line ys new c d v) (sym parts)
+            (places_between_are_bound line (take place items ++ drop place items)
+            (take place items) (drop place items) x c d v on_left on_right range_good
+            (equal.refl v)) in
+            let new_known : Known order lawful same equal new =
             every_append (λ i. IsKnownRange order i.key) (take place items)
-            (x ∷ drop place items) (every_left (λ i. IsKnownRange order i.key)
-            (take place items) (drop place items) all_known) (
-              known,
-              every_right (λ i. IsKnownRange order i.key) (take place items)
-                  (drop place items) all_known,
-            ) in
-            let after =
-            bound_after order lawful same equal (take place items ++ drop place items)
-            (take place items ++ x ∷ drop place items) r v known all_known new_known changed
-            in
-            let joined : take place items ++ drop place items ≡ items = sym split in (
-              chain_stored order lawful same equal
-                  (take place items ++ x ∷ drop place items) new_known changed.chain,
-              subst (λ xs. IsBoundAfter order same xs
-                  (take place items ++ x ∷ drop place items) r v) joined after,
+            (x ∷ drop place items) (known_take order lawful same equal items place all)
+            (known, known_drop order lawful same equal items place all) in (
+              chain_stored order lawful same equal new new_known changed.chain,
+              bound_after order lawful same equal items new r v known all new_known changed,
             )
