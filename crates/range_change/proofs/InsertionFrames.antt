@@ -8,7 +8,7 @@ use Rattle.range_keys.specs.Order.{KeyOrder, IsLawful}
 use Rattle.range_algebra.specs.declared.any.AnyRange.{AnyRange}
 use Rattle.range_algebra.specs.Range.{IsKnownRange}
 use Rattle.range_algebra.specs.Intervals.{Any, Every}
-use Rattle.range_change.proofs.PlaceOrder.{lt_trans, lt_not_le, le_lt_trans, PLe, PLt}
+use Rattle.range_change.proofs.PlaceOrder.{lt_trans, lt_not_le, le_lt_trans, PLt}
 use Rattle.range_change.specs.Chains.{line_of}
 use Rattle.range_change.proofs.Chains.{chain_before, chain_left}
 use Rattle.range_algebra.specs.Cuts.{upper}
@@ -213,29 +213,6 @@ module _ {K : Type 0} {order : KeyOrder K} (lawful : IsLawful order) {V : Type 0
     some_meets some none =
         any_none (λ i. Overlap order i.key r) (λ i. Overlap order i.key r → ⊥) items none
         (λ i no met. no met) (meets_some some)
-
-    -- an empty window leaves no item that meets the range
-    pub none_meets : w.count ≡ 0 → Every (λ i. Overlap order i.key r → ⊥) items
-    none_meets none =
-        let all = stored_known order lawful same equal items window.stored in
-        let at : place + w.count ≡ place = omega (arith, none) in
-        let behind : Every (λ i. PLe lawful (upper order r) (item_lower order i))
-        (drop place items) = rw at at window.behind in
-        let before =
-        every_weaker _ _ (take place items)
-        (λ i h m.
-        m.0 ((before_is order lawful i.key.end r.start h.0.1 window.known.0).1 h.1))
-        (every_both (λ i. IsKnownRange order i.key) _ (take place items)
-        (known_take order lawful same equal items place all) window.below) in
-        let after =
-        every_weaker _ _ (drop place items)
-        (λ i h m.
-        m.1 ((before_is order lawful r.end i.key.start window.known.1 h.0.0).1 h.1))
-        (every_both (λ i. IsKnownRange order i.key) _ (drop place items)
-        (known_drop order lawful same equal items place all) behind) in
-        rw (list_is_take_and_drop items place)
-        (every_append (λ i. Overlap order i.key r → ⊥) (take place items)
-        (drop place items) before after)
 
     -- nothing gives way to nothing
     pub not_cut : IsRemovalFrame order same items items r

@@ -493,3 +493,7 @@ module _ {K : Type 0} {order : KeyOrder K} (lawful : IsLawful order) {V : Type 0
         (left_rest_whole (λ x some read. absurd (omega (arith, some, none))))
         (right_rest_whole (λ x some read. absurd (omega (arith, some, none))))
         (not_cut lawful equal window) list
+
+    -- an empty window leaves no item that meets the range
+    pub none_meets : w.count ≡ 0 → Every (λ i. Overlap order i.key r → ⊥) items
+    none_meets none = (unmet_is_unbound none).apart
