@@ -1,45 +1,14 @@
 -- Machines in the making: a state more, and sets that are found or added.
-use Rattle.std.proofs.Common.{◌≡◌, refl, sym, ap, subst, ◌∙◌, ◌↔◌, ◌⊎◌, inl, inr, ℕ, ◌<◌, ◌≤◌, ◌+◌, ◌*◌, Bool, true, false, nat_eq, IsTrue, List, [], ◌∷◌, ◌++◌, length, get_or, Option, Some, None, BTreeSet, arith, length-append}
-use Rattle.std.proofs.lemmas.Bool.Decides.{Decides-eqb}
-use Rattle.std.proofs.lemmas.Slice.Eq.{slice_eq-Decides}
-use lib.Pointwise.{pointwise}
+use Rattle.std.proofs.Common.{◌≡◌, refl, sym, ap, subst, ◌∙◌, ◌⊎◌, inl, inr, ℕ, ◌<◌, ◌≤◌, ◌+◌, ◌*◌, List, [], ◌∷◌, ◌++◌, length, get_or, Option, Some, None, BTreeSet, arith, length-append}
 use Rattle.std.specs.List.{slice_get, list_any}
 use Rattle.std.specs.Ordering.{nat_cmp, eq_by_cmp}
-use Rattle.std.specs.BTreeSet.{contains, IsOrdered}
-use Rattle.std.proofs.lemmas.Cmp.{nat_cmp_total}
-use Rattle.std.proofs.lemmas.Map.Lookups.{btree_set_from_contains, exact_unsigned}
 use Rattle.std.proofs.lemmas.Option.{slice_get_within, slice_get-get_or}
-use Rattle.btree_range_map.specs.Members.{HaveSame}
 use Rattle.lexing.specs.declared.lexer.Lexer.{Lexer}
 use Rattle.lexing.specs.declared.states.States.{States}
 use Rattle.lexing.specs.Lexers.{rules_in, IsFirstAmong}
 use Rattle.lexing.specs.Machines.{Row, RowBinds, Goes, IsRowOf, AreDense, AreStates}
 use Rattle.lexing.specs.Building.{AreFirst, KeepsAll, IsRowAt, IsIndexOf, AddsDense}
 use Rattle.lexing.proofs.Lists.{pushed_at, pushed_there, still_at}
-
-same_keys : (xs ys : List ℕ) (r : Bool) → r ≡ pointwise nat_eq xs ys → r ≡ true → xs ≡ ys
-same_keys xs ys r e t = (slice_eq-Decides Decides-eqb xs ys r e).0 t
-
--- sets are equal just where they have the same states
-module _ (set other : BTreeSet ℕ) (ordered : IsOrdered nat_cmp set)
-    (other_ordered : IsOrdered nat_cmp other) where
-  keys_of_same : HaveSame (contains nat_cmp) set other → set.keys ≡ other.keys
-  keys_of_same same =
-      btree_set_from_contains nat_cmp_total set other ordered other_ordered same exact_unsigned
-
-  pub unlike_by_length : (n m : ℕ) → n ≡ length set.keys → m ≡ length other.keys → ¬ (n ≡ m)
-      → IsTrue false ↔ HaveSame (contains nat_cmp) set other
-  unlike_by_length n m a b not = (
-    λ h. absurd cc,
-    λ same. absurd (not (a ∙ ap length (keys_of_same same) ∙ sym b)),
-  )
-
-  pub alike_by_equality : (r : Bool) → r ≡ pointwise nat_eq set.keys other.keys
-      → IsTrue r ↔ HaveSame (contains nat_cmp) set other
-  alike_by_equality r e = (
-    λ t q. ap (λ ks. list_any (eq_by_cmp nat_cmp q) ks) (same_keys set.keys other.keys r e t),
-    λ same. (slice_eq-Decides Decides-eqb set.keys other.keys r e).1 (keys_of_same same),
-  )
 
 -- what stands at an index of before has stood there
 stood : {X : Type 0} (before after : List X) → KeepsAll before after → (i : ℕ) (x : X)

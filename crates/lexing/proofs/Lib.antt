@@ -1,4 +1,5 @@
 pub mod Best
+pub mod Finding
 pub mod Firsts
 pub mod Growing
 pub mod Lists

@@ -1,6 +1,6 @@
 -- Sets of states that texts lead to, one more after the other.
-use Rattle.std.proofs.Common.{◌≡◌, refl, sym, ap, subst, ◌∙◌, ◌↔◌, ◌⊎◌, inl, inr, ℕ, zero, suc, ◌<◌, ◌≤◌, ◌+◌, Bool, false, IsTrue, List, [], ◌∷◌, ◌++◌, length, Some, BTreeSet, arith}
-use Rattle.std.specs.List.{slice_get}
+use Rattle.std.proofs.Common.{◌≡◌, refl, sym, ap, subst, ◌∙◌, ◌⊎◌, inl, inr, ℕ, zero, suc, ◌<◌, List, [], ◌∷◌, ◌++◌, length, BTreeSet, arith}
+use Rattle.std.specs.Prelude.{Result, Ok, Err, IfErr, OnOk}
 use Rattle.std.specs.Ordering.{nat_cmp}
 use Rattle.std.specs.BTreeSet.{contains}
 use Rattle.std.proofs.lemmas.Bool.{cases_lt}
@@ -14,40 +14,11 @@ use Rattle.btree_range_map.specs.Range.{Holds, IsKeyless}
 use Rattle.charmoves.specs.declared.rules.Rules.{Rules}
 use Rattle.charmoves.specs.Automata.{AreReached}
 use Rattle.charmoves.proofs.Leading.{after_none, after_more}
-use Rattle.lexing.specs.declared.error.BuildError.TheVariants.{TooLarge}
-use Rattle.lexing.specs.Building.{AreFirst}
+use Rattle.lexing.specs.declared.error.BuildError.{BuildError}
+use Rattle.lexing.specs.declared.error.BuildError.TheVariants.{TooLarge, Memory}
+use Rattle.lexing.specs.Building.{AddsLike, AreFirst}
 use Rattle.lexing.specs.Budgets.{IsNewTo, IsReached, AreMet, IsBuildReason}
-use Rattle.lexing.proofs.Lists.{one_item}
 use Rattle.lexing.proofs.Growing.{pushed_into, pushed_length}
-
--- none of the first sets has the states of this one
-abbrev pub IsNewUpTo : List (BTreeSet ℕ) → BTreeSet ℕ → ℕ → Type 0
-IsNewUpTo sets set n = (i : ℕ) (other : BTreeSet ℕ) → i < n → slice_get sets i ≡ Some other
-    → ¬ HaveSame (contains nat_cmp) other set
-
-module _ (sets : List (BTreeSet ℕ)) (set : BTreeSet ℕ) where
-  pub new_none : IsNewUpTo sets set 0
-  new_none i other below at = absurd (omega (arith, below))
-
-  pub new_more : (n : ℕ) (next : BTreeSet ℕ) → slice_get sets n ≡ Some next → (r : Bool)
-      → IsTrue r ↔ HaveSame (contains nat_cmp) next set → r ≡ false → IsNewUpTo sets set n
-      → IsNewUpTo sets set (n + 1)
-  new_more n next here r tells unlike new i other below at =
-      elim (cases_lt i n) [
-        | inl less ↦ new i other less at
-        | inr most ↦
-            let place : n ≡ i = omega (arith, below, most) in
-            let same : next ≡ other =
-            one_item sets i next other (subst (λ k. slice_get sets k ≡ Some next) place here) at in
-            λ alike. absurd
-            (let yes = tells.1 (subst (λ x. HaveSame (contains nat_cmp) x set) (sym same) alike) in
-            cc)
-      ]
-
-  pub new_all : (n : ℕ) → length sets ≤ n → IsNewUpTo sets set n → IsNewTo sets set
-  new_all n all new i other at =
-      let within = slice_get_within sets i other at in
-      new i other (omega (arith, within, all)) at
 
 module _ (rules : Rules) where
   pub met_first : (sets : List (BTreeSet ℕ)) → AreFirst rules sets → AreMet rules sets
@@ -89,6 +60,18 @@ module _ (rules : Rules) where
       ]
     ];
   }
+
+  pub met_added : {A E : Type 0} (r : Result A E) (sets after : List (BTreeSet ℕ))
+      (set : BTreeSet ℕ) → AreMet rules sets → IsReached rules set → IsNewTo sets set
+      → OnOk r (AddsLike sets after set) → OnOk r (AreMet rules after)
+  met_added (Ok x) sets after set met reached new (copy, pushed, same) =
+      met_more sets after set copy met reached new same pushed
+  met_added (Err e) sets after set met reached new added = tt
+
+  pub out_of_memory : {A : Type 0} (r : Result A BuildError) (budget : ℕ)
+      → IfErr r (λ e. e ≡ Memory) → IfErr r (IsBuildReason rules budget)
+  out_of_memory (Ok x) budget h = tt
+  out_of_memory (Err e) budget h = subst (IsBuildReason rules budget) (sym h) tt
 
   -- which would be beyond the budget
   pub met_beyond : (sets : List (BTreeSet ℕ)) (set : BTreeSet ℕ) (budget : ℕ) → AreMet rules sets

@@ -1,5 +1,5 @@
 -- Sets of states in the making.
-use Rattle.std.specs.Prelude.{◌≡◌, ℕ, ◌+◌, ◌<◌, List, [], ◌∷◌, length, Option, Some, slice_get}
+use Rattle.std.specs.Prelude.{◌≡◌, ℕ, ◌+◌, ◌<◌, List, [], ◌∷◌, ◌++◌, length, Option, Some, slice_get}
 use Rattle.std.specs.Ordering.{nat_cmp}
 use Rattle.std.specs.BTreeSet.{BTreeSet, contains}
 use Rattle.btree_range_map.specs.Members.{HaveSame}
@@ -25,6 +25,11 @@ IsRowAt rules before after at row =
 abbrev pub IsIndexOf : List (BTreeSet ℕ) → BTreeSet ℕ → ℕ → Type 0
 IsIndexOf sets set i = (same : BTreeSet ℕ) × (slice_get sets i ≡ Some same)
     × HaveSame (contains nat_cmp) same set
+
+-- behind the list stands a set with the states of this one
+abbrev pub AddsLike : List (BTreeSet ℕ) → List (BTreeSet ℕ) → BTreeSet ℕ → Type 0
+AddsLike before after set = (copy : BTreeSet ℕ) × (after ≡ before ++ copy ∷ [])
+    × HaveSame (contains nat_cmp) copy set
 
 -- behind the list stand the first characters' states by the row
 abbrev pub AddsDense : Row → ℕ → List (Option ℕ) → List (Option ℕ) → Type 0

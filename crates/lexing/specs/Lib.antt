@@ -1,5 +1,6 @@
 pub mod Budgets
 pub mod Building
+pub mod Found
 pub mod Lexers
 pub mod Machines
 pub mod MachineSteps

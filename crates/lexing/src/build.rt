@@ -10,10 +10,12 @@ ghost use Rattle.lexing.specs.Machines.{AreStates, IsMachine};
 ghost use Rattle.lexing.specs.MachineSteps.{lexer_of, state_count};
 ghost use Rattle.lexing.specs.Budgets.{IsNewTo, IsReached, AreMet, IsBuildReason};
 ghost use Rattle.lexing.specs.Building.{AreFirst, IsRowAt, IsIndexOf, KeepsAll};
+ghost use Rattle.lexing.specs.Found.{AreFound};
 
 use crate::error::BuildError;
 use crate::lexer::Lexer;
 use crate::machine::Machine;
+use crate::sets::Sets;
 use crate::states::States;
 use btree_range_map::RangeMap;
 use btree_range_map::generic::map::stored_lists_are_coarse;
@@ -26,8 +28,8 @@ impl Machine {
     /// than the budget.
     ///
     /// A machine may have exponentially many states: one for each set of states of the lexer that
-    /// some text reaches. Each set is looked for among all that were met: a machine of `n` states
-    /// with `m` ranges in all costs `n * m` comparisons of sets. Allocates.
+    /// some text reaches. Each set is looked for in a search tree of those that were met: a machine
+    /// of `n` states with `m` ranges in all costs about `m * log n` comparisons of sets. Allocates.
     ///
     /// ```
     /// // of a lexer
@@ -55,19 +57,21 @@ fn states_of(alloc: Global, lexer: &Lexer, budget: u32) -> Result<States, BuildE
         return Err(BuildError::TooLarge);
     }
     let mut states = States::new(alloc);
-    while states.rows.len() < sets.len() {
+    while states.rows.len() < sets.listed.len() {
         grow(alloc, lexer, &mut sets, &mut states, budget)?;
     }
     Ok(states)
 }
 
 /// The first set, that of the start states.
-fn started(alloc: Global, lexer: &Lexer) -> Result<Vec<BTreeSet<u32>>, BuildError>
-    ensures first { IfOk result (λ sets. AreFirst (rules_in lexer.now) sets.items) }
+fn started(alloc: Global, lexer: &Lexer) -> Result<Sets, BuildError>
+    ensures first { IfOk result (λ sets. AreFirst (rules_in lexer.now) sets.listed.items) }
+    ensures found { IfOk result AreFound }
     ensures refused { IfErr result (λ e. e ≡ Memory) }
 {
-    let mut sets = Vec::new(alloc);
-    sets.push(lexer.moves.starts()?)?;
+    let starts = lexer.moves.starts()?;
+    let mut sets = Sets::new(alloc);
+    sets.add(&starts)?;
     Ok(sets)
 }
 
@@ -75,23 +79,25 @@ fn started(alloc: Global, lexer: &Lexer) -> Result<Vec<BTreeSet<u32>>, BuildErro
 fn grow(
     alloc: Global,
     lexer: &Lexer,
-    sets: &mut Vec<BTreeSet<u32>>,
+    sets: &mut Sets,
     states: &mut States,
     budget: u32,
 ) -> Result<(), BuildError>
-    requires states { AreStates lexer.now sets.old.items states.old }
-    requires more { vec_len states.old.rows < vec_len sets.old }
-    requires few { vec_len sets.old ≤ budget }
-    requires met { AreMet (rules_in lexer.now) sets.old.items }
-    ensures states { OnOk result (AreStates lexer.now sets.new.items states.new) }
+    requires states { AreStates lexer.now sets.old.listed.items states.old }
+    requires more { vec_len states.old.rows < vec_len sets.old.listed }
+    requires few { vec_len sets.old.listed ≤ budget }
+    requires met { AreMet (rules_in lexer.now) sets.old.listed.items }
+    requires found { AreFound sets.old }
+    ensures states { OnOk result (AreStates lexer.now sets.new.listed.items states.new) }
     ensures one { OnOk result (vec_len states.new.rows ≡ vec_len states.old.rows + 1) }
-    ensures few { vec_len sets.new ≤ budget }
-    ensures met { OnOk result (AreMet (rules_in lexer.now) sets.new.items) }
+    ensures few { vec_len sets.new.listed ≤ budget }
+    ensures met { OnOk result (AreMet (rules_in lexer.now) sets.new.listed.items) }
+    ensures found { OnOk result (AreFound sets.new) }
     ensures refused { IfErr result (IsBuildReason (rules_in lexer.now) budget) }
 {
     let at = states.rows.len();
     let row = row_of(alloc, lexer, sets, at, budget)?;
-    let first_rule = lexer.first_rule(&sets[at]);
+    let first_rule = lexer.first_rule(&sets.listed[at]);
     states.add(row, first_rule)?;
     Ok(())
 }
@@ -100,21 +106,24 @@ fn grow(
 fn row_of(
     alloc: Global,
     lexer: &Lexer,
-    sets: &mut Vec<BTreeSet<u32>>,
+    sets: &mut Sets,
     at: usize,
     budget: u32,
 ) -> Result<RangeMap<char, u32>, BuildError>
-    requires within { at < vec_len sets.old }
-    requires few { vec_len sets.old ≤ budget }
-    requires met { AreMet (rules_in lexer.now) sets.old.items }
-    ensures row { IfOk result (IsRowAt (rules_in lexer.now) sets.old.items sets.new.items at) }
-    ensures kept { KeepsAll sets.old.items sets.new.items }
-    ensures longer { vec_len sets.old ≤ vec_len sets.new }
-    ensures few { vec_len sets.new ≤ budget }
-    ensures met { OnOk result (AreMet (rules_in lexer.now) sets.new.items) }
+    requires within { at < vec_len sets.old.listed }
+    requires few { vec_len sets.old.listed ≤ budget }
+    requires met { AreMet (rules_in lexer.now) sets.old.listed.items }
+    requires found { AreFound sets.old }
+    ensures row { IfOk result
+        (IsRowAt (rules_in lexer.now) sets.old.listed.items sets.new.listed.items at) }
+    ensures kept { KeepsAll sets.old.listed.items sets.new.listed.items }
+    ensures longer { vec_len sets.old.listed ≤ vec_len sets.new.listed }
+    ensures few { vec_len sets.new.listed ≤ budget }
+    ensures met { OnOk result (AreMet (rules_in lexer.now) sets.new.listed.items) }
+    ensures found { OnOk result (AreFound sets.new) }
     ensures refused { IfErr result (IsBuildReason (rules_in lexer.now) budget) }
 {
-    let leads = lexer.moves.leads(&sets[at])?;
+    let leads = lexer.moves.leads(&sets.listed[at])?;
     stored_sets_have_all_values::<char, u32, BTreeSet<u32>>();
     stored_lists_are_coarse::<char, BTreeSet<u32>>();
     let mut row = RangeMap::new(alloc);
@@ -127,52 +136,24 @@ fn row_of(
 }
 
 /// The index of the set, which is added where it is not among the sets.
-fn index_of(
-    sets: &mut Vec<BTreeSet<u32>>,
-    set: &BTreeSet<u32>,
-    budget: u32,
-) -> Result<u32, BuildError>
-    requires { vec_len sets.old ≤ budget }
-    ensures index { IfOk result (IsIndexOf sets.new.items set.now) }
-    ensures kept { KeepsAll sets.old.items sets.new.items }
-    ensures longer { vec_len sets.old ≤ vec_len sets.new }
-    ensures few { vec_len sets.new ≤ budget }
-    ensures met { (rules : Rules) → AreMet rules sets.old.items → IsReached rules set.now
-        → OnOk result (AreMet rules sets.new.items) }
-    ensures refused { (rules : Rules) → AreMet rules sets.old.items → IsReached rules set.now
+fn index_of(sets: &mut Sets, set: &BTreeSet<u32>, budget: u32) -> Result<u32, BuildError>
+    requires few { vec_len sets.old.listed ≤ budget }
+    requires found { AreFound sets.old }
+    ensures index { IfOk result (IsIndexOf sets.new.listed.items set.now) }
+    ensures found { OnOk result (AreFound sets.new) }
+    ensures kept { KeepsAll sets.old.listed.items sets.new.listed.items }
+    ensures longer { vec_len sets.old.listed ≤ vec_len sets.new.listed }
+    ensures few { vec_len sets.new.listed ≤ budget }
+    ensures met { (rules : Rules) → AreMet rules sets.old.listed.items → IsReached rules set.now
+        → OnOk result (AreMet rules sets.new.listed.items) }
+    ensures refused { (rules : Rules) → AreMet rules sets.old.listed.items → IsReached rules set.now
         → IfErr result (IsBuildReason rules budget) }
 {
-    if let Some(index) = find(sets, set) {
-        return Ok(index as u32);
+    if let Some(index) = sets.find(set) {
+        return Ok(index);
     }
-    let index = sets.len();
-    if index == budget as usize {
+    if sets.listed.len() == budget as usize {
         return Err(BuildError::TooLarge);
     }
-    sets.push(set.clone()?)?;
-    Ok(index as u32)
-}
-
-/// The index of a set with the same states, if there is one.
-fn find(sets: &[BTreeSet<u32>], set: &BTreeSet<u32>) -> Option<usize>
-    ensures within { IfSome result (λ index. index < length sets.now) }
-    ensures found { IfSome result (IsIndexOf sets.now set.now) }
-    ensures none { IfNone result (IsNewTo sets.now set.now) }
-{
-    for (index, other) in sets.iter().enumerate() {
-        if have_same(other, set) {
-            return Some(index);
-        }
-    }
-    None
-}
-
-/// Whether the sets have the same states.
-fn have_same(set: &BTreeSet<u32>, other: &BTreeSet<u32>) -> bool
-    ensures { IsTrue result ↔ HaveSame (contains nat_cmp) set.now other.now }
-{
-    if set.len() != other.len() {
-        return false;
-    }
-    set == other
+    sets.add(set)
 }

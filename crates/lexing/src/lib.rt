@@ -40,6 +40,7 @@ mod error;
 mod lexer;
 mod machine;
 mod scanner;
+mod sets;
 mod states;
 mod token;
 mod tokens;

@@ -10,14 +10,14 @@ use Rattle.lexing.proofs.build.grow.Goals as goal
 pub returns-clause-states : goal.returns-clause-states
 returns-clause-states c =
     let lexer = c.args.lexer.now in
-    let sets = c.args.sets.now.items in
-    let after = c.row_of.new.sets.items in
+    let sets = c.args.sets.now.listed.items in
+    let after = c.row_of.new.sets.listed.items in
     let before = c.args.states.now in
     let set = c.index.result.now in
     let first = c.first_rule-first_rule.result in
     let counted = before.rows.ok.0 in
-    let sets_counted = c.args.sets.now.ok.0 in
-    let after_counted = c.row_of.new.sets.ok.0 in
+    let sets_counted = c.args.sets.now.listed.ok.0 in
+    let after_counted = c.row_of.new.sets.listed.ok.0 in
     let index = c.len-at.ensures in
     let more = c.requires.more in
     let longer = c.row_of.ensures.longer in

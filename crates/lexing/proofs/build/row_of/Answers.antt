@@ -16,11 +16,11 @@ reached : (c : In-Some)
     → IsReached (rules_in c.args.lexer.now) c.in-Some.targets.now
 reached c =
     let rules = rules_in c.args.lexer.now in
-    let sets = c.args.sets.now.items in
+    let sets = c.args.sets.now.listed.items in
     let set = c.index.result.now in
     let all = c.iter-entries.result in
     let form = c.iter-entries.ensures.form in
-    let count = c.args.sets.now.ok.0 in
+    let count = c.args.sets.now.listed.ok.0 in
     let within = c.requires.within in
     let entry : Entry = record { key = c.in-Some.range.now; value = c.in-Some.targets.now } in
     let coarse =
@@ -30,7 +30,7 @@ reached c =
     c.index.ensures in
     next_reached rules set c.in_ok-leads.leads all c.iter-entries.ensures.items
     c.in_ok-leads.ensures.leads (c.stored_sets_have_all_values.ensures all form)
-    c.loop-range.sets.items c.loop-range.row c.loop-range.entries c.loop-range.invariant.row entry
+    c.loop-range.sets.listed.items c.loop-range.row c.loop-range.entries c.loop-range.invariant.row entry
     c.next.new.self c.in-Some.ensures.steps coarse.keyed
     (c.requires.met.reached c.args.at set stands)
 
@@ -40,7 +40,8 @@ loop-range-init c = record {
   longer = omega arith;
   few = c.requires.few;
   met = c.requires.met;
-  row = row_none c.args.sets.now.items c.iter-entries.result c.iter-entries.result c.new-row.result
+  found = c.requires.found;
+  row = row_none c.args.sets.now.listed.items c.iter-entries.result c.iter-entries.result c.new-row.result
       c.new-row.ensures refl;
 }
 
@@ -55,7 +56,8 @@ loop-range-preserved c =
       few = c.index_of.ensures.few;
       met = c.in_ok-next.ensures.met (rules_in c.args.lexer.now) c.loop-range.invariant.met
           (reached found);
-      row = row_more c.loop-range.sets.items c.index_of.new.sets.items c.index_of.ensures.kept
+      found = c.in_ok-next.ensures.found;
+      row = row_more c.loop-range.sets.listed.items c.index_of.new.sets.listed.items c.index_of.ensures.kept
           c.iter-entries.result c.loop-range.row c.insert.new.self entry c.next.new.self
           c.loop-range.entries c.in-Some.ensures.steps c.in_ok-next.next c.in_ok-next.ensures.index
           c.in_ok-insert.ensures.bound c.loop-range.invariant.row;
@@ -81,19 +83,19 @@ returns-in_err-insert-clause-kept c =
 pub returns-clause-row : goal.returns-clause-row
 returns-clause-row c =
     let rules = rules_in c.args.lexer.now in
-    let sets = c.args.sets.now.items in
+    let sets = c.args.sets.now.listed.items in
     let first = c.index.result.now in
     let all = c.iter-entries.result in
-    let count = c.args.sets.now.ok.0 in
+    let count = c.args.sets.now.listed.ok.0 in
     let within = c.requires.within in
     let stood =
     slice_get_read sets (length sets) c.args.at first refl (omega (arith, count, within))
     c.index.ensures in
     λ set stands.
-    subst (λ s. IsRowOf rules c.loop-range.sets.items s c.loop-range.row)
+    subst (λ s. IsRowOf rules c.loop-range.sets.listed.items s c.loop-range.row)
     (one_item sets c.args.at first set stood stands)
     (row_all rules first c.in_ok-leads.leads all c.iter-entries.ensures.items
     c.in_ok-leads.ensures.leads
     (c.stored_sets_have_all_values.ensures all c.iter-entries.ensures.form)
-    c.loop-range.sets.items c.loop-range.row c.loop-range.entries c.loop-range.invariant.row
+    c.loop-range.sets.listed.items c.loop-range.row c.loop-range.entries c.loop-range.invariant.row
     c.in_default.ensures.steps.0)

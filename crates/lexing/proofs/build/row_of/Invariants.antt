@@ -2,16 +2,18 @@ use Rattle.std.proofs.Common.{◌≤◌, vec_len, length}
 use Rattle.lexing.specs.Lexers.{rules_in}
 use Rattle.lexing.specs.Building.{KeepsAll}
 use Rattle.lexing.specs.Budgets.{AreMet}
+use Rattle.lexing.specs.Found.{AreFound}
 use Rattle.lexing.proofs.Rows.{IsRowSoFar}
 use Rattle.lexing.proofs.build.row_of.Given as goal
 
 abbrev pub invariant-loop-range : goal.invariant-loop-range
 invariant-loop-range l = record {
-  kept : KeepsAll l.fn.sets.items l.sets.items;
-  longer : vec_len l.fn.sets ≤ vec_len l.sets;
-  few : vec_len l.sets ≤ l.budget;
-  met : AreMet (rules_in l.lexer) l.sets.items;
-  row : IsRowSoFar l.sets.items l.initial.entries l.row l.entries;
+  kept : KeepsAll l.fn.sets.listed.items l.sets.listed.items;
+  longer : vec_len l.fn.sets.listed ≤ vec_len l.sets.listed;
+  few : vec_len l.sets.listed ≤ l.budget;
+  met : AreMet (rules_in l.lexer) l.sets.listed.items;
+  found : AreFound l.sets;
+  row : IsRowSoFar l.sets.listed.items l.initial.entries l.row l.entries;
 }
 
 abbrev pub decreases-loop-range : goal.decreases-loop-range
