@@ -5,10 +5,12 @@ import hashlib
 import os
 import re
 import subprocess
+import sys
+import tempfile
 import time
 
 from tools import conversations, examples, faults, mutants
-from tools.repository import PROCESSORS, TOP, Counts, below, counted, crates, run, tell, told
+from tools.repository import PROCESSORS, TOP, Counts, below, counted, crates, passed, run, tell, told
 
 RESULT = re.compile(r"^test result: .*?(\d+) passed; (\d+) failed", re.M)
 # A check takes less than this; what `rt` expects of it, by its lines, is up to three times as much.
@@ -50,8 +52,16 @@ def gate():
         runs.append(pool.submit(counting, "random conversations", ["crates/rangecalc/fuzz", "--conversations", "1000"]))
         runs.append(pool.submit(counting, "random lists", ["crates/cidr/fuzz", "--lists", "300"]))
         ended = [it.result() for it in runs]
-    bindings = counting("bindings: C, Rust and Python", ["./bindings/run"])
-    return [*fresh, proved, *ended, *faults.refuse(), bindings]
+    return [*fresh, proved, *ended, *faults.refuse(), *bindings_over_proved()]
+
+
+def bindings_over_proved():
+    """Builds the static library of what was proved, and runs the bindings and their packages over it."""
+    with tempfile.TemporaryDirectory() as library:
+        made = passed("proved library", [sys.executable, "-m", "tools.library", library])
+        if made.failed:
+            return [made]
+        return [made, counting("bindings: C, Rust and Python", ["./bindings/run", "--library", library])]
 
 
 def fresh_mutants():

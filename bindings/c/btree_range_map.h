@@ -1,6 +1,7 @@
 /* Maps and sets whose keys are gathered into ranges, proved in Rattle. bindings/README.md says what a caller owes.
  *
- * Each call answers by a status; one that fails has changed nothing, and has written nothing behind its pointers. */
+ * Each call answers by a status; one that fails has changed nothing, and has written nothing behind its pointers,
+ * but for what an insert_many has done and told before memory ran out. */
 #ifndef BTREE_RANGE_MAP_H
 #define BTREE_RANGE_MAP_H
 
@@ -9,9 +10,9 @@
 #include <stdint.h>
 
 #define BRM_VERSION_MAJOR 0
-#define BRM_VERSION_MINOR 2
+#define BRM_VERSION_MINOR 3
 #define BRM_VERSION_PATCH 0
-#define BRM_VERSION "0.2.0"
+#define BRM_VERSION "0.3.0"
 
 #ifdef __cplusplus
 extern "C" {
@@ -94,6 +95,23 @@ typedef struct {
     uint64_t value;
 } brm_entry_i64;
 
+/* What a key is bound to: a value, or none, and then the value is 0. */
+typedef struct {
+    uint64_t value;
+    bool is_bound;
+} brm_binding;
+
+/* A part of a range, with what each of its keys is bound to. */
+typedef struct {
+    brm_range_u64 range;
+    brm_binding binding;
+} brm_piece_u64;
+
+typedef struct {
+    brm_range_i64 range;
+    brm_binding binding;
+} brm_piece_i64;
+
 /* A number of keys: high times 2^64, and low. */
 typedef struct {
     uint64_t high, low;
@@ -131,6 +149,11 @@ brm_status brm_map_u64_read_back(const brm_handle *map, uint64_t upto, brm_entry
 /* Write the stored ranges that meet the range, whole, or the parts of it that hold no bound key, in the same way. */
 brm_status brm_map_u64_overlapping(const brm_handle *map, const brm_range_u64 *range, brm_entry_u64 *entries, size_t capacity, size_t *count);
 brm_status brm_map_u64_gaps(const brm_handle *map, const brm_range_u64 *range, brm_range_u64 *ranges, size_t capacity, size_t *count);
+/* Writes the parts of the range in the same way, each as wide as it goes, with what it is bound to: a value, or none. */
+brm_status brm_map_u64_pieces(const brm_handle *map, const brm_range_u64 *range, brm_piece_u64 *pieces, size_t capacity, size_t *count);
+/* Binds the keys of each of so many ranges to the value beside it, one after the other, and tells of how many, also with
+ * BRM_NO_MEMORY: those before the one for which memory ran out stay bound. */
+brm_status brm_map_u64_insert_many(brm_handle *map, const brm_entry_u64 *entries, size_t size, size_t *count);
 
 /* Maps of int64_t keys to uint64_t values. */
 brm_status brm_map_i64_create(brm_handle *map);
@@ -155,6 +178,11 @@ brm_status brm_map_i64_read_back(const brm_handle *map, int64_t upto, brm_entry_
 /* Write the stored ranges that meet the range, whole, or the parts of it that hold no bound key, in the same way. */
 brm_status brm_map_i64_overlapping(const brm_handle *map, const brm_range_i64 *range, brm_entry_i64 *entries, size_t capacity, size_t *count);
 brm_status brm_map_i64_gaps(const brm_handle *map, const brm_range_i64 *range, brm_range_i64 *ranges, size_t capacity, size_t *count);
+/* Writes the parts of the range in the same way, each as wide as it goes, with what it is bound to: a value, or none. */
+brm_status brm_map_i64_pieces(const brm_handle *map, const brm_range_i64 *range, brm_piece_i64 *pieces, size_t capacity, size_t *count);
+/* Binds the keys of each of so many ranges to the value beside it, one after the other, and tells of how many, also with
+ * BRM_NO_MEMORY: those before the one for which memory ran out stay bound. */
+brm_status brm_map_i64_insert_many(brm_handle *map, const brm_entry_i64 *entries, size_t size, size_t *count);
 
 /* Sets of uint64_t keys. */
 brm_status brm_set_u64_create(brm_handle *set);
@@ -177,11 +205,15 @@ brm_status brm_set_u64_read_back(const brm_handle *set, uint64_t upto, brm_range
 /* Write the stored ranges that meet the range, whole, or the parts of it that hold no key of the set, in the same way. */
 brm_status brm_set_u64_overlapping(const brm_handle *set, const brm_range_u64 *range, brm_range_u64 *entries, size_t capacity, size_t *count);
 brm_status brm_set_u64_gaps(const brm_handle *set, const brm_range_u64 *range, brm_range_u64 *ranges, size_t capacity, size_t *count);
+/* Adds the keys of each of so many ranges, one after the other, and tells of how many, also with BRM_NO_MEMORY. */
+brm_status brm_set_u64_insert_many(brm_handle *set, const brm_range_u64 *ranges, size_t size, size_t *count);
 
 /* The calls that the functions below are made of. They owe that no pointer is NULL, and that no handle is given twice. */
 void brm_raw_destroy(brm_handle *handle);
 brm_status brm_raw_clone(const brm_handle *handle, brm_handle *made);
 brm_status brm_raw_equal(const brm_handle *handle, const brm_handle *other);
+brm_status brm_raw_map_u64_get_many(const brm_handle *map, const uint64_t *keys, size_t size, brm_binding *bindings, size_t capacity);
+brm_status brm_raw_map_i64_get_many(const brm_handle *map, const int64_t *keys, size_t size, brm_binding *bindings, size_t capacity);
 brm_status brm_raw_map_u64_split_off(brm_handle *map, uint64_t key, brm_handle *other);
 brm_status brm_raw_map_i64_split_off(brm_handle *map, int64_t key, brm_handle *other);
 brm_status brm_raw_map_u64_append(brm_handle *map, brm_handle *other);
@@ -212,6 +244,15 @@ static inline brm_status brm_clone(const brm_handle *handle, brm_handle *made) {
 static inline brm_status brm_equal(const brm_handle *handle, const brm_handle *other) {
     if (handle == other) return handle->is_open ? BRM_DONE : BRM_CLOSED;
     return brm_raw_equal(handle, other);
+}
+
+/* Write what each of so many keys is bound to, in the same place of the array of bindings. */
+static inline brm_status brm_map_u64_get_many(const brm_handle *map, const uint64_t *keys, brm_binding *bindings, size_t size) {
+    return brm_raw_map_u64_get_many(map, keys, size, bindings, size);
+}
+
+static inline brm_status brm_map_i64_get_many(const brm_handle *map, const int64_t *keys, brm_binding *bindings, size_t size) {
+    return brm_raw_map_i64_get_many(map, keys, size, bindings, size);
 }
 
 /* Open the closed handle `made` on what the map binds from the key on, the key with it, and take that from the map. */

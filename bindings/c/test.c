@@ -514,6 +514,75 @@ static void in_ranges(void) {
     brm_destroy(&set);
 }
 
+/* Pieces of a range in batches of two, many keys and many ranges in one call; refused memory tells how many were done. */
+static void many_at_once(void) {
+    enum { RANGES = 300 };
+    brm_handle map = BRM_HANDLE_CLOSED, set = BRM_HANDLE_CLOSED;
+    brm_entry_u64 some[] = {{{0, 10, BRM_END_EXCLUDED}, 1}, {{20, 30, BRM_END_EXCLUDED}, 2}, {{5, 3, 0}, 9}, {{5, 8, BRM_END_EXCLUDED}, 3}};
+    static brm_entry_u64 apart[RANGES];
+    brm_piece_u64 pieces[2];
+    brm_binding bound[4];
+    brm_range_u64 within = through(6, 22), ranges[] = {{0, 9, 0}, {20, 29, 0}, {5, 14, 0}};
+    uint64_t keys[] = {9, 7, 10, UINT64_MAX};
+    size_t n = 9;
+    memset(pieces, 0, sizeof pieces);
+    memset(bound, 0xaa, sizeof bound);
+    EXPECT(brm_map_u64_pieces(&map, &within, pieces, 2, &n) == BRM_CLOSED && brm_map_u64_get_many(&map, keys, bound, 4) == BRM_CLOSED);
+    EXPECT(brm_map_u64_insert_many(&map, some, 4, &n) == BRM_CLOSED && n == 9 && bound[0].value == 0xaaaaaaaaaaaaaaaa);
+    EXPECT(brm_map_u64_create(&map) == BRM_DONE && brm_set_u64_create(&set) == BRM_DONE);
+    EXPECT(brm_map_u64_pieces(&map, &within, pieces, 2, &n) == BRM_DONE && n == 1 && !pieces[0].binding.is_bound);
+    EXPECT(brm_map_u64_insert_many(&map, some, 4, &n) == BRM_DONE && n == 4 && brm_count(&map) == 4);
+    EXPECT(brm_map_u64_insert_many(&map, some, 0, &n) == BRM_DONE && n == 0 && brm_count(&map) == 4);
+    EXPECT(brm_map_u64_pieces(&map, &within, pieces, 2, &n) == BRM_DONE && n == 2);
+    EXPECT(pieces[0].range.start == 6 && pieces[0].range.end == 8 && pieces[0].binding.value == 3 && pieces[0].binding.is_bound);
+    EXPECT(pieces[1].range.start == 8 && pieces[1].range.end == 10 && pieces[1].binding.value == 1);
+    within.start = 10;
+    EXPECT(brm_map_u64_pieces(&map, &within, pieces, 2, &n) == BRM_DONE && n == 2 && pieces[0].range.end == 20);
+    EXPECT(!pieces[0].binding.is_bound && pieces[0].binding.value == 0 && pieces[1].range.end == 22 && pieces[1].binding.value == 2);
+    within = upto(8, 3);
+    EXPECT(brm_map_u64_pieces(&map, &within, pieces, 2, &n) == BRM_DONE && n == 0);
+    EXPECT(brm_map_u64_get_many(&map, keys, bound, 3) == BRM_DONE && bound[3].value == 0xaaaaaaaaaaaaaaaa);
+    EXPECT(bound[0].is_bound && bound[0].value == 1 && bound[1].is_bound && bound[1].value == 3 && !bound[2].is_bound);
+    EXPECT(brm_raw_map_u64_get_many(&map, keys, 4, bound, 3) == BRM_NO_ROOM && bound[0].value == 1);
+    EXPECT(brm_set_u64_insert_many(&map, ranges, 3, &n) == BRM_OTHER_KIND && n == 0 && brm_count(&map) == 4);
+    EXPECT(brm_map_u64_pieces(&set, &within, pieces, 2, &n) == BRM_OTHER_KIND && brm_map_u64_get_many(&set, keys, bound, 3) == BRM_OTHER_KIND);
+    EXPECT(brm_set_u64_insert_many(&set, ranges, 3, &n) == BRM_DONE && n == 3 && brm_count(&set) == 2);
+    EXPECT(brm_set_u64_contains(&set, 14) == BRM_DONE && brm_set_u64_contains(&set, 15) == BRM_NONE);
+    EXPECT(brm_clear(&map) == BRM_DONE);
+    for (uint64_t i = 0; i < RANGES; i++) apart[i] = (brm_entry_u64){upto(10 * i, 10 * i + 5), i};
+    for (long allocations = 0;; allocations++) {
+        brm_handle made = BRM_HANDLE_CLOSED;
+        EXPECT(brm_map_u64_create(&made) == BRM_DONE);
+        granted = allocations;
+        brm_status status = brm_map_u64_insert_many(&made, apart, RANGES, &n);
+        granted = -1;
+        EXPECT(brm_count(&made) == n && (n == 0 || brm_map_u64_contains(&made, 10 * n - 6) == BRM_DONE));
+        brm_destroy(&made);
+        if (status == BRM_DONE) break;
+        EXPECT(status == BRM_NO_MEMORY && n < RANGES);
+    }
+    EXPECT(n == RANGES);
+    brm_destroy(&set);
+    brm_destroy(&map);
+}
+
+static void many_signed(void) {
+    brm_handle map = BRM_HANDLE_CLOSED;
+    brm_entry_i64 some[] = {{{-10, -5, 0}, 1}, {{5, 10, 0}, 2}};
+    brm_piece_i64 pieces[3];
+    brm_binding bound[2];
+    brm_range_i64 within = {-6, 6, 0};
+    int64_t keys[] = {-6, 0};
+    size_t n = 0;
+    memset(pieces, 0, sizeof pieces);
+    memset(bound, 0, sizeof bound);
+    EXPECT(brm_map_i64_create(&map) == BRM_DONE && brm_map_i64_insert_many(&map, some, 2, &n) == BRM_DONE && n == 2);
+    EXPECT(brm_map_i64_get_many(&map, keys, bound, 2) == BRM_DONE && bound[0].value == 1 && !bound[1].is_bound);
+    EXPECT(brm_map_i64_pieces(&map, &within, pieces, 3, &n) == BRM_DONE && n == 3 && pieces[0].range.start == -6);
+    EXPECT(pieces[0].binding.value == 1 && !pieces[1].binding.is_bound && pieces[2].range.end == 6 && pieces[2].binding.value == 2);
+    brm_destroy(&map);
+}
+
 static void in_signed_ranges(void) {
     brm_handle map = BRM_HANDLE_CLOSED, rest = BRM_HANDLE_CLOSED;
     brm_entry_i64 e[2];
@@ -605,6 +674,8 @@ int main(void) {
     batches();
     in_ranges();
     in_signed_ranges();
+    many_at_once();
+    many_signed();
     maps_of_two();
     status_texts();
     texts();

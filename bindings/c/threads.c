@@ -26,6 +26,9 @@ static void read_all(const brm_handle *map, job *it) {
     brm_range_u64 every = {0, 0, BRM_START_UNBOUNDED | BRM_END_UNBOUNDED};
     brm_entry_u64 entry = {{0, 0, 0}, 0}, entries[10];
     brm_range_u64 gaps[10];
+    brm_piece_u64 pieces[10];
+    brm_binding bound[2];
+    uint64_t keys[] = {4, 5};
     size_t read = 0;
     brm_key_count count = {0, 0};
     uint8_t text[8];
@@ -41,10 +44,14 @@ static void read_all(const brm_handle *map, job *it) {
     it->wrong += brm_map_u64_first(map, &entry) != BRM_DONE || brm_map_u64_last(map, &entry) != BRM_DONE;
     memset(entries, 0, sizeof entries);
     memset(gaps, 0, sizeof gaps);
+    memset(pieces, 0, sizeof pieces);
+    memset(bound, 0, sizeof bound);
     it->wrong += brm_map_u64_read(map, 0, entries, 10, &read) != BRM_DONE || entries[9].value != 9;
     it->wrong += brm_map_u64_read_back(map, 99, entries, 10, &read) != BRM_DONE || read != 10;
     it->wrong += brm_map_u64_overlapping(map, &every, entries, 10, &read) != BRM_DONE || entries[9].value != 9;
     it->wrong += brm_map_u64_gaps(map, &every, gaps, 10, &read) != BRM_DONE || gaps[9].start != 95;
+    it->wrong += brm_map_u64_pieces(map, &every, pieces, 10, &read) != BRM_DONE || pieces[8].binding.value != 4;
+    it->wrong += brm_map_u64_get_many(map, keys, bound, 2) != BRM_DONE || !bound[0].is_bound || bound[1].is_bound;
     it->wrong += brm_save(map, text, sizeof text, &size) != BRM_NO_ROOM;
 }
 

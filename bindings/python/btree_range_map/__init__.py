@@ -21,6 +21,7 @@ any other, and a key alone is the range of that key.
 
 from __future__ import annotations
 
+import array
 import contextlib
 import copy as _copy
 import ctypes
@@ -34,7 +35,7 @@ from ._keys import KEYS, Keys, Range
 from ._library import library as _calls
 
 __all__ = ["Connected", "NotLoaded", "Range", "RangeMap", "RangeSet"]
-__version__ = "0.2.0"
+__version__ = "0.3.0"
 
 V = TypeVar("V")
 
@@ -89,6 +90,8 @@ class _Values:
         self._numbers: dict[Hashable, int] = {}
         self._next = 0
         self.given = 0
+        #: how many batches have numbers that no range has yet
+        self.batches = 0
 
     def number(self, value: Any) -> int:
         try:
@@ -252,6 +255,25 @@ class _Collection:
             low = first if flags & _c.START_UNBOUNDED else max(first, start + bool(flags & _c.START_EXCLUDED))
             high = last if flags & _c.END_UNBOUNDED else min(last, end - bool(flags & _c.END_EXCLUDED))
             yield low, high, entry
+
+    def _in_batches(self, items: Iterable[Any]) -> None:
+        """Inserts the items many at a time; where one of them cannot be read or is none, those before it."""
+        batch: list[Any] = []
+        try:
+            for item in items:
+                batch.append(item)
+                if len(batch) == _c.BATCH:
+                    full, batch = batch, []
+                    self._insert_batch(full)
+        finally:
+            if batch:
+                self._insert_batch(batch)
+
+    def _insert_batch(self, items: list[Any]) -> None:
+        raise NotImplementedError
+
+    def _insert_packed(self, packed: bytearray, size: int) -> None:
+        _check(self._kind.insert_many(self._handle, bytes(packed), size, ctypes.c_size_t(0)))
 
     def _opened(self) -> Any:
         """A collection of the same kind, closed."""
@@ -440,8 +462,19 @@ class RangeMap(_Collection, Generic[V]):
         """Binds each range to its value, in order: of a map, or of pairs."""
         pairs = items.items() if hasattr(items, "items") else items
         with self._lock:
-            for keys, value in list(pairs) if isinstance(items, RangeMap) else pairs:
-                self[keys] = value
+            self._in_batches(list(pairs) if isinstance(items, RangeMap) else pairs)
+
+    def _insert_batch(self, items: list[Any]) -> None:
+        self._free_values()
+        values, packed, size = self._values, bytearray(), 0
+        values.batches += 1
+        try:
+            for keys, value in items:
+                packed += self._raw(keys) + _c.VALUE.pack(values.number(value))
+                size += 1
+        finally:
+            values.batches -= 1
+            self._insert_packed(packed, size)
 
     def __setitem__(self, keys: Any, value: V) -> None:
         self._insert("insert", keys, value)
@@ -449,9 +482,13 @@ class RangeMap(_Collection, Generic[V]):
     def _insert(self, call: str, keys: Any, value: V) -> bool:
         raw = self._raw(keys)
         with self._lock:
-            if self._values.given > 64 + len(self):
-                self._values.keep({entry[3] for entry in self._entries()})
+            self._free_values()
             return _check(getattr(self._kind, call)(self._handle, raw, self._values.number(value)))
+
+    def _free_values(self) -> None:
+        """Frees the values that no range has, where there may be many."""
+        if self._values.given > 64 + len(self) and not self._values.batches:
+            self._values.keep({entry[3] for entry in self._entries()})
 
     def __delitem__(self, keys: Any) -> None:
         """Binds no key of the range, whether or not one is bound."""
@@ -492,6 +529,28 @@ class RangeMap(_Collection, Generic[V]):
         """The value that the key is bound to, or the default."""
         found = self._get(key)
         return default if found is _MISSING else found
+
+    def get_many(self, keys: Iterable[Any], default: Any = None) -> list[V | Any]:
+        """The values that the keys are bound to, in their order, with the default for those that are not bound."""
+        numbers, outside = array.array(self._kind.key_code), set()
+        for key in keys:
+            try:
+                numbers.append(self._number(key))
+            except OverflowError:
+                outside.add(len(numbers))
+                numbers.append(self._keys.least)
+        size = len(numbers)
+        found = ctypes.create_string_buffer(max(1, size) * _c.BINDING.size)
+        with self._lock:
+            _check(self._kind.get_many(self._handle, numbers.tobytes(), size, found, size))
+            values = self._values.by_number
+            shown = [
+                values[number] if is_bound else default
+                for number, is_bound in _c.BINDING.iter_unpack(memoryview(found)[: size * _c.BINDING.size])
+            ]
+        for place in outside:
+            shown[place] = default
+        return shown
 
     def pop(self, key: Any, default: Any = _MISSING) -> V | Any:
         """Unbinds one key, and returns its value."""
@@ -540,11 +599,17 @@ class RangeMap(_Collection, Generic[V]):
         """The stored ranges that hold a key of the range, whole, with their values, ascending."""
         return ((self._range(*entry[:3]), self._values.by_number[entry[3]]) for _, _, entry in self._spans(keys))
 
-    def pieces(self, keys: Any) -> Iterator[tuple[Range, V]]:
-        """The parts of the range that are bound, each with its value, ascending."""
-        return (
-            (self._between(low, high), self._values.by_number[entry[3]]) for low, high, entry in self._spans(keys)
-        )
+    def pieces(self, keys: Any, default: Any = _MISSING) -> Iterator[tuple[Range, V | Any]]:
+        """The parts of the range that are bound, each with its value, ascending.
+
+        With a default, the free parts between them too, each as wide as it goes, with that.
+        """
+        least, greatest = self._ends(keys)
+        for start, end, flags, number, is_bound in self._within(self._kind.pieces, self._kind.piece_form, keys):
+            if is_bound or default is not _MISSING:
+                first = least if flags & _c.START_UNBOUNDED else start + bool(flags & _c.START_EXCLUDED)
+                last = greatest if flags & _c.END_UNBOUNDED else end - bool(flags & _c.END_EXCLUDED)
+                yield self._between(first, last), self._values.by_number[number] if is_bound else default
 
     def split_off(self, key: Any) -> RangeMap[V]:
         """Keeps what lies before the key, and returns a map of the rest."""
@@ -682,8 +747,17 @@ class RangeSet(_Collection):
 
     def update(self, ranges: Iterable[Any]) -> None:
         """Adds each key of each range."""
-        for keys in list(ranges) if isinstance(ranges, RangeSet) else ranges:
-            self.add(keys)
+        self._in_batches(list(ranges) if isinstance(ranges, RangeSet) else ranges)
+
+    def _insert_batch(self, items: list[Any]) -> None:
+        packed, size = bytearray(), 0
+        try:
+            for keys in items:
+                packed += self._raw(keys)
+                size += 1
+        finally:
+            with self._lock:
+                self._insert_packed(packed, size)
 
     def add(self, keys: Any) -> None:
         """Adds each key of the range."""
@@ -753,14 +827,16 @@ class RangeSet(_Collection):
             raise TypeError(f"a set of {self._keys.name} keys and one of {other._keys.name} keys")
         return True
 
-    def _with(self, other: Any, name: str) -> Any:
+    def _with(self, other: Any, name: str, in_place: bool = False) -> Any:
         if not self._alike(other):
             return NotImplemented
         second = other.copy() if other is self else other
         made = self._opened()
         with self._locked_with(second):
             _check(getattr(self._kind, name)(self._handle, second._handle, made._handle))
-        return made
+            if in_place:
+                self._handle, made._handle = made._handle, self._handle
+        return self if in_place else made
 
     def __or__(self, other: Any) -> RangeSet:
         """A set of the keys that are in either set."""
@@ -777,6 +853,18 @@ class RangeSet(_Collection):
     def __xor__(self, other: Any) -> RangeSet:
         """A set of the keys that are in just one of the sets."""
         return self._with(other, "symmetric_difference")
+
+    def __ior__(self, other: Any) -> RangeSet:
+        return self._with(other, "union", in_place=True)
+
+    def __iand__(self, other: Any) -> RangeSet:
+        return self._with(other, "intersection", in_place=True)
+
+    def __isub__(self, other: Any) -> RangeSet:
+        return self._with(other, "difference", in_place=True)
+
+    def __ixor__(self, other: Any) -> RangeSet:
+        return self._with(other, "symmetric_difference", in_place=True)
 
     def complement(self) -> RangeSet:
         """A set of just the keys that this one does not hold."""

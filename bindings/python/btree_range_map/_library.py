@@ -17,6 +17,11 @@ START_EXCLUDED, START_UNBOUNDED, END_EXCLUDED, END_UNBOUNDED = 1, 2, 4, 8
 #: How many ranges a batch has at most.
 BATCH = 256
 
+VALUE = struct.Struct("Q")
+
+#: What a key is bound to: the value, and whether there is one.
+BINDING = struct.Struct("Q?7x")
+
 
 class Handle(ctypes.Structure):
     _fields_ = [("is_open", ctypes.c_bool), ("at", ctypes.c_void_p)]
@@ -45,6 +50,9 @@ class Kind:
         #: start, end, flags, and the value where there is one
         self.form = struct.Struct(f"{key}{key}I4x" + ("Q" if has_values else ""))
         self.range_form = struct.Struct(f"{key}{key}I4x")
+        #: start, end, flags, the value, and whether there is one
+        self.piece_form = struct.Struct(f"{key}{key}I4xQ?7x")
+        self.key_code = key
         handle, buffer, size = ctypes.POINTER(Handle), ctypes.c_char_p, ctypes.c_size_t
         sized = ctypes.POINTER(size)
         value = [ctypes.c_uint64] if has_values else []
@@ -66,16 +74,19 @@ class Kind:
             "read_back": [handle, of_key, buffer, size, sized],
             "overlapping": [handle, buffer, buffer, size, sized],
             "gaps": [handle, buffer, buffer, size, sized],
+            "insert_many": [handle, buffer, size, sized],
         }
         if has_values:
             parameters["insert_disconnected"] = parameters["try_insert"] = parameters["insert"]
             parameters["split_off"] = [handle, of_key, handle]
+            parameters["pieces"] = parameters["overlapping"]
+            parameters["get_many"] = [handle, buffer, size, buffer, size]
         else:
             for call in ("union", "intersection", "difference", "symmetric_difference"):
                 parameters[call] = [handle, handle, handle]
             parameters |= {"complement": [handle, handle], "is_subset": [handle, handle], "is_disjoint": [handle, handle]}
         raw = {"union", "intersection", "difference", "symmetric_difference", "complement", "is_subset", "is_disjoint"}
-        raw |= {"split_off"}
+        raw |= {"split_off", "get_many"}
         for call, kinds in parameters.items():
             function = getattr(library, f"brm_{'raw_' if call in raw else ''}{name}_{call}")
             function.argtypes, function.restype = kinds, ctypes.c_uint32

@@ -196,6 +196,46 @@ class Maps(unittest.TestCase):
         self.assertEqual(list(reversed(keys)), list(keys)[::-1])
         self.assertEqual(list(zip(keys.keys(), keys.values())), list(keys.items()))
 
+    def test_many_keys_and_ranges_in_one_call(self):
+        for kind, least in (("u64", 0), ("i64", -3000), ("i16", -3000), ("char", None)):
+            at_key = (lambda number: chr(0x4000 + number)) if least is None else (lambda number: least + number)
+            held = RangeMap(keys=kind)
+            held.update((Range(at_key(10 * at), at_key(10 * at + 6)), at % 2 or None) for at in range(600))
+            self.assertEqual((len(held), held.key_count()), (600, 3600))
+            looked = [at_key(number) for number in range(6000)]
+            self.assertEqual(held.get_many(looked, "free"), [held.get(key, "free") for key in looked])
+            parts = list(held.pieces(Range(at_key(5), at_key(2003)), "free"))
+            self.assertEqual([value for _, value in parts][:4] + [len(parts)], [None, "free", 1, "free", 401])
+            if least is not None:
+                self.assertEqual([key for part, _ in parts for key in keys_of(part)], list(range(least + 5, least + 2003)))
+            self.assertEqual([part for part in parts if part[1] != "free"], list(held.pieces(Range(at_key(5), at_key(2003)))))
+        self.assertEqual((held.get_many([]), RangeMap({3: "a"}).get_many([3, 2**64, -1])), ([], ["a", None, None]))
+        with self.assertRaises(TypeError):
+            held.get_many(["ab"])
+
+    def test_an_update_that_fails_has_done_what_came_before(self):
+        def failing(count):
+            yield from (((at, at) for at in range(0, count, 2)))
+            raise RuntimeError("no more")
+
+        for count in (0, 10, 512, 700):
+            keys, held = RangeMap(), RangeSet()
+            with self.assertRaises(RuntimeError):
+                keys.update(failing(count))
+            with self.assertRaises(RuntimeError):
+                held.update(key for key, _ in failing(count))
+            self.assertEqual(([value for _, value in keys.items()], len(held)), (list(range(0, count, 2)), count // 2))
+        with self.assertRaises(TypeError):
+            keys.update([(1000, "a"), ("b", "c"), (1002, "d")])
+        self.assertEqual((keys[1000], keys.get(1002)), ("a", None))
+        with self.assertRaises(OverflowError):
+            held.update([1000, -1, 1002])
+        self.assertTrue(1000 in held and 1002 not in held)
+        keys.close()
+        keys.update([])
+        with self.assertRaises(RuntimeError):
+            keys.update([(1, 1)])
+
     def test_many_parts_of_a_range_are_read_in_batches(self):
         for kind, least in (("u64", 0), ("i64", -3000), ("i16", -3000), ("u16", 0)):
             held = RangeMap(((slice(least + 10 * at, least + 10 * at + 6), at) for at in range(600)), keys=kind)
@@ -241,6 +281,9 @@ class Maps(unittest.TestCase):
             else:
                 pieces = [(key, value) for part, value in keys.pieces(span) for key in keys_of(part)]
                 self.assertEqual(pieces, [(key, wanted[key]) for key in span if key in wanted])
+                pieces = [(key, value) for part, value in keys.pieces(span, None) for key in keys_of(part)]
+                self.assertEqual(pieces, [(key, wanted.get(key)) for key in span])
+                self.assertEqual(keys.get_many(span), [wanted.get(key) for key in span])
                 gaps = [key for part in keys.gaps(span) for key in keys_of(part)]
                 self.assertEqual(gaps, [key for key in span if key not in wanted])
             key = numbers.randrange(-170, 190)
@@ -286,6 +329,10 @@ class Sets(unittest.TestCase):
             self.assertEqual(held(some.gaps(slice(0, 120))), set(range(120)) - first)
             self.assertTrue((some | some) == some == (some & some) and not some - some and not some ^ some and some <= some)
             self.assertEqual(some.complement().complement(), some)
+            for change, wanted in [("__ior__", first | second), ("__iand__", first & second), ("__isub__", first - second), ("__ixor__", first ^ second)]:
+                same = some.copy()
+                self.assertIs(getattr(same, change)(more), same)
+                self.assertEqual(held(same), wanted)
         with self.assertRaises(TypeError):
             some | [1]
         with self.assertRaises(TypeError):

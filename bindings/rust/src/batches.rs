@@ -1,10 +1,16 @@
-//! What is stored, read in batches from both ends.
+//! What is stored, read in batches from both ends, and what is given, handed on in batches.
 use crate::ffi::{
-    Calls, END_EXCLUDED, END_UNBOUNDED, Handle, RawHandle, RawRange, ReadsWithin, START_EXCLUDED,
+    Calls, DONE, END_EXCLUDED, END_UNBOUNDED, Handle, RawBinding, RawHandle, RawRange, ReadsWithin,
+    START_EXCLUDED,
 };
+use crate::range::sealed::Native;
+use crate::{InsertedOnly, ffi};
 
 /// How many ranges a batch has at most.
 const BATCH: usize = 128;
+
+/// How many keys or ranges are given in one call at most: as many as a function may well keep on the stack.
+const GIVEN: usize = 64;
 
 /// A stored range as it crosses, alone or with a value.
 pub trait Stored<N>: Copy + Default {
@@ -17,7 +23,13 @@ impl<N: Copy + Default> Stored<N> for RawRange<N> {
     }
 }
 
-impl<N: Copy + Default> Stored<N> for crate::ffi::RawEntry<N> {
+impl<N: Copy + Default> Stored<N> for ffi::RawEntry<N> {
+    fn range(&self) -> &RawRange<N> {
+        &self.range
+    }
+}
+
+impl<N: Copy + Default> Stored<N> for ffi::RawPiece<N> {
     fn range(&self) -> &RawRange<N> {
         &self.range
     }
@@ -162,4 +174,64 @@ fn rest_past<N: Copy>(range: RawRange<N>, shown: &RawRange<N>) -> Option<RawRang
     let start_flag = if shown.flags & END_EXCLUDED != 0 { 0 } else { START_EXCLUDED };
     let flags = range.flags & (END_EXCLUDED | END_UNBOUNDED) | start_flag;
     Some(RawRange { start: shown.end, flags, ..range })
+}
+
+/// Hands the items on to the call in batches, which says how many of a batch it has done.
+pub fn hand_on<E: Copy + Default>(
+    mut items: impl Iterator<Item = E>,
+    mut call: impl FnMut(*const E, usize, &mut usize) -> u32,
+) -> Result<(), InsertedOnly> {
+    let mut batch = [E::default(); GIVEN];
+    let mut done = 0;
+    loop {
+        let size = filled(&mut batch, &mut items);
+        let mut count = 0;
+        let status = call(batch.as_ptr(), size, &mut count);
+        done += count;
+        if status != DONE {
+            return Err(InsertedOnly(done));
+        }
+        if size < GIVEN {
+            return Ok(());
+        }
+    }
+}
+
+/// Writes the next items to the front of the batch, and returns how many there are.
+fn filled<E>(batch: &mut [E], items: &mut impl Iterator<Item = E>) -> usize {
+    batch.iter_mut().zip(items).map(|(slot, item)| *slot = item).count()
+}
+
+/// What each key of an iterator is bound to in one map, looked up in batches.
+pub struct Bindings<'a, N, I> {
+    handle: &'a Handle,
+    keys: I,
+    found: [RawBinding; GIVEN],
+    size: usize,
+    shown: usize,
+    numbers: [N; GIVEN],
+}
+
+impl<'a, N: Native, I: Iterator<Item = N>> Bindings<'a, N, I> {
+    pub fn new(handle: &'a Handle, keys: I) -> Self {
+        let (found, numbers) = ([RawBinding::default(); GIVEN], [N::default(); GIVEN]);
+        Bindings { handle, keys, found, size: 0, shown: 0, numbers }
+    }
+}
+
+impl<N: Native, I: Iterator<Item = N>> Iterator for Bindings<'_, N, I> {
+    type Item = Option<u64>;
+
+    fn next(&mut self) -> Option<Option<u64>> {
+        if self.shown == self.size {
+            self.size = filled(&mut self.numbers, &mut self.keys);
+            self.shown = 0;
+            let (keys, found) = (self.numbers.as_ptr(), self.found.as_mut_ptr());
+            // SAFETY: both arrays are as long as is said, and the handle is not written while it is borrowed
+            unsafe { (N::BINDS.get_many)(self.handle.get(), keys, self.size, found, self.size) };
+        }
+        let found = self.found[..self.size].get(self.shown)?;
+        self.shown += 1;
+        Some(found.value())
+    }
 }

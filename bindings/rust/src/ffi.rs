@@ -36,6 +36,28 @@ pub struct RawEntry<K> {
     pub value: u64,
 }
 
+/// What a key is bound to.
+#[repr(C)]
+#[derive(Clone, Copy, Default)]
+pub struct RawBinding {
+    value: u64,
+    is_bound: bool,
+}
+
+impl RawBinding {
+    pub fn value(&self) -> Option<u64> {
+        self.is_bound.then_some(self.value)
+    }
+}
+
+/// A part of a range, with what it is bound to.
+#[repr(C)]
+#[derive(Clone, Copy, Default)]
+pub struct RawPiece<K> {
+    pub range: RawRange<K>,
+    pub binding: RawBinding,
+}
+
 #[repr(C)]
 #[derive(Default)]
 pub struct RawLength {
@@ -73,11 +95,14 @@ pub struct Calls<K, E> {
 pub type ReadsWithin<K, E> =
     unsafe extern "C" fn(*const RawHandle, &RawRange<K>, *mut E, usize, &mut usize) -> u32;
 
-/// The calls that bind keys to values.
+/// The calls on maps, beside those on sets too.
 pub struct Binds<K> {
     pub insert: unsafe extern "C" fn(*mut RawHandle, &RawRange<K>, u64) -> u32,
     pub insert_disconnected: unsafe extern "C" fn(*mut RawHandle, &RawRange<K>, u64) -> u32,
     pub try_insert: unsafe extern "C" fn(*mut RawHandle, &RawRange<K>, u64) -> u32,
+    pub insert_many: unsafe extern "C" fn(*mut RawHandle, *const RawEntry<K>, usize, &mut usize) -> u32,
+    pub get_many: unsafe extern "C" fn(*const RawHandle, *const K, usize, *mut RawBinding, usize) -> u32,
+    pub pieces: ReadsWithin<K, RawPiece<K>>,
     pub split_off: unsafe extern "C" fn(*mut RawHandle, K, *mut RawHandle) -> u32,
     pub append: unsafe extern "C" fn(*mut RawHandle, *mut RawHandle) -> u32,
 }
@@ -180,14 +205,45 @@ macro_rules! binds {
                 fn insert_disconnected(map: *mut RawHandle, range: &RawRange<$key>, value: u64) -> u32;
                 #[link_name = concat!($prefix, "try_insert")]
                 fn try_insert(map: *mut RawHandle, range: &RawRange<$key>, value: u64) -> u32;
+                #[link_name = concat!($prefix, "insert_many")]
+                fn insert_many(
+                    map: *mut RawHandle,
+                    from: *const RawEntry<$key>,
+                    size: usize,
+                    count: &mut usize,
+                ) -> u32;
+                #[link_name = concat!($raw, "get_many")]
+                fn get_many(
+                    map: *const RawHandle,
+                    keys: *const $key,
+                    size: usize,
+                    to: *mut RawBinding,
+                    capacity: usize,
+                ) -> u32;
+                #[link_name = concat!($prefix, "pieces")]
+                fn pieces(
+                    map: *const RawHandle,
+                    range: &RawRange<$key>,
+                    to: *mut RawPiece<$key>,
+                    capacity: usize,
+                    count: &mut usize,
+                ) -> u32;
                 #[link_name = concat!($raw, "split_off")]
                 fn split_off(map: *mut RawHandle, key: $key, other: *mut RawHandle) -> u32;
                 #[link_name = concat!($raw, "append")]
                 fn append(map: *mut RawHandle, other: *mut RawHandle) -> u32;
             }
 
-            pub static BINDS: Binds<$key> =
-                Binds { insert, insert_disconnected, try_insert, split_off, append };
+            pub static BINDS: Binds<$key> = Binds {
+                insert,
+                insert_disconnected,
+                try_insert,
+                insert_many,
+                get_many,
+                pieces,
+                split_off,
+                append,
+            };
         }
     };
 }
@@ -213,6 +269,12 @@ unsafe extern "C" {
     pub fn brm_save(handle: *const RawHandle, buffer: *mut u8, capacity: usize, size: &mut usize) -> u32;
     pub fn brm_load(handle: *mut RawHandle, text: *const u8, size: usize) -> u32;
     pub fn brm_set_u64_insert(set: *mut RawHandle, range: &RawRange<u64>) -> u32;
+    pub fn brm_set_u64_insert_many(
+        set: *mut RawHandle,
+        ranges: *const RawRange<u64>,
+        size: usize,
+        count: &mut usize,
+    ) -> u32;
     pub fn brm_raw_overlay(map: *const RawHandle, other: *const RawHandle, made: *mut RawHandle) -> u32;
     pub fn brm_raw_restrict(map: *const RawHandle, keys: *const RawHandle, made: *mut RawHandle) -> u32;
     pub fn brm_raw_without(map: *const RawHandle, keys: *const RawHandle, made: *mut RawHandle) -> u32;

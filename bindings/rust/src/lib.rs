@@ -27,7 +27,10 @@ mod set;
 mod values;
 
 pub use map::{Iter as MapIter, RangeMap};
-pub use numbers::{Gaps as NumberGaps, Iter as NumberIter, NumberMap, Overlapping as NumberOverlapping};
+pub use numbers::{
+    Gaps as NumberGaps, Iter as NumberIter, NumberMap, Overlapping as NumberOverlapping,
+    Pieces as NumberPieces,
+};
 pub use range::{Key, Range};
 pub use set::{Iter as SetIter, RangeSet};
 
@@ -44,6 +47,18 @@ impl fmt::Display for NoMemory {
 }
 
 impl std::error::Error for NoMemory {}
+
+/// There was not enough memory for a range: so many ranges before it were inserted, and no other.
+#[derive(Clone, Copy, Debug, PartialEq, Eq)]
+pub struct InsertedOnly(pub usize);
+
+impl fmt::Display for InsertedOnly {
+    fn fmt(&self, f: &mut fmt::Formatter<'_>) -> fmt::Result {
+        write!(f, "out of memory after {} ranges", self.0)
+    }
+}
+
+impl std::error::Error for InsertedOnly {}
 
 /// Why a text was not loaded. Nothing was changed.
 #[derive(Clone, Copy, Debug, PartialEq, Eq)]

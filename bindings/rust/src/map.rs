@@ -31,14 +31,8 @@ pub struct RangeMap<K: Key, V> {
 
 const NO_MEMORY: &str = "out of memory";
 
-/// What is in the range, where it is cut to what another range holds.
-fn common<K: Key>(range: Range<K>, other: &impl RangeBounds<K>) -> Option<(K, K)> {
-    let (first, last) = range.ends()?;
-    let (least, most) =
-        Range { start: other.start_bound().cloned(), end: other.end_bound().cloned() }.ends()?;
-    let (first, last) = (first.max(least), last.min(most));
-    (first <= last).then_some((first, last))
-}
+/// How many ranges `extend` inserts at most before it frees values.
+const BATCH: usize = 1024;
 
 /// The range of the keys from the first to the last.
 fn through<K: Key>((first, last): (K, K)) -> Range<K> {
@@ -55,6 +49,11 @@ impl<K: Key, V: Eq + Hash> RangeMap<K, V> {
     pub fn insert(&mut self, range: impl RangeBounds<K>, value: V) {
         let number = self.values.number(value);
         self.numbers.insert(range, number).expect(NO_MEMORY);
+        self.free_values();
+    }
+
+    /// Frees values that no range has, where there may be many.
+    fn free_values(&mut self) {
         if self.values.is_due(self.numbers.range_count()) {
             self.values.keep(self.numbers.iter().map(|(_, number)| number));
         }
@@ -83,6 +82,14 @@ impl<K: Key, V: Eq + Hash> RangeMap<K, V> {
     /// The value that the key is bound to.
     pub fn get(&self, key: K) -> Option<&V> {
         self.numbers.get(key).map(|number| self.values.get(number))
+    }
+
+    /// The values that the keys are bound to, in their order, looked up many in one call of the library.
+    pub fn get_many<'a>(
+        &'a self,
+        keys: impl IntoIterator<Item = K> + 'a,
+    ) -> impl Iterator<Item = Option<&'a V>> + 'a {
+        self.numbers.get_many(keys).map(|number| Some(self.values.get(number?)))
     }
 
     /// The stored range that holds the key, with its value.
@@ -147,6 +154,12 @@ impl<K: Key, V: Eq + Hash> RangeMap<K, V> {
     }
 
     /// The stored ranges that hold a key of the range, whole, with their values, in ascending order.
+    ///
+    /// ```
+    /// # use btree_range_map_proved::RangeMap;
+    /// let map: RangeMap<u8, &str> = [(0..5, "low"), (7..9, "high")].into();
+    /// assert_eq!(map.overlapping(4..7).collect::<Vec<_>>(), [((0..5).into(), &"low")]);
+    /// ```
     pub fn overlapping<'a>(
         &'a self,
         range: impl RangeBounds<K> + 'a,
@@ -154,21 +167,42 @@ impl<K: Key, V: Eq + Hash> RangeMap<K, V> {
         self.numbers.overlapping(range).map(|(found, number)| (found, self.values.get(number)))
     }
 
-    /// The parts of the range that are bound, each with its value, in ascending order.
+    /// The parts of the range in ascending order: each part that a stored range binds, with its value, and each free part
+    /// between, as wide as it goes, with none.
+    ///
+    /// ```
+    /// # use btree_range_map_proved::RangeMap;
+    /// let map: RangeMap<u8, &str> = [(0..5, "low")].into();
+    /// assert_eq!(map.pieces(3..8).collect::<Vec<_>>(), [((3..=4).into(), Some(&"low")), ((5..=7).into(), None)]);
+    /// ```
     pub fn pieces<'a>(
         &'a self,
-        range: impl RangeBounds<K> + Clone + 'a,
-    ) -> impl Iterator<Item = (Range<K>, &'a V)> + 'a {
-        self.overlapping(range.clone())
-            .filter_map(move |(found, value)| Some((through(common(found, &range)?), value)))
+        range: impl RangeBounds<K> + 'a,
+    ) -> impl Iterator<Item = (Range<K>, Option<&'a V>)> + 'a {
+        self.numbers.pieces(range).filter_map(|(piece, number)| {
+            Some((through(piece.ends()?), number.map(|it| self.values.get(it))))
+        })
     }
 
     /// The parts of the range of which no key is bound, in ascending order.
+    ///
+    /// ```
+    /// # use btree_range_map_proved::RangeMap;
+    /// let map: RangeMap<u8, &str> = [(0..5, "low"), (7..9, "high")].into();
+    /// assert_eq!(map.gaps(3..12).collect::<Vec<_>>(), [(5..=6).into(), (9..=11).into()]);
+    /// ```
     pub fn gaps<'a>(&'a self, range: impl RangeBounds<K> + 'a) -> impl Iterator<Item = Range<K>> + 'a {
         self.numbers.gaps(range).filter_map(|gap| gap.ends()).map(through)
     }
 
     /// Keeps of the map what lies before the key, and returns the rest.
+    ///
+    /// ```
+    /// # use btree_range_map_proved::RangeMap;
+    /// let mut map: RangeMap<u8, &str> = [(0..5, "low"), (7..9, "high")].into();
+    /// let rest = map.split_off(3);
+    /// assert_eq!((map, rest), ([(0..3, "low")].into(), [(3..5, "low"), (7..9, "high")].into()));
+    /// ```
     pub fn split_off(&mut self, key: K) -> RangeMap<K, V>
     where
         V: Clone,
@@ -197,13 +231,23 @@ impl<K: Key, V: Eq + Hash> RangeMap<K, V> {
     }
 
     /// A map of the bindings of keys that the set has.
+    ///
+    /// ```
+    /// # use btree_range_map_proved::{RangeMap, RangeSet};
+    /// let map: RangeMap<u8, &str> = [(0..5, "low"), (7..9, "high")].into();
+    /// let keys: RangeSet<u8> = [4..8].into();
+    /// assert_eq!(map.restrict(&keys), [(4..5, "low"), (7..8, "high")].into());
+    /// assert_eq!(map.without(&keys), [(0..4, "low"), (8..9, "high")].into());
+    /// ```
     pub fn restrict(&self, keys: &RangeSet<K>) -> RangeMap<K, V>
     where
         V: Clone,
     {
         keys.iter()
             .flat_map(|range| {
-                self.pieces(range).map(|(piece, value)| (piece, value.clone())).collect::<Vec<_>>()
+                self.pieces(range)
+                    .filter_map(|(piece, value)| Some((piece, value?.clone())))
+                    .collect::<Vec<_>>()
             })
             .collect()
     }
@@ -281,7 +325,14 @@ impl<K: Key, V: Eq + Hash> Index<K> for RangeMap<K, V> {
 
 impl<K: Key, V: Eq + Hash, R: RangeBounds<K>> Extend<(R, V)> for RangeMap<K, V> {
     fn extend<I: IntoIterator<Item = (R, V)>>(&mut self, ranges: I) {
-        ranges.into_iter().for_each(|(range, value)| self.insert(range, value));
+        let mut ranges = ranges.into_iter().peekable();
+        // a batch at a time, after each of which values are freed that no range has
+        while ranges.peek().is_some() {
+            let numbered =
+                ranges.by_ref().take(BATCH).map(|(range, value)| (range, self.values.number(value)));
+            self.numbers.insert_many(numbered).expect(NO_MEMORY);
+            self.free_values();
+        }
     }
 }
 

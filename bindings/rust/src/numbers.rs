@@ -1,10 +1,11 @@
 //! Maps from ranges of keys to numbers: the library's maps as they are.
-use crate::batches::{Batches, Within};
-use crate::ffi::{self, Handle, OfTwo, RawEntry, RawLength, RawRange, done};
+use crate::batches::{Batches, Bindings, Within, hand_on};
+use crate::ffi::{self, Handle, OfTwo, RawEntry, RawLength, RawPiece, RawRange, done};
 use crate::range::sealed::{Native, Numbered};
 use crate::range::{Key, Range, range_of, raw_range};
-use crate::{NoMemory, NotInserted, NotLoaded};
+use crate::{InsertedOnly, NoMemory, NotInserted, NotLoaded};
 use std::fmt;
+use std::hash::{Hash, Hasher};
 use std::iter::FusedIterator;
 use std::marker::PhantomData;
 use std::ops::RangeBounds;
@@ -81,6 +82,17 @@ impl<K: Key> NumberMap<K> {
         }
     }
 
+    /// Binds the keys of each range to the number beside it, one after the other, in a few calls of the library.
+    pub fn insert_many<R: RangeBounds<K>>(
+        &mut self,
+        pairs: impl IntoIterator<Item = (R, u64)>,
+    ) -> Result<(), InsertedOnly> {
+        let entries = pairs.into_iter().map(|(range, value)| RawEntry { range: raw(&range), value });
+        hand_on(entries, |from, size, count| unsafe {
+            (K::Native::BINDS.insert_many)(self.handle.get_mut(), from, size, count)
+        })
+    }
+
     /// Binds no key of the range.
     pub fn remove(&mut self, range: impl RangeBounds<K>) -> Result<(), NoMemory> {
         done(unsafe { (calls::<K>().remove)(self.handle.get_mut(), &raw(&range)) })
@@ -94,6 +106,22 @@ impl<K: Key> NumberMap<K> {
     /// The number that the key is bound to.
     pub fn get(&self, key: K) -> Option<u64> {
         self.get_range_value(key).map(|(_, number)| number)
+    }
+
+    /// The numbers that the keys are bound to, in their order, looked up many in one call of the library.
+    ///
+    /// ```
+    /// # let mut map = btree_range_map_proved::NumberMap::new()?;
+    /// map.insert(0..10, 1)?;
+    /// assert_eq!(map.get_many([5, 10, 9]).collect::<Vec<_>>(), [Some(1), None, Some(1)]);
+    /// # let _: btree_range_map_proved::NumberMap<u64> = map;
+    /// # Ok::<(), btree_range_map_proved::NoMemory>(())
+    /// ```
+    pub fn get_many<'a>(
+        &'a self,
+        keys: impl IntoIterator<Item = K> + 'a,
+    ) -> impl Iterator<Item = Option<u64>> + 'a {
+        Bindings::new(&self.handle, keys.into_iter().map(K::number))
     }
 
     /// The stored range that holds the key, with its number.
@@ -173,6 +201,11 @@ impl<K: Key> NumberMap<K> {
         Gaps { found: Within::new(&self.handle, calls::<K>().gaps, raw(&range)) }
     }
 
+    /// The parts of the range in ascending order, each as wide as it goes, with the number that it is bound to, if it is.
+    pub fn pieces(&self, range: impl RangeBounds<K>) -> Pieces<'_, K> {
+        Pieces { found: Within::new(&self.handle, K::Native::BINDS.pieces, raw(&range)) }
+    }
+
     /// Keeps of the map what lies before the key, and returns the rest. After an error the map is as it was.
     pub fn split_off(&mut self, key: K) -> Result<NumberMap<K>, NoMemory> {
         let mut rest = NumberMap::new()?;
@@ -239,6 +272,13 @@ impl<K: Key> PartialEq for NumberMap<K> {
 }
 
 impl<K: Key> Eq for NumberMap<K> {}
+
+impl<K: Key + Hash> Hash for NumberMap<K> {
+    fn hash<H: Hasher>(&self, state: &mut H) {
+        self.range_count().hash(state);
+        self.iter().for_each(|(range, number)| (range.ends(), number).hash(state));
+    }
+}
 
 impl<K: Key> fmt::Debug for NumberMap<K> {
     fn fmt(&self, f: &mut fmt::Formatter<'_>) -> fmt::Result {
@@ -314,3 +354,19 @@ impl<K: Key> Iterator for Gaps<'_, K> {
 }
 
 impl<K: Key> FusedIterator for Gaps<'_, K> {}
+
+/// The parts of a range, in ascending order, with the numbers that they are bound to in a [`NumberMap`].
+#[derive(Clone)]
+pub struct Pieces<'a, K: Key> {
+    found: Within<'a, <K as Numbered>::Native, RawPiece<<K as Numbered>::Native>>,
+}
+
+impl<K: Key> Iterator for Pieces<'_, K> {
+    type Item = (Range<K>, Option<u64>);
+
+    fn next(&mut self) -> Option<(Range<K>, Option<u64>)> {
+        self.found.next().map(|piece| (range_of(&piece.range, K::of_number), piece.binding.value()))
+    }
+}
+
+impl<K: Key> FusedIterator for Pieces<'_, K> {}

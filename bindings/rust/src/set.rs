@@ -1,5 +1,5 @@
 //! Sets of keys.
-use crate::batches::{Batches, Within};
+use crate::batches::{Batches, Within, hand_on};
 use crate::ffi::{self, Handle, OfTwo, RawLength, RawRange, done};
 use crate::range::{Key, Range, range_of, raw_range};
 use crate::{NoMemory, ffi::set::CALLS};
@@ -189,6 +189,12 @@ impl<K: Key> RangeSet<K> {
     }
 
     /// A set of just the keys that this one does not hold.
+    ///
+    /// ```
+    /// # use btree_range_map_proved::RangeSet;
+    /// let set: RangeSet<u8> = [10..20].into();
+    /// assert_eq!(set.complement(), [0..=9, 20..=255].into());
+    /// ```
     pub fn complement(&self) -> RangeSet<K> {
         let mut others: RangeSet<K> =
             RangeSet::opened(|made| unsafe { ffi::brm_raw_set_u64_complement(self.handle.get(), made) })
@@ -287,7 +293,11 @@ operators!(
 
 impl<K: Key, R: RangeBounds<K>> Extend<R> for RangeSet<K> {
     fn extend<I: IntoIterator<Item = R>>(&mut self, ranges: I) {
-        ranges.into_iter().for_each(|range| self.insert(range));
+        let ranges = ranges.into_iter().map(|range| raw(&range));
+        hand_on(ranges, |from, size, count| unsafe {
+            ffi::brm_set_u64_insert_many(self.handle.get_mut(), from, size, count)
+        })
+        .expect(NO_MEMORY);
     }
 }
 

@@ -163,7 +163,7 @@ fn ranges_keep_their_bounds() {
 #[test]
 fn ranges_within_a_range_come_whole() {
     let mut map: NumberMap<i64> = NumberMap::new().unwrap();
-    (0..600).for_each(|at| map.insert(10 * at..10 * at + 6, at as u64).unwrap());
+    map.insert_many((0..600).map(|at| (10 * at..10 * at + 6, at as u64))).unwrap();
     for (first, last) in [(0, 599), (3, 3), (5, 8), (2, 400), (590, 599)] {
         let met = map.overlapping(10 * first + 5..=10 * last + 5).map(|(_, number)| number);
         assert!(met.eq(first as u64..=last as u64));
@@ -171,6 +171,11 @@ fn ranges_within_a_range_come_whole() {
         assert!(gaps.eq((first..last).map(|at| Range::from(10 * at + 6..10 * at + 10))));
     }
     assert_eq!((map.overlapping(6..10).count(), map.overlapping(..).count()), (0, 600));
+    let parts = (0..600).flat_map(|at| {
+        let free = if at == 0 { Range::from(..0) } else { Range::from(10 * at - 4..10 * at) };
+        [(free, None), (Range::from(10 * at..10 * at + 6), Some(at as u64))]
+    });
+    assert!(map.pieces(..).eq(parts.chain([(Range::from(5996..), None)])));
     let mut gaps = map.gaps(..);
     assert_eq!((gaps.next(), gaps.clone().count()), (Some(Range::from(..0)), 600));
     assert_eq!(gaps.last(), Some(Range::from(5996..)));
@@ -227,9 +232,10 @@ fn values_of_any_type_answer_as_a_reference() {
             _ => {
                 let pieces = map.pieces(first..=last).flat_map(|(range, value)| {
                     let (first, last) = range.ends().unwrap();
-                    (first..=last).map(move |key| (key, value.clone()))
+                    (first..=last).map(move |key| (key, value))
                 });
-                assert!(pieces.eq(wanted.range(first..=last).map(|(key, value)| (*key, value.clone()))));
+                assert!(pieces.eq((first..=last).map(|key| (key, wanted.get(&key)))));
+                assert!(map.get_many(first..=last).eq((first..=last).map(|key| wanted.get(&key))));
                 let gaps = map.gaps(first..=last).flat_map(|range| {
                     let (first, last) = range.ends().unwrap();
                     first..=last

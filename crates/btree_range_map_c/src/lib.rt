@@ -2,12 +2,12 @@
 //!
 //! A caller keeps a `Handle` of its own, all zero bytes before the first call. It neither copies it
 //! nor changes it, and gives it to one call at a time. Each call answers by a status of
-//! `range_handles`; `bindings/README.md` says what a caller owes.
+//! `range_ffi`; `bindings/README.md` says what a caller owes.
 //!
 //! Where to find what:
 //!
 //! - the calls for C, kind by kind: `src/exports/`; what each does to a map or a set:
-//!   `range_handles/src/{kept_map,kept_set,reads}.rt`
+//!   `range_handles/src/{kept_map,kept_set}.rt`; what it asks of one: `range_ffi/src/reads.rt`
 #![tactic(auto)]
 
 mod exports;

@@ -1,4 +1,3 @@
 mod AsBox
-mod Fills
-mod Flags
 mod Floats
+mod Many

@@ -1,5 +1,5 @@
 -- The lists that the collections are, and the orders of their keys.
-use Rattle.std.specs.Prelude.{ℕ, ℤ, List}
+use Rattle.std.specs.Prelude.{ℕ, ℤ, List, Option}
 use Rattle.btree_range_map.specs.Order.{KeyOrder}
 use Rattle.btree_range_map.specs.Signed.{signed_order}
 use Rattle.btree_range_map.specs.Unsigned.{unsigned_order}
@@ -18,6 +18,13 @@ Ranges = List (Item (AnyRange ℕ) ℕ)
 
 abbrev pub SignedRanges : Type 0
 SignedRanges = List (Item (AnyRange ℤ) ℕ)
+
+-- parts of a range with what they are bound to
+abbrev pub Pieces : Type 0
+Pieces = List (Item (AnyRange ℕ) (Option ℕ))
+
+abbrev pub SignedPieces : Type 0
+SignedPieces = List (Item (AnyRange ℤ) (Option ℕ))
 
 -- ranges of a set
 abbrev pub KeyRanges : Type 0

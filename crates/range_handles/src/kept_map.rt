@@ -1,5 +1,5 @@
 //! Maps to `u64` values, which a contract sees as lists.
-ghost use Rattle.std.specs.Prelude.{◌≡◌, ◌≢◌, ◌⊎◌, ◌↔◌, [], ◌∷◌, ◌++◌, false, length, nat_eq, IsTrue, IfOk, IfErr};
+ghost use Rattle.std.specs.Prelude.{◌≡◌, ◌≢◌, ◌⊎◌, ◌↔◌, ◌<◌, ◌≤◌, [], ◌∷◌, ◌++◌, false, length, map, take, nat_eq, IsTrue, IfOk, IfErr};
 ghost use Rattle.btree_range_map.specs.Appending.{LieBefore};
 ghost use Rattle.btree_range_map.specs.Bindings.{IsBoundAfter, IsUnboundAfter, IsLeastCount, BindAlike};
 ghost use Rattle.btree_range_map.specs.Holding.{box_items};
@@ -7,6 +7,7 @@ ghost use Rattle.btree_range_map.specs.JsonError.TheVariants.{Memory};
 ghost use Rattle.btree_range_map.specs.Keys.{unsigned_shape};
 ghost use Rattle.btree_range_map.specs.ListOrder.{IsCopyOf};
 ghost use Rattle.btree_range_map.specs.Lookups.{IsConnectedToSome, MeetsSome};
+ghost use Rattle.btree_range_map.specs.MapExtending.{AreBoundAfter};
 ghost use Rattle.btree_range_map.specs.MapFaults.{IsMapRead, IsMapFault};
 ghost use Rattle.btree_range_map.specs.Overlays.{IsOverlaid, IsRestricted, IsWithout};
 ghost use Rattle.btree_range_map.specs.Range.{IsEmptyRange, ClonesAreEqual};
@@ -18,14 +19,15 @@ ghost use Rattle.range_handles.specs.Texts.{reads_unsigned, IsUnsignedRead};
 
 pub mod together;
 
-use crate::batch::Shown;
-use crate::key::Key;
-use crate::status::{
-    CONNECTED, DONE, NO_MEMORY, NONE, OCCUPIED, OUT_OF_ORDER, of_disorder, of_obstacle, of_refusal,
-};
 use btree_range_map::json::{Json, JsonError, map_from_json, map_to_json};
 use btree_range_map::range::traits::PartialEnum;
+use btree_range_map::storage::Item;
 use btree_range_map::{AnyRange, MapError, RangeMap};
+use range_ffi::batch::{Shown, Told};
+use range_ffi::key::Key;
+use range_ffi::status::{
+    CONNECTED, DONE, NO_MEMORY, NONE, OCCUPIED, OUT_OF_ORDER, of_disorder, of_obstacle, of_refusal,
+};
 use serde_json::Value;
 use std::alloc::{AllocError, Global};
 use std::marker::Model;
@@ -144,6 +146,43 @@ impl<K: Key> KeptMap<K> {
             Ok(()) => DONE,
             Err(_) => NO_MEMORY,
         }
+    }
+
+    /// Binds the keys of each range to the value beside it, one range after the other, and tells of
+    /// how many: of all, or of those before one for which there was not enough memory.
+    pub fn insert_many<E: Told<K, u64>>(&mut self, entries: &[E], count: &mut usize) -> u32
+        requires keys { ClonesAreEqual K.is_clone K.eq }
+        ensures bound { AreBoundAfter K.order nat_eq self.old self.new
+            (map E.told (take count.new entries.now)) }
+        ensures all { result ≡ DONE → count.new ≡ length entries.now }
+        ensures some { result ≡ NO_MEMORY → count.new < length entries.now }
+        ensures answer { (result ≡ DONE) ⊎ (result ≡ NO_MEMORY) }
+    {
+        *count = self.bind_each(entries);
+        if *count < entries.len() {
+            NO_MEMORY
+        } else {
+            DONE
+        }
+    }
+
+    /// Binds the keys of each range, up to one for which there is not enough memory. Returns of how
+    /// many.
+    fn bind_each<E: Told<K, u64>>(&mut self, entries: &[E]) -> usize
+        requires keys { ClonesAreEqual K.is_clone K.eq }
+        ensures bound { AreBoundAfter K.order nat_eq self.old self.new
+            (map E.told (take result entries.now)) }
+        ensures within { result ≤ length entries.now }
+    {
+        let mut count = 0;
+        while count < entries.len() {
+            let Item { key, value } = entries[count].item();
+            if self.insert(key, value) != DONE {
+                return count;
+            }
+            count += 1;
+        }
+        count
     }
 
     /// Binds each key of a range that neither meets nor touches a stored one.

@@ -1,24 +1,26 @@
 //! Sets of keys, which a contract sees as lists.
-ghost use Rattle.std.specs.Prelude.{◌≡◌, ◌≢◌, ◌⊎◌, ◌↔◌, [], ◌∷◌, ◌++◌, false, true, length, IsTrue, IfOk, IfErr, Some};
+ghost use Rattle.std.specs.Prelude.{◌≡◌, ◌≢◌, ◌⊎◌, ◌↔◌, ◌<◌, ◌≤◌, [], ◌∷◌, ◌++◌, false, true, length, map, take, IsTrue, IfOk, IfErr, Some};
 ghost use Rattle.btree_range_map.specs.Faults.{IsSetRead, set_fault};
 ghost use Rattle.btree_range_map.specs.FreeRanges.{item_ranges};
 ghost use Rattle.btree_range_map.specs.Holding.{box_items};
 ghost use Rattle.btree_range_map.specs.JsonError.TheVariants.{Memory};
-ghost use Rattle.btree_range_map.specs.KeySets.{HoldAlike, HoldsAlso, HoldsWithout, IsLeastCount};
+ghost use Rattle.btree_range_map.specs.KeySets.{HoldAlike, HoldsAllAlso, HoldsAlso, HoldsWithout, IsLeastCount};
 ghost use Rattle.btree_range_map.specs.ListOrder.{IsCopyOf};
 ghost use Rattle.btree_range_map.specs.Range.{IsEmptyRange, ClonesAreEqual};
 ghost use Rattle.btree_range_map.specs.Shapes.{set_shape};
 ghost use Rattle.serde_json.specs.View.{view};
 ghost use Rattle.serde_json.specs.Written.{compact_text, has_float};
+ghost use Rattle.range_ffi.specs.Flags.{said_range};
 
 pub mod algebra;
 
-use crate::batch::Shown;
-use crate::key::Key;
-use crate::status::{DONE, NO_MEMORY, NONE};
 use btree_range_map::json::{Json, JsonError, set_from_json, set_to_json};
 use btree_range_map::range::traits::PartialEnum;
+use btree_range_map::storage::Item;
 use btree_range_map::{AnyRange, RangeMap, RangeSet};
+use range_ffi::batch::{Shown, Told};
+use range_ffi::key::Key;
+use range_ffi::status::{DONE, NO_MEMORY, NONE};
 use serde_json::Value;
 use std::alloc::{AllocError, Global};
 use std::marker::Model;
@@ -104,6 +106,43 @@ impl<K: Key> KeptSet<K> {
             Ok(()) => DONE,
             Err(_) => NO_MEMORY,
         }
+    }
+
+    /// Adds the keys of each range, one range after the other, and tells of how many: of all, or of
+    /// those before one for which there was not enough memory.
+    pub fn insert_many<E: Told<K, ()>>(&mut self, ranges: &[E], count: &mut usize) -> u32
+        requires keys { ClonesAreEqual K.is_clone K.eq }
+        ensures added { HoldsAllAlso K.order self.old self.new
+            (map (said_range E.told) (take count.new ranges.now)) }
+        ensures all { result ≡ DONE → count.new ≡ length ranges.now }
+        ensures some { result ≡ NO_MEMORY → count.new < length ranges.now }
+        ensures answer { (result ≡ DONE) ⊎ (result ≡ NO_MEMORY) }
+    {
+        *count = self.add_each(ranges);
+        if *count < ranges.len() {
+            NO_MEMORY
+        } else {
+            DONE
+        }
+    }
+
+    /// Adds the keys of each range, up to one for which there is not enough memory. Returns of how
+    /// many.
+    fn add_each<E: Told<K, ()>>(&mut self, ranges: &[E]) -> usize
+        requires keys { ClonesAreEqual K.is_clone K.eq }
+        ensures added { HoldsAllAlso K.order self.old self.new
+            (map (said_range E.told) (take result ranges.now)) }
+        ensures within { result ≤ length ranges.now }
+    {
+        let mut count = 0;
+        while count < ranges.len() {
+            let Item { key, value: () } = ranges[count].item();
+            if self.insert(key) != DONE {
+                return count;
+            }
+            count += 1;
+        }
+        count
     }
 
     /// Takes each key of the range away.

@@ -2,7 +2,7 @@
 //!
 //! A handle is a struct of the caller's own: closed, or open on a collection whose type the caller
 //! does not see. A call on a collection that may be of another kind answers by a status of
-//! [`status`]; ranges cross as keys and flags, those of [`bounds`].
+//! `range_ffi`, by which ranges cross too.
 //!
 //! Where to find what:
 //!
@@ -11,23 +11,17 @@
 //!   `src/seal/lend.rt`, `specs/Lending.antt`; what it holds in `specs/Held.antt`, that no fewer
 //!   ranges would do in `specs/Fewest.antt`
 //! - what is done to a map or a set of any kind of keys, each call said once:
-//!   `src/{kept_map,kept_set,reads}.rt`; what is made of two maps in `src/kept_map/together.rt`,
-//!   `specs/MapKinds.antt`; what two sets are asked in `src/kept_set/algebra.rt`
-//! - ranges as two keys and flags, and what a call returns: `src/{bounds,status}.rt`,
-//!   `specs/Flags.antt`; many at once in `src/batch.rt`, `proofs/Fills.antt`
+//!   `src/{kept_map,kept_set}.rt`, `proofs/Many.antt`; what is made of two maps in
+//!   `src/kept_map/together.rt`, `specs/MapKinds.antt`; what two sets are asked in
+//!   `src/kept_set/algebra.rt`
 //! - what a handle of any kind is saved as and loaded from: `src/collection.rt`,
 //!   `specs/Texts.antt`, `btree_range_map_c/src/exports/any.rt`; that such a text has no float in
 //!   `proofs/Floats.antt`
 #![tactic(auto)]
 
-pub mod batch;
-pub mod bounds;
 pub mod collection;
 pub mod handle;
 pub mod kept_map;
 pub mod kept_set;
-pub mod key;
 pub mod parts;
-pub mod reads;
 pub mod seal;
-pub mod status;

@@ -1,26 +1,23 @@
 //! The calls on maps of `i64` keys to `u64` values.
-ghost use Rattle.std.specs.Prelude.{◌<◌, ◌≤◌, map, take, drop, reverse, length, ◌≡◌, ◌≢◌, ◌⊎◌, ◌↔◌, [], ◌∷◌, ◌++◌, Some, None, true, false, nat_eq, List, ℤ};
-ghost use Rattle.btree_range_map.specs.AnyRange.{AnyRange};
-ghost use Rattle.btree_range_map.specs.Appending.{LieBefore};
-ghost use Rattle.btree_range_map.specs.Bindings.{BindAlike, Binds, IsBound, IsItemFor, IsBoundAfter, IsUnboundAfter};
+ghost use Rattle.std.specs.Prelude.{map, length, ◌≡◌, ◌≢◌, ◌⊎◌, ◌↔◌, [], ◌∷◌, ◌++◌, Some, None, true, false, nat_eq};
+ghost use Rattle.btree_range_map.specs.Bindings.{Binds, IsBound, IsItemFor, IsBoundAfter, IsUnboundAfter};
 ghost use Rattle.btree_range_map.specs.Lookups.{BindsKeyOf, IsConnectedToSome, MeetsSome};
 ghost use Rattle.btree_range_map.specs.Numbers.{IsNumberOfKeys};
 ghost use Rattle.btree_range_map.specs.Range.{IsEmptyRange};
 ghost use Rattle.btree_range_map.specs.Overlapping.{AreOverlapping};
-ghost use Rattle.btree_range_map.specs.PieceLists.{AreGapsWithin};
-ghost use Rattle.btree_range_map.specs.Splitting.{IsSplitAt};
-ghost use Rattle.range_handles.specs.Flags.{signed_range_of, signed_entry_item, number_of, from_key, upto_key};
+ghost use Rattle.range_ffi.specs.Flags.{signed_range_of, signed_entry_item, number_of, from_key, upto_key};
 ghost use Rattle.range_handles.specs.Held.{HoldsSignedMap, signed_items};
 ghost use Rattle.range_handles.specs.Lists.{signed_keys, SignedRanges};
 
-use range_handles::bounds::{Length, SignedBounds, SignedEntry};
+mod many;
+mod together;
+
+use range_ffi::bounds::{Length, SignedBounds, SignedEntry};
+use range_ffi::reads;
+use range_ffi::status::{CLOSED, CONNECTED, DONE, NO_MEMORY, NONE, OCCUPIED, OPEN, OTHER_KIND};
 use range_handles::collection::Collection;
 use range_handles::handle::Handle;
 use range_handles::kept_map::KeptMap;
-use range_handles::reads;
-use range_handles::status::{
-    CLOSED, CONNECTED, DONE, NO_MEMORY, NONE, OCCUPIED, OPEN, OTHER_KIND, OUT_OF_ORDER,
-};
 use std::alloc::Global;
 
 /// Opens a closed handle, on an empty map. Allocates one block.
@@ -393,222 +390,5 @@ pub extern "C" fn brm_map_i64_pop_last(handle: &mut Handle, entry: &mut SignedEn
     match handle.seal.as_mut() {
         Collection::Signed(kept) => kept.pop_last(entry),
         _ => OTHER_KIND,
-    }
-}
-
-/// Writes the stored ranges from the first that ends at the key or after it on, in ascending
-/// order, as many as the array takes, and how many.
-///
-/// Fewer than the array takes are written where there are no more. What lies behind them in the
-/// array stays as it was. Costs one search, and a step for each range.
-#[unsafe(no_mangle)]
-pub extern "C" fn brm_map_i64_read(
-    handle: &mut Handle,
-    key: i64,
-    entries: &mut [SignedEntry],
-    count: &mut usize,
-) -> u32
-    ensures unchanged { handle.new.seal.held ≡ handle.old.seal.held }
-    ensures read { result ≡ DONE → (rest : SignedRanges)
-        × AreOverlapping signed_keys (signed_items handle.old.seal.held) (from_key key)
-        (map signed_entry_item (take count.new entries.new) ++ rest)
-        × (count.new < length entries.old → rest ≡ []) }
-    ensures within { result ≡ DONE → count.new ≤ length entries.old }
-    ensures behind { result ≡ DONE → drop count.new entries.new ≡ drop count.new entries.old }
-    ensures unwritten { result ≢ DONE
-        → (entries.new ≡ entries.old) × (count.new ≡ count.old) }
-    ensures answer { HoldsSignedMap handle.old.seal.held → result ≡ DONE }
-    ensures closed { handle.old.is_open ≡ false → result ≡ CLOSED }
-    ensures other { handle.old.is_open ≡ true → (¬ HoldsSignedMap handle.old.seal.held)
-        → result ≡ OTHER_KIND }
-{
-    if !handle.is_open {
-        return CLOSED;
-    }
-    match handle.seal.as_mut() {
-        Collection::Signed(kept) => reads::read(kept.as_map(), key, entries, count),
-        _ => OTHER_KIND,
-    }
-}
-
-/// Writes the stored ranges from the last that starts at the key or before it on, in descending
-/// order, as many as the array takes, and how many.
-///
-/// Fewer than the array takes are written where there are no more. What lies behind them in the
-/// array stays as it was. Costs two searches, and a step for each range.
-#[unsafe(no_mangle)]
-pub extern "C" fn brm_map_i64_read_back(
-    handle: &mut Handle,
-    key: i64,
-    entries: &mut [SignedEntry],
-    count: &mut usize,
-) -> u32
-    ensures unchanged { handle.new.seal.held ≡ handle.old.seal.held }
-    ensures read { result ≡ DONE → (rest : SignedRanges)
-        × AreOverlapping signed_keys (signed_items handle.old.seal.held) (upto_key key)
-        (rest ++ reverse (map signed_entry_item (take count.new entries.new)))
-        × (count.new < length entries.old → rest ≡ []) }
-    ensures within { result ≡ DONE → count.new ≤ length entries.old }
-    ensures behind { result ≡ DONE → drop count.new entries.new ≡ drop count.new entries.old }
-    ensures unwritten { result ≢ DONE
-        → (entries.new ≡ entries.old) × (count.new ≡ count.old) }
-    ensures answer { HoldsSignedMap handle.old.seal.held → result ≡ DONE }
-    ensures closed { handle.old.is_open ≡ false → result ≡ CLOSED }
-    ensures other { handle.old.is_open ≡ true → (¬ HoldsSignedMap handle.old.seal.held)
-        → result ≡ OTHER_KIND }
-{
-    if !handle.is_open {
-        return CLOSED;
-    }
-    match handle.seal.as_mut() {
-        Collection::Signed(kept) => reads::read_back(kept.as_map(), key, entries, count),
-        _ => OTHER_KIND,
-    }
-}
-
-/// Writes the stored ranges that meet the range, whole, in ascending order, as many as the array
-/// takes, and how many.
-///
-/// Fewer than the array takes are written where there are no more. What lies behind them in the
-/// array stays as it was. Costs two searches, and a step for each range.
-#[unsafe(no_mangle)]
-pub extern "C" fn brm_map_i64_overlapping(
-    handle: &mut Handle,
-    range: &SignedBounds,
-    entries: &mut [SignedEntry],
-    count: &mut usize,
-) -> u32
-    ensures unchanged { handle.new.seal.held ≡ handle.old.seal.held }
-    ensures read { result ≡ DONE → ¬ IsEmptyRange signed_keys (signed_range_of range.now)
-        → (rest : SignedRanges)
-        × AreOverlapping signed_keys (signed_items handle.old.seal.held) (signed_range_of range.now)
-        (map signed_entry_item (take count.new entries.new) ++ rest)
-        × (count.new < length entries.old → rest ≡ []) }
-    ensures empty { result ≡ DONE → IsEmptyRange signed_keys (signed_range_of range.now)
-        → count.new ≡ 0 }
-    ensures within { result ≡ DONE → count.new ≤ length entries.old }
-    ensures behind { result ≡ DONE → drop count.new entries.new ≡ drop count.new entries.old }
-    ensures unwritten { result ≢ DONE
-        → (entries.new ≡ entries.old) × (count.new ≡ count.old) }
-    ensures answer { HoldsSignedMap handle.old.seal.held → result ≡ DONE }
-    ensures closed { handle.old.is_open ≡ false → result ≡ CLOSED }
-    ensures other { handle.old.is_open ≡ true → (¬ HoldsSignedMap handle.old.seal.held)
-        → result ≡ OTHER_KIND }
-{
-    if !handle.is_open {
-        return CLOSED;
-    }
-    match handle.seal.as_mut() {
-        Collection::Signed(kept) => reads::overlapping(
-            kept.as_map(),
-            range.range(),
-            entries,
-            count,
-        ),
-        _ => OTHER_KIND,
-    }
-}
-
-/// Writes the parts of the range that hold no bound key, in ascending order, as many as the array
-/// takes, and how many.
-///
-/// Fewer than the array takes are written where there are no more. What lies behind them in the
-/// array stays as it was. Costs two searches, and a few steps for each stored range that meets the
-/// range.
-#[unsafe(no_mangle)]
-pub extern "C" fn brm_map_i64_gaps(
-    handle: &mut Handle,
-    range: &SignedBounds,
-    ranges: &mut [SignedBounds],
-    count: &mut usize,
-) -> u32
-    ensures unchanged { handle.new.seal.held ≡ handle.old.seal.held }
-    ensures gaps { result ≡ DONE → (rest : List (AnyRange ℤ))
-        × AreGapsWithin signed_keys (signed_items handle.old.seal.held) (signed_range_of range.now)
-        (map signed_range_of (take count.new ranges.new) ++ rest)
-        × (count.new < length ranges.old → rest ≡ []) }
-    ensures within { result ≡ DONE → count.new ≤ length ranges.old }
-    ensures behind { result ≡ DONE → drop count.new ranges.new ≡ drop count.new ranges.old }
-    ensures unwritten { result ≢ DONE
-        → (ranges.new ≡ ranges.old) × (count.new ≡ count.old) }
-    ensures answer { HoldsSignedMap handle.old.seal.held → result ≡ DONE }
-    ensures closed { handle.old.is_open ≡ false → result ≡ CLOSED }
-    ensures other { handle.old.is_open ≡ true → (¬ HoldsSignedMap handle.old.seal.held)
-        → result ≡ OTHER_KIND }
-{
-    if !handle.is_open {
-        return CLOSED;
-    }
-    match handle.seal.as_mut() {
-        Collection::Signed(kept) => reads::gaps(kept.as_map(), range.range(), ranges, count),
-        _ => OTHER_KIND,
-    }
-}
-
-/// Moves what lies from the key on, the key with it, to the other map, in place of what that held.
-///
-/// A stored range that holds the key is cut there. Allocates what the other map needs. Costs a step
-/// for each range that is moved.
-#[unsafe(no_mangle)]
-pub extern "C" fn brm_raw_map_i64_split_off(
-    handle: &mut Handle,
-    key: i64,
-    other: &mut Handle,
-) -> u32
-    ensures split { result ≡ DONE
-        → IsSplitAt signed_keys nat_eq key (signed_items handle.old.seal.held)
-        (signed_items handle.new.seal.held) (signed_items other.new.seal.held) }
-    ensures kind { result ≡ DONE
-        → HoldsSignedMap handle.new.seal.held × HoldsSignedMap other.new.seal.held }
-    ensures refused { result ≢ DONE → (handle.new.seal.held ≡ handle.old.seal.held)
-        × (other.new.seal.held ≡ other.old.seal.held) }
-    ensures answer { HoldsSignedMap handle.old.seal.held → HoldsSignedMap other.old.seal.held
-        → (result ≡ DONE) ⊎ (result ≡ NO_MEMORY) }
-    ensures closed { (handle.old.is_open ≡ false) ⊎ (other.old.is_open ≡ false)
-        → result ≡ CLOSED }
-    ensures other { handle.old.is_open ≡ true → other.old.is_open ≡ true
-        → (¬ HoldsSignedMap handle.old.seal.held) ⊎ (¬ HoldsSignedMap other.old.seal.held)
-        → result ≡ OTHER_KIND }
-{
-    if !handle.is_open || !other.is_open {
-        return CLOSED;
-    }
-    match (handle.seal.as_mut(), other.seal.as_mut()) {
-        (Collection::Signed(kept), Collection::Signed(rest)) => kept.split_off(key, rest),
-        (_, _) => OTHER_KIND,
-    }
-}
-
-/// Moves all ranges of the other map, with their values, to the end of this one.
-///
-/// Each of them lies after all ranges of this map, or the call answers `OUT_OF_ORDER`. The first
-/// may become one with the last of this map. Costs a step for each range that is moved.
-#[unsafe(no_mangle)]
-pub extern "C" fn brm_raw_map_i64_append(handle: &mut Handle, other: &mut Handle) -> u32
-    ensures bound { result ≡ DONE → BindAlike signed_keys nat_eq (signed_items handle.new.seal.held)
-        (signed_items handle.old.seal.held ++ signed_items other.old.seal.held) }
-    ensures emptied { result ≡ DONE → signed_items other.new.seal.held ≡ [] }
-    ensures kind { result ≡ DONE
-        → HoldsSignedMap handle.new.seal.held × HoldsSignedMap other.new.seal.held }
-    ensures out_of_order { HoldsSignedMap handle.old.seal.held → HoldsSignedMap other.old.seal.held
-        → (result ≡ OUT_OF_ORDER
-        ↔ ¬ LieBefore signed_keys (signed_items handle.old.seal.held)
-        (signed_items other.old.seal.held)) }
-    ensures refused { result ≢ DONE → (handle.new.seal.held ≡ handle.old.seal.held)
-        × (other.new.seal.held ≡ other.old.seal.held) }
-    ensures answer { HoldsSignedMap handle.old.seal.held → HoldsSignedMap other.old.seal.held
-        → (result ≡ DONE) ⊎ ((result ≡ NO_MEMORY) ⊎ (result ≡ OUT_OF_ORDER)) }
-    ensures closed { (handle.old.is_open ≡ false) ⊎ (other.old.is_open ≡ false)
-        → result ≡ CLOSED }
-    ensures other { handle.old.is_open ≡ true → other.old.is_open ≡ true
-        → (¬ HoldsSignedMap handle.old.seal.held) ⊎ (¬ HoldsSignedMap other.old.seal.held)
-        → result ≡ OTHER_KIND }
-{
-    if !handle.is_open || !other.is_open {
-        return CLOSED;
-    }
-    match (handle.seal.as_mut(), other.seal.as_mut()) {
-        (Collection::Signed(kept), Collection::Signed(rest)) => kept.append(rest),
-        (_, _) => OTHER_KIND,
     }
 }

@@ -1,24 +1,24 @@
 //! The calls on sets of `u64` keys.
-ghost use Rattle.std.specs.Prelude.{◌<◌, ◌≤◌, map, take, drop, reverse, length, ◌≡◌, ◌≢◌, ◌⊎◌, [], ◌∷◌, ◌++◌, true, false, List, ℕ};
-ghost use Rattle.btree_range_map.specs.AnyRange.{AnyRange};
+ghost use Rattle.std.specs.Prelude.{length, ◌≡◌, ◌≢◌, ◌⊎◌, [], ◌∷◌, ◌++◌, true, false};
 ghost use Rattle.btree_range_map.specs.Bindings.{IsItemFor};
 ghost use Rattle.btree_range_map.specs.FreeRanges.{item_ranges};
 ghost use Rattle.btree_range_map.specs.KeySets.{HoldsKey, HoldsAlso, HoldsWithout};
 ghost use Rattle.btree_range_map.specs.Lookups.{BindsKeyOf};
 ghost use Rattle.btree_range_map.specs.Numbers.{IsNumberOfKeys};
 ghost use Rattle.btree_range_map.specs.Overlapping.{AreOverlapping};
-ghost use Rattle.btree_range_map.specs.PieceLists.{AreGapsWithin};
 ghost use Rattle.btree_range_map.specs.Range.{IsEmptyRange};
-ghost use Rattle.range_handles.specs.Flags.{range_of, bounds_item, number_of, from_key, upto_key};
+ghost use Rattle.range_ffi.specs.Flags.{range_of, bounds_item, number_of, from_key, upto_key};
 ghost use Rattle.range_handles.specs.Held.{HoldsSet, set_items};
 ghost use Rattle.range_handles.specs.Lists.{unsigned_keys, KeyRanges};
 
-use range_handles::bounds::{Bounds, Length};
+mod many;
+
+use range_ffi::bounds::{Bounds, Length};
+use range_ffi::reads;
+use range_ffi::status::{CLOSED, DONE, NO_MEMORY, NONE, OPEN, OTHER_KIND};
 use range_handles::collection::Collection;
 use range_handles::handle::Handle;
 use range_handles::kept_set::KeptSet;
-use range_handles::reads;
-use range_handles::status::{CLOSED, DONE, NO_MEMORY, NONE, OPEN, OTHER_KIND};
 use std::alloc::Global;
 
 /// Opens a closed handle, on an empty set. Allocates one block.
@@ -313,150 +313,6 @@ pub extern "C" fn brm_set_u64_pop_last(handle: &mut Handle, entry: &mut Bounds) 
     }
     match handle.seal.as_mut() {
         Collection::Set(kept) => kept.pop_last(entry),
-        _ => OTHER_KIND,
-    }
-}
-
-/// Writes the stored ranges from the first that ends at the key or after it on, in ascending
-/// order, as many as the array takes, and how many.
-///
-/// Fewer than the array takes are written where there are no more. What lies behind them in the
-/// array stays as it was. Costs one search, and a step for each range.
-#[unsafe(no_mangle)]
-pub extern "C" fn brm_set_u64_read(
-    handle: &mut Handle,
-    key: u64,
-    entries: &mut [Bounds],
-    count: &mut usize,
-) -> u32
-    ensures unchanged { handle.new.seal.held ≡ handle.old.seal.held }
-    ensures read { result ≡ DONE → (rest : KeyRanges)
-        × AreOverlapping unsigned_keys (set_items handle.old.seal.held) (from_key key)
-        (map bounds_item (take count.new entries.new) ++ rest)
-        × (count.new < length entries.old → rest ≡ []) }
-    ensures within { result ≡ DONE → count.new ≤ length entries.old }
-    ensures behind { result ≡ DONE → drop count.new entries.new ≡ drop count.new entries.old }
-    ensures unwritten { result ≢ DONE
-        → (entries.new ≡ entries.old) × (count.new ≡ count.old) }
-    ensures answer { HoldsSet handle.old.seal.held → result ≡ DONE }
-    ensures closed { handle.old.is_open ≡ false → result ≡ CLOSED }
-    ensures other { handle.old.is_open ≡ true → (¬ HoldsSet handle.old.seal.held)
-        → result ≡ OTHER_KIND }
-{
-    if !handle.is_open {
-        return CLOSED;
-    }
-    match handle.seal.as_mut() {
-        Collection::Set(kept) => reads::read(kept.as_map(), key, entries, count),
-        _ => OTHER_KIND,
-    }
-}
-
-/// Writes the stored ranges from the last that starts at the key or before it on, in descending
-/// order, as many as the array takes, and how many.
-///
-/// Fewer than the array takes are written where there are no more. What lies behind them in the
-/// array stays as it was. Costs two searches, and a step for each range.
-#[unsafe(no_mangle)]
-pub extern "C" fn brm_set_u64_read_back(
-    handle: &mut Handle,
-    key: u64,
-    entries: &mut [Bounds],
-    count: &mut usize,
-) -> u32
-    ensures unchanged { handle.new.seal.held ≡ handle.old.seal.held }
-    ensures read { result ≡ DONE → (rest : KeyRanges)
-        × AreOverlapping unsigned_keys (set_items handle.old.seal.held) (upto_key key)
-        (rest ++ reverse (map bounds_item (take count.new entries.new)))
-        × (count.new < length entries.old → rest ≡ []) }
-    ensures within { result ≡ DONE → count.new ≤ length entries.old }
-    ensures behind { result ≡ DONE → drop count.new entries.new ≡ drop count.new entries.old }
-    ensures unwritten { result ≢ DONE
-        → (entries.new ≡ entries.old) × (count.new ≡ count.old) }
-    ensures answer { HoldsSet handle.old.seal.held → result ≡ DONE }
-    ensures closed { handle.old.is_open ≡ false → result ≡ CLOSED }
-    ensures other { handle.old.is_open ≡ true → (¬ HoldsSet handle.old.seal.held)
-        → result ≡ OTHER_KIND }
-{
-    if !handle.is_open {
-        return CLOSED;
-    }
-    match handle.seal.as_mut() {
-        Collection::Set(kept) => reads::read_back(kept.as_map(), key, entries, count),
-        _ => OTHER_KIND,
-    }
-}
-
-/// Writes the stored ranges that meet the range, whole, in ascending order, as many as the array
-/// takes, and how many.
-///
-/// Fewer than the array takes are written where there are no more. What lies behind them in the
-/// array stays as it was. Costs two searches, and a step for each range.
-#[unsafe(no_mangle)]
-pub extern "C" fn brm_set_u64_overlapping(
-    handle: &mut Handle,
-    range: &Bounds,
-    entries: &mut [Bounds],
-    count: &mut usize,
-) -> u32
-    ensures unchanged { handle.new.seal.held ≡ handle.old.seal.held }
-    ensures read { result ≡ DONE → ¬ IsEmptyRange unsigned_keys (range_of range.now)
-        → (rest : KeyRanges)
-        × AreOverlapping unsigned_keys (set_items handle.old.seal.held) (range_of range.now)
-        (map bounds_item (take count.new entries.new) ++ rest)
-        × (count.new < length entries.old → rest ≡ []) }
-    ensures empty { result ≡ DONE → IsEmptyRange unsigned_keys (range_of range.now)
-        → count.new ≡ 0 }
-    ensures within { result ≡ DONE → count.new ≤ length entries.old }
-    ensures behind { result ≡ DONE → drop count.new entries.new ≡ drop count.new entries.old }
-    ensures unwritten { result ≢ DONE
-        → (entries.new ≡ entries.old) × (count.new ≡ count.old) }
-    ensures answer { HoldsSet handle.old.seal.held → result ≡ DONE }
-    ensures closed { handle.old.is_open ≡ false → result ≡ CLOSED }
-    ensures other { handle.old.is_open ≡ true → (¬ HoldsSet handle.old.seal.held)
-        → result ≡ OTHER_KIND }
-{
-    if !handle.is_open {
-        return CLOSED;
-    }
-    match handle.seal.as_mut() {
-        Collection::Set(kept) => reads::overlapping(kept.as_map(), range.range(), entries, count),
-        _ => OTHER_KIND,
-    }
-}
-
-/// Writes the parts of the range that hold no key of the set, in ascending order, as many as the
-/// array takes, and how many.
-///
-/// Fewer than the array takes are written where there are no more. What lies behind them in the
-/// array stays as it was. Costs two searches, and a few steps for each stored range that meets the
-/// range.
-#[unsafe(no_mangle)]
-pub extern "C" fn brm_set_u64_gaps(
-    handle: &mut Handle,
-    range: &Bounds,
-    ranges: &mut [Bounds],
-    count: &mut usize,
-) -> u32
-    ensures unchanged { handle.new.seal.held ≡ handle.old.seal.held }
-    ensures gaps { result ≡ DONE → (rest : List (AnyRange ℕ))
-        × AreGapsWithin unsigned_keys (set_items handle.old.seal.held) (range_of range.now)
-        (map range_of (take count.new ranges.new) ++ rest)
-        × (count.new < length ranges.old → rest ≡ []) }
-    ensures within { result ≡ DONE → count.new ≤ length ranges.old }
-    ensures behind { result ≡ DONE → drop count.new ranges.new ≡ drop count.new ranges.old }
-    ensures unwritten { result ≢ DONE
-        → (ranges.new ≡ ranges.old) × (count.new ≡ count.old) }
-    ensures answer { HoldsSet handle.old.seal.held → result ≡ DONE }
-    ensures closed { handle.old.is_open ≡ false → result ≡ CLOSED }
-    ensures other { handle.old.is_open ≡ true → (¬ HoldsSet handle.old.seal.held)
-        → result ≡ OTHER_KIND }
-{
-    if !handle.is_open {
-        return CLOSED;
-    }
-    match handle.seal.as_mut() {
-        Collection::Set(kept) => reads::gaps(kept.as_map(), range.range(), ranges, count),
         _ => OTHER_KIND,
     }
 }

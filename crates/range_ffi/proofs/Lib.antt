@@ -1,0 +1,2 @@
+mod Fills
+mod Flags

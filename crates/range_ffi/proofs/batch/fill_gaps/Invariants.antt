@@ -1,0 +1,12 @@
+use Rattle.std.proofs.Common.{◌≡◌, ◌≤◌, ◌++◌, ℕ, take, drop, map, length}
+use Rattle.range_ffi.specs.Flags.{said_range}
+use Rattle.range_ffi.proofs.batch.fill_gaps.Given as goal
+
+abbrev pub invariant-loop-count : goal.invariant-loop-count
+invariant-loop-count g l =
+    record {
+      shown :
+          l.initial.gaps ≡ map (said_range g.E.Shown.said) (take l.count l.slots) ++ l.gaps;
+      rest : (n : ℕ) → l.count ≤ n → drop n l.slots ≡ drop n l.initial.slots;
+      within : l.count ≤ length l.initial.slots;
+    }
