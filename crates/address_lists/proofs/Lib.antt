@@ -1,2 +1,3 @@
 -- Lemmas.
+mod Lines
 mod Reading

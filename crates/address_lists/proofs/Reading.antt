@@ -1,42 +1,40 @@
 -- How far a list is read.
-use Rattle.std.proofs.Common.{◌≡◌, ◌≢◌, ℕ, ◌+◌, ◌<◌, ◌^◌, ◌↔◌, ◌⊎◌, Bool, List, [], ◌∷◌, ◌++◌, length, Option, None, Some, IfSome, inl, inr, ap, refl, sym, subst, append_assoc, length-append, arith, Result, Ok, Err, IfErr}
+use Rattle.std.proofs.Common.{◌≡◌, ℕ, suc, ◌+◌, ◌<◌, ◌^◌, ◌↔◌, ◌⊎◌, Bool, List, [], ◌∷◌, ◌++◌, length, Option, None, Some, IfSome, inl, inr, refl, sym, subst, append_assoc, length-append, arith}
 use Rattle.std.proofs.lemmas.List.{append-nil}
-use Rattle.std.specs.Io.BufRead.{drop_through, take_through}
-use Rattle.btree_range_map.specs.Intervals.{Any}
+use Rattle.std.specs.Io.BufRead.{drop_through}
 use Rattle.address_text.specs.Lines.{Says, SaysAddress}
+use Rattle.address_text.specs.Texts.{width}
 use Rattle.address_text.specs.declared.family.Family.{Family}
 use Rattle.address_text.specs.declared.line.Line.{Line}
-use Rattle.address_lists.specs.Lists.{AreSaid, Has, HasJust, IsListed}
-use Rattle.address_lists.specs.Lists.AreSaid.{Ended, Said}
-use Rattle.address_lists.specs.Reading.{HasFault, IsBad}
+use Rattle.address_lists.proofs.Lines.{any_append}
+use Rattle.address_lists.specs.Lists.{AreGood, AreSaid, Has, HasJust, IsListed, SaysNothingKnown}
+use Rattle.address_lists.specs.Lists.AreGood.{Ended, Other, Said}
+use Rattle.address_lists.specs.Reading.{HasFault, IsBad, IsNext}
 use Rattle.address_lists.specs.declared.addresses.Addresses.{Addresses}
+use Rattle.address_lists.specs.declared.read.BadLines.{BadLines}
+use Rattle.address_lists.specs.declared.read.BadLines.TheVariants.{Refused, Skipped}
 use Rattle.address_lists.specs.declared.read.ListError.{ListError}
-use Rattle.address_lists.specs.declared.read.ListError.TheVariants.{Unread}
-
-any_append : {X : Type 0} (P : X → Type 0) (xs ys : List X)
-    → Any P (xs ++ ys) ↔ (Any P xs ⊎ Any P ys)
-any_append P [] ys = (λ h. inr h, λ h. elim h [ inl none ↦ absurd none | inr some ↦ some ])
-any_append P (x ∷ xs) ys =
-    let rest = any_append P xs ys in (
-      λ h. elim h [
-        | inl here ↦ inl (inl here)
-        | inr later ↦ elim (rest.0 later) [ inl left ↦ inl (inr left) | inr right ↦ inr right ]
-      ],
-      λ h. elim h [
-        | inl left ↦ elim left [ inl here ↦ inl here | inr later ↦ inr (rest.1 (inl later)) ]
-        | inr right ↦ inr (rest.1 (inr right))
-      ],
-    )
+use Rattle.address_lists.specs.declared.read.ListError.TheVariants.{Memory, Unread}
 
 -- what the list had, and what the lines say
 abbrev pub HasRead : Addresses → Addresses → List Line → Type 0
 HasRead old now lines = HasJust now (λ family n. Has old family n ⊎ IsListed family n lines)
 
-read_more : (old now next : Addresses) (lines : List Line) (line : Line) → HasRead old now lines
-    → HasJust next (λ family n. Has now family n ⊎ SaysAddress family n line)
-    → HasRead old next (lines ++ line ∷ [])
-read_more old now next lines line read more family n h =
-    let one = more family n h in
+-- the addresses that are read are those that the list had, and what the lines say
+abbrev pub AreRead : Addresses → (Family → ℕ → Type 0) → List Line → Type 0
+AreRead old IsRead lines = (family : Family) (n : ℕ) → n < 2 ^ width family
+    → IsRead family n ↔ (Has old family n ⊎ IsListed family n lines)
+
+-- one more line is taken in
+abbrev pub IsTaken : (Family → ℕ → Type 0) → (Family → ℕ → Type 0) → Line → Type 0
+IsTaken Before After line = (family : Family) (n : ℕ) → n < 2 ^ width family
+    → After family n ↔ (Before family n ⊎ SaysAddress family n line)
+
+read_more : (old : Addresses) (Before After : Family → ℕ → Type 0) (lines : List Line)
+    (line : Line) → AreRead old Before lines → IsTaken Before After line
+    → AreRead old After (lines ++ line ∷ [])
+read_more old Before After lines line read taken family n h =
+    let one = taken family n h in
     let before = read family n h in
     let split = any_append (SaysAddress family n) lines (line ∷ []) in (
       λ has. elim (one.0 has) [
@@ -54,92 +52,162 @@ read_more old now next lines line read more family n h =
 
 module _ (strict : Bool) where
   -- the lines of the input before the one of this number are read
-  pub record IsReadTo (input : List ℕ) (left : Option (List ℕ)) (number : ℕ) (old now : Addresses)
-      : Type 0 where
+  pub record IsReadTo (input : List ℕ) (left : Option (List ℕ)) (number others : ℕ)
+      (old : Addresses) (IsRead : Family → ℕ → Type 0) : Type 0 where
     pub remaining : List ℕ
     pub left_is : left ≡ Some remaining
     pub lines : List Line
-    pub count : number ≡ length lines + 1
-    pub goes_on : (more : List Line) (rest : List ℕ) → AreSaid strict remaining more rest
-        → AreSaid strict input (lines ++ more) rest
-    pub added : HasRead old now lines
+    pub count : number ≡ length lines + others + 1
+    pub goes_on : (more : List Line) (later : ℕ) (rest : List ℕ)
+        → AreGood strict remaining more later rest
+        → AreGood strict input (lines ++ more) (others + later) rest
+    pub added : AreRead old IsRead lines
 
-  pub read_none : (input : Option (List ℕ)) (list : Addresses)
-      → IfSome input (λ bytes. IsReadTo bytes input 1 list list)
-  read_none None list = tt
-  read_none (Some bytes) list = record {
+  pub read_none : (input : Option (List ℕ)) (old : Addresses) (IsRead : Family → ℕ → Type 0)
+      → ((family : Family) (n : ℕ) → IsRead family n ↔ Has old family n)
+      → IfSome input (λ bytes. IsReadTo bytes input 1 0 old IsRead)
+  read_none None old IsRead same = tt
+  read_none (Some bytes) old IsRead same = record {
     remaining = bytes;
     left_is = refl;
     lines = [];
     count = refl;
-    goes_on = λ more rest said. said;
-    added = λ family n h. (λ has. inl has, λ e. elim e [ inl has ↦ has | inr none ↦ absurd none ]);
+    goes_on =
+        λ more later rest said. let none : later ≡ 0 + later = omega arith in
+        subst (λ n. AreGood strict bytes more n rest) none said;
+    added = λ family n h. (
+      λ read. inl ((same family n).0 read),
+      λ e. elim e [ inl has ↦ (same family n).1 has | inr none ↦ absurd none ],
+    );
   }
 
-  -- one more line is read
-  abbrev pub IsNext : Option (List ℕ) → Option (List ℕ) → Addresses → Addresses → Type 0
-  IsNext left later now next = IfSome left (λ bytes. (bytes ≢ [])
-      × (later ≡ Some (drop_through 10 bytes))
-      × (line : Line) × Says strict (take_through 10 bytes) line
-      × HasJust next (λ family n. Has now family n ⊎ SaysAddress family n line))
+  good_read : (input : List ℕ) (left later : Option (List ℕ)) (number others : ℕ)
+      (old : Addresses) (Before After : Family → ℕ → Type 0) (line : Line)
+      → (read : IsReadTo input left number others old Before)
+      → IsNext strict (Some read.remaining) later (λ text. Says strict text line)
+      → IsTaken Before After line → IsReadTo input later (number + 1) others old After
+  good_read input left later number others old Before After line read (some, later_is, says)
+      taken = record {
+        remaining = drop_through 10 read.remaining;
+        left_is = later_is;
+        lines = read.lines ++ line ∷ [];
+        count =
+            let count = read.count in
+            omega (arith, count, length-append read.lines (line ∷ []));
+        goes_on =
+            λ more after rest said. subst (λ all. AreGood strict input all (others + after) rest)
+            (sym (append_assoc read.lines (line ∷ []) more))
+            (read.goes_on (line ∷ more) after rest
+            (Said read.remaining line more after rest some says said));
+        added = read_more old Before After read.lines line read.added taken;
+      }
 
-  more_read : (input : List ℕ) (left later : Option (List ℕ)) (number : ℕ)
-      (old now next : Addresses) → (read : IsReadTo input left number old now)
-      → IsNext (Some read.remaining) later now next → IsReadTo input later (number + 1) old next
-  more_read input left later number old now next read (some, later_is, line, says, more) = record {
+  other_read : (input : List ℕ) (left later : Option (List ℕ)) (number others : ℕ)
+      (old : Addresses) (IsRead : Family → ℕ → Type 0)
+      → (read : IsReadTo input left number others old IsRead)
+      → IsNext strict (Some read.remaining) later (SaysNothingKnown strict)
+      → IsReadTo input later (number + 1) (others + 1) old IsRead
+  other_read input left later number others old IsRead read (some, later_is, says) = record {
     remaining = drop_through 10 read.remaining;
     left_is = later_is;
-    lines = read.lines ++ line ∷ [];
-    count =
-        let count = read.count in
-        omega (arith, count, length-append read.lines (line ∷ []));
+    lines = read.lines;
+    count = let count = read.count in omega (arith, count);
     goes_on =
-        λ others rest said. subst (λ all. AreSaid strict input all rest)
-        (sym (append_assoc read.lines (line ∷ []) others))
-        (read.goes_on (line ∷ others) rest
-        (Said read.remaining line others rest some says said));
-    added = read_more old now next read.lines line read.added more;
+        λ more after rest said.
+        let one : others + suc after ≡ others + 1 + after = omega arith in
+        subst (λ all. AreGood strict input (read.lines ++ more) all rest) one
+        (read.goes_on more (suc after) rest
+        (Other read.remaining more after rest some says said));
+    added = read.added;
   }
 
-  pub line_read : (input left later : Option (List ℕ)) (number : ℕ) (old now next : Addresses)
-      → IfSome input (λ bytes. IsReadTo bytes left number old now) → IsNext left later now next
-      → IfSome input (λ bytes. IsReadTo bytes later (number + 1) old next)
-  line_read None left later number old now next read one = tt
-  line_read (Some bytes) left later number old now next read one =
-      more_read bytes left later number old now next read
-      (subst (λ o. IsNext o later now next) read.left_is one)
+  pub line_read : (input left later : Option (List ℕ)) (number others : ℕ) (old : Addresses)
+      (Before After : Family → ℕ → Type 0) (line : Line)
+      → IfSome input (λ bytes. IsReadTo bytes left number others old Before)
+      → IsNext strict left later (λ text. Says strict text line) → IsTaken Before After line
+      → IfSome input (λ bytes. IsReadTo bytes later (number + 1) others old After)
+  line_read None left later number others old Before After line read one taken = tt
+  line_read (Some bytes) left later number others old Before After line read one taken =
+      good_read bytes left later number others old Before After line read
+      (subst (λ o. IsNext strict o later (λ text. Says strict text line)) read.left_is one) taken
+
+  pub line_left_out : (input left later : Option (List ℕ)) (number others : ℕ) (old : Addresses)
+      (IsRead : Family → ℕ → Type 0)
+      → IfSome input (λ bytes. IsReadTo bytes left number others old IsRead)
+      → IsNext strict left later (SaysNothingKnown strict)
+      → IfSome input (λ bytes. IsReadTo bytes later (number + 1) (others + 1) old IsRead)
+  line_left_out None left later number others old IsRead read one = tt
+  line_left_out (Some bytes) left later number others old IsRead read one =
+      other_read bytes left later number others old IsRead read
+      (subst (λ o. IsNext strict o later (SaysNothingKnown strict)) read.left_is one)
 
   -- where no line is left, the whole input is read
-  pub all_read : (input left : Option (List ℕ)) (number : ℕ) (old now next : Addresses)
-      → IfSome input (λ bytes. IsReadTo bytes left number old now)
-      → (next ≡ now) × IfSome left (λ bytes. bytes ≡ [])
-      → IfSome input (λ bytes. (lines : List Line) × AreSaid strict bytes lines []
+  pub all_read : (input left : Option (List ℕ)) (number others : ℕ) (old next : Addresses)
+      (IsRead : Family → ℕ → Type 0)
+      → IfSome input (λ bytes. IsReadTo bytes left number others old IsRead)
+      → IfSome left (λ bytes. bytes ≡ []) → HasJust next IsRead
+      → IfSome input (λ bytes. (lines : List Line) × AreGood strict bytes lines others []
       × HasRead old next lines)
-  all_read None left number old now next read ended = tt
-  all_read (Some bytes) left number old now next read (same, ended) =
+  all_read None left number others old next IsRead read ended added = tt
+  all_read (Some bytes) left number others old next IsRead read ended added =
       let empty : read.remaining ≡ [] =
-      subst (λ o. IfSome o (λ bytes. bytes ≡ [])) read.left_is ended in (
+      subst (λ o. IfSome o (λ bytes. bytes ≡ [])) read.left_is ended in
+      let none : others + 0 ≡ others = omega arith in (
         read.lines,
-        subst (λ all. AreSaid strict bytes all []) (append-nil read.lines)
-            (read.goes_on [] []
-            (subst (λ rest. AreSaid strict rest [] []) (sym empty) (Ended []))),
-        subst (λ list. HasRead old list read.lines) (sym same) read.added,
+        subst (λ n. AreGood strict bytes read.lines n []) none
+            (subst (λ all. AreGood strict bytes all (others + 0) []) (append-nil read.lines)
+            (read.goes_on [] 0 []
+            (subst (λ rest. AreGood strict rest [] 0 []) (sym empty) (Ended [])))),
+        λ family n h.
+            let one = added family n h in
+            let before = read.added family n h in
+            (λ has. before.0 (one.0 has), λ h. one.1 (before.1 h)),
       )
 
-  pub fault_read : (input left : Option (List ℕ)) (number : ℕ) (old now : Addresses)
-      (error : ListError) → IfSome input (λ bytes. IsReadTo bytes left number old now)
+  fault_at : (bytes : List ℕ) (left : Option (List ℕ)) (number : ℕ) (old : Addresses)
+      (IsRead : Family → ℕ → Type 0) (error : ListError)
+      → (read : IsReadTo bytes left number 0 old IsRead)
+      → IsBad strict read.remaining number error → HasFault strict bytes error
+  fault_at bytes left number old IsRead error read bad =
+      let count = read.count in
+      let place : number ≡ length read.lines + 1 = omega (arith, count) in (
+        read.lines,
+        read.remaining,
+        subst (λ all. AreSaid strict bytes all read.remaining) (append-nil read.lines)
+            (read.goes_on [] 0 read.remaining (Ended read.remaining)),
+        subst (λ k. IsBad strict read.remaining k error) place bad,
+      )
+
+  -- all lines before a bad one were good
+  pub fault_read : (input left : Option (List ℕ)) (number others : ℕ) (old : Addresses)
+      (IsRead : Family → ℕ → Type 0) (error : ListError) → others ≡ 0
+      → IfSome input (λ bytes. IsReadTo bytes left number others old IsRead)
       → IfSome left (λ bytes. IsBad strict bytes number error)
       → IfSome input (λ bytes. HasFault strict bytes error)
-  fault_read None left number old now error read bad = tt
-  fault_read (Some bytes) left number old now error read bad = (
-    read.lines,
-    read.remaining,
-    subst (λ all. AreSaid strict bytes all read.remaining) (append-nil read.lines)
-        (read.goes_on [] read.remaining (Ended read.remaining)),
-    subst (λ k. IsBad strict read.remaining k error) read.count
-        (subst (λ o. IfSome o (λ bytes. IsBad strict bytes number error)) read.left_is bad),
-  )
+  fault_read None left number others old IsRead error none read bad = tt
+  fault_read (Some bytes) left number others old IsRead error none read bad =
+      fault_at bytes left number old IsRead error
+      (subst (λ n. IsReadTo bytes left number n old IsRead) none read)
+      (subst (λ o. IfSome o (λ bytes. IsBad strict bytes number error))
+      (subst (λ n. IsReadTo bytes left number n old IsRead) none read).left_is bad)
 
-  pub unread : (input : Option (List ℕ)) → IfSome input (λ bytes. HasFault strict bytes Unread)
-  unread None = tt
-  unread (Some bytes) = ([], bytes, Ended bytes, tt)
+  -- without a bad line, nothing is said of the input
+  pub other_fault : (input : Option (List ℕ)) (error : ListError)
+      → (error ≡ Unread) ⊎ (error ≡ Memory) → IfSome input (λ bytes. HasFault strict bytes error)
+  other_fault None error other = tt
+  other_fault (Some bytes) error (inl unread) =
+      subst (λ e. HasFault strict bytes e) (sym unread) ([], bytes, Ended bytes, tt)
+  other_fault (Some bytes) error (inr memory) =
+      subst (λ e. HasFault strict bytes e) (sym memory) ([], bytes, Ended bytes, tt)
+
+  -- all lines before a bad one were good, where bad ones are not left out
+  pub fault_found : (bad_lines : BadLines) (input left : Option (List ℕ)) (number others : ℕ)
+      (old : Addresses) (IsRead : Family → ℕ → Type 0) (error : ListError)
+      → (bad_lines ≡ Refused → others ≡ 0) → (bad_lines ≡ Skipped → error ≡ Unread)
+      → IfSome input (λ bytes. IsReadTo bytes left number others old IsRead)
+      → IfSome left (λ bytes. IsBad strict bytes number error)
+      → IfSome input (λ bytes. HasFault strict bytes error)
+  fault_found Refused input left number others old IsRead error none unread read bad =
+      fault_read input left number others old IsRead error (none refl) read bad
+  fault_found Skipped input left number others old IsRead error none unread read bad =
+      other_fault input error (inl (unread refl))

@@ -2,3 +2,4 @@
 pub mod Lists
 pub mod Printed
 pub mod Reading
+pub mod Waiting

@@ -1,5 +1,5 @@
 -- The addresses of lists: those that their lines say.
-use Rattle.std.specs.Prelude.{◌≢◌, ℕ, ◌<◌, ◌^◌, ◌↔◌, Bool, List, [], ◌∷◌}
+use Rattle.std.specs.Prelude.{◌≢◌, ℕ, suc, ◌<◌, ◌^◌, ◌↔◌, Bool, List, [], ◌∷◌}
 use Rattle.std.specs.Io.BufRead.{drop_through, take_through}
 use Rattle.btree_range_map.specs.Holding.{box_items}
 use Rattle.btree_range_map.specs.Intervals.{Any}
@@ -26,9 +26,23 @@ abbrev pub IsListed : Family → ℕ → List Line → Type 0
 IsListed family n lines = Any (SaysAddress family n) lines
 
 module _ (strict : Bool) where
-  -- what the lines of the input say, one after the other, up to the rest of it
-  pub data AreSaid : List ℕ → List Line → List ℕ → Type 0 where
-    Ended : (input : List ℕ) → AreSaid input [] input
-    Said : (input : List ℕ) (line : Line) (lines : List Line) (rest : List ℕ) → input ≢ []
-        → Says strict (take_through 10 input) line → AreSaid (drop_through 10 input) lines rest
-        → AreSaid input (line ∷ lines) rest
+  -- the line says nothing that is known
+  abbrev pub SaysNothingKnown : List ℕ → Type 0
+  SaysNothingKnown line = (said : Line) → ¬ Says strict line said
+
+  -- what the good lines of the input say, one after the other, and how many others stand among
+  -- them, up to the rest of it
+  pub data AreGood : List ℕ → List Line → ℕ → List ℕ → Type 0 where
+    Ended : (input : List ℕ) → AreGood input [] 0 input
+    Said : (input : List ℕ) (line : Line) (lines : List Line) (others : ℕ) (rest : List ℕ)
+        → input ≢ [] → Says strict (take_through 10 input) line
+        → AreGood (drop_through 10 input) lines others rest
+        → AreGood input (line ∷ lines) others rest
+    Other : (input : List ℕ) (lines : List Line) (others : ℕ) (rest : List ℕ) → input ≢ []
+        → SaysNothingKnown (take_through 10 input)
+        → AreGood (drop_through 10 input) lines others rest
+        → AreGood input lines (suc others) rest
+
+  -- all lines up to the rest are good
+  abbrev pub AreSaid : List ℕ → List Line → List ℕ → Type 0
+  AreSaid input lines rest = AreGood input lines 0 rest

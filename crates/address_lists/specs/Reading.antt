@@ -1,17 +1,33 @@
--- Why a list is not read.
-use Rattle.std.specs.Prelude.{◌≡◌, ◌≢◌, ℕ, ◌+◌, Bool, List, [], length}
-use Rattle.std.specs.Io.BufRead.{take_through}
-use Rattle.address_text.specs.Lines.{Says}
+-- What is read next, and why a list is not read.
+use Rattle.std.specs.Prelude.{◌≡◌, ◌≢◌, ℕ, ◌+◌, ◌≤◌, Bool, List, [], length, Option, Some, IfSome}
+use Rattle.std.specs.Io.BufRead.{drop_through, take_through}
+use Rattle.address_text.specs.Lines.{AreAddresses, Says}
 use Rattle.address_text.specs.declared.line.Line.{Line}
-use Rattle.address_lists.specs.Lists.{AreSaid}
+use Rattle.address_lists.specs.Lists.{AreSaid, SaysNothingKnown}
+use Rattle.address_lists.specs.declared.read.Found.{Found}
+use Rattle.address_lists.specs.declared.read.Found.TheVariants.{Good, Other, End}
 use Rattle.address_lists.specs.declared.read.ListError.{ListError}
 use Rattle.address_lists.specs.declared.read.ListError.TheVariants.{BadLine, Unread, Memory}
 
 module _ (strict : Bool) where
-  -- a bad line is the first of the bytes, it says nothing that is known, and this is its number
+  -- a line is read of the input, which goes on behind it
+  abbrev pub IsNext : Option (List ℕ) → Option (List ℕ) → (List ℕ → Type 0) → Type 0
+  IsNext left later Fits = IfSome left (λ bytes. (bytes ≢ [])
+      × (later ≡ Some (drop_through 10 bytes)) × Fits (take_through 10 bytes))
+
+  -- what is read next, of the input before and after
+  abbrev pub IsFound : Option (List ℕ) → Option (List ℕ) → Found → Type 0
+  IsFound left later (Good line) =
+      AreAddresses line × IsNext left later (λ text. Says strict text line)
+  IsFound left later Other = IsNext left later (SaysNothingKnown strict)
+  IsFound left later End = IfSome left (λ bytes. bytes ≡ [])
+
+  -- a bad line is the first of the bytes, it says nothing that is known, this is its number, and
+  -- the column is that of one of its bytes or of its end
   abbrev pub IsBad : List ℕ → ℕ → ListError → Type 0
   IsBad bytes number (BadLine line column expected) =
-      (line ≡ number) × (bytes ≢ []) × ((said : Line) → ¬ Says strict (take_through 10 bytes) said)
+      (line ≡ number) × (1 ≤ column) × (column ≤ length (take_through 10 bytes) + 1)
+      × (bytes ≢ []) × SaysNothingKnown strict (take_through 10 bytes)
   IsBad bytes number Unread = Unit {0}
   IsBad bytes number Memory = Unit {0}
 

@@ -4,14 +4,16 @@
 //!
 //! - the addresses of a list, of both families, and what two lists have together:
 //!   `src/addresses.rt`, `specs/Lists.antt`
-//! - reading a list, and where it is wrong: `src/read.rt`
+//! - reading a list, and where it is wrong: `src/read.rt`, `specs/Reading.antt`; what is read and
+//!   not added yet: `src/waiting.rt`, `specs/Waiting.antt`
 //! - the prefixes of a list as they are printed: `src/print.rt`, `specs/Printed.antt`
 #![tactic(auto)]
 
 pub mod addresses;
 pub mod print;
 pub mod read;
+mod waiting;
 
 pub use addresses::Addresses;
 pub use print::write_prefixes;
-pub use read::{ListError, read_list};
+pub use read::{BadLines, ListError, read_list};

@@ -1,15 +1,17 @@
 //! Reading a list.
 
-ghost use Rattle.std.specs.Prelude.{◌⊎◌, ◌≡◌, ◌≢◌, List, [], Ok, Some, true, false, IfErr, IfSome, OnOk};
-ghost use Rattle.std.specs.Io.BufRead.{drop_through, take_through};
-ghost use Rattle.address_text.specs.Lines.{Says, SaysAddress};
+ghost use Rattle.std.specs.Prelude.{◌⊎◌, ◌≡◌, ◌≢◌, List, [], Ok, IfErr, IfOk, IfSome};
 ghost use Rattle.address_text.specs.declared.line.Line.{Line};
-ghost use Rattle.address_lists.specs.Lists.{AreSaid, Has, HasJust, IsListed};
-ghost use Rattle.address_lists.specs.Reading.{HasFault, IsBad};
+ghost use Rattle.address_lists.specs.Lists.{AreGood, Has, HasJust, IsListed};
+ghost use Rattle.address_lists.specs.Reading.{HasFault, IsBad, IsFound};
+ghost use Rattle.address_lists.specs.declared.read.BadLines.TheVariants.{Refused, Skipped};
+ghost use Rattle.address_lists.specs.declared.read.Found.TheVariants.{Other};
+ghost use Rattle.address_lists.specs.declared.read.ListError.TheVariants.{Memory, Unread};
 
 use crate::addresses::Addresses;
+use crate::waiting::Waiting;
 use address_text::fault::fault_of;
-use address_text::{Expected, line_of};
+use address_text::{Expected, Line, line_of};
 use std::alloc::Global;
 use std::fmt;
 use std::io::BufRead;
@@ -46,71 +48,102 @@ impl fmt::Display for ListError {
     }
 }
 
-/// Adds the addresses of the next line, and tells whether there was one.
+/// What becomes of bad lines, which say nothing that is known.
+#[derive(Clone, Copy, PartialEq, Eq, Debug)]
+pub enum BadLines {
+    /// The first one ends the reading.
+    Refused,
+    /// They are left out, and counted.
+    Skipped,
+}
+
+/// What is read of a list next.
+#[derive(Clone, Copy)]
+enum Found {
+    Good(Line),
+    Other,
+    End,
+}
+
+/// Reads the next line, of this number.
 fn read_line<R: BufRead>(
-    list: &mut Addresses,
     buffer: &mut Vec<u8>,
     input: &mut R,
     number: u64,
     strict: bool,
-) -> Result<bool, ListError>
-    ensures ended { result ≡ Ok false
-        → (list.new ≡ list.old) × IfSome (R.remaining input.old) (λ bytes. bytes ≡ []) }
-    ensures added { result ≡ Ok true → IfSome (R.remaining input.old) (λ bytes. (bytes ≢ [])
-        × (R.remaining input.new ≡ Some (drop_through 10 bytes))
-        × (line : Line) × Says strict (take_through 10 bytes) line
-        × HasJust list.new (λ family n. Has list.old family n ⊎ SaysAddress family n line)) }
+    bad_lines: BadLines,
+) -> Result<Found, ListError>
+    ensures found { IfOk result (IsFound strict (R.remaining input.old) (R.remaining input.new)) }
+    ensures refused { bad_lines ≡ Refused → result ≢ Ok Other }
     ensures bad { IfErr result
         (λ error. IfSome (R.remaining input.old) (λ bytes. IsBad strict bytes number error)) }
+    ensures skipped { bad_lines ≡ Skipped → IfErr result (λ error. error ≡ Unread) }
 {
     buffer.clear();
     let Ok(count) = input.read_until(b'\n', buffer) else {
         return Err(ListError::Unread);
     };
     if count == 0 {
-        return Ok(false);
+        return Ok(Found::End);
     }
-    let Some(line) = line_of(buffer.as_slice(), strict) else {
-        let fault = fault_of(buffer.as_slice());
-        return Err(ListError::BadLine {
-            line: number,
-            column: fault.column,
-            expected: fault.expected,
-        });
-    };
-    match list.add(line) {
-        Ok(()) => Ok(true),
-        Err(_) => Err(ListError::Memory),
+    if let Some(line) = line_of(buffer.as_slice(), strict) {
+        return Ok(Found::Good(line));
+    }
+    match bad_lines {
+        BadLines::Refused => {
+            let fault = fault_of(buffer.as_slice());
+            Err(ListError::BadLine {
+                line: number,
+                column: fault.column,
+                expected: fault.expected,
+            })
+        }
+        BadLines::Skipped => Ok(Found::Other),
     }
 }
 
-/// Adds the addresses of a list, which is read to its end, or up to a line that is wrong.
+/// Adds the addresses of a list, which is read to its end. Returns how many lines were left out.
 ///
 /// Each line is blank, an address, a prefix `address/length` or a range `first-last`, of either
 /// family, with a comment after `#` or without. Where `strict` is set, a prefix whose address has
-/// more bits than its length is wrong; else these bits are taken for 0. One buffer holds a line.
-/// A list in ascending order costs no search.
+/// more bits than its length is bad; else these bits are taken for 0. Another bad line says nothing
+/// that is known: it is left out, or ends the reading. After an error some addresses are added.
+///
+/// One buffer holds a line. Ranges that do not follow each other are sorted before they are added,
+/// up to 8 MiB of either family at a time.
 ///
 /// ```
 /// let mut list = Addresses::new(rt.alloc());
-/// read_list(rt.alloc(), &mut list, &mut "10.0.0.0/8\n".as_bytes(), false)?;
+/// let mut input = "10.0.0.0/8\n".as_bytes();
+/// read_list(rt.alloc(), &mut list, &mut input, false, BadLines::Refused)?;
 /// ```
 pub fn read_list<R: BufRead>(
     alloc: Global,
     list: &mut Addresses,
     input: &mut R,
     strict: bool,
-) -> Result<(), ListError>
-    ensures read { OnOk result (IfSome (R.remaining input.old) (λ bytes. (lines : List Line)
-        × AreSaid strict bytes lines []
+    bad_lines: BadLines,
+) -> Result<u64, ListError>
+    ensures read { IfOk result (λ others. IfSome (R.remaining input.old) (λ bytes.
+        (lines : List Line) × AreGood strict bytes lines others []
         × HasJust list.new (λ family n. Has list.old family n ⊎ IsListed family n lines))) }
+    ensures all { bad_lines ≡ Refused → IfOk result (λ others. others ≡ 0) }
     ensures bad { IfErr result
         (λ error. IfSome (R.remaining input.old) (λ bytes. HasFault strict bytes error)) }
+    ensures skipped { bad_lines ≡ Skipped
+        → IfErr result (λ error. (error ≡ Unread) ⊎ (error ≡ Memory)) }
 {
     let mut buffer = Vec::new(alloc);
+    let mut waiting = Waiting::new(alloc);
+    let mut others = 0;
     for number in 1..u64::MAX {
-        if !read_line(list, &mut buffer, input, number, strict)? {
-            return Ok(());
+        match read_line(&mut buffer, input, number, strict, bad_lines)? {
+            Found::Good(line) => waiting.take(list, line)?,
+            Found::Other => others += 1,
+            Found::End => {
+                waiting.add_all(list)?;
+                return Ok(others);
+            }
         }
     }
     Err(ListError::Unread)

@@ -10,7 +10,7 @@ ghost use Rattle.line_program.specs.Listing.{Writes};
 ghost use Rattle.cidr.specs.Commands.{AreKnown, AreLists, Asked, Combined, IsAnswer, Put};
 ghost use Rattle.cidr.specs.declared.serve.Stop.TheVariants.{Unwritable};
 
-use address_lists::{Addresses, ListError, read_list, write_prefixes};
+use address_lists::{Addresses, BadLines, ListError, read_list, write_prefixes};
 use btree_range_map::MapError;
 use std::alloc::Global;
 use std::io::{BufRead, Write};
@@ -61,8 +61,8 @@ fn read_source<R: BufRead + Drop>(
 {
     let Source { name, mut reader } = source;
     let mut list = Addresses::new(alloc);
-    match read_list(alloc, &mut list, &mut reader, strict) {
-        Ok(()) => Ok(list),
+    match read_list(alloc, &mut list, &mut reader, strict, BadLines::Refused) {
+        Ok(_) => Ok(list),
         Err(error) => Err(Stop::Bad(name, error)),
     }
 }

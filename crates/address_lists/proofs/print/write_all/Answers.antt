@@ -1,4 +1,4 @@
-use Rattle.std.proofs.Common.{◌≡◌, ℕ, List, [], ◌∷◌, subst}
+use Rattle.std.proofs.Common.{◌≡◌, ℕ, List, [], subst}
 use Rattle.line_program.proofs.Listing.{HasShown, shown_all, shown_more}
 use Rattle.address_lists.specs.Printed.{prefix_of}
 use Rattle.address_sets.specs.declared.prefix.Prefix.{Prefix}

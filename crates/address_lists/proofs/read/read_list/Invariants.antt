@@ -1,8 +1,15 @@
+use Rattle.std.proofs.Common.{◌≡◌, ◌<◌}
 use Rattle.std.specs.Prelude.{IfSome}
+use Rattle.address_text.specs.Lines.{AreAddresses}
+use Rattle.address_lists.specs.Waiting.{HasSoFar}
+use Rattle.address_lists.specs.declared.read.BadLines.TheVariants.{Refused}
 use Rattle.address_lists.proofs.Reading.{IsReadTo}
 use Rattle.address_lists.proofs.read.read_list.Given as goal
 
 abbrev pub invariant-loop-number : goal.invariant-loop-number
 invariant-loop-number g l =
-    IfSome (g.R.Read.remaining l.fn.input)
-    (λ bytes. IsReadTo l.strict bytes (g.R.Read.remaining l.input) l.number l.fn.list l.list)
+    (l.others < l.number) × (l.bad_lines ≡ Refused → l.others ≡ 0)
+    × AreAddresses l.waiting.last
+    × IfSome (g.R.Read.remaining l.fn.input)
+    (λ bytes. IsReadTo l.strict bytes (g.R.Read.remaining l.input) l.number l.others l.fn.list
+    (HasSoFar l.list l.waiting))

@@ -1,0 +1,236 @@
+-- What lists of lines say, and lines that are put together.
+use Rattle.std.proofs.Common.{◌≡◌, ℕ, zero, suc, ◌+◌, ◌≤◌, ◌<◌, ◌^◌, ◌↔◌, ◌⊎◌, List, [], ◌∷◌, ◌++◌, length, get_or, map, inl, inr, refl, sym, ap, ◌∙◌, subst, arith}
+use Rattle.std.proofs.lemmas.Bool.{cases_lt}
+use Rattle.std.proofs.lemmas.List.{map_push}
+use Rattle.std.proofs.lemmas.List.Sorted.{Contains-permutation, IsPermutation-sym}
+use Rattle.std.specs.List.{Contains}
+use Rattle.std.specs.List.Sorted.{IsPermutation}
+use Rattle.btree_range_map.specs.Intervals.{Any}
+use Rattle.address_text.specs.Lines.{SaysAddress}
+use Rattle.address_text.specs.Texts.{width}
+use Rattle.address_text.specs.declared.family.Family.{Family}
+use Rattle.address_text.specs.declared.family.Family.TheVariants.{V4, V6}
+use Rattle.address_text.specs.declared.line.Line.{Line}
+use Rattle.address_text.specs.declared.line.Line.TheVariants.{Addresses, Nothing}
+use Rattle.address_lists.specs.Lists.{Has, HasJust}
+use Rattle.address_lists.specs.Waiting.{HasOrSays, IsTogether, Spans}
+use Rattle.address_lists.specs.declared.addresses.Addresses.{Addresses as Held}
+
+pub any_append : {X : Type 0} (P : X → Type 0) (xs ys : List X)
+    → Any P (xs ++ ys) ↔ (Any P xs ⊎ Any P ys)
+any_append P [] ys = (λ h. inr h, λ h. elim h [ inl none ↦ absurd none | inr some ↦ some ])
+any_append P (x ∷ xs) ys =
+    let rest = any_append P xs ys in (
+      λ h. elim h [
+        | inl here ↦ inl (inl here)
+        | inr later ↦ elim (rest.0 later) [ inl left ↦ inl (inr left) | inr right ↦ inr right ]
+      ],
+      λ h. elim h [
+        | inl left ↦ elim left [ inl here ↦ inl here | inr later ↦ inr (rest.1 (inl later)) ]
+        | inr right ↦ inr (rest.1 (inr right))
+      ],
+    )
+
+-- an element that is such stands in the list
+element_of : {X : Type 0} (P : X → Type 0) (xs : List X) → Any P xs
+    → (x : X) × Contains xs x × P x
+element_of P [] none = absurd none
+element_of P (x ∷ xs) (inl here) = (x, (0, omega arith, refl), here)
+element_of P (x ∷ xs) (inr later) =
+    let found = element_of P xs later in
+    let place = found.1 in (found.0, (suc place.0, omega (arith, place.1), place.2), found.2)
+
+any_of : {X : Type 0} (P : X → Type 0) (xs : List X) (k : ℕ) (x : X) → k < length xs
+    → get_or xs k x ≡ x → P x → Any P xs
+any_of P [] k x below at such = absurd (omega (arith, below))
+any_of P (y ∷ ys) zero x below at such = inl (subst P (sym at) such)
+any_of P (y ∷ ys) (suc k) x below at such = inr (any_of P ys k x (omega (arith, below)) at such)
+
+-- the order of a list does not matter
+any_moved : {X : Type 0} (P : X → Type 0) (xs ys : List X) → IsPermutation xs ys → Any P xs
+    → Any P ys
+any_moved P xs ys moved some =
+    let found = element_of P xs some in
+    let place = Contains-permutation xs ys found.0 moved found.1 in
+    any_of P ys place.0 found.0 place.1 place.2 found.2
+
+-- a second span that starts in the first, or just after it
+pub spans_within : (start end from to : ℕ) → start ≤ from → to ≤ end
+    → Spans start end from to start end
+spans_within start end from to starts within = record {
+  numbers = λ n. (
+    λ h. inl h,
+    λ e. elim e [ inl h ↦ h | inr h ↦ let a = h.0 in let b = h.1 in (omega arith, omega arith) ],
+  );
+  starts = refl;
+  ends = inl refl;
+}
+
+spans_after_numbers : (start end from to n : ℕ) → from ≤ end + 1 → (start ≤ n) × (n ≤ to)
+    → ((start ≤ n) × (n ≤ end)) ⊎ ((from ≤ n) × (n ≤ to))
+spans_after_numbers start end from to n near (above, below) = elim (cases_lt end n) [
+  | inl later ↦ inr (omega arith, below)
+  | inr within ↦ inl (above, within)
+]
+
+pub spans_after : (start end from to : ℕ) → start ≤ from → from ≤ end + 1 → end < to
+    → Spans start end from to start to
+spans_after start end from to starts near after = record {
+  numbers = λ n. (
+    spans_after_numbers start end from to n near,
+    λ e. elim e [
+      | inl h ↦ let a = h.0 in let b = h.1 in (omega arith, omega arith)
+      | inr h ↦ let a = h.0 in let b = h.1 in (omega arith, omega arith)
+    ],
+  );
+  starts = refl;
+  ends = inr refl;
+}
+
+neither : ⊥ ↔ (⊥ ⊎ ⊥)
+neither = (λ never. absurd never, λ e. elim e [ inl never ↦ never | inr never ↦ never ])
+
+-- the lines of two spans of a family
+pub spans_together : (family : Family) (start end from to first last : ℕ)
+    → Spans start end from to first last
+    → IsTogether (Addresses family start end) (Addresses family from to)
+    (Addresses family first last)
+spans_together V4 start end from to first last spans V4 n = spans.numbers n
+spans_together V4 start end from to first last spans V6 n = neither
+spans_together V6 start end from to first last spans V4 n = neither
+spans_together V6 start end from to first last spans V6 n = spans.numbers n
+
+pub nothing_first : (line : Line) → IsTogether Nothing line line
+nothing_first line family n =
+    (λ says. inr says, λ e. elim e [ inl never ↦ absurd never | inr says ↦ says ])
+
+pub nothing_second : (line : Line) → IsTogether line Nothing line
+nothing_second line family n =
+    (λ says. inl says, λ e. elim e [ inl says ↦ says | inr never ↦ absurd never ])
+
+-- lines that are added one after the other
+pub added_none : (list : Held) → HasJust list (HasOrSays list [])
+added_none list family n h = (λ has. inl has, λ e. elim e [ inl has ↦ has | inr never ↦ absurd never ])
+
+pub added_more : (old now next : Held) (lines : List Line) (line : Line)
+    → HasJust now (HasOrSays old lines)
+    → HasJust next (λ family n. Has now family n ⊎ SaysAddress family n line)
+    → HasJust next (HasOrSays old (lines ++ line ∷ []))
+added_more old now next lines line before more family n h =
+    let one = more family n h in
+    let sofar = before family n h in
+    let split = any_append (SaysAddress family n) lines (line ∷ []) in (
+      λ has. elim (one.0 has) [
+        | inl was ↦ elim (sofar.0 was) [ inl had ↦ inl had | inr said ↦ inr (split.1 (inl said)) ]
+        | inr says ↦ inr (split.1 (inr (inl says)))
+      ],
+      λ e. elim e [
+        | inl had ↦ one.1 (inl (sofar.1 (inl had)))
+        | inr said ↦ elim (split.0 said) [
+          | inl earlier ↦ one.1 (inl (sofar.1 (inr earlier)))
+          | inr last ↦ elim last [ inl says ↦ one.1 (inr says) | inr never ↦ absurd never ]
+        ]
+      ],
+    )
+
+-- in another order
+pub added_moved : (old now : Held) (lines moved : List Line) → IsPermutation lines moved
+    → HasJust now (HasOrSays old moved) → HasJust now (HasOrSays old lines)
+added_moved old now lines moved there added family n h =
+    let one = added family n h in
+    let back = IsPermutation-sym lines moved there in (
+      λ has. elim (one.0 has) [
+        | inl had ↦ inl had
+        | inr said ↦ inr (any_moved (SaysAddress family n) moved lines back said)
+      ],
+      λ e. elim e [
+        | inl had ↦ one.1 (inl had)
+        | inr said ↦ one.1 (inr (any_moved (SaysAddress family n) lines moved there said))
+      ],
+    )
+
+-- a line more waits
+pub put_more : (list : Held) (lines : List Line) (line : Line) (family : Family) (n : ℕ)
+    → HasOrSays list (lines ++ line ∷ []) family n
+    ↔ (HasOrSays list lines family n ⊎ SaysAddress family n line)
+put_more list lines line family n =
+    let split = any_append (SaysAddress family n) lines (line ∷ []) in (
+      λ e. elim e [
+        | inl has ↦ inl (inl has)
+        | inr said ↦ elim (split.0 said) [
+          | inl earlier ↦ inl (inr earlier)
+          | inr last ↦ elim last [ inl says ↦ inr says | inr never ↦ absurd never ]
+        ]
+      ],
+      λ e. elim e [
+        | inl so_far ↦ elim so_far [
+          | inl has ↦ inl has
+          | inr said ↦ inr (split.1 (inl said))
+        ]
+        | inr says ↦ inr (split.1 (inr (inl says)))
+      ],
+    )
+
+-- those before it are added first
+pub put_first : (old now : Held) (lines : List Line) (line : Line)
+    → HasJust now (HasOrSays old lines) → (family : Family) (n : ℕ) → n < 2 ^ width family
+    → HasOrSays now (line ∷ []) family n
+    ↔ (HasOrSays old lines family n ⊎ SaysAddress family n line)
+put_first old now lines line added family n h =
+    let one = added family n h in (
+      λ e. elim e [
+        | inl has ↦ inl (one.0 has)
+        | inr last ↦ elim last [ inl says ↦ inr says | inr never ↦ absurd never ]
+      ],
+      λ e. elim e [
+        | inl so_far ↦ inl (one.1 so_far)
+        | inr says ↦ inr (inl says)
+      ],
+    )
+
+-- the last line and the next are one: of an address, H, the list has it; L, both say it; A, the
+-- last one does; N, the next one does; B and C, spans do
+pub taken_together : (H L A N B C : Type 0) → (L ↔ (A ⊎ N))
+    → (H ⊎ (L ⊎ (B ⊎ C))) ↔ ((H ⊎ (A ⊎ (B ⊎ C))) ⊎ N)
+taken_together H L A N B C one = (
+  λ e. elim e [
+    | inl h ↦ inl (inl h)
+    | inr some ↦ elim some [
+      | inl l ↦ elim (one.0 l) [ inl a ↦ inl (inr (inl a)) | inr n ↦ inr n ]
+      | inr bc ↦ inl (inr (inr bc))
+    ]
+  ],
+  λ e. elim e [
+    | inl before ↦ elim before [
+      | inl h ↦ inl h
+      | inr some ↦ elim some [
+        | inl a ↦ inr (inl (one.1 (inl a)))
+        | inr bc ↦ inr (inr bc)
+      ]
+    ]
+    | inr n ↦ inr (inl (one.1 (inr n)))
+  ],
+)
+
+-- a span more waits, behind those before it or in their place
+pub put_then : {S : Type 0} (line : S → Line) (old mid : Held) (before kept after : List S)
+    (span : S) → after ≡ kept ++ span ∷ []
+    → ((mid ≡ old) × (kept ≡ before))
+    ⊎ (HasJust mid (HasOrSays old (map line before)) × (kept ≡ []))
+    → (family : Family) (n : ℕ) → n < 2 ^ width family
+    → HasOrSays mid (map line after) family n
+    ↔ (HasOrSays old (map line before) family n ⊎ SaysAddress family n (line span))
+put_then line old mid before kept after span appended (inl (same, is)) family n h =
+    let all : map line after ≡ map line before ++ line span ∷ [] =
+    ap (map line) (appended ∙ ap (λ xs. xs ++ span ∷ []) is) ∙ map_push line before span in
+    subst (λ list. HasOrSays list (map line after) family n
+    ↔ (HasOrSays old (map line before) family n ⊎ SaysAddress family n (line span))) (sym same)
+    (subst (λ lines. HasOrSays old lines family n
+    ↔ (HasOrSays old (map line before) family n ⊎ SaysAddress family n (line span))) (sym all)
+    (put_more old (map line before) (line span) family n))
+put_then line old mid before kept after span appended (inr (added, none)) family n h =
+    let all : map line after ≡ line span ∷ [] =
+    ap (map line) (appended ∙ ap (λ xs. xs ++ span ∷ []) none) in
+    subst (λ lines. HasOrSays mid lines family n
+    ↔ (HasOrSays old (map line before) family n ⊎ SaysAddress family n (line span))) (sym all)
+    (put_first old mid (map line before) (line span) added family n h)
