@@ -1,3 +1,4 @@
 -- Lemmas.
 mod Lines
 mod Reading
+mod Relations

@@ -6,14 +6,17 @@
 //!   `src/addresses.rt`, `specs/Lists.antt`
 //! - reading a list, and where it is wrong: `src/read.rt`, `specs/Reading.antt`; what is read and
 //!   not added yet: `src/waiting.rt`, `specs/Waiting.antt`
-//! - the prefixes of a list as they are printed: `src/print.rt`, `specs/Printed.antt`
+//! - the prefixes of a list as they are printed: `src/print.rt`, `specs/Printed.antt`; how many
+//!   addresses it has: `src/count.rt`, `specs/Counted.antt`
 #![tactic(auto)]
 
 pub mod addresses;
+pub mod count;
 pub mod print;
 pub mod read;
 mod waiting;
 
 pub use addresses::Addresses;
+pub use count::write_counts;
 pub use print::write_prefixes;
 pub use read::{BadLines, ListError, read_list};
