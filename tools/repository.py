@@ -137,14 +137,6 @@ def run(words, folder=TOP):
     return subprocess.run(words, cwd=folder, stdin=subprocess.DEVNULL, **how)
 
 
-def passed(what, words, folder=TOP):
-    """Runs a command that passes or fails as one, and shows what it wrote where it fails."""
-    began = time.monotonic()
-    ended = run(words, folder)
-    is_well = ended.returncode == 0
-    return told(what, Counts(int(is_well), int(not is_well)), began, ended.stdout)
-
-
 def told(what, counts, began, said):
     """Tells how something ended, shows what was said of it where it failed, and returns the counts."""
     text = said.rstrip() + "\n" if counts.failed and said.strip() else ""
