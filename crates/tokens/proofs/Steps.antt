@@ -1,30 +1,29 @@
 -- A token of a lexer is one of the rules that it is of.
 use Rattle.std.proofs.Common.{◌≡◌, refl, sym, ap, subst, ◌∙◌, inl, inr, ℕ, zero, suc, ◌+◌, Bool, true, false, IsTrue, List, [], ◌∷◌, take, drop, Option, Some, None, arith}
-use Rattle.std.specs.Prelude.{if◌then◌else◌, string_bytes, MatchOption}
+use Rattle.std.specs.Prelude.{if◌then◌else◌, string_bytes}
 use Rattle.std.specs.List.{slice_get}
 use Rattle.std.specs.Str.{IsCharBoundary, IsUtf8}
 use Rattle.std.proofs.lemmas.Str.{IsUtf8-drop}
 use Rattle.lexing.specs.declared.lexer.Lexer.{Lexer}
-use Rattle.lexing.specs.declared.token.Match.{Match}
 use Rattle.lexing.specs.Lexers.{IsNameOf}
 use Rattle.lexing.specs.Runs.{IsBehindOne}
 use Rattle.lexing.specs.Tokens.{IsToken, BeginsWithNone}
 use Rattle.lexing_patterns.specs.declared.patterns.PatternRule.{PatternRule}
-use Rattle.lexing_patterns.specs.Patterns.{AreReadAs}
+use Rattle.lexing_patterns.specs.Patterns.{AreReadAs, IsLongestMatch}
 use Rattle.regex_hir.specs.Re.{Re}
 use Rattle.tokens.specs.declared.form.Form.{Form}
 use Rattle.tokens.specs.Lines.{token_line}
 use Rattle.tokens.specs.Places.{place_at}
-use Rattle.tokens.specs.Printing.{IsOfRules, WritesToken, PrintsToken, PrintsNone, printed_of}
+use Rattle.tokens.specs.Printing.{Shown, IsOfRules, IsPiece, WritesToken, ShowsToken, ShowsNone, printed_token}
 
 some_is : {X : Type 0} (x y : X) → Some x ≡ Some y → x ≡ y
 some_is x y e = cc
 
-if_true : (b : Bool) (x y : List ℕ) → IsTrue b → (if b then x else y) ≡ x
+pub if_true : (b : Bool) (x y : List ℕ) → IsTrue b → (if b then x else y) ≡ x
 if_true true x y h = refl
 if_true false x y h = absurd cc
 
-if_not : (b : Bool) (x y : List ℕ) → ¬ IsTrue b → (if b then x else y) ≡ y
+pub if_not : (b : Bool) (x y : List ℕ) → ¬ IsTrue b → (if b then x else y) ≡ y
 if_not true x y h = absurd (h refl)
 if_not false x y h = refl
 
@@ -38,66 +37,77 @@ rule_there (r ∷ rules) (p ∷ patterns) zero re read at = (r, refl)
 rule_there (r ∷ rules) (p ∷ patterns) (suc i) re read at =
     rule_there rules patterns i re read.1 at
 
-one_name : (lexer : Lexer) (i : ℕ) (one other : List ℕ) → IsNameOf lexer i one
+pub one_name : (lexer : Lexer) (i : ℕ) (one other : List ℕ) → IsNameOf lexer i one
     → IsNameOf lexer i other → one ≡ other
 one_name lexer i one other h k =
     sym h.2 ∙ ap (λ kind. string_bytes kind.name) (some_is _ _ (sym h.1 ∙ k.1)) ∙ k.2
 
--- what a scanner of the lexer finds in the rest of a text
-module _ (lexer other : Lexer) (text rest : List ℕ) (field : Option Match) (same : lexer ≡ other)
-    (is : rest ≡ text)
-    (found : MatchOption field (BeginsWithNone other rest) (λ m. IsToken other rest m.rule m.len)) where
-  pub found_token : (m : Match) → field ≡ Some m → IsToken lexer text m.rule m.len
-  found_token m some =
-      let of_rest = subst (λ o. MatchOption o (BeginsWithNone other rest)
-      (λ m. IsToken other rest m.rule m.len)) some found in
-      let of_text = subst (λ t. IsToken other t m.rule m.len) is of_rest in
-      subst (λ l. IsToken l text m.rule m.len) (sym same) of_text
+-- what stands at a place of a text, by a lexer that is this one
+module _ (lexer other : Lexer) (text : List ℕ) (at : ℕ) (rule : Option ℕ) (end : ℕ)
+    (same : lexer ≡ other) (piece : IsPiece other text at rule end) where
+  pub piece_token : (number : ℕ) → rule ≡ Some number
+      → (len : ℕ) × IsToken lexer (drop at text) number len × (end ≡ at + len)
+  piece_token number is =
+      subst (λ l. IsPiece l text at (Some number) end) (sym same)
+      (subst (λ r. IsPiece other text at r end) is piece)
 
-  pub found_none : field ≡ None → BeginsWithNone lexer text
-  found_none none =
-      let of_rest = subst (λ o. MatchOption o (BeginsWithNone other rest)
-      (λ m. IsToken other rest m.rule m.len)) none found in
-      let of_text = subst (λ t. BeginsWithNone other t) is of_rest in
-      subst (λ l. BeginsWithNone l text) (sym same) of_text
+  pub piece_none : rule ≡ None → BeginsWithNone lexer (drop at text) × IsBehindOne text at end
+  piece_none is =
+      subst (λ l. IsPiece l text at None end) (sym same)
+      (subst (λ r. IsPiece other text at r end) is piece)
 
 module _ (rules : List PatternRule) (patterns : List Re) (lexer : Lexer)
-    (is : IsOfRules rules patterns lexer) (form : Form) (text : List ℕ) (utf8 : IsUtf8 text)
+    (is : IsOfRules rules patterns lexer) (text : List ℕ) (utf8 : IsUtf8 text)
     (at : ℕ) (boundary : IsCharBoundary text at) where
-  line_is : (index len : ℕ) (rule : PatternRule) → slice_get rules index ≡ Some rule
-      → (line : List ℕ)
-      → WritesToken lexer form index (place_at text at) (take len (drop at text)) line
-      → line ≡ printed_of rules patterns form text rule at len
-  line_is index len rule there line writes =
-      let shown = token_line form (place_at text at) rule.name.now (take len (drop at text)) in
-      elim writes [
-        | inl skipped ↦
-            skipped.1 ∙ sym (if_true rule.skipped [] shown ((is.skips index rule there).0 skipped.0))
-        | inr written ↦
-            let named = one_name lexer index written.1 rule.name.now written.2 (is.named index rule there) in
-            written.3
-            ∙ ap (λ name. token_line form (place_at text at) name (take len (drop at text))) named
-            ∙ sym (if_not rule.skipped [] shown (λ h. written.0 ((is.skips index rule there).1 h)))
-      ]
-
-  pub token_step : (index len next : ℕ) (line : List ℕ) → next ≡ at + len
-      → IsToken lexer (drop at text) index len
-      → WritesToken lexer form index (place_at text at) (take len (drop at text)) line
-      → PrintsToken rules patterns form text at line next
-  token_step index len next line further token writes =
-      let longest = (is.tokens (drop at text) (IsUtf8-drop text at utf8 boundary) index len).0 token in
+  -- the rule of a token
+  pub rule_of_token : (number len : ℕ) → IsToken lexer (drop at text) number len
+      → (rule : PatternRule) × (slice_get rules number ≡ Some rule)
+      × IsLongestMatch patterns (drop at text) number len
+  rule_of_token number len token =
+      let longest =
+      (is.tokens (drop at text) (IsUtf8-drop text at utf8 boundary) number len).0 token in
       let matched = longest.matched.1 in
-      let there = rule_there rules patterns index matched.0 is.read matched.1 in
-      (index, len, there.0, longest, there.1, further, line_is index len there.0 there.1 line writes)
+      let there = rule_there rules patterns number matched.0 is.read matched.1 in
+      (there.0, there.1, longest)
 
-  pub none_step : (next : ℕ) → BeginsWithNone lexer (drop at text) → IsBehindOne text at next
-      → PrintsNone rules patterns form text at [] next
-  none_step next none behind = (
-    λ index len longest.
+  pub token_step : (shown : Shown) (number len next : ℕ) (line : List ℕ) → next ≡ at + len
+      → IsToken lexer (drop at text) number len
+      → ((rule : PatternRule) → slice_get rules number ≡ Some rule
+      → line ≡ shown number rule at len)
+      → ShowsToken rules patterns shown text at line next
+  token_step shown number len next line further token shows =
+      let found = rule_of_token number len token in
+      (number, len, found.0, found.2, found.1, further, shows found.0 found.1)
+
+  pub none_step : (shown : Shown) (next : ℕ) → BeginsWithNone lexer (drop at text)
+      → IsBehindOne text at next → ShowsNone rules patterns shown text at [] next
+  none_step shown next none behind = (
+    λ number len longest.
         let token =
-        (is.tokens (drop at text) (IsUtf8-drop text at utf8 boundary) index len).1 longest in
+        (is.tokens (drop at text) (IsUtf8-drop text at utf8 boundary) number len).1 longest in
         let some = token.nonempty in
-        absurd (omega (arith, some, none index len token.accepted)),
+        absurd (omega (arith, some, none number len token.accepted)),
     behind,
     refl,
   )
+
+-- what is written of a token is what is printed of its rule
+module _ (rules : List PatternRule) (patterns : List Re) (lexer : Lexer)
+    (is : IsOfRules rules patterns lexer) (form : Form) (text : List ℕ) (at : ℕ) where
+  pub line_is : (number len : ℕ) (line : List ℕ)
+      → WritesToken lexer form number (place_at text at) (take len (drop at text)) line
+      → (rule : PatternRule) → slice_get rules number ≡ Some rule
+      → line ≡ printed_token form text number rule at len
+  line_is number len line writes rule there =
+      let shown = token_line form (place_at text at) rule.name.now (take len (drop at text)) in
+      elim writes [
+        | inl skipped ↦
+            skipped.1
+            ∙ sym (if_true rule.skipped [] shown ((is.skips number rule there).0 skipped.0))
+        | inr written ↦
+            let named =
+            one_name lexer number written.1 rule.name.now written.2 (is.named number rule there) in
+            written.3
+            ∙ ap (λ name. token_line form (place_at text at) name (take len (drop at text))) named
+            ∙ sym (if_not rule.skipped [] shown (λ h. written.0 ((is.skips number rule there).1 h)))
+      ]

@@ -1,3 +1,6 @@
+pub mod Counts
 pub mod Lines
 pub mod Places
 pub mod Printing
+pub mod Reading
+pub mod Rules

@@ -1,17 +1,18 @@
 //! Places in a text, shown to whoever wrote it.
+ghost use Rattle.std.specs.Prelude.{⊤, OnOk};
+ghost use Rattle.line_program.specs.Listing.{Writes};
 
 use crate::place::Place;
 use std::io::{self, Write};
 
 /// Marks the character behind the text, on the line below it.
-pub(crate) fn mark<E: Write>(before: &str, err: &mut E) -> io::Result<()> {
+pub(crate) fn mark<E: Write>(before: &str, err: &mut E) -> io::Result<()>
+    ensures { OnOk result (Writes (E.contents err.old) (E.contents err.new) (λ more. ⊤)) }
+{
     err.write_all(b"  ")?;
     for c in before.chars() {
-        if c == '\t' {
-            err.write_all(b"\t")?;
-        } else {
-            err.write_all(b" ")?;
-        }
+        let space: &[u8] = if c == '\t' { b"\t" } else { b" " };
+        err.write_all(space)?;
     }
     err.write_all(b"^\n")
 }

@@ -32,6 +32,7 @@ use std::{env, fs};
 mod count;
 mod fault;
 mod form;
+mod pieces;
 mod place;
 mod printing;
 mod rules;

@@ -2,14 +2,14 @@
 ghost use Rattle.std.specs.Prelude.{◌≡◌, ◌≤◌, ◌<◌, ◌&&◌, List, Ok, true, IfOk, OnOk, length};
 ghost use Rattle.std.specs.Str.{IsCharBoundary};
 ghost use Rattle.line_program.specs.Listing.{Writes};
-ghost use Rattle.lexing.specs.Runs.{IsBehindOne};
 ghost use Rattle.lexing_patterns.specs.declared.patterns.PatternRule.{PatternRule};
 ghost use Rattle.regex_hir.specs.Re.{Re};
 ghost use Rattle.tokens.specs.Places.{place_at};
-ghost use Rattle.tokens.specs.Printing.{IsOfRules, IsPrinted, IsStep, WritesToken};
+ghost use Rattle.tokens.specs.Printing.{IsOfRules, IsPiece, IsPrinted, IsStep, WritesToken, printed_token};
 
 use crate::fault::show_fault;
 use crate::form::{Form, write_token};
+use crate::pieces::{Piece, piece_at};
 use crate::place::{Place, further};
 use lexing::{Lexer, Scanner};
 use std::alloc::Global;
@@ -23,13 +23,6 @@ pub struct Printer<'a, S: Scanner> {
     /// The lexer whose tokens the scanner finds.
     pub lexer: &'a Lexer,
     pub scanner: &'a S,
-}
-
-/// Where the next token of a text is looked for, and whether one stands before it.
-#[derive(Clone, Copy)]
-struct Next {
-    at: usize,
-    is_token: bool,
 }
 
 /// Writes the token of a rule, unless it is skipped.
@@ -53,63 +46,43 @@ fn print_token<S: Scanner, W: Write>(
     }
 }
 
-/// The place behind the character at the place.
-fn behind_one(text: &str, at: usize) -> usize
-    requires boundary { IsCharBoundary text.now at }
-    requires within { at < length text.now }
-    ensures one { IsBehindOne text.now at result }
-    ensures boundary { IsCharBoundary text.now result }
-    ensures further { at < result }
-{
-    match text[at..].chars().next() {
-        Some(c) => at + c.len_utf8(),
-        None => text.len(),
-    }
-}
-
-/// Prints the token at the place, or shows that none begins there.
-fn print_next<S: Scanner, W: Write, E: Write>(
+/// Prints the token that the piece is, or shows that none begins there; whether it is one.
+fn print_piece<S: Scanner, W: Write, E: Write>(
     printer: &Printer<S>,
     path: &str,
     text: &str,
     at: usize,
+    piece: Piece,
     place: Place,
     out: &mut W,
     err: &mut E,
-) -> io::Result<Next>
+) -> io::Result<bool>
     requires same { printer.now.lexer.now ≡ S.lexer printer.now.scanner.now }
     requires boundary { IsCharBoundary text.now at }
-    requires within { at < length text.now }
+    requires end { IsCharBoundary text.now piece.end }
+    requires further { at < piece.end }
+    requires piece { IsPiece (S.lexer printer.now.scanner.now) text.now at piece.rule piece.end }
     requires here { place ≡ place_at text.now at }
     ensures printed { (rules : List PatternRule) (patterns : List Re)
         → IsOfRules rules patterns printer.now.lexer.now
-        → IfOk result (λ next. Writes (W.contents out.old) (W.contents out.new)
-        (λ line. IsStep rules patterns printer.now.form text.now next.is_token at line next.at)) }
-    ensures boundary { IfOk result (λ next. IsCharBoundary text.now next.at) }
-    ensures further { IfOk result (λ next. at < next.at) }
-    ensures silent { IfOk result (λ next. next.is_token ≡ true → err.new ≡ err.old) }
+        → IfOk result (λ is_token. Writes (W.contents out.old) (W.contents out.new)
+        (λ line. IsStep rules patterns (printed_token printer.now.form text.now) text.now is_token
+        at line piece.end)) }
+    ensures silent { result ≡ Ok true → err.new ≡ err.old }
 {
-    match printer.scanner.longest_match(&text[at..]) {
-        Ok(Some(found)) => {
-            let next = at + found.len;
-            print_token(printer, found.rule, place, &text[at..next], out)?;
-            Ok(Next {
-                at: next,
-                is_token: true,
-            })
+    match piece.rule {
+        Some(rule) => {
+            print_token(printer, rule, place, &text[at..piece.end], out)?;
+            Ok(true)
         }
-        Ok(None) => {
+        None => {
             show_fault(path, place, &text[..at], &text[at..], err)?;
-            Ok(Next {
-                at: behind_one(text, at),
-                is_token: false,
-            })
+            Ok(false)
         }
-        Err(_) => Err(io::Error::from(ErrorKind::OutOfMemory)),
     }
 }
 
-fn both(one: bool, other: bool) -> bool
+pub(crate) fn both(one: bool, other: bool) -> bool
     ensures { result ≡ (one && other) }
 {
     one && other
@@ -134,10 +107,11 @@ pub(crate) fn print_tokens<S: Scanner, W: Write, E: Write>(
     let mut at = 0;
     let mut place = Place::first();
     while at < text.len() {
-        let next = print_next(printer, path, text, at, place, out, err)?;
-        is_whole = both(is_whole, next.is_token);
-        place = further(text, place, at, next.at);
-        at = next.at;
+        let piece = piece_at(printer.scanner, text, at)?;
+        let is_token = print_piece(printer, path, text, at, piece, place, out, err)?;
+        is_whole = both(is_whole, is_token);
+        place = further(text, place, at, piece.end);
+        at = piece.end;
     }
     Ok(is_whole)
 }

@@ -1,9 +1,16 @@
 //! Files of rules.
-ghost use Rattle.std.specs.Prelude.{◌≡◌, List, IfOk, IfSome};
+ghost use Rattle.std.specs.Prelude.{◌≡◌, ◌∷◌, ◌++◌, [], List, ℕ, ⊤, IfOk, IfErr, IfSome, IfNone, OnOk, map};
+ghost use Rattle.std.specs.List.{AllZip};
+ghost use Rattle.std.specs.Str.Lines.{lines};
+ghost use Rattle.std.specs.Io.KnownBytes.{Appends};
+ghost use Rattle.line_program.specs.Listing.{Writes};
 ghost use Rattle.lexing.specs.MachineSteps.{lexer_of};
 ghost use Rattle.lexing_patterns.specs.declared.patterns.PatternRule.{PatternRule};
 ghost use Rattle.regex_hir.specs.Re.{Re};
+ghost use Rattle.tokens.specs.declared.rules.BadText.TheVariants.{Memory};
 ghost use Rattle.tokens.specs.Printing.{IsOfRules};
+ghost use Rattle.tokens.specs.Rules.{AreRulesOf, IsNumberOf, NamesLine, IsComplaint, TellsOfLine, line_place, says_nothing, too_many_states};
+ghost use Rattle.tokens.specs.Reading.{IsBadText, Says};
 
 use crate::fault::mark;
 use lexing::{BuildError, Lexer, Machine};
@@ -15,18 +22,18 @@ use std::io::{self, ErrorKind, Write};
 /// How many states the machine of some rules may have.
 const STATES: u32 = 10_000;
 
-/// Rules, and the line of each.
+/// Rules, and the number of the line of each.
 #[derive(Drop)]
 pub(crate) struct Rules<'a> {
     rules: Vec<PatternRule<'a>>,
-    lines: Vec<usize>,
+    numbers: Vec<usize>,
 }
 
 /// Why a text is no list of rules.
 #[derive(Clone, Copy, Drop)]
 pub(crate) enum BadText {
-    /// This line is no rule.
-    Line(usize),
+    /// The line of this number is no rule.
+    NoRule(usize),
     Memory,
 }
 
@@ -39,14 +46,25 @@ enum Line<'a> {
 }
 
 impl From<AllocError> for BadText {
+    ghost from_gives = { λ _ e. e ≡ Memory };
+
     fn from(_error: AllocError) -> BadText {
         BadText::Memory
     }
 }
 
-/// What a line says, without the spaces around it.
-fn line_of(line: &str) -> Line {
-    if line.is_empty() || line.starts_with('#') {
+/// Whether the line is blank or a comment.
+fn says_nothing(line: &str) -> bool
+    ensures { result ≡ says_nothing line.now }
+{
+    line.is_empty() || line.starts_with('#')
+}
+
+/// What a line says that has no spaces around it.
+fn line_of(line: &str) -> Line
+    ensures { Says line.now result }
+{
+    if says_nothing(line) {
         return Line::Nothing;
     }
     match split_at(line, b' ') {
@@ -59,74 +77,123 @@ fn line_of(line: &str) -> Line {
     }
 }
 
+fn lines_of(alloc: Global, text: &str) -> Result<Vec<&str>, AllocError>
+    ensures { IfOk result (λ all. map (λ line. line.now) all.items ≡ lines text.now) }
+{
+    text.lines().collect(alloc)
+}
+
 /// The rules of a text: a line `NAME PATTERN` each.
-fn rules_in(alloc: Global, text: &str) -> Result<Rules, BadText> {
+fn rules_in(alloc: Global, text: &str) -> Result<Rules, BadText>
+    ensures rules { IfOk result (λ found. AreRulesOf text.now found.rules.items) }
+    ensures numbers { IfOk result
+        (λ found. AllZip (IsNumberOf (lines text.now)) found.numbers.items found.rules.items) }
+    ensures bad { IfErr result (IsBadText (lines text.now)) }
+{
+    let lines = lines_of(alloc, text)?;
     let mut rules = Vec::new(alloc);
-    let mut lines = Vec::new(alloc);
-    let mut number: usize = 0;
-    for line in text.lines() {
-        number = number.saturating_add(1);
-        match line_of(line.trim()) {
+    let mut numbers = Vec::new(alloc);
+    for at in 0..lines.len() {
+        match line_of(lines[at].trim()) {
             Line::Nothing => {}
             Line::Rule(rule) => {
                 push_copy(&mut rules, rule)?;
-                push_copy(&mut lines, number)?;
+                push_copy(&mut numbers, at + 1)?;
             }
-            Line::Bad => return Err(BadText::Line(number)),
+            Line::Bad => return Err(BadText::NoRule(at + 1)),
         }
     }
-    Ok(Rules { rules, lines })
+    Ok(Rules { rules, numbers })
 }
 
-fn push_copy<T: Copy + Drop>(items: &mut Vec<T>, item: T) -> Result<(), AllocError> {
+fn push_copy<T: Copy + Drop>(items: &mut Vec<T>, item: T) -> Result<(), AllocError>
+    ensures { OnOk result (items.new.items ≡ items.old.items ++ item ∷ []) }
+{
     match items.push(item) {
         Ok(()) => Ok(()),
         Err(_) => Err(AllocError),
     }
 }
 
+/// Says which line is bad.
+fn show_line<E: Write>(path: &str, number: usize, err: &mut E) -> io::Result<()>
+    ensures { OnOk result (Appends (E.contents err.old) (E.contents err.new)
+        (line_place path.now number)) }
+{
+    write!(err, "{path}:{number}: ")
+}
+
+/// Says that a line is no rule.
+fn show_no_rule<E: Write>(path: &str, number: usize, err: &mut E) -> io::Result<()>
+    ensures { OnOk result (Writes (E.contents err.old) (E.contents err.new)
+        (TellsOfLine path.now number)) }
+{
+    show_line(path, number, err)?;
+    err.write_all(b"a rule is NAME PATTERN\n")
+}
+
 /// Says what is wrong with a pattern, and marks the place.
-fn show_pattern<E: Write>(pattern: &str, error: PatternError, err: &mut E) -> io::Result<()> {
+fn show_pattern<E: Write>(
+    alloc: Global,
+    pattern: &str,
+    error: PatternError,
+    err: &mut E,
+) -> io::Result<()>
+    ensures { OnOk result (Writes (E.contents err.old) (E.contents err.new) (λ more. ⊤)) }
+{
     match error {
         PatternError::Syntax(fault) => {
             let message = fault.kind.message();
             writeln!(err, "{message}\n  {pattern}")?;
             mark(pattern.get(..fault.span.start).unwrap_or(""), err)
         }
-        _ => writeln!(err, "{error}\n  {pattern}"),
+        _ => {
+            let message = format!(in alloc; "{error}")?;
+            writeln!(err, "{message}\n  {pattern}")
+        }
     }
 }
 
 /// Says which rule is bad, and why. Where memory ran out, that is the error.
 fn show_bad_rule<E: Write>(
+    alloc: Global,
     path: &str,
     rules: &Rules,
     bad: RuleError,
     err: &mut E,
-) -> io::Result<()> {
-    match (rules.lines.get(bad.rule), rules.rules.get(bad.rule)) {
-        (Some(line), Some(rule)) if bad.error != PatternError::Memory => {
-            write!(err, "{path}:{line}: ")?;
-            show_pattern(rule.pattern, bad.error, err)
+) -> io::Result<()>
+    ensures { (all : List (List ℕ))
+        → AllZip (IsNumberOf all) rules.now.numbers.items rules.now.rules.items
+        → OnOk result (Writes (E.contents err.old) (E.contents err.new) (NamesLine path.now all)) }
+{
+    match (rules.numbers.get(bad.rule), rules.rules.get(bad.rule)) {
+        (Some(number), Some(rule)) if bad.error != PatternError::Memory => {
+            show_line(path, *number, err)?;
+            show_pattern(alloc, rule.pattern, bad.error, err)
         }
         _ => Err(io::Error::from(ErrorKind::OutOfMemory)),
     }
 }
 
-/// The machine of the rules, or none where one of them is bad, which is shown.
+/// The machine of the rules, or none where one of them is bad, or where it has too many states,
+/// which is said.
 fn machine_of<E: Write>(
     alloc: Global,
     path: &str,
     rules: &Rules,
     err: &mut E,
 ) -> io::Result<Option<Machine>>
-    ensures { IfOk result (λ found. IfSome found (λ machine. (patterns : List Re)
+    ensures machine { IfOk result (λ found. IfSome found (λ machine. (patterns : List Re)
         × IsOfRules rules.now.rules.items patterns (lexer_of machine))) }
+    ensures refused { (all : List (List ℕ))
+        → AllZip (IsNumberOf all) rules.now.numbers.items rules.now.rules.items
+        → IfOk result (λ found. IfNone found
+        (Writes (E.contents err.old) (E.contents err.new) (IsComplaint path.now all))) }
 {
     match lexer(alloc, &rules.rules) {
         Ok(lexer) => built(alloc, path, lexer, err),
         Err(bad) => {
-            show_bad_rule(path, rules, bad, err)?;
+            show_bad_rule(alloc, path, rules, bad, err)?;
             Ok(None)
         }
     }
@@ -139,7 +206,9 @@ fn built<E: Write>(
     lexer: Lexer,
     err: &mut E,
 ) -> io::Result<Option<Machine>>
-    ensures { IfOk result (λ found. IfSome found (λ machine. lexer_of machine ≡ lexer)) }
+    ensures machine { IfOk result (λ found. IfSome found (λ machine. lexer_of machine ≡ lexer)) }
+    ensures refused { IfOk result (λ found. IfNone found
+        (Appends (E.contents err.old) (E.contents err.new) (too_many_states path.now))) }
 {
     match Machine::build(alloc, lexer, STATES) {
         Ok(machine) => Ok(Some(machine)),
@@ -151,7 +220,8 @@ fn built<E: Write>(
     }
 }
 
-/// The machine of the rules of a text, or none where one of them is bad, which is shown.
+/// The machine of the rules of a text, or none where one of them is bad or the machine would have
+/// too many states, which is said.
 ///
 /// A line is `NAME PATTERN`, or `skip PATTERN` for what is left out. Blank lines and lines that
 /// begin with `#` say nothing, and spaces around a line or a pattern are none of it.
@@ -161,13 +231,16 @@ pub(crate) fn read<E: Write>(
     text: &str,
     err: &mut E,
 ) -> io::Result<Option<Machine>>
-    ensures { IfOk result (λ found. IfSome found (λ machine. (rules : List PatternRule)
-        × (patterns : List Re) × IsOfRules rules patterns (lexer_of machine))) }
+    ensures machine { IfOk result (λ found. IfSome found (λ machine. (rules : List PatternRule)
+        × (patterns : List Re) × AreRulesOf text.now rules
+        × IsOfRules rules patterns (lexer_of machine))) }
+    ensures refused { IfOk result (λ found. IfNone found (Writes (E.contents err.old)
+        (E.contents err.new) (IsComplaint path.now (lines text.now)))) }
 {
     match rules_in(alloc, text) {
         Ok(rules) => machine_of(alloc, path, &rules, err),
-        Err(BadText::Line(line)) => {
-            writeln!(err, "{path}:{line}: a rule is NAME PATTERN")?;
+        Err(BadText::NoRule(number)) => {
+            show_no_rule(path, number, err)?;
             Ok(None)
         }
         Err(BadText::Memory) => Err(io::Error::from(ErrorKind::OutOfMemory)),

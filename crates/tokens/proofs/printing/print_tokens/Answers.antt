@@ -1,6 +1,7 @@
-use Rattle.std.proofs.Common.{◌≡◌, refl, sym, subst, ◌∙◌, length, arith}
+use Rattle.std.proofs.Common.{◌≡◌, refl, sym, ap, subst, ◌∙◌, length, Ok, arith}
 use Rattle.std.proofs.lemmas.Bool.{and_parts}
 use Rattle.std.proofs.lemmas.Str.{IsCharBoundary-start}
+use Rattle.tokens.specs.Printing.{printed_token}
 use Rattle.tokens.proofs.Written.{HasPrinted, printed_none, printed_more, printed_all}
 use Rattle.tokens.proofs.printing.print_tokens.Goals as goal
 
@@ -9,32 +10,33 @@ loop-at-init g c = record {
   boundary = IsCharBoundary-start c.args.text.now c.utf8.text;
   here = c.first-place.ensures;
   printed = λ rules patterns is.
-      printed_none rules patterns c.args.printer.now.form c.args.text.now
-      (g.W.Write.contents c.args.out.now);
+      printed_none rules patterns (printed_token c.args.printer.now.form c.args.text.now)
+      c.args.text.now (g.W.Write.contents c.args.out.now);
   silent = λ whole. refl;
 }
 
 pub loop-at-preserved : goal.loop-at-preserved
 loop-at-preserved g c =
     let was = c.loop-at.invariant in
-    let next = c.in_ok-next.next in
+    let piece = c.in_ok-piece.piece in
+    let is_token = c.in_ok-is_token.is_token in
     let text = c.args.text.now in
-    let form = c.args.printer.now.form in
+    let shown = printed_token c.args.printer.now.form text in
     let before = g.W.Write.contents c.args.out.now in
-    let after = g.W.Write.contents c.print_next.new.out in
+    let after = g.W.Write.contents c.print_piece.new.out in
     record {
-      boundary = c.in_ok-next.ensures.boundary;
+      boundary = c.in_ok-piece.ensures.boundary;
       here = c.further-place.ensures;
       printed = λ rules patterns is.
-          subst (λ whole. HasPrinted rules patterns form text whole next.at before after)
+          subst (λ whole. HasPrinted rules patterns shown text whole piece.end before after)
           (sym c.both-is_whole.ensures)
-          (printed_more rules patterns form text c.loop-at.is_whole next.is_token c.loop-at.at next.at
+          (printed_more rules patterns shown text c.loop-at.is_whole is_token c.loop-at.at piece.end
           before (g.W.Write.contents c.loop-at.out) after (was.printed rules patterns is)
-          (c.in_ok-next.ensures.printed rules patterns is));
+          (c.in_ok-is_token.ensures.printed rules patterns is));
       silent = λ whole.
           let parts =
-          and_parts c.loop-at.is_whole next.is_token (sym c.both-is_whole.ensures ∙ whole) in
-          c.in_ok-next.ensures.silent parts.1 ∙ was.silent parts.0;
+          and_parts c.loop-at.is_whole is_token (sym c.both-is_whole.ensures ∙ whole) in
+          c.in_ok-is_token.ensures.silent (ap Ok parts.1) ∙ was.silent parts.0;
     }
 
 pub returns-clause-printed : goal.returns-clause-printed
@@ -42,6 +44,6 @@ returns-clause-printed g c = λ rules patterns is.
     let was = c.loop-at.invariant in
     let ended : c.loop-at.at ≡ length c.args.text.now =
     let within = was.boundary.0 in omega (arith, within, c.loop-at-test.false) in
-    printed_all rules patterns c.args.printer.now.form c.args.text.now c.loop-at.is_whole c.loop-at.at
-    (g.W.Write.contents c.args.out.now) (g.W.Write.contents c.loop-at.out) ended
-    (was.printed rules patterns is)
+    printed_all rules patterns (printed_token c.args.printer.now.form c.args.text.now)
+    c.args.text.now c.loop-at.is_whole c.loop-at.at (g.W.Write.contents c.args.out.now)
+    (g.W.Write.contents c.loop-at.out) ended (was.printed rules patterns is)

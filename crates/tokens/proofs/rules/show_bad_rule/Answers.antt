@@ -1,0 +1,28 @@
+use Rattle.std.proofs.Common.{◌≡◌, refl, subst, inr, length, Some}
+use Rattle.std.specs.List.{slice_get}
+use Rattle.std.proofs.lemmas.Option.{slice_get_read}
+use Rattle.line_program.proofs.Listing.{on_ok_as}
+use Rattle.tokens.specs.Rules.{IsNumberOf}
+use Rattle.tokens.proofs.Lists.{zip_at}
+use Rattle.tokens.proofs.Machines.{tells_of_line}
+use Rattle.tokens.proofs.rules.show_bad_rule.Goals as goal
+
+pub returns-in_ok-show_line-in-Some-Some : goal.returns-in_ok-show_line-in-Some-Some
+returns-in_ok-show_line-in-Some-Some g c = λ all are.
+    let i = c.args.bad.rule in
+    let number = c.in-Some-Some.number.now in
+    let rule = c.in-Some-Some.rule.now in
+    let numbers = c.deref.result.now in
+    let rules = c.deref-2.result.now in
+    let found = c.in-Some-Some.ensures.lookup in
+    let also = c.in-Some-Some.ensures'.lookup in
+    let one = zip_at (IsNumberOf all) c.args.rules.now.numbers.items c.args.rules.now.rules.items i
+    number rule are
+    (subst (λ ns. slice_get ns i ≡ Some number) c.deref.ensures.value
+    (slice_get_read numbers (length numbers) i number refl found.3.0 found.1))
+    (subst (λ rs. slice_get rs i ≡ Some rule) c.deref-2.ensures.value
+    (slice_get_read rules (length rules) i rule refl also.3.0 also.1)) in
+    on_ok_as c.show_pattern.result _ _
+    (λ shown. let (said, tells, appended) =
+    tells_of_line c.args.path.now number _ _ _ c.in_ok-show_line-in-Some-Some.ensures shown in
+    (said, (number, tells, inr (rule, one)), appended)) c.show_pattern.ensures
