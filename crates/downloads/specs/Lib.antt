@@ -1,0 +1,2 @@
+-- What a download's bytes are.
+pub mod Coverage
