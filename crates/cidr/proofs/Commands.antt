@@ -11,9 +11,10 @@ use Rattle.address_lists.specs.Lists.{AreSaid, Has, HasJust, IsListed}
 use Rattle.address_lists.specs.declared.addresses.Addresses.{Addresses}
 use Rattle.cidr.specs.Commands.{AreKnown, AreLists, Asked, Combined, IsAnswer, Put}
 use Rattle.line_program.specs.Listing.{Writes}
-use Rattle.address_lists.specs.Printed.{IsPrinted}
+use Rattle.cidr.specs.Shown.{IsShown}
 use Rattle.cidr.specs.declared.serve.Command.{Command}
 use Rattle.cidr.specs.declared.serve.Command.TheVariants.{Merge, Common, Except, Diff, Invert}
+use Rattle.cidr.specs.declared.serve.Form.{Form}
 use Rattle.cidr.specs.declared.serve.Stop.{Stop}
 use Rattle.cidr.specs.declared.serve.Stop.TheVariants.{Unwritable}
 
@@ -248,19 +249,20 @@ other_answer strict task inputs list other asked files known =
     let (lists, said, all) = asked files known in
     (lists, said, same_answer task list lists other all)
 
--- what is printed is the answer
-pub answer_printed : {X : Type 0} (strict : Bool) (task : Command) (inputs all : List (Option (List ℕ)))
-    (list : Addresses) (before after : Option (List ℕ)) (result : Result X Stop)
-    → inputs ≡ all → AreMade strict inputs (λ lists. HasJust list (IsAnswer task lists))
-    → OnOk result (Writes before after (IsPrinted list))
+-- what is printed is what is kept of the answer
+pub answer_printed : {X : Type 0} (strict : Bool) (Answer : List (List Line) → Family → ℕ → Type 0)
+    (form : Form) (inputs all : List (Option (List ℕ))) (list : Addresses)
+    (before after : Option (List ℕ)) (result : Result X Stop) → inputs ≡ all
+    → AreMade strict inputs (λ lists. HasJust list (Answer lists))
+    → OnOk result (Writes before after (IsShown form list))
     → OnOk result ((files : List (List ℕ)) → AreKnown all files → (lists : List (List Line))
-    × (list : Addresses) × AreLists strict files lists × HasJust list (IsAnswer task lists)
-    × Writes before after (IsPrinted list))
-answer_printed strict task inputs all list before after (Ok done) same made printed =
+    × (list : Addresses) × AreLists strict files lists × HasJust list (Answer lists)
+    × Writes before after (IsShown form list))
+answer_printed strict Answer form inputs all list before after (Ok done) same made printed =
     λ files known.
     let (lists, said, answer) = made files (subst (λ one. AreKnown one files) (sym same) known) in
     (lists, list, said, answer, printed)
-answer_printed strict task inputs all list before after (Err stop) same made printed = tt
+answer_printed strict Answer form inputs all list before after (Err stop) same made printed = tt
 
 -- printing fails where nothing can be written, and for no other reason
 pub fails_unwritable : {X : Type 0} (P : Type 0) (result : Result X Stop)

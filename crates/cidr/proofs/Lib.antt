@@ -1,2 +1,4 @@
 -- Lemmas.
 mod Commands
+mod Compared
+mod Kept

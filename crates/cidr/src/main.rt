@@ -4,25 +4,29 @@
 //!
 //! - the command line: `src/arguments.rt`; standard input and files: `src/inputs.rt`
 //! - the commands over any readers and writer, and what they print: `src/serve.rt`,
-//!   `specs/Commands.antt`, `proofs/Commands.antt`
+//!   `specs/{Commands,Shown}.antt`, `proofs/{Commands,Kept}.antt`; of `compare`,
+//!   `src/compare.rt`, `specs/Relations.antt`, `proofs/Compared.antt`
 #![tactic(auto)]
 
 mod arguments;
+mod compare;
 mod inputs;
 mod serve;
 
-use crate::arguments::{HELP, Request, USAGE, asks_for_help, read_request};
+use crate::arguments::{HELP, Request, Task, USAGE, asks_for_help, read_request};
+use crate::compare::compare;
 use crate::inputs::Input;
-use crate::serve::{Source, Stop};
-use anyhow::{Context, Result, bail};
+use crate::serve::{Output, Source, Stop, serve};
+use anyhow::{Context, bail};
+use std::alloc::Global;
 use std::env;
-use std::io::{BufReader, BufWriter};
+use std::io::{BufRead, BufReader, BufWriter, Write};
 use std::process::ExitCode;
 
 const BUFFER_BYTES: usize = 65536;
 
 /// The lists of these names; `-` is standard input.
-fn sources(rt: &HostRuntime, names: &[&str]) -> Result<Vec<Source<BufReader<Input>>>> {
+fn sources(rt: &HostRuntime, names: &[&str]) -> anyhow::Result<Vec<Source<BufReader<Input>>>> {
     let alloc = rt.alloc();
     let mut sources = Vec::new(alloc);
     for name in names {
@@ -35,12 +39,37 @@ fn sources(rt: &HostRuntime, names: &[&str]) -> Result<Vec<Source<BufReader<Inpu
     Ok(sources)
 }
 
-/// Does what the arguments ask.
-fn run(rt: &HostRuntime, request: &Request<'_>) -> Result<ExitCode> {
+/// Does what the arguments ask with the lists.
+fn answer<R: BufRead + Drop, W: Write>(
+    alloc: Global,
+    request: &Request<'_>,
+    sources: Vec<Source<R>>,
+    out: &mut W,
+) -> Result<(), Stop> {
+    match request.task {
+        Task::Combine(command, form) => {
+            let output = Output {
+                only: request.only,
+                form,
+            };
+            serve(alloc, command, sources, request.strict, output, out)
+        }
+        Task::Compare => {
+            let mut sources = sources.into_iter();
+            match (sources.next(), sources.next()) {
+                (Some(first), Some(second)) => compare(alloc, first, second, request.strict, out),
+                _ => Ok(()),
+            }
+        }
+    }
+}
+
+/// Does what the arguments ask, and returns the exit status.
+fn run(rt: &HostRuntime, request: &Request<'_>) -> anyhow::Result<ExitCode> {
     let alloc = rt.alloc();
     let sources = sources(rt, request.files.as_slice())?;
     let mut out = BufWriter::with_capacity(alloc, BUFFER_BYTES, rt.stdout())?;
-    match serve::serve(alloc, request.command, sources, request.strict, &mut out) {
+    match answer(alloc, request, sources, &mut out) {
         Ok(()) => Ok(ExitCode::SUCCESS),
         Err(Stop::Unwritable) => Ok(ExitCode::FAILURE),
         Err(Stop::Memory) => bail!("out of memory"),
@@ -48,7 +77,7 @@ fn run(rt: &HostRuntime, request: &Request<'_>) -> Result<ExitCode> {
     }
 }
 
-fn main(rt: HostRuntime) -> Result<ExitCode> {
+fn main(rt: HostRuntime) -> anyhow::Result<ExitCode> {
     let alloc = rt.alloc();
     let words: Vec<String> = env::args(&rt)?.collect(alloc)?;
     if asks_for_help(words.as_slice()) {

@@ -4,16 +4,18 @@ ghost use Rattle.std.specs.Prelude.{◌≡◌, ◌≢◌, ℕ, List, [], Err, le
 ghost use Rattle.std.specs.Vec.Iter.{into_iter_items, into_iter_len};
 ghost use Rattle.address_text.specs.declared.line.Line.{Line};
 ghost use Rattle.address_lists.specs.Lists.{AreSaid, Has, HasJust, IsListed};
-ghost use Rattle.address_lists.specs.Printed.{IsPrinted};
 ghost use Rattle.address_lists.specs.declared.addresses.Addresses.{Addresses};
 ghost use Rattle.line_program.specs.Listing.{Writes};
 ghost use Rattle.cidr.specs.Commands.{AreKnown, AreLists, Asked, Combined, IsAnswer, Put};
+ghost use Rattle.cidr.specs.Shown.{IsShown, Kept};
 ghost use Rattle.cidr.specs.declared.serve.Stop.TheVariants.{Unwritable};
 
-use address_lists::{Addresses, ListError, read_list, write_prefixes};
+use address_lists::{Addresses, ListError, read_list, write_counts, write_prefixes};
+use address_sets::AddressSet;
+use address_text::Family;
 use btree_range_map::MapError;
 use std::alloc::Global;
-use std::io::{BufRead, Write};
+use std::io::{self, BufRead, Write};
 use std::vec::IntoIter;
 
 /// What is made of some lists.
@@ -29,6 +31,23 @@ pub enum Command {
     Diff,
     /// Those of no list.
     Invert,
+}
+
+/// What is printed of addresses.
+#[derive(Clone, Copy, PartialEq, Eq, Debug)]
+pub enum Form {
+    /// The prefixes that have just these, as few as can be.
+    Prefixes,
+    /// How many there are of each family.
+    Count,
+}
+
+/// What is printed of an answer.
+#[derive(Clone, Copy, Debug)]
+pub struct Output {
+    /// The family whose addresses alone are printed; `None` for both.
+    pub only: Option<Family>,
+    pub form: Form,
 }
 
 /// A list that is to be read, with its name.
@@ -50,7 +69,7 @@ pub enum Stop {
 }
 
 /// The addresses of a list.
-fn read_source<R: BufRead + Drop>(
+pub fn read_source<R: BufRead + Drop>(
     alloc: Global,
     source: Source<R>,
     strict: bool,
@@ -151,12 +170,40 @@ fn answered<R: BufRead + Drop>(
     }
 }
 
-fn print<W: Write>(list: &Addresses, out: &mut W) -> Result<(), Stop>
+/// The addresses of one family alone, or of both.
+fn kept(alloc: Global, list: Addresses, only: Option<Family>) -> Addresses
+    ensures { HasJust result (Kept only (Has list)) }
+{
+    let Addresses { v4, v6 } = list;
+    match only {
+        None => Addresses { v4, v6 },
+        Some(Family::V4) => Addresses {
+            v4,
+            v6: AddressSet::new(alloc),
+        },
+        Some(Family::V6) => Addresses {
+            v4: AddressSet::new(alloc),
+            v6,
+        },
+    }
+}
+
+fn write_list<W: Write>(form: Form, list: &Addresses, out: &mut W) -> io::Result<()>
+    ensures { OnOk result (Writes (W.contents out.old) (W.contents out.new)
+        (IsShown form list.now)) }
+{
+    match form {
+        Form::Prefixes => write_prefixes(list, out),
+        Form::Count => write_counts("", list, out),
+    }
+}
+
+fn print<W: Write>(form: Form, list: &Addresses, out: &mut W) -> Result<(), Stop>
     ensures printed { OnOk result (Writes (W.contents out.old) (W.contents out.new)
-        (IsPrinted list.now)) }
+        (IsShown form list.now)) }
     ensures failed { IfErr result (λ stop. stop ≡ Unwritable) }
 {
-    match write_prefixes(list, out) {
+    match write_list(form, list, out) {
         Ok(()) => {}
         Err(_) => return Err(Stop::Unwritable),
     }
@@ -166,9 +213,9 @@ fn print<W: Write>(list: &Addresses, out: &mut W) -> Result<(), Stop>
     }
 }
 
-/// Reads the sources, and prints the prefixes of what the command says of their addresses.
+/// Reads the sources, and prints what the command says of their addresses, of one family or both.
 ///
-/// The prefixes are as few as can be, ascending, those of IPv4 first, each on a line; `out` is
+/// Prefixes are as few as can be, ascending, those of IPv4 first, each on a line; `out` is
 /// flushed. Nothing is printed where a source cannot be read or an allocation fails. One list is
 /// held beside the answer.
 pub fn serve<R: BufRead + Drop, W: Write>(
@@ -176,15 +223,16 @@ pub fn serve<R: BufRead + Drop, W: Write>(
     command: Command,
     sources: Vec<Source<R>>,
     strict: bool,
+    output: Output,
     out: &mut W,
 ) -> Result<(), Stop>
     ensures printed { OnOk result ((files : List (List ℕ))
         → AreKnown (map (λ s. R.remaining s.reader) sources.items) files
         → (lists : List (List Line)) × (list : Addresses) × AreLists strict files lists
-        × HasJust list (IsAnswer command lists)
-        × Writes (W.contents out.old) (W.contents out.new) (IsPrinted list)) }
+        × HasJust list (Kept output.only (IsAnswer command lists))
+        × Writes (W.contents out.old) (W.contents out.new) (IsShown output.form list)) }
     ensures silent { result ≢ Err Unwritable → OnErr result (out.new ≡ out.old) }
 {
     let list = answered(alloc, command, sources.into_iter(), strict)?;
-    print(&list, out)
+    print(output.form, &kept(alloc, list, output.only), out)
 }

@@ -1,14 +1,20 @@
 use Rattle.std.proofs.Common.{ap}
 use Rattle.std.specs.Prelude.{map}
+use Rattle.cidr.specs.Commands.{IsAnswer}
+use Rattle.cidr.specs.Shown.{Kept}
 use Rattle.cidr.specs.declared.serve.Source.{Source}
 use Rattle.cidr.proofs.Commands.{answer_printed, fails_unwritable}
+use Rattle.cidr.proofs.Kept.{kept_answer}
 use Rattle.cidr.proofs.serve.serve.Goals as goal
 
 pub returns-clause-printed : goal.returns-clause-printed
 returns-clause-printed g c =
-    answer_printed c.args.strict c.args.command _ _ c.in_ok-list.list
-    (g.W.Write.contents c.args.out.now) (g.W.Write.contents c.print.new.out) c.print.result
-    (ap (map (λ (s : Source _). g.R.Read.remaining s.reader)) c.into_iter.ensures.rest) c.in_ok-list.ensures
+    answer_printed c.args.strict (λ lists. Kept c.args.output.only (IsAnswer c.args.command lists))
+    c.args.output.form _ _ c.kept.result (g.W.Write.contents c.args.out.now)
+    (g.W.Write.contents c.print.new.out) c.print.result
+    (ap (map (λ (s : Source _). g.R.Read.remaining s.reader)) c.into_iter.ensures.rest)
+    (kept_answer c.args.strict c.args.command c.args.output.only _ c.in_ok-list.list c.kept.result
+    c.in_ok-list.ensures c.kept.ensures)
     c.print.ensures.printed
 
 pub returns-clause-silent : goal.returns-clause-silent

@@ -1,0 +1,26 @@
+-- What is printed of addresses, in each form.
+use Rattle.std.specs.Prelude.{ℕ, List, [], Option, None, Some}
+use Rattle.address_text.specs.declared.family.Family.{Family}
+use Rattle.address_text.specs.declared.family.Family.TheVariants.{V4, V6}
+use Rattle.address_lists.specs.Counted.{IsCounted}
+use Rattle.address_lists.specs.Printed.{IsPrinted}
+use Rattle.address_lists.specs.declared.addresses.Addresses.{Addresses}
+use Rattle.cidr.specs.declared.serve.Form.{Form}
+use Rattle.cidr.specs.declared.serve.Form.TheVariants.{Count, Prefixes}
+
+-- addresses of this family are printed: those of one alone, or of both
+abbrev pub IsKept : Option Family → Family → Type 0
+IsKept None family = Unit {0}
+IsKept (Some V4) V4 = Unit {0}
+IsKept (Some V4) V6 = ⊥
+IsKept (Some V6) V4 = ⊥
+IsKept (Some V6) V6 = Unit {0}
+
+-- such of the addresses as are printed
+abbrev pub Kept : Option Family → (Family → ℕ → Type 0) → Family → ℕ → Type 0
+Kept only P family n = IsKept only family × P family n
+
+-- the text of a list in this form
+abbrev pub IsShown : Form → Addresses → List ℕ → Type 0
+IsShown Prefixes list text = IsPrinted list text
+IsShown Count list text = IsCounted [] list text

@@ -1,0 +1,105 @@
+//! How two lists lie to each other.
+
+ghost use Rattle.std.specs.Prelude.{◌≡◌, ◌≢◌, ℕ, List, [], Err, IfErr, IfSome, OnErr, OnOk};
+ghost use Rattle.std.specs.Io.KnownBytes.{Appends};
+ghost use Rattle.address_text.specs.declared.line.Line.{Line};
+ghost use Rattle.address_lists.specs.Lists.{AreSaid, HasJust, IsListed};
+ghost use Rattle.address_lists.specs.declared.addresses.Addresses.{Addresses};
+ghost use Rattle.line_program.specs.Listing.{Writes};
+ghost use Rattle.cidr.specs.Relations.{IsCompared, IsRelation, relation_text};
+ghost use Rattle.cidr.specs.declared.serve.Stop.TheVariants.{Unwritable};
+
+use crate::serve::{Source, Stop, read_source};
+use address_lists::{Addresses, write_counts};
+use std::alloc::Global;
+use std::io::{self, BufRead, Write};
+
+/// How the addresses of a list lie to those of another.
+#[derive(Clone, Copy, PartialEq, Eq, Debug)]
+pub enum Relation {
+    /// They are the same.
+    Equal,
+    /// The other list has them all, and more.
+    Subset,
+    /// They are all of the other list, and more.
+    Superset,
+    /// Some are in both lists, and each list has others.
+    Overlapping,
+    /// None is in both lists.
+    Apart,
+}
+
+fn relation_of(first: &Addresses, second: &Addresses) -> Relation
+    ensures { IsRelation first.now second.now result }
+{
+    match (first.is_subset(second), second.is_subset(first)) {
+        (true, true) => Relation::Equal,
+        (true, false) => Relation::Subset,
+        (false, true) => Relation::Superset,
+        (false, false) if first.is_disjoint(second) => Relation::Apart,
+        (false, false) => Relation::Overlapping,
+    }
+}
+
+fn write_relation<W: Write>(relation: Relation, out: &mut W) -> io::Result<()>
+    ensures { OnOk result (Appends (W.contents out.old) (W.contents out.new)
+        (relation_text relation)) }
+{
+    match relation {
+        Relation::Equal => out.write_all(b"equal\n"),
+        Relation::Subset => out.write_all(b"subset\n"),
+        Relation::Superset => out.write_all(b"superset\n"),
+        Relation::Overlapping => out.write_all(b"overlapping\n"),
+        Relation::Apart => out.write_all(b"apart\n"),
+    }
+}
+
+fn write_compared<W: Write>(first: &Addresses, second: &Addresses, out: &mut W) -> io::Result<()>
+    ensures { OnOk result (Writes (W.contents out.old) (W.contents out.new)
+        (IsCompared first.now second.now)) }
+{
+    write_relation(relation_of(first, second), out)?;
+    write_counts("first ", first, out)?;
+    write_counts("second ", second, out)
+}
+
+fn print<W: Write>(first: &Addresses, second: &Addresses, out: &mut W) -> Result<(), Stop>
+    ensures printed { OnOk result (Writes (W.contents out.old) (W.contents out.new)
+        (IsCompared first.now second.now)) }
+    ensures failed { IfErr result (λ stop. stop ≡ Unwritable) }
+{
+    match write_compared(first, second, out) {
+        Ok(()) => {}
+        Err(_) => return Err(Stop::Unwritable),
+    }
+    match out.flush() {
+        Ok(()) => Ok(()),
+        Err(_) => Err(Stop::Unwritable),
+    }
+}
+
+/// Reads two lists, and prints how the addresses of the first lie to those of the second.
+///
+/// It is a word, `equal`, `subset`, `superset`, `overlapping` or `apart`, and then how many
+/// addresses of each family each list has, such as `first IPv4 256`, a line each. `out` is
+/// flushed. Nothing is printed where a list cannot be read or an allocation fails.
+pub fn compare<R: BufRead + Drop, W: Write>(
+    alloc: Global,
+    first: Source<R>,
+    second: Source<R>,
+    strict: bool,
+    out: &mut W,
+) -> Result<(), Stop>
+    ensures printed { OnOk result (IfSome (R.remaining first.reader)
+        (λ one. IfSome (R.remaining second.reader) (λ other. (lines : List Line)
+        × (others : List Line) × AreSaid strict one lines [] × AreSaid strict other others []
+        × (list : Addresses) × (other_list : Addresses)
+        × HasJust list (λ family n. IsListed family n lines)
+        × HasJust other_list (λ family n. IsListed family n others)
+        × Writes (W.contents out.old) (W.contents out.new) (IsCompared list other_list)))) }
+    ensures silent { result ≢ Err Unwritable → OnErr result (out.new ≡ out.old) }
+{
+    let first = read_source(alloc, first, strict)?;
+    let second = read_source(alloc, second, strict)?;
+    print(&first, &second, out)
+}
