@@ -1,3 +1,5 @@
 -- Lemmas.
+mod Lookups
+mod Parts
 mod Reading
 mod Relations

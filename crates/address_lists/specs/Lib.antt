@@ -1,5 +1,7 @@
 -- What a list of addresses says, and how its prefixes are printed.
 pub mod Counted
 pub mod Lists
+pub mod Lookups
 pub mod Printed
 pub mod Reading
+pub mod Split

@@ -5,16 +5,21 @@
 //! - the addresses of a list, of both families, and what two lists have together:
 //!   `src/addresses.rt`, `specs/Lists.antt`
 //! - reading a list, and where it is wrong: `src/read.rt`
-//! - the prefixes of a list as they are printed: `src/print.rt`, `specs/Printed.antt`; how many
-//!   addresses it has: `src/count.rt`, `specs/Counted.antt`
+//! - the prefixes of a list as they are printed: `src/print.rt`, `specs/Printed.antt`; split:
+//!   `src/split.rt`, `specs/Split.antt`; how many addresses it has: `src/count.rt`,
+//!   `specs/Counted.antt`; where it has an address: `src/lookup.rt`, `specs/Lookups.antt`
 #![tactic(auto)]
 
 pub mod addresses;
 pub mod count;
+pub mod lookup;
 pub mod print;
 pub mod read;
+pub mod split;
 
 pub use addresses::Addresses;
 pub use count::write_counts;
+pub use lookup::write_lookups;
 pub use print::write_prefixes;
 pub use read::{ListError, read_list};
+pub use split::write_split_prefixes;

@@ -50,7 +50,10 @@ impl FamilyAddress for Ipv6 {
     ghost its_width = { refl };
 }
 
-fn write_prefix<A: FamilyAddress, W: Write>(prefix: Prefix<A>, out: &mut W) -> io::Result<()>
+pub(crate) fn write_prefix<A: FamilyAddress, W: Write>(
+    prefix: Prefix<A>,
+    out: &mut W,
+) -> io::Result<()>
     ensures { OnOk result (Writes (W.contents out.old) (W.contents out.new)
         (λ line. line ≡ prefix_of A.its_family A.number prefix)) }
 {

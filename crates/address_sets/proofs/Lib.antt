@@ -4,6 +4,7 @@ pub mod Containing
 pub mod Counts
 pub mod Fewest
 pub mod Powers
+pub mod Runs
 pub mod Sets
 pub mod Steps
 pub mod Tiles

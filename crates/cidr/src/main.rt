@@ -5,18 +5,21 @@
 //! - the command line: `src/arguments.rt`; standard input and files: `src/inputs.rt`
 //! - the commands over any readers and writer, and what they print: `src/serve.rt`,
 //!   `specs/{Commands,Shown}.antt`, `proofs/{Commands,Kept}.antt`; of `compare`,
-//!   `src/compare.rt`, `specs/Relations.antt`, `proofs/Compared.antt`
+//!   `src/compare.rt`, `specs/Relations.antt`, `proofs/Compared.antt`; of `has`, `src/lookup.rt`,
+//!   `proofs/LookedUp.antt`
 #![tactic(auto)]
 
 mod arguments;
 mod compare;
 mod inputs;
+mod lookup;
 mod serve;
 
 use crate::arguments::{HELP, Request, Task, USAGE, asks_for_help, read_request};
 use crate::compare::compare;
 use crate::inputs::Input;
-use crate::serve::{Output, Source, Stop, serve};
+use crate::lookup::look_up;
+use crate::serve::{Source, Stop, serve};
 use anyhow::{Context, bail};
 use std::alloc::Global;
 use std::env;
@@ -39,28 +42,33 @@ fn sources(rt: &HostRuntime, names: &[&str]) -> anyhow::Result<Vec<Source<BufRea
     Ok(sources)
 }
 
-/// Does what the arguments ask with the lists.
+/// Does what the arguments ask with the lists, and tells whether these have all that is looked up.
 fn answer<R: BufRead + Drop, W: Write>(
     alloc: Global,
     request: &Request<'_>,
     sources: Vec<Source<R>>,
     out: &mut W,
-) -> Result<(), Stop> {
-    match request.task {
-        Task::Combine(command, form) => {
-            let output = Output {
-                only: request.only,
-                form,
-            };
-            serve(alloc, command, sources, request.strict, output, out)
+) -> Result<bool, Stop> {
+    if let Task::Combine(command) = request.task {
+        serve(alloc, command, sources, request.strict, request.output, out)?;
+        return Ok(true);
+    }
+    let mut sources = sources.into_iter();
+    match (sources.next(), sources.next()) {
+        (Some(first), Some(second)) => {
+            compare(alloc, first, second, request.strict, out)?;
+            Ok(true)
         }
-        Task::Compare => {
-            let mut sources = sources.into_iter();
-            match (sources.next(), sources.next()) {
-                (Some(first), Some(second)) => compare(alloc, first, second, request.strict, out),
-                _ => Ok(()),
-            }
+        (Some(source), None) => {
+            look_up(
+                alloc,
+                source,
+                request.strict,
+                request.addresses.as_slice(),
+                out,
+            )
         }
+        (None, _) => Ok(true),
     }
 }
 
@@ -70,8 +78,8 @@ fn run(rt: &HostRuntime, request: &Request<'_>) -> anyhow::Result<ExitCode> {
     let sources = sources(rt, request.files.as_slice())?;
     let mut out = BufWriter::with_capacity(alloc, BUFFER_BYTES, rt.stdout())?;
     match answer(alloc, request, sources, &mut out) {
-        Ok(()) => Ok(ExitCode::SUCCESS),
-        Err(Stop::Unwritable) => Ok(ExitCode::FAILURE),
+        Ok(true) => Ok(ExitCode::SUCCESS),
+        Ok(false) | Err(Stop::Unwritable) => Ok(ExitCode::FAILURE),
         Err(Stop::Memory) => bail!("out of memory"),
         Err(Stop::Bad(name, error)) => bail!("{name}: {error}"),
     }

@@ -10,7 +10,9 @@ ghost use Rattle.cidr.specs.Commands.{AreKnown, AreLists, Asked, Combined, IsAns
 ghost use Rattle.cidr.specs.Shown.{IsShown, Kept};
 ghost use Rattle.cidr.specs.declared.serve.Stop.TheVariants.{Unwritable};
 
-use address_lists::{Addresses, ListError, read_list, write_counts, write_prefixes};
+use address_lists::{
+    Addresses, ListError, read_list, write_counts, write_prefixes, write_split_prefixes,
+};
 use address_sets::AddressSet;
 use address_text::Family;
 use btree_range_map::MapError;
@@ -40,6 +42,8 @@ pub enum Form {
     Prefixes,
     /// How many there are of each family.
     Count,
+    /// Those prefixes, each that is shorter than this length split into prefixes of it.
+    Split(u8),
 }
 
 /// What is printed of an answer.
@@ -195,6 +199,7 @@ fn write_list<W: Write>(form: Form, list: &Addresses, out: &mut W) -> io::Result
     match form {
         Form::Prefixes => write_prefixes(list, out),
         Form::Count => write_counts("", list, out),
+        Form::Split(length) => write_split_prefixes(list, length, out),
     }
 }
 

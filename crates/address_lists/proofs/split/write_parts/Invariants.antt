@@ -1,0 +1,12 @@
+use Rattle.std.proofs.Common.{◌-◌, ◌^◌}
+use Rattle.address_lists.proofs.Parts.{AreWritten}
+use Rattle.address_lists.proofs.split.write_parts.Given as goal
+
+abbrev pub invariant-loop-network : goal.invariant-loop-network
+invariant-loop-network g l =
+    AreWritten g.A.FamilyAddress.its_family l.length (2 ^ (l.length - l.prefix.length))
+    (g.A.Address.number l.prefix.network) l.last l.network (g.W.Write.contents l.fn.out)
+    (g.W.Write.contents l.out)
+
+abbrev pub decreases-loop-network : goal.decreases-loop-network
+decreases-loop-network g l = l.last - l.network
