@@ -1,5 +1,6 @@
 -- Lemmas.
 mod Lookups
-mod Parts
+mod Ranges
 mod Reading
 mod Relations
+mod Series

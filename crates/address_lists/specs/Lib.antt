@@ -3,5 +3,7 @@ pub mod Counted
 pub mod Lists
 pub mod Lookups
 pub mod Printed
+pub mod Ranges
 pub mod Reading
+pub mod Series
 pub mod Split

@@ -5,7 +5,7 @@ use Rattle.std.specs.Net.Text.{ip_text}
 use Rattle.std.specs.declared.net.ip_addr.IpAddr.{IpAddr}
 use Rattle.std.specs.declared.net.ip_addr.IpAddr.TheVariants as Ip
 use Rattle.address_sets.specs.Runs.{IsRunAround}
-use Rattle.address_text.specs.Texts.{range_line, width}
+use Rattle.address_text.specs.Texts.{span_line, width}
 use Rattle.address_text.specs.declared.family.Family.{Family}
 use Rattle.address_text.specs.declared.family.Family.TheVariants.{V4, V6}
 use Rattle.address_lists.specs.Lists.{Has}
@@ -29,13 +29,13 @@ abbrev pub IsRunOf : Addresses → IpAddr → Option (ℕ × ℕ) → Type 0
 IsRunOf list address run =
     MatchOption run (¬ HasIp list address)
     (λ ends. IsRunAround (Has list (ip_family address)) (2 ^ width (ip_family address))
-    (ip_bits address) ends.0 ends.1)
+    (ip_bits address) ends)
 
 -- `address first-last`, or `address -` where there is none
 abbrev pub run_line : IpAddr → Option (ℕ × ℕ) → List ℕ
 run_line address None = ip_text address ++ codes " -" ++ 10 ∷ []
 run_line address (Some ends) =
-    (ip_text address ++ codes " ") ++ range_line (ip_family address) ends.0 ends.1
+    (ip_text address ++ codes " ") ++ span_line (ip_family address) ends.0 ends.1
 
 -- the line that tells where the list has the address
 abbrev pub IsLookup : Addresses → IpAddr → List ℕ → Type 0

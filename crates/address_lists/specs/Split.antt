@@ -1,5 +1,5 @@
 -- Prefixes that are printed as others of a greater length.
-use Rattle.std.specs.Prelude.{◌≡◌, ℕ, zero, suc, ◌+◌, ◌-◌, ◌^◌, ◌≤◌, ◌<◌, ◌⊎◌, List, [], ◌++◌}
+use Rattle.std.specs.Prelude.{◌≡◌, ℕ, ◌-◌, ◌^◌, ◌≤◌, ◌<◌, ◌⊎◌, List, [], ◌++◌}
 use Rattle.btree_range_map.specs.AnyRange.{AnyRange}
 use Rattle.btree_range_map.specs.FreeRanges.{item_ranges}
 use Rattle.btree_range_map.specs.Holding.{box_items}
@@ -12,14 +12,13 @@ use Rattle.address_text.specs.Texts.{prefix_line, width}
 use Rattle.address_text.specs.declared.family.Family.{Family}
 use Rattle.address_text.specs.declared.family.Family.TheVariants.{V4, V6}
 use Rattle.address_lists.specs.Printed.{prefix_of}
+use Rattle.address_lists.specs.Series.{series}
 use Rattle.address_lists.specs.declared.addresses.Addresses.{Addresses}
 
 -- the lines of so many prefixes of a length, one after the other, from an address on
 abbrev pub part_lines : Family → ℕ → ℕ → ℕ → List ℕ
-part_lines family length zero network = []
-part_lines family length (suc n) network =
-    prefix_line family network length
-    ++ part_lines family length n (network + 2 ^ (width family - length))
+part_lines family length count network =
+    series (λ n. prefix_line family n length) (2 ^ (width family - length)) count network
 
 module _ {A : Type 0} (family : Family) (number : A → ℕ) (length : ℕ) where
   -- the prefix is shorter than the length, and addresses have so many bits

@@ -6,7 +6,8 @@
 //!   `src/addresses.rt`, `specs/Lists.antt`
 //! - reading a list, and where it is wrong: `src/read.rt`
 //! - the prefixes of a list as they are printed: `src/print.rt`, `specs/Printed.antt`; split:
-//!   `src/split.rt`, `specs/Split.antt`; how many addresses it has: `src/count.rt`,
+//!   `src/split.rt`, `specs/Split.antt`; its ranges and single addresses:
+//!   `src/ranges.rt`, `specs/Ranges.antt`; how many addresses it has: `src/count.rt`,
 //!   `specs/Counted.antt`; where it has an address: `src/lookup.rt`, `specs/Lookups.antt`
 #![tactic(auto)]
 
@@ -14,6 +15,7 @@ pub mod addresses;
 pub mod count;
 pub mod lookup;
 pub mod print;
+pub mod ranges;
 pub mod read;
 pub mod split;
 
@@ -21,5 +23,6 @@ pub use addresses::Addresses;
 pub use count::write_counts;
 pub use lookup::write_lookups;
 pub use print::write_prefixes;
+pub use ranges::{write_ranges, write_singles};
 pub use read::{ListError, read_list};
 pub use split::write_split_prefixes;

@@ -10,7 +10,7 @@ ghost use Rattle.line_program.specs.Listing.{SpellsEach, Writes};
 use crate::addresses::Addresses;
 use address_sets::{Ipv4, Ipv6, run_around};
 use address_text::Family;
-use address_text::write::write_range_line;
+use address_text::write::write_span_line;
 use std::io::{self, Write};
 use std::net::IpAddr;
 
@@ -41,7 +41,7 @@ fn write_run<W: Write>(address: IpAddr, run: Option<(u128, u128)>, out: &mut W) 
     match run {
         Some((first, last)) => {
             write!(out, "{address} ")?;
-            write_range_line(family_of(address), first, last, out)
+            write_span_line(family_of(address), first, last, out)
         }
         None => writeln!(out, "{address} -"),
     }

@@ -1,19 +1,23 @@
--- The addresses of a set around one of them.
-use Rattle.std.proofs.Common.{◌≡◌, ◌≢◌, ℕ, ◌+◌, ◌^◌, ◌≤◌, ◌<◌, ◌⊎◌, List, [], ◌∷◌, true, inl, inr, sym, subst, ◌∙◌, arith}
+-- The addresses of a set that follow each other without a gap.
+use Rattle.std.proofs.Common.{◌≡◌, ◌≢◌, ℕ, ◌+◌, ◌-◌, ◌^◌, ◌≤◌, ◌<◌, ◌⊎◌, List, [], ◌∷◌, true, inl, inr, ap, refl, sym, subst, ◌∙◌, arith}
 use Rattle.std.specs.Cmp.{nat_cmp_is}
+use Rattle.std.specs.List.{AllByRecursion}
 use Rattle.std.specs.declared.cmp.Ordering.TheVariants.{Equal}
 use Rattle.std.proofs.lemmas.Bool.{cases_lt}
 use Rattle.btree_range_map.specs.AnyRange.{AnyRange}
 use Rattle.btree_range_map.specs.Counted.{counted_lawful}
+use Rattle.btree_range_map.specs.FreeRanges.{item_ranges}
 use Rattle.btree_range_map.specs.HeldKeys.{held_interval_is_in_one_range, held_later_is_above}
 use Rattle.btree_range_map.specs.Intervals.{Any}
 use Rattle.btree_range_map.specs.Item.{Item}
 use Rattle.btree_range_map.specs.KeySets.{HoldsKey}
+use Rattle.btree_range_map.specs.Neighbours.{BeforeFirst, EachNext}
 use Rattle.btree_range_map.specs.Order.{KeyOrder}
 use Rattle.btree_range_map.specs.Range.{Holds, IsKeyless, IsKnownRange}
 use Rattle.address_sets.specs.Families.{IsFamily}
-use Rattle.address_sets.specs.Runs.{IsRun, IsRunAround}
-use Rattle.address_sets.proofs.Sets.{Coarse, Known, Stored, below_number, coarse_rest, from_of, holds_is, not_above_number, number_not_above, past_of, some_by, top_by}
+use Rattle.address_sets.specs.Runs.{AreRuns, IsIn, IsRun, IsRunAround, range_runs}
+use Rattle.address_sets.specs.Tiles.{past_number, start_number}
+use Rattle.address_sets.proofs.Sets.{Coarse, Known, Stored, below_number, coarse_rest, first_held, from_of, holds_is, last_held, not_above_number, number_not_above, past_of, some_by, top_by}
 
 module _ {A : Type 0} {order : KeyOrder A} {number : A → ℕ} {at : ℕ → A} {width : ℕ}
     (family : IsFamily order number at width) where
@@ -126,7 +130,7 @@ module _ {A : Type 0} {order : KeyOrder A} {number : A → ℕ} {at : ℕ → A}
     -- the range that holds an address is a run of those that the set holds
     pub run_is : (a : A) (first last : ℕ) → Known family items → order.is_key a → Holds order r a
         → first ≡ from_of family r → last + 1 ≡ past_of family r
-        → IsRunAround (λ n. HoldsKey order items (at n)) (2 ^ width) (number a) first last
+        → IsRunAround (λ n. HoldsKey order items (at n)) (2 ^ width) (number a) (first, last)
     run_is a first last known p has starts ends =
         let bounds = range_bounds items r known coarse stored in
         let lies = (holds_is family r a p).0 has in
@@ -138,15 +142,14 @@ module _ {A : Type 0} {order : KeyOrder A} {number : A → ℕ} {at : ℕ → A}
         → Holds order r k =
         λ k key from to. (holds_is family r k key).1
         (omega (arith, from, starts), omega (arith, to, ends)) in (
-          omega (arith, lies.0, starts),
-          omega (arith, lies.1, ends),
+          (omega (arith, lies.0, starts), omega (arith, lies.1, ends)),
           record {
             fits = omega (arith, ends, bounds.1);
             each =
-                λ n from to. let small : n < 2 ^ width = omega (arith, to, ends, bounds.1) in
+                λ n is. let small : n < 2 ^ width = omega (arith, is.1, ends, bounds.1) in
                 let e = at_is n small in
                 in_set items r (at n) stored
-                (within (at n) (key_at n small) (omega (arith, e, from)) (omega (arith, e, to)));
+                (within (at n) (key_at n small) (omega (arith, e, is.0)) (omega (arith, e, is.1)));
             starts =
                 λ n next held.
                 let small : n < 2 ^ width = omega (arith, next, starts, bounds.0, bounds.1) in
@@ -168,3 +171,74 @@ module _ {A : Type 0} {order : KeyOrder A} {number : A → ℕ} {at : ℕ → A}
                 omega (arith, there.1, e, ends);
           },
         )
+
+  abbrev Runs : List (Stored family) → List (ℕ × ℕ)
+  Runs items = range_runs number at width (item_ranges items)
+
+  each_run : (items : List (Stored family)) → Known family items → Coarse family items
+      → (left : List (Stored family)) → Known family left → Coarse family left
+      → ((r : AnyRange A) → IsStoredRange left r → IsStoredRange items r)
+      → AllByRecursion (λ run. (run.0 ≤ run.1)
+      × IsRun (λ n. HoldsKey order items (at n)) (2 ^ width) run) (Runs left)
+  each_run items known coarse [] left_known left_coarse stored = tt
+  each_run items known coarse (i ∷ left) left_known left_coarse stored =
+      let here = stored i.key (inl refl) in
+      let first = first_held family i.key left_known.0 left_coarse.keyed.0 in
+      let some = (range_bounds items i.key known coarse here).0 in (
+        (
+          omega (arith, some),
+          (run_is items i.key coarse here first.0 (from_of family i.key)
+              (past_of family i.key - 1) known first.1 first.2 refl (omega (arith, some))).1,
+        ),
+        each_run items known coarse left left_known.1 (coarse_rest family i left left_coarse)
+            (λ r at. stored r (inr at)),
+      )
+
+  some_run : (items : List (Stored family)) (n : ℕ) → n < 2 ^ width → HoldsKey order items (at n)
+      → Any (IsIn n) (Runs items)
+  some_run [] n small none = none
+  some_run (i ∷ items) n small (inl here) =
+      let e = family.at_number n small in
+      let h = (holds_is family i.key (at n) (family.is_address (at n) (omega (arith, e, small)))).0
+      here in
+      inl (omega (arith, h.0, e), omega (arith, h.1, e))
+  some_run (i ∷ items) n small (inr later) = inr (some_run items n small later)
+
+  before_run : (i : Stored family) (items : List (Stored family)) → Known family (i ∷ items)
+      → Coarse family (i ∷ items)
+      → BeforeFirst (λ run next. run.1 < next.0) (from_of family i.key, past_of family i.key - 1)
+      (Runs items)
+  before_run i [] known coarse = tt
+  before_run i (j ∷ items) known coarse =
+      let last = last_held family i.key known.0 coarse.keyed.0 in
+      let first = first_held family j.key known.1.0 coarse.keyed.1.0 in
+      let below = below_number family last.0 first.0
+      (coarse.rising.0 last.0 first.0 last.1 first.1 last.2 first.2) in
+      omega (arith, below, last.3, first.3)
+
+  rising_runs : (items : List (Stored family)) → Known family items → Coarse family items
+      → EachNext (λ run next. run.1 < next.0) (Runs items)
+  rising_runs [] known coarse = tt
+  rising_runs (i ∷ items) known coarse =
+      (before_run i items known coarse, rising_runs items known.1 (coarse_rest family i items coarse))
+
+  -- the runs of a set are those of its stored ranges
+  pub are_runs : (items : List (Stored family)) → Known family items → Coarse family items
+      → AreRuns (λ n. HoldsKey order items (at n)) (2 ^ width) (Runs items)
+  are_runs items known coarse = record {
+    each = each_run items known coarse items known coarse (λ r at. at);
+    all = some_run items;
+    ascending = rising_runs items known coarse;
+  }
+
+-- the first of the runs of some ranges
+pub first_run : {A : Type 0} (number : A → ℕ) (at : ℕ → A) (width : ℕ) (r : AnyRange A)
+    (ranges all : List (AnyRange A)) (first last : ℕ) → all ≡ r ∷ ranges
+    → first ≡ start_number number at width r.start → last + 1 ≡ past_number number at width r.end
+    → range_runs number at width all ≡ (first, last) ∷ range_runs number at width ranges
+first_run number at width r ranges all first last same starts ends =
+    let end : past_number number at width r.end - 1 ≡ last = omega (arith, ends) in
+    ap (range_runs number at width) same
+    ∙ ap (λ n. (n, past_number number at width r.end - 1) ∷ range_runs number at width ranges)
+    (sym starts)
+    ∙ ap (λ n. (first, n) ∷ range_runs number at width ranges) end

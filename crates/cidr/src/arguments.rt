@@ -7,10 +7,11 @@ use std::net::IpAddr;
 
 /// How the program is called.
 pub const USAGE: &str = "\
-usage: cidr merge|common|invert|count [--strict] [--v4|--v6] FILE..
-       cidr except [--strict] [--v4|--v6] FILE.. --from FILE
-       cidr diff [--strict] [--v4|--v6] FILE FILE
-       cidr split --at LENGTH [--strict] [--v4|--v6] FILE..
+usage: cidr merge|common|invert [--ranges|--single] [--v4|--v6] [--strict] FILE..
+       cidr except [--ranges|--single] [--v4|--v6] [--strict] FILE.. --from FILE
+       cidr diff [--ranges|--single] [--v4|--v6] [--strict] FILE FILE
+       cidr split --at LENGTH [--v4|--v6] [--strict] FILE..
+       cidr count [--v4|--v6] [--strict] FILE..
        cidr compare [--strict] FILE FILE
        cidr has [--strict] FILE ADDRESS..
        cidr --help
@@ -34,7 +35,8 @@ Puts lists of IP addresses together, and prints what comes of it in as few prefi
 
 A line is an address, a prefix such as 10.0.0.0/8 or a range such as 10.0.0.0-10.0.0.5, and what
 follows # is a comment. With --strict, a prefix may have no bits of 1 after its length. With --v4
-or --v6, what is printed is of this family alone. A file named - is standard input.
+or --v6, what is printed is of this family alone. With --ranges, ranges are printed and no
+prefixes, and with --single each address on a line. A file named - is standard input.
 
   cidr merge blocked.txt more.txt
   cidr except exceptions.txt --from blocked.txt
@@ -79,9 +81,9 @@ struct Options<'a> {
     /// The names, that of `--from` first.
     names: Vec<&'a str>,
     has_from: bool,
-    length: Option<u8>,
     strict: bool,
     only: Option<Family>,
+    form: Option<Form>,
     awaited: Option<Awaited>,
 }
 
@@ -106,9 +108,9 @@ impl<'a> Options<'a> {
         Options {
             names: Vec::new(alloc),
             has_from: false,
-            length: None,
             strict: false,
             only: None,
+            form: None,
             awaited: None,
         }
     }
@@ -119,8 +121,10 @@ impl<'a> Options<'a> {
             "--strict" => self.strict = true,
             "--v4" => self.only = Some(Family::V4),
             "--v6" => self.only = Some(Family::V6),
+            "--ranges" => self.form = Some(Form::Ranges),
+            "--single" => self.form = Some(Form::Singles),
             "--from" if !self.has_from => self.awaited = Some(Awaited::From),
-            "--at" if self.length.is_none() => self.awaited = Some(Awaited::At),
+            "--at" => self.awaited = Some(Awaited::At),
             _ => return false,
         }
         true
@@ -136,9 +140,9 @@ impl<'a> Options<'a> {
                 Ok(true)
             }
             Some(Awaited::At) => {
-                self.length = length_of(word);
+                self.form = length_of(word).map(Form::Split);
                 self.awaited = None;
-                Ok(self.length.is_some())
+                Ok(self.form.is_some())
             }
             None if word.len() > 1 && word.starts_with('-') => Ok(self.take_option(word)),
             None => {
@@ -146,13 +150,6 @@ impl<'a> Options<'a> {
                 Ok(true)
             }
         }
-    }
-
-    /// Whether these can stand after a command that takes such options.
-    fn fit(&self, takes_from: bool, takes_length: bool) -> bool {
-        self.awaited.is_none()
-            && self.has_from == takes_from
-            && self.length.is_some() == takes_length
     }
 }
 
@@ -181,12 +178,15 @@ fn task_of(word: &str) -> Option<Task> {
     }
 }
 
-/// The form in which a command prints.
-fn form_of(word: &str, length: Option<u8>) -> Form {
-    match length {
-        Some(length) => Form::Split(length),
-        None if word == "count" => Form::Count,
-        None => Form::Prefixes,
+/// The form in which a command prints, or `None` where it has not the one that is asked for.
+fn form_of(word: &str, asked: Option<Form>) -> Option<Form> {
+    match (word, asked) {
+        ("split", Some(Form::Split(length))) => Some(Form::Split(length)),
+        ("split", _) | (_, Some(Form::Split(_))) => None,
+        ("count", None) => Some(Form::Count),
+        ("count" | "compare" | "has", Some(_)) => None,
+        (_, Some(form)) => Some(form),
+        (_, None) => Some(Form::Prefixes),
     }
 }
 
@@ -225,10 +225,13 @@ pub fn read_request(alloc: Global, words: &[String]) -> Result<Option<Request<'_
     let Some(options) = read_options(alloc, words)? else {
         return Ok(None);
     };
-    if !options.fit(word == "except", word == "split") {
+    let Some(form) = form_of(word, options.form) else {
+        return Ok(None);
+    };
+    if options.awaited.is_some() || options.has_from != (word == "except") {
         return Ok(None);
     }
-    request_of(alloc, task, form_of(word, options.length), options)
+    request_of(alloc, task, form, options)
 }
 
 fn request_of<'a>(

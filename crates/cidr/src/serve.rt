@@ -11,7 +11,8 @@ ghost use Rattle.cidr.specs.Shown.{IsShown, Kept};
 ghost use Rattle.cidr.specs.declared.serve.Stop.TheVariants.{Unwritable};
 
 use address_lists::{
-    Addresses, ListError, read_list, write_counts, write_prefixes, write_split_prefixes,
+    Addresses, ListError, read_list, write_counts, write_prefixes, write_ranges, write_singles,
+    write_split_prefixes,
 };
 use address_sets::AddressSet;
 use address_text::Family;
@@ -40,6 +41,10 @@ pub enum Command {
 pub enum Form {
     /// The prefixes that have just these, as few as can be.
     Prefixes,
+    /// Their ranges, as wide as they go.
+    Ranges,
+    /// Each of them.
+    Singles,
     /// How many there are of each family.
     Count,
     /// Those prefixes, each that is shorter than this length split into prefixes of it.
@@ -198,6 +203,8 @@ fn write_list<W: Write>(form: Form, list: &Addresses, out: &mut W) -> io::Result
 {
     match form {
         Form::Prefixes => write_prefixes(list, out),
+        Form::Ranges => write_ranges(list, out),
+        Form::Singles => write_singles(list, out),
         Form::Count => write_counts("", list, out),
         Form::Split(length) => write_split_prefixes(list, length, out),
     }

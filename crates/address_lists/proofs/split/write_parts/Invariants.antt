@@ -1,10 +1,12 @@
 use Rattle.std.proofs.Common.{◌-◌, ◌^◌}
-use Rattle.address_lists.proofs.Parts.{AreWritten}
+use Rattle.address_text.specs.Texts.{prefix_line, width}
+use Rattle.address_lists.proofs.Series.{AreWritten}
 use Rattle.address_lists.proofs.split.write_parts.Given as goal
 
 abbrev pub invariant-loop-network : goal.invariant-loop-network
 invariant-loop-network g l =
-    AreWritten g.A.FamilyAddress.its_family l.length (2 ^ (l.length - l.prefix.length))
+    AreWritten (λ n. prefix_line g.A.FamilyAddress.its_family n l.length)
+    (2 ^ (width g.A.FamilyAddress.its_family - l.length)) (2 ^ (l.length - l.prefix.length))
     (g.A.Address.number l.prefix.network) l.last l.network (g.W.Write.contents l.fn.out)
     (g.W.Write.contents l.out)
 

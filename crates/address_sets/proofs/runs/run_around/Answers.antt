@@ -1,7 +1,7 @@
 use Rattle.std.proofs.Common.{arith}
 use Rattle.btree_range_map.specs.Holding.{box_items}
 use Rattle.address_sets.proofs.Runs.{range_bounds, run_is}
-use Rattle.address_sets.proofs.run.run_around.Goals as goal
+use Rattle.address_sets.proofs.runs.run_around.Goals as goal
 
 pub first_number-requires : goal.first_number-requires
 first_number-requires g c =

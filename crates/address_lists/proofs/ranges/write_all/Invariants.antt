@@ -1,0 +1,15 @@
+use Rattle.std.proofs.Common.{ℕ, ◌^◌, ◌≤◌, ◌<◌, length}
+use Rattle.std.specs.List.{AllByRecursion}
+use Rattle.line_program.proofs.Listing.{HasShown}
+use Rattle.address_lists.specs.Ranges.{IsRangeText}
+use Rattle.address_lists.proofs.ranges.write_all.Given as goal
+
+abbrev pub invariant-loop-first : goal.invariant-loop-first
+invariant-loop-first g l =
+    HasShown (IsRangeText l.spelling g.A.FamilyAddress.its_family) l.fn.ranges l.ranges
+    (g.W.Write.contents l.fn.out) (g.W.Write.contents l.out)
+    × AllByRecursion (λ (range : ℕ × ℕ). (range.0 ≤ range.1) × (range.1 < 2 ^ g.A.Address.WIDTH))
+    l.ranges
+
+abbrev pub decreases-loop-first : goal.decreases-loop-first
+decreases-loop-first g l = length l.ranges
