@@ -4,8 +4,8 @@ pub mod Containing
 pub mod Counts
 pub mod Fewest
 pub mod Powers
-pub mod Runs
 pub mod Sets
 pub mod Steps
+pub mod StoredRuns
 pub mod Tiles
 pub mod Widest

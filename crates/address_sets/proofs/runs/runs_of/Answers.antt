@@ -3,7 +3,7 @@ use Rattle.btree_range_map.specs.Holding.{box_items}
 use Rattle.btree_range_map.specs.KeySets.{HoldsKey}
 use Rattle.address_sets.specs.Left.{AreTileable}
 use Rattle.address_sets.specs.Runs.{AreRuns, range_runs}
-use Rattle.address_sets.proofs.Runs.{are_runs}
+use Rattle.address_sets.proofs.StoredRuns.{are_runs}
 use Rattle.address_sets.proofs.Sets.{are_tileable}
 use Rattle.address_sets.proofs.runs.runs_of.Goals as goal
 
