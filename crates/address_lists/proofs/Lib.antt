@@ -1,6 +1,6 @@
 -- Lemmas.
 mod Lookups
-mod Ranges
 mod Reading
 mod Relations
+mod RunsFit
 mod Series
