@@ -40,15 +40,14 @@ fn write_each<A: FamilyAddress, W: Write>(first: u128, last: u128, out: &mut W) 
 
 fn write_range<A: FamilyAddress, W: Write>(
     spelling: Spelling,
-    first: u128,
-    last: u128,
+    range: (u128, u128),
     out: &mut W,
 ) -> io::Result<()>
-    requires ordered { first ≤ last }
-    requires fits { last < 2 ^ A.WIDTH }
+    requires { (range.0 ≤ range.1) × (range.1 < 2 ^ A.WIDTH) }
     ensures { OnOk result (Writes (W.contents out.old) (W.contents out.new)
-        (IsRangeText spelling A.its_family (first, last))) }
+        (IsRangeText spelling A.its_family range)) }
 {
+    let (first, last) = range;
     match spelling {
         Spelling::Ends => write_span_line(A::family(), first, last, out),
         Spelling::Singles => write_each::<A, W>(first, last, out),
@@ -65,8 +64,8 @@ fn write_all<'a, A: FamilyAddress + 'a, W: Write>(
     ensures { OnOk result (Writes (W.contents out.old) (W.contents out.new)
         (SpellsEach (IsRangeText spelling A.its_family) ranges.entry)) }
 {
-    while let Some((first, last)) = ranges.next() {
-        write_range::<A, W>(spelling, first, last, out)?;
+    while let Some(range) = ranges.next() {
+        write_range::<A, W>(spelling, range, out)?;
     }
     Ok(())
 }

@@ -4,12 +4,12 @@ use Rattle.line_program.proofs.Listing.{HasShown}
 use Rattle.address_lists.specs.Ranges.{IsRangeText}
 use Rattle.address_lists.proofs.ranges.write_all.Given as goal
 
-abbrev pub invariant-loop-first : goal.invariant-loop-first
-invariant-loop-first g l =
+abbrev pub invariant-loop-range : goal.invariant-loop-range
+invariant-loop-range g l =
     HasShown (IsRangeText l.spelling g.A.FamilyAddress.its_family) l.fn.ranges l.ranges
     (g.W.Write.contents l.fn.out) (g.W.Write.contents l.out)
     × AllByRecursion (λ (range : ℕ × ℕ). (range.0 ≤ range.1) × (range.1 < 2 ^ g.A.Address.WIDTH))
     l.ranges
 
-abbrev pub decreases-loop-first : goal.decreases-loop-first
-decreases-loop-first g l = length l.ranges
+abbrev pub decreases-loop-range : goal.decreases-loop-range
+decreases-loop-range g l = length l.ranges
