@@ -1,2 +1,3 @@
 -- Lemmas.
 mod Reading
+mod Relations

@@ -21,6 +21,16 @@ Has list V6 n = HoldsKey ipv6_order (box_items list.v6) (ipv6_at n)
 abbrev pub HasJust : Addresses → (Family → ℕ → Type 0) → Type 0
 HasJust list P = (family : Family) (n : ℕ) → n < 2 ^ width family → Has list family n ↔ P family n
 
+-- the list has each address of the other one
+abbrev pub HasAllOf : Addresses → Addresses → Type 0
+HasAllOf list other = (family : Family) (n : ℕ) → n < 2 ^ width family → Has other family n
+    → Has list family n
+
+-- no address is in both lists
+abbrev pub ShareNone : Addresses → Addresses → Type 0
+ShareNone list other = (family : Family) (n : ℕ) → n < 2 ^ width family → Has list family n
+    → ¬ Has other family n
+
 -- one of the lines says the address
 abbrev pub IsListed : Family → ℕ → List Line → Type 0
 IsListed family n lines = Any (SaysAddress family n) lines

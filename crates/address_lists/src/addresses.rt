@@ -1,9 +1,9 @@
 //! The addresses of a list.
 
-ghost use Rattle.std.specs.Prelude.{◌⊎◌, ◌≡◌, [], IfOk, OnOk};
+ghost use Rattle.std.specs.Prelude.{◌⊎◌, ◌≡◌, ◌↔◌, [], IfOk, IsTrue, OnOk};
 ghost use Rattle.btree_range_map.specs.Holding.{box_items};
 ghost use Rattle.address_text.specs.Lines.{AreAddresses, SaysAddress};
-ghost use Rattle.address_lists.specs.Lists.{Has, HasJust};
+ghost use Rattle.address_lists.specs.Lists.{Has, HasAllOf, HasJust, ShareNone};
 
 use address_sets::{AddressSet, Ipv4, Ipv6};
 use address_text::{Family, Line};
@@ -91,5 +91,19 @@ impl Addresses {
         let v4 = self.v4.complement()?;
         let v6 = self.v6.complement()?;
         Ok(Addresses { v4, v6 })
+    }
+
+    /// Whether the other list has each address of this one. Allocates nothing.
+    pub fn is_subset(&self, other: &Addresses) -> bool
+        ensures { IsTrue result ↔ HasAllOf other.now self.now }
+    {
+        self.v4.is_subset(&other.v4) && self.v6.is_subset(&other.v6)
+    }
+
+    /// Whether no address is in both lists. Allocates nothing.
+    pub fn is_disjoint(&self, other: &Addresses) -> bool
+        ensures { IsTrue result ↔ ShareNone self.now other.now }
+    {
+        self.v4.is_disjoint(&other.v4) && self.v6.is_disjoint(&other.v6)
     }
 }

@@ -6,5 +6,6 @@ pub mod Fewest
 pub mod Powers
 pub mod Sets
 pub mod Steps
+pub mod StoredRuns
 pub mod Tiles
 pub mod Widest

@@ -69,11 +69,11 @@ module _ {A : Type 0} {order : KeyOrder A} {number : A → ℕ} {at : ℕ → A}
   pub number_below : (a b : A) → number a < number b → Below order a b
   number_below a b h = family.by_number a b ∙ sym (nat_cmp_is (number a) (number b) Less h)
 
-  not_above_number : (a b : A) → NotAbove order a b → number a ≤ number b
+  pub not_above_number : (a b : A) → NotAbove order a b → number a ≤ number b
   not_above_number a b h =
       not_above_is (number a) (number b) (sym (ap is_gt (family.by_number a b)) ∙ h)
 
-  number_not_above : (a b : A) → number a ≤ number b → NotAbove order a b
+  pub number_not_above : (a b : A) → number a ≤ number b → NotAbove order a b
   number_not_above a b h =
       ap is_gt (family.by_number a b) ∙ is_not_above (number a) (number b) h
 
@@ -144,6 +144,21 @@ module _ {A : Type 0} {order : KeyOrder A} {number : A → ℕ} {at : ℕ → A}
         λ some. elim (split.0 some) [ inl h ↦ inl (here.0 h) | inr h ↦ inr (later.0 h) ],
         λ h. split.1 (elim h [ inl held ↦ inl (here.1 held) | inr held ↦ inr (later.1 held) ]),
       )
+
+  widest_are : (from past : ℕ) (ps more : List (Prefix A)) → AreWidest family from past ps
+      → AllByRecursion (IsPrefix number width) more
+      → AllByRecursion (IsPrefix number width) (ps ++ more)
+  widest_are from past [] more e rest = rest
+  widest_are from past (p ∷ ps) more e rest =
+      (e.0.prefix, widest_are (from + size number width p) past ps more e.1 rest)
+
+  pub are_prefixes : (items : List Stored) → Known items → Coarse items
+      → AllByRecursion (IsPrefix number width) (Tiles items)
+  are_prefixes [] known coarse = tt
+  are_prefixes (i ∷ items) known coarse =
+      widest_are (from_of i.key) (past_of i.key) (range_tiles number at width i.key) (Tiles items)
+      (range_are i.key known.0 coarse.keyed.0)
+      (are_prefixes items known.1 (coarse_rest i items coarse))
 
   -- a range's first prefix starts where the range does
   first_from : (b from past : ℕ) (x : Prefix A) (ps more : List (Prefix A))

@@ -4,4 +4,5 @@ pub mod Counts
 pub mod Families
 pub mod Left
 pub mod Prefixes
+pub mod Runs
 pub mod Tiles

@@ -9,7 +9,8 @@
 //! - keys too many to be counted: `src/ipv6.rt`, `specs/Addresses.antt`
 //! - the prefixes of a set of addresses: `src/{prefix,prefixes}.rt`,
 //!   `specs/{Prefixes,Tiles}.antt`; that no fewer have its addresses, `proofs/{Fewest,Sets}.antt`
-//! - how many addresses a set has: `src/count.rt`, `proofs/Counts.antt`
+//! - how many addresses a set has: `src/count.rt`, `proofs/Counts.antt`; those that follow each
+//!   other: `src/runs.rt`, `specs/Runs.antt`
 #![tactic(auto)]
 
 pub mod address;
@@ -18,6 +19,7 @@ pub mod ipv4;
 pub mod ipv6;
 pub mod prefix;
 pub mod prefixes;
+pub mod runs;
 
 pub use address::Address;
 use btree_range_map::RangeSet;
@@ -26,6 +28,7 @@ pub use ipv4::Ipv4;
 pub use ipv6::Ipv6;
 pub use prefix::Prefix;
 pub use prefixes::{PrefixSet, Prefixes};
+pub use runs::{Runs, run_around, runs_of};
 
 /// A set of addresses of one family.
 pub type AddressSet<A> = RangeSet<A>;

@@ -21,7 +21,7 @@ pub struct Prefix<A> {
 }
 
 /// All numbers of so many bits are at most this one.
-pub(crate) fn greatest_of(bits: u8) -> u128
+pub fn greatest_of(bits: u8) -> u128
     requires { bits ≤ 128 }
     ensures { result + 1 ≡ 2 ^ bits }
 {

@@ -2,10 +2,11 @@
 
 ghost use Rattle.std.specs.Prelude.{◌≡◌, ◌+◌, ◌++◌, ◌≤◌, ◌<◌, ◌^◌, [], None};
 ghost use Rattle.std.specs.Iterator.{YieldsFirst, item_count};
+ghost use Rattle.std.specs.List.{AllByRecursion};
 ghost use Rattle.btree_range_map.specs.FreeRanges.{item_ranges};
 ghost use Rattle.btree_range_map.specs.Holding.{box_items};
 ghost use Rattle.address_sets.specs.Left.{AreTileable, IsPart, part_tiles};
-ghost use Rattle.address_sets.specs.Prefixes.{AreAscending, AreFewest, HaveJust};
+ghost use Rattle.address_sets.specs.Prefixes.{AreAscending, AreFewest, HaveJust, IsPrefix};
 ghost use Rattle.address_sets.specs.Tiles.{all_tiles, past_number, set_tiles, start_number};
 
 use crate::address::Address;
@@ -135,6 +136,7 @@ pub trait PrefixSet<A: Address> {
 impl<A: Address> PrefixSet<A> for RangeSet<A> {
     fn prefixes(&self) -> Prefixes<'_, A>
         ensures exact { HaveJust A.number A.order result (item_ranges (box_items self.now)) }
+        ensures whole { AllByRecursion (IsPrefix A.number A.WIDTH) result }
         ensures ascending { AreAscending A.number result }
         ensures fewest { AreFewest A.number A.order A.WIDTH result
             (item_ranges (box_items self.now)) }

@@ -1,5 +1,4 @@
 use Rattle.std.proofs.Common.{◌≤◌, ◌^◌, ◌≡◌, MatchOption, subst, sym}
-use Rattle.btree_range_map.specs.FreeRanges.{item_ranges}
 use Rattle.address_sets.specs.Counts.{total}
 use Rattle.address_sets.specs.Left.{AreTileable}
 use Rattle.address_sets.proofs.Counts.{count_is}

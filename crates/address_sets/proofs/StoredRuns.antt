@@ -1,0 +1,244 @@
+-- The addresses of a set that follow each other without a gap.
+use Rattle.std.proofs.Common.{◌≡◌, ◌≢◌, ℕ, ◌+◌, ◌-◌, ◌^◌, ◌≤◌, ◌<◌, ◌⊎◌, List, [], ◌∷◌, true, inl, inr, ap, refl, sym, subst, ◌∙◌, arith}
+use Rattle.std.specs.Cmp.{nat_cmp_is}
+use Rattle.std.specs.List.{AllByRecursion}
+use Rattle.std.specs.declared.cmp.Ordering.TheVariants.{Equal}
+use Rattle.std.proofs.lemmas.Bool.{cases_lt}
+use Rattle.btree_range_map.specs.AnyRange.{AnyRange}
+use Rattle.btree_range_map.specs.Counted.{counted_lawful}
+use Rattle.btree_range_map.specs.FreeRanges.{item_ranges}
+use Rattle.btree_range_map.specs.HeldKeys.{held_interval_is_in_one_range, held_later_is_above}
+use Rattle.btree_range_map.specs.Intervals.{Any}
+use Rattle.btree_range_map.specs.Item.{Item}
+use Rattle.btree_range_map.specs.KeySets.{HoldsKey}
+use Rattle.btree_range_map.specs.Neighbours.{BeforeFirst, EachNext}
+use Rattle.btree_range_map.specs.Order.{KeyOrder}
+use Rattle.btree_range_map.specs.Range.{Holds, IsKeyless, IsKnownRange}
+use Rattle.address_sets.specs.Families.{IsFamily}
+use Rattle.address_sets.specs.Runs.{AreRuns, IsIn, IsRun, IsRunAround, range_runs}
+use Rattle.address_sets.specs.Tiles.{past_number, start_number}
+use Rattle.address_sets.proofs.Sets.{Coarse, Known, Stored, below_number, coarse_rest, first_held, from_of, holds_is, last_held, not_above_number, number_not_above, past_of, some_by, top_by}
+
+module _ {A : Type 0} {order : KeyOrder A} {number : A → ℕ} {at : ℕ → A} {width : ℕ}
+    (family : IsFamily order number at width) where
+  -- the range is one of the stored ones
+  abbrev pub IsStoredRange : List (Stored family) → AnyRange A → Type 0
+  IsStoredRange items r = Any (λ i. i.key ≡ r) items
+
+  is_range : (items : List (Stored family)) (r : AnyRange A) → Known family items
+      → Coarse family items → IsStoredRange items r → IsKnownRange order r × ¬ IsKeyless order r
+  is_range [] r known coarse none = absurd none
+  is_range (i ∷ items) r known coarse (inl same) =
+      subst (λ s. IsKnownRange order s × ¬ IsKeyless order s) same (known.0, coarse.keyed.0)
+  is_range (i ∷ items) r known coarse (inr later) =
+      is_range items r known.1 (coarse_rest family i items coarse) later
+
+  -- a stored range has an address, and addresses alone
+  pub range_bounds : (items : List (Stored family)) (r : AnyRange A) → Known family items
+      → Coarse family items → IsStoredRange items r
+      → (from_of family r < past_of family r) × (past_of family r ≤ 2 ^ width)
+  range_bounds items r known coarse at =
+      let is = is_range items r known coarse at in
+      (some_by family r is.1, top_by family r.end is.0.1)
+
+  in_set : (items : List (Stored family)) (r : AnyRange A) (k : A) → IsStoredRange items r
+      → Holds order r k → HoldsKey order items k
+  in_set [] r k none held = absurd none
+  in_set (i ∷ items) r k (inl same) held = inl (subst (λ s. Holds order s k) (sym same) held)
+  in_set (i ∷ items) r k (inr later) held = inr (in_set items r k later held)
+
+  abbrev HoldsBoth : List (Stored family) → A → A → Type 0
+  HoldsBoth items a b = Any (λ i. Holds order i.key a × Holds order i.key b) items
+
+  turned : (items : List (Stored family)) (a b : A) → HoldsBoth items a b → HoldsBoth items b a
+  turned [] a b none = none
+  turned (i ∷ items) a b (inl here) = inl (here.1, here.0)
+  turned (i ∷ items) a b (inr later) = inr (turned items a b later)
+
+  first_of_both : (items : List (Stored family)) (a b : A) → HoldsBoth items a b
+      → HoldsKey order items a
+  first_of_both [] a b none = none
+  first_of_both (i ∷ items) a b (inl here) = inl here.0
+  first_of_both (i ∷ items) a b (inr later) = inr (first_of_both items a b later)
+
+  -- no address is in two of the ranges
+  not_twice : (i : Stored family) (items : List (Stored family)) → Coarse family (i ∷ items)
+      → (a : A) → order.is_key a → Holds order i.key a → ¬ HoldsKey order items a
+  not_twice i items coarse a key here later =
+      let above = below_number family a a (held_later_is_above order (counted_lawful family.counted)
+      (λ _ _. true) i items coarse a a key key here later) in
+      omega (arith, above)
+
+  same_range : (items : List (Stored family)) (r : AnyRange A) → Coarse family items → (a b : A)
+      → order.is_key a → IsStoredRange items r → Holds order r a → HoldsBoth items a b
+      → Holds order r b
+  same_range [] r coarse a b key none has both = absurd none
+  same_range (i ∷ items) r coarse a b key (inl same) has (inl here) =
+      subst (λ s. Holds order s b) same here.1
+  same_range (i ∷ items) r coarse a b key (inl same) has (inr later) =
+      absurd (not_twice i items coarse a key (subst (λ s. Holds order s a) (sym same) has)
+      (first_of_both items a b later))
+  same_range (i ∷ items) r coarse a b key (inr later) has (inl here) =
+      absurd (not_twice i items coarse a key here.0 (in_set items r a later has))
+  same_range (i ∷ items) r coarse a b key (inr later) has (inr there) =
+      same_range items r (coarse_rest family i items coarse) a b key later has there
+
+  same_address : (a b : A) → number a ≡ number b → a ≡ b
+  same_address a b e =
+      family.counted.same a b
+      (family.by_number a b ∙ sym (nat_cmp_is (number a) (number b) Equal e))
+
+  -- a set that holds an address beside a stored range holds it in this range
+  module _ (items : List (Stored family)) (r : AnyRange A) (coarse : Coarse family items)
+      (stored : IsStoredRange items r) where
+    held_or_it : (k b : A) → order.is_key k → HoldsKey order items b
+        → (number k ≢ number b → Holds order r k) → HoldsKey order items k
+    held_or_it k b key held other = elim (cases_lt (number k) (number b)) [
+      | inl less ↦ in_set items r k stored (other (λ e. omega (arith, e, less)))
+      | inr not ↦ elim (cases_lt (number b) (number k)) [
+        | inl more ↦ in_set items r k stored (other (λ e. omega (arith, e, more)))
+        | inr le ↦ subst (HoldsKey order items) (same_address b k (omega (arith, not, le))) held
+      ]
+    ]
+
+    held_before : (a b : A) → order.is_key a → order.is_key b → number b ≤ number a
+        → Holds order r a → HoldsKey order items b
+        → ((k : A) → order.is_key k → number b < number k → number k ≤ number a → Holds order r k)
+        → Holds order r b
+    held_before a b p q le has held others =
+        same_range items r coarse a b p stored has
+        (turned items b a (held_interval_is_in_one_range order (counted_lawful family.counted) items
+        coarse b a q p (number_not_above family b a le)
+        (λ k key low high.
+        let from = not_above_number family b k low in
+        let to = not_above_number family k a high in
+        held_or_it k b key held (λ ne. others k key (omega (arith, from, ne)) to))))
+
+    held_after : (a b : A) → order.is_key a → order.is_key b → number a ≤ number b
+        → Holds order r a → HoldsKey order items b
+        → ((k : A) → order.is_key k → number a ≤ number k → number k < number b → Holds order r k)
+        → Holds order r b
+    held_after a b p q le has held others =
+        same_range items r coarse a b p stored has
+        (held_interval_is_in_one_range order (counted_lawful family.counted) items coarse a b p q
+        (number_not_above family a b le)
+        (λ k key low high.
+        let from = not_above_number family a k low in
+        let to = not_above_number family k b high in
+        held_or_it k b key held (λ ne. others k key from (omega (arith, to, ne)))))
+
+    -- the range that holds an address is a run of those that the set holds
+    pub run_is : (a : A) (first last : ℕ) → Known family items → order.is_key a → Holds order r a
+        → first ≡ from_of family r → last + 1 ≡ past_of family r
+        → IsRunAround (λ n. HoldsKey order items (at n)) (2 ^ width) (number a) (first, last)
+    run_is a first last known p has starts ends =
+        let bounds = range_bounds items r known coarse stored in
+        let lies = (holds_is family r a p).0 has in
+        let at_is : (n : ℕ) → n < 2 ^ width → number (at n) ≡ n =
+        λ n h. family.at_number n h in
+        let key_at : (n : ℕ) → n < 2 ^ width → order.is_key (at n) =
+        λ n h. let e = at_is n h in family.is_address (at n) (omega (arith, e, h)) in
+        let within : (k : A) → order.is_key k → first ≤ number k → number k ≤ last
+        → Holds order r k =
+        λ k key from to. (holds_is family r k key).1
+        (omega (arith, from, starts), omega (arith, to, ends)) in (
+          (omega (arith, lies.0, starts), omega (arith, lies.1, ends)),
+          record {
+            fits = omega (arith, ends, bounds.1);
+            each =
+                λ n is. let small : n < 2 ^ width = omega (arith, is.1, ends, bounds.1) in
+                let e = at_is n small in
+                in_set items r (at n) stored
+                (within (at n) (key_at n small) (omega (arith, e, is.0)) (omega (arith, e, is.1)));
+            starts =
+                λ n next held.
+                let small : n < 2 ^ width = omega (arith, next, starts, bounds.0, bounds.1) in
+                let e = at_is n small in
+                let key = key_at n small in
+                let there = (holds_is family r (at n) key).0
+                (held_before a (at n) p key (omega (arith, e, next, starts, lies.0)) has held
+                (λ k k_key from to. within k k_key (omega (arith, from, e, next))
+                (omega (arith, to, lies.1, ends)))) in
+                omega (arith, there.0, e, next, starts);
+            ends =
+                λ small held.
+                let e = at_is (last + 1) small in
+                let key = key_at (last + 1) small in
+                let there = (holds_is family r (at (last + 1)) key).0
+                (held_after a (at (last + 1)) p key (omega (arith, e, ends, lies.1)) has held
+                (λ k k_key from to. within k k_key (omega (arith, from, starts, lies.0))
+                (omega (arith, to, e)))) in
+                omega (arith, there.1, e, ends);
+          },
+        )
+
+  abbrev Runs : List (Stored family) → List (ℕ × ℕ)
+  Runs items = range_runs number at width (item_ranges items)
+
+  each_run : (items : List (Stored family)) → Known family items → Coarse family items
+      → (left : List (Stored family)) → Known family left → Coarse family left
+      → ((r : AnyRange A) → IsStoredRange left r → IsStoredRange items r)
+      → AllByRecursion (λ run. (run.0 ≤ run.1)
+      × IsRun (λ n. HoldsKey order items (at n)) (2 ^ width) run) (Runs left)
+  each_run items known coarse [] left_known left_coarse stored = tt
+  each_run items known coarse (i ∷ left) left_known left_coarse stored =
+      let here = stored i.key (inl refl) in
+      let first = first_held family i.key left_known.0 left_coarse.keyed.0 in
+      let some = (range_bounds items i.key known coarse here).0 in (
+        (
+          omega (arith, some),
+          (run_is items i.key coarse here first.0 (from_of family i.key)
+              (past_of family i.key - 1) known first.1 first.2 refl (omega (arith, some))).1,
+        ),
+        each_run items known coarse left left_known.1 (coarse_rest family i left left_coarse)
+            (λ r at. stored r (inr at)),
+      )
+
+  some_run : (items : List (Stored family)) (n : ℕ) → n < 2 ^ width → HoldsKey order items (at n)
+      → Any (IsIn n) (Runs items)
+  some_run [] n small none = none
+  some_run (i ∷ items) n small (inl here) =
+      let e = family.at_number n small in
+      let h = (holds_is family i.key (at n) (family.is_address (at n) (omega (arith, e, small)))).0
+      here in
+      inl (omega (arith, h.0, e), omega (arith, h.1, e))
+  some_run (i ∷ items) n small (inr later) = inr (some_run items n small later)
+
+  before_run : (i : Stored family) (items : List (Stored family)) → Known family (i ∷ items)
+      → Coarse family (i ∷ items)
+      → BeforeFirst (λ run next. run.1 < next.0) (from_of family i.key, past_of family i.key - 1)
+      (Runs items)
+  before_run i [] known coarse = tt
+  before_run i (j ∷ items) known coarse =
+      let last = last_held family i.key known.0 coarse.keyed.0 in
+      let first = first_held family j.key known.1.0 coarse.keyed.1.0 in
+      let below = below_number family last.0 first.0
+      (coarse.rising.0 last.0 first.0 last.1 first.1 last.2 first.2) in
+      omega (arith, below, last.3, first.3)
+
+  rising_runs : (items : List (Stored family)) → Known family items → Coarse family items
+      → EachNext (λ run next. run.1 < next.0) (Runs items)
+  rising_runs [] known coarse = tt
+  rising_runs (i ∷ items) known coarse =
+      (before_run i items known coarse, rising_runs items known.1 (coarse_rest family i items coarse))
+
+  -- the runs of a set are those of its stored ranges
+  pub are_runs : (items : List (Stored family)) → Known family items → Coarse family items
+      → AreRuns (λ n. HoldsKey order items (at n)) (2 ^ width) (Runs items)
+  are_runs items known coarse = record {
+    each = each_run items known coarse items known coarse (λ r at. at);
+    all = some_run items;
+    ascending = rising_runs items known coarse;
+  }
+
+-- the first of the runs of some ranges
+pub first_run : {A : Type 0} (number : A → ℕ) (at : ℕ → A) (width : ℕ) (r : AnyRange A)
+    (ranges all : List (AnyRange A)) (first last : ℕ) → all ≡ r ∷ ranges
+    → first ≡ start_number number at width r.start → last + 1 ≡ past_number number at width r.end
+    → range_runs number at width all ≡ (first, last) ∷ range_runs number at width ranges
+first_run number at width r ranges all first last same starts ends =
+    let end : past_number number at width r.end - 1 ≡ last = omega (arith, ends) in
+    ap (range_runs number at width) same
+    ∙ ap (λ n. (n, past_number number at width r.end - 1) ∷ range_runs number at width ranges)
+    (sym starts)
+    ∙ ap (λ n. (first, n) ∷ range_runs number at width ranges) end
