@@ -43,9 +43,8 @@ module _ (list other : Addresses) where
 
   pub all_else : (one : Bool) → one ≡ false
       → (BindKeysOf ipv4_order (box_items other.v4) (box_items list.v4) → IsTrue one)
-      → IsTrue false ↔ HasAllOf list other
-  all_else one is told =
-      (λ yes. absurd (false≢true yes), λ all. absurd (false≢true (sym is ∙ told (all_v4 all))))
+      → IsTrue one ↔ HasAllOf list other
+  all_else one is told = (λ yes. absurd (false≢true (sym is ∙ yes)), λ all. told (all_v4 all))
 
   pub none_then : (one both : Bool) → one ≡ true
       → (IsTrue one → ShareNoKey ipv4_order (box_items list.v4) (box_items other.v4))
@@ -57,6 +56,5 @@ module _ (list other : Addresses) where
 
   pub none_else : (one : Bool) → one ≡ false
       → (ShareNoKey ipv4_order (box_items list.v4) (box_items other.v4) → IsTrue one)
-      → IsTrue false ↔ ShareNone list other
-  none_else one is told =
-      (λ yes. absurd (false≢true yes), λ none. absurd (false≢true (sym is ∙ told (none_v4 none))))
+      → IsTrue one ↔ ShareNone list other
+  none_else one is told = (λ yes. absurd (false≢true (sym is ∙ yes)), λ none. told (none_v4 none))

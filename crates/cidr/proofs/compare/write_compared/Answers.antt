@@ -14,6 +14,7 @@ returns g c =
     on_ok_as c.write_counts-2.result _ _ (λ second. (
       word ++ first.0 ++ second.0,
       (c.relation_of.result, first.0, second.0, c.relation_of.ensures, first.1, second.1, refl),
-      appends_then before named next word (first.0 ++ second.0) c.in_ok-write_relation.ensures
-          (appends_then named now next first.0 second.0 first.2 second.2),
+      appends_then before now next (word ++ first.0) second.0
+          (appends_then before named now word first.0 c.in_ok-write_relation.ensures first.2)
+          second.2,
     )) c.write_counts-2.ensures

@@ -5,9 +5,9 @@ use Rattle.address_lists.proofs.addresses.Addresses.is_disjoint.Goals as goal
 
 pub returns-then-is_disjoint : goal.returns-then-is_disjoint
 returns-then-is_disjoint c =
-    none_then c.args.self.now c.args.other.now c.is_disjoint.result c.is_disjoint-2.result c.if-is_disjoint.true
-    c.is_disjoint.ensures.held c.is_disjoint-2.ensures.held
-    (c.is_disjoint-2.ensures.complete (counted_complete ipv6_counted))
+    none_then c.args.self.now c.args.other.now c.is_disjoint.result c.is_disjoint-then-is_disjoint.result c.if-is_disjoint.true
+    c.is_disjoint.ensures.held c.is_disjoint-then-is_disjoint.ensures.held
+    (c.is_disjoint-then-is_disjoint.ensures.complete (counted_complete ipv6_counted))
 
 pub returns-else-is_disjoint : goal.returns-else-is_disjoint
 returns-else-is_disjoint c =

@@ -5,9 +5,9 @@ use Rattle.address_lists.proofs.addresses.Addresses.is_subset.Goals as goal
 
 pub returns-then-is_subset : goal.returns-then-is_subset
 returns-then-is_subset c =
-    all_then c.args.other.now c.args.self.now c.is_subset.result c.is_subset-2.result c.if-is_subset.true
-    c.is_subset.ensures.held c.is_subset-2.ensures.held
-    (c.is_subset-2.ensures.complete (counted_complete ipv6_counted))
+    all_then c.args.other.now c.args.self.now c.is_subset.result c.is_subset-then-is_subset.result c.if-is_subset.true
+    c.is_subset.ensures.held c.is_subset-then-is_subset.ensures.held
+    (c.is_subset-then-is_subset.ensures.complete (counted_complete ipv6_counted))
 
 pub returns-else-is_subset : goal.returns-else-is_subset
 returns-else-is_subset c =
