@@ -1,7 +1,16 @@
 -- Addresses looked up one after the other.
-use Rattle.std.proofs.Common.{◌≡◌, ℕ, ◌+◌, ◌<◌, ◌↔◌, Bool, true, false, List, [], ◌∷◌, length, drop, get_or, ap, refl, sym, ◌∙◌, add-one, subst}
+use Rattle.std.proofs.Common.{◌≡◌, ℕ, ◌+◌, ◌^◌, ◌<◌, ◌↔◌, MatchOption, Option, Bool, true, false, List, [], ◌∷◌, length, drop, get_or, ap, refl, sym, ◌∙◌, add-one, subst}
 use Rattle.std.specs.Prelude.{IsTrue}
 use Rattle.std.specs.List.{AllByRecursion}
+use Rattle.std.specs.Net.Addr.{ipv4_bits, ipv6_bits}
+use Rattle.std.specs.declared.net.ip_addr.IpAddr.TheVariants as Ip
+use Rattle.std.specs.declared.net.ipv4_addr.Ipv4Addr.{Ipv4Addr}
+use Rattle.std.specs.declared.net.ipv6_addr.Ipv6Addr.{Ipv6Addr}
+use Rattle.address_sets.specs.Runs.{IsRunAround}
+use Rattle.address_text.specs.declared.family.Family.TheVariants.{V4, V6}
+use Rattle.address_lists.specs.Lists.{Has}
+use Rattle.address_lists.specs.Lookups.{IsRunOf}
+use Rattle.address_lists.specs.declared.addresses.Addresses.{Addresses}
 use Rattle.std.proofs.Math.Seq.{drop-cons, drop-length}
 use Rattle.std.proofs.lemmas.Bool.{false≢true}
 
@@ -35,3 +44,20 @@ module _ {X : Type 0} (P : X → Type 0) where
 
   pub told_all : (all : List X) (told : Bool) → AreTold all told [] → IsTrue told ↔ AllByRecursion P all
   told_all all told before = (λ yes. before.1 (yes, tt), λ each. (before.0 each).0)
+
+-- the run around an address, by its bits
+pub of_v4 : (list : Addresses) (address : Ipv4Addr) (bits : ℕ) (run : Option (ℕ × ℕ))
+    → bits ≡ ipv4_bits address
+    → MatchOption run (¬ Has list V4 bits) (λ ends. IsRunAround (Has list V4) (2 ^ 32) bits ends)
+    → IsRunOf list (Ip.V4 address) run
+of_v4 list address bits run same found =
+    subst (λ n. MatchOption run (¬ Has list V4 n)
+    (λ ends. IsRunAround (Has list V4) (2 ^ 32) n ends)) same found
+
+pub of_v6 : (list : Addresses) (address : Ipv6Addr) (bits : ℕ) (run : Option (ℕ × ℕ))
+    → bits ≡ ipv6_bits address
+    → MatchOption run (¬ Has list V6 bits) (λ ends. IsRunAround (Has list V6) (2 ^ 128) bits ends)
+    → IsRunOf list (Ip.V6 address) run
+of_v6 list address bits run same found =
+    subst (λ n. MatchOption run (¬ Has list V6 n)
+    (λ ends. IsRunAround (Has list V6) (2 ^ 128) n ends)) same found

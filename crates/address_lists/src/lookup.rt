@@ -39,9 +39,9 @@ fn write_run<W: Write>(address: IpAddr, run: Option<(u128, u128)>, out: &mut W) 
         (run_line address run)) }
 {
     match run {
-        Some((first, last)) => {
+        Some(ends) => {
             write!(out, "{address} ")?;
-            write_span_line(family_of(address), first, last, out)
+            write_span_line(family_of(address), ends.0, ends.1, out)
         }
         None => writeln!(out, "{address} -"),
     }
