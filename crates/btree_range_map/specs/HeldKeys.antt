@@ -20,7 +20,7 @@ use Rattle.range_change.specs.Neighbours.{EachNext}
 use Rattle.range_change.proofs.Overlaps.{binding_meets}
 use Rattle.range_merge.specs.Combining.{IsConstantOn, IsSharedPart}
 use Rattle.range_merge.proofs.HeldInside.{lies_in_holds}
-use Rattle.range_map.specs.FreeRanges.{item_ranges}
+use Rattle.range_reads.specs.FreeRanges.{item_ranges}
 use Rattle.range_sets.specs.KeySets.{HoldsKey, SomeHolds}
 
 -- a list of items holds a key just where one of its ranges does

@@ -41,18 +41,18 @@ pub use Rattle.range_merge.specs.Combining
 pub use Rattle.range_change.specs.Costs
 pub use Rattle.range_map.specs.Extending as MapExtending
 pub use Rattle.range_change.specs.Frames
-pub use Rattle.range_map.specs.FreeRanges
+pub use Rattle.range_reads.specs.FreeRanges
 pub use Rattle.range_map.specs.Freeing
 pub use Rattle.range_change.specs.Apart
-pub use Rattle.range_map.specs.Iteration
-pub use Rattle.range_map.specs.ListOrder
+pub use Rattle.range_reads.specs.Iteration
+pub use Rattle.range_reads.specs.ListOrder
 pub use Rattle.range_change.specs.Lookups
 pub use Rattle.range_map.specs.MappedValues
 pub use Rattle.range_change.specs.Neighbours
 pub use Rattle.range_map.specs.Overlapping
 pub use Rattle.range_map.specs.Overlays
 pub use Rattle.range_map.specs.PartWay
-pub use Rattle.range_map.specs.PieceLists
+pub use Rattle.range_reads.specs.PieceLists
 pub use Rattle.range_change.specs.Pieces
 pub use Rattle.range_map.specs.Rebinding
 pub use Rattle.range_change.specs.Replaced

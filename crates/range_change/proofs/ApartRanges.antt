@@ -1,16 +1,14 @@
 -- A range that lies apart from all stored ones, and the list with it.
-use Rattle.std.proofs.Common.{◌≡◌, ℕ, zero, suc, ◌+◌, ◌<◌, List, [], ◌∷◌, ◌++◌, length, take, drop, get_or, refl, ap, sym, subst, ◌∙◌, arith, Option, Some, None, Bool, true, false, ◌&&◌, IsTrue, ◌⊎◌, ◌↔◌, inl, inr}
+use Rattle.std.proofs.Common.{◌≡◌, ℕ, ◌+◌, ◌<◌, List, [], ◌∷◌, ◌++◌, length, take, drop, get_or, refl, ap, sym, subst, ◌∙◌, arith, Option, Some, None, Bool, true, false, ◌&&◌, IsTrue, ◌⊎◌, ◌↔◌, inl, inr}
 use Rattle.std.specs.Prelude.{insert, IfSome, MatchOption}
 use Rattle.std.specs.Option.{ForSome}
-use Rattle.std.specs.Cmp.{IsEquivalence, tied_itself}
+use Rattle.std.specs.Cmp.{IsEquivalence}
 use Rattle.std.specs.declared.ops.Bound.{Bound}
-use Rattle.std.proofs.lemmas.List.{drop_more, take_more}
 use Rattle.range_keys.specs.Order.{KeyOrder, IsLawful}
 use Rattle.range_keys.specs.Position.{end_position, position_cmp, start_position}
-use Rattle.range_keys.specs.PositionOrder.{position_total}
 use Rattle.range_keys.specs.declared.inner.position.Position.{Position}
 use Rattle.range_keys.proofs.Orderings.{less_or_not}
-use Rattle.range_change.specs.Chains.{line_of}
+use Rattle.range_change.specs.Chains.{line_of, IsBoundTo}
 use Rattle.range_change.proofs.Chains.{chain_above, chain_before, chain_right, strictly_leads, strictly_trails}
 use Rattle.range_change.proofs.ChainSides.{left_whole, right_whole}
 use Rattle.range_change.proofs.ChainJoins.{places_between_are_bound, left_apart, right_apart}
@@ -30,9 +28,12 @@ use Rattle.range_change.specs.Stored.{item_lower, item_upper, IsStored}
 use Rattle.range_change.specs.Lookups.{IsConnectedTo, IsConnectedToSome, Overlap}
 use Rattle.range_algebra.specs.Relations.{LiesBefore, Touches}
 use Rattle.range_change.specs.Window.{IsFound, IsJustBefore}
-use Rattle.range_change.proofs.Forms.{Chained, Known, before_is, bound_after, chain_stored, nonempty_good, stored_chain, stored_known, touches_by, touches_is}
+use Rattle.range_change.proofs.Forms.{known_take, known_drop, Chained, Known, before_is, bound_after, chain_stored, nonempty_good, stored_chain, stored_known, touches_by, touches_is}
 use Rattle.range_change.proofs.Overlaps.{any_at}
 use Rattle.range_change.proofs.Comparisons.{touching_same}
+use Rattle.range_change.proofs.CoveredPlaces.{chained_items_have_places}
+use Rattle.range_change.proofs.ItemPlaces.{element_at, element_at_is_read, listed_at, upto_item, from_item}
+use Rattle.range_change.proofs.RangePieces.{item_at}
 use Rattle.range_change.proofs.Windows.{every_both}
 
 -- where an item was put once capacity was reserved, by the list from before
@@ -53,15 +54,6 @@ last_place : {X P : Type 0} (is_good : P → Type 0) (rank : P → ℕ) (items :
     → IsJustBefore is_good rank last (length items)
 last_place is_good rank items None at = rw at refl
 last_place is_good rank items (Some p) at = at
-
-item_at : {X : Type 0} (xs : List X) (n : ℕ) → n < length xs → (x : X) × (x ≡ get_or xs n x)
-item_at [] n within = absurd (omega arith)
-item_at (x ∷ xs) zero within = (x, refl)
-item_at (x ∷ xs) (suc n) within = item_at xs n (omega arith)
-
-every_last : {X : Type 0} (P : X → Type 0) (xs : List X) (x : X) → Every P (xs ++ x ∷ []) → P x
-every_last P [] x h = h.0
-every_last P (y ∷ ys) x h = every_last P ys x h.1
 
 true_by : (b : Bool) → (IsTrue b → ⊥) ⊎ IsTrue b
 true_by true = inr refl
@@ -141,69 +133,48 @@ module _ {K : Type 0} (order : KeyOrder K) (lawful : IsLawful order) where
     abbrev Good : Item (AnyRange K) V → Type 0
     Good i = PLt (item_lower order i) (item_upper order i)
 
-    follows_good : (i : Item (AnyRange K) V) (rest : List (Item (AnyRange K) V))
-        → Chained order lawful same equal (i ∷ rest) → Every Good (i ∷ rest)
-    follows_good i [] h = (h.0, tt)
-    follows_good i (j ∷ rest) h = (h.0, follows_good j rest h.1.1)
-
-    chain_good : (items : List (Item (AnyRange K) V)) → Chained order lawful same equal items
-        → Every Good items
-    chain_good [] h = tt
-    chain_good (i ∷ rest) h = follows_good i rest h
-
     module _ (items : List (Item (AnyRange K) V)) (r : AnyRange K)
         (stored : IsStored order same items) (known : IsKnownRange order r)
         (full : IsEmptyRange order r → ⊥) where
+      in_order : Chained order lawful same equal items
+      in_order = stored_chain order lawful same equal items stored
+
+      known_at : (n : ℕ) (x : Item (AnyRange K) V) → n < length items → x ≡ get_or items n x
+          → IsKnownRange order x.key
+      known_at n x within read =
+          item_at (λ i. IsKnownRange order i.key) items n x
+          (stored_known order lawful same equal items stored) within read
+
       clear_front : (n : ℕ) (x : Item (AnyRange K) V) → n < length items → x ≡ get_or items n x
           → LiesApart order x.key r → Every (Before r) (take (n + 1) items)
       clear_front n x within read apart =
-          let more : drop n items ≡ x ∷ drop (n + 1) items =
-          drop_more items n x within ∙ ap (λ y. y ∷ drop (n + 1) items) (sym read) in
-          let split : items ≡ take n items ++ x ∷ drop (n + 1) items =
-          list_is_take_and_drop items n ∙ ap (λ ys. take n items ++ ys) more in
-          let whole : Chained order lawful same equal (take n items ++ x ∷ drop (n + 1) items) =
-          rw split at (stored_chain order lawful same equal items stored) in
-          let all_known : Known order lawful same equal (take n items ++ x ∷ drop (n + 1) items) =
-          rw split at (stored_known order lawful same equal items stored) in
+          let whole = rw (listed_at items n x within read) at in_order in
           let good =
           chain_right (line_of order lawful same equal) (take n items)
           (x ∷ drop (n + 1) items) whole in
           let before =
           chain_before (line_of order lawful same equal) (take n items) x
           (drop (n + 1) items) whole in
-          let own =
-          apart_is x.key r (every_right (λ i. IsKnownRange order i.key) (take n items)
-          (x ∷ drop (n + 1) items) all_known).0 known full apart in
-          let longer : take (n + 1) items ≡ take n items ++ x ∷ [] =
-          take_more items n x within ∙ ap (λ y. take n items ++ y ∷ []) (sym read) in
-          rw longer (every_append (Before r) (take n items) (x ∷ [])
+          let own = apart_is x.key r (known_at n x within read) known full apart in
+          rw (upto_item items n (n + 1) x refl within read)
+          (every_append (Before r) (take n items) (x ∷ [])
           (every_weaker _ _ (take n items)
           (λ y h. le_lt_trans lawful _ _ _ h.0 (lt_trans lawful _ _ _ good.0 own)) before) (own, tt))
 
       clear_back : (n : ℕ) (x : Item (AnyRange K) V) → n < length items → x ≡ get_or items n x
           → LiesApart order r x.key → Every (Behind r) (drop n items)
       clear_back n x within read apart =
-          let more : drop n items ≡ x ∷ drop (n + 1) items =
-          drop_more items n x within ∙ ap (λ y. y ∷ drop (n + 1) items) (sym read) in
-          let split : items ≡ take n items ++ x ∷ drop (n + 1) items =
-          list_is_take_and_drop items n ∙ ap (λ ys. take n items ++ ys) more in
-          let whole : Chained order lawful same equal (take n items ++ x ∷ drop (n + 1) items) =
-          rw split at (stored_chain order lawful same equal items stored) in
-          let all_known : Known order lawful same equal (take n items ++ x ∷ drop (n + 1) items) =
-          rw split at (stored_known order lawful same equal items stored) in
           let chain =
           chain_right (line_of order lawful same equal) (take n items)
-          (x ∷ drop (n + 1) items) whole in
+          (x ∷ drop (n + 1) items) (rw (listed_at items n x within read) at in_order) in
           let above =
           chain_above (line_of order lawful same equal) (item_lower order x) x
           (drop (n + 1) items) chain (le_refl lawful (item_lower order x)) in
-          let known_x =
-          (every_right (λ i. IsKnownRange order i.key) (take n items)
-          (x ∷ drop (n + 1) items) all_known).0 in
+          let known_x = known_at n x within read in
           let own =
           apart_is r x.key known known_x
           ((nonempty_good order lawful x.key known_x).1 chain.0) apart in
-          rw more (every_weaker _ _ (x ∷ drop (n + 1) items)
+          rw (from_item items n x within read) (every_weaker _ _ (x ∷ drop (n + 1) items)
           (λ y h. lt_le_trans lawful _ _ _ own h) above)
 
       clear_before : {P : Type 0} (is_good : P → Type 0) (rank : P → ℕ)
@@ -214,8 +185,9 @@ module _ {K : Type 0} (order : KeyOrder K) (lawful : IsLawful order) where
       clear_before is_good rank good_in_range None place b at answer h = rw at tt
       clear_before is_good rank good_in_range (Some q) place b at answer h =
           let within = good_in_range q at.0 in
-          let found = item_at items (rank q) within in
-          rw (← at.1) (clear_front (rank q) found.0 within found.1 ((answer found.0 found.1).0 h))
+          let x = element_at items (rank q) within in
+          let read = element_at_is_read items (rank q) within x in
+          rw (← at.1) (clear_front (rank q) x within read ((answer x read).0 h))
 
       clear_after : {P : Type 0} (is_good : P → Type 0) (rank : P → ℕ)
           (good_in_range : (p : P) → is_good p → rank p < length items) (from : Option P)
@@ -226,8 +198,9 @@ module _ {K : Type 0} (order : KeyOrder K) (lawful : IsLawful order) where
           rw (drop_all items place at) tt
       clear_after is_good rank good_in_range (Some q) place b at answer h =
           let within = good_in_range q at.0 in
-          let found = item_at items (rank q) within in
-          rw (← at.1) (clear_back (rank q) found.0 within found.1 ((answer found.0 found.1).0 h))
+          let x = element_at items (rank q) within in
+          let read = element_at_is_read items (rank q) within x in
+          rw (← at.1) (clear_back (rank q) x within read ((answer x read).0 h))
 
       -- where the last of all lies apart, the range can follow it
       pub all_before : {P : Type 0} (is_good : P → Type 0) (rank : P → ℕ)
@@ -271,23 +244,18 @@ module _ {K : Type 0} (order : KeyOrder K) (lawful : IsLawful order) where
           absurd (let clash : false ≡ true = sym f ∙ answer in cc)
       refused_previous_is_connected is_good rank good_in_range (Some q) place b at answer below f =
           let within = good_in_range q at.0 in
-          let found = item_at items (rank q) within in
-          let x = found.0 in
-          let longer : take place items ≡ take (rank q) items ++ x ∷ [] =
-          ap (λ n. take n items) (sym at.1)
-          ∙ (take_more items (rank q) x within
-          ∙ ap (λ y. take (rank q) items ++ y ∷ []) (sym found.1)) in
-          let ends : Every (λ i. PLt (end_position order i.key.end) (lower order r))
-          (take (rank q) items ++ x ∷ []) = rw longer at below in
-          let last : LiesBefore order x.key r =
-          every_last (λ i. PLt (end_position order i.key.end) (lower order r))
-          (take (rank q) items) x ends in
+          let x = element_at items (rank q) within in
+          let read = element_at_is_read items (rank q) within x in
+          let last =
+          every_right (λ i. PLt (end_position order i.key.end) (lower order r))
+          (take (rank q) items) (x ∷ [])
+          (rw (upto_item items (rank q) place x at.1 within read) at below) in
           let refused : LiesApart order x.key r → ⊥ = λ h. let t =
-          (answer x found.1).1 h in let clash : false ≡ true = sym f ∙ t in cc in
-          any_at (λ i. IsConnectedTo order i.key r) items (rank q) x within found.1
+          (answer x read).1 h in let clash : false ≡ true = sym f ∙ t in cc in
+          any_at (λ i. IsConnectedTo order i.key r) items (rank q) x within read
           (inr
           (inl (must_touch (LiesBefore order x.key r)
-          (starts_at_end order x.key.end (lower order r)) last refused)))
+          (starts_at_end order x.key.end (lower order r)) last.0 refused)))
 
       refused_next_is_connected : {P : Type 0} (is_good : P → Type 0) (rank : P → ℕ)
           (good_in_range : (p : P) → is_good p → rank p < length items) (from : Option P)
@@ -300,17 +268,15 @@ module _ {K : Type 0} (order : KeyOrder K) (lawful : IsLawful order) where
       refused_next_is_connected is_good rank good_in_range (Some q) place b at answer above f =
           let cmp = position_cmp order.cmp in
           let within = good_in_range q at.0 in
-          let found = item_at items (rank q) within in
-          let x = found.0 in
+          let x = element_at items (rank q) within in
+          let read = element_at_is_read items (rank q) within x in
           let more : drop place items ≡ x ∷ drop (rank q + 1) items =
-          ap (λ n. drop n items) (sym at.1)
-          ∙ (drop_more items (rank q) x within
-          ∙ ap (λ y. y ∷ drop (rank q + 1) items) (sym found.1)) in
+          ap (λ n. drop n items) (sym at.1) ∙ from_item items (rank q) x within read in
           let ends : Every (λ i. PLe (lower order r) (end_position order i.key.end))
           (x ∷ drop (rank q + 1) items) = rw more at above in
           let refused : LiesApart order r x.key → ⊥ = λ h. let t =
-          (answer x found.1).1 h in let clash : false ≡ true = sym f ∙ t in cc in
-          any_at (λ i. IsConnectedTo order i.key r) items (rank q) x within found.1
+          (answer x read).1 h in let clash : false ≡ true = sym f ∙ t in cc in
+          any_at (λ i. IsConnectedTo order i.key r) items (rank q) x within read
           (elim (less_or_not (cmp (end_position order r.end) (lower order x.key))) [
             | inl l ↦
                 inr
@@ -399,26 +365,22 @@ module _ {K : Type 0} (order : KeyOrder K) (lawful : IsLawful order) where
         -- a range with such a place is connected to no item
         pub free_not : IsConnectedToSome order items r → ⊥
         free_not h =
-            let split : items ≡ take place items ++ drop place items =
-            list_is_take_and_drop items place in
-            let all_known : Known order lawful same equal (take place items ++ drop place items) =
-            rw split at (stored_known order lawful same equal items stored) in
-            let whole : Chained order lawful same equal (take place items ++ drop place items) =
-            rw split at (stored_chain order lawful same equal items stored) in
+            let split = list_is_take_and_drop items place in
             let both =
-            every_both (λ i. IsKnownRange order i.key) Good
-            (take place items ++ drop place items) all_known
-            (chain_good (take place items ++ drop place items) whole) in
+            every_both (λ i. IsKnownRange order i.key) Good items
+            (stored_known order lawful same equal items stored)
+            (chained_items_have_places order lawful same equal items in_order) in
+            let all = rw split at both in
             let some : IsConnectedToSome order (take place items ++ drop place items) r =
             rw split at h in
             let first =
             every_both (λ i. IsKnownRange order i.key × Good i) (Before r)
             (take place items) (every_left (λ i. IsKnownRange order i.key × Good i)
-            (take place items) (drop place items) both) front in
+            (take place items) (drop place items) all) front in
             let second =
             every_both (λ i. IsKnownRange order i.key × Good i) (Behind r)
             (drop place items) (every_right (λ i. IsKnownRange order i.key × Good i)
-            (take place items) (drop place items) both) back in
+            (take place items) (drop place items) all) back in
             elim (any_split (λ i. IsConnectedTo order i.key r) (take place items)
             (drop place items) some) [
               | inl k ↦
@@ -437,58 +399,40 @@ module _ {K : Type 0} (order : KeyOrder K) (lawful : IsLawful order) where
             (take place items ++ x ∷ drop place items)
             × IsBoundAfter order same items (take place items ++ x ∷ drop place items) r v
         put_in v =
-            let total = position_total order.cmp lawful.total in
+            let line = line_of order lawful same equal in
             let x : Item (AnyRange K) V = record { key = r; value = v } in
             let c = lower order r in
             let d = upper order r in
-            let split : items ≡ take place items ++ drop place items =
-            list_is_take_and_drop items place in
-            let all_known : Known order lawful same equal (take place items ++ drop place items) =
-            rw split at (stored_known order lawful same equal items stored) in
+            let new = take place items ++ x ∷ drop place items in
+            let parts = list_is_take_and_drop items place in
+            let all = stored_known order lawful same equal items stored in
             let whole : Chained order lawful same equal (take place items ++ drop place items) =
-            rw split at (stored_chain order lawful same equal items stored) in
+            rw parts at in_order in
             let left =
-            left_whole (line_of order lawful same equal) (take place items)
-            (drop place items) c whole
+            left_whole line (take place items) (drop place items) c whole
             (every_weaker _ _ (take place items) (λ i h. lt_le lawful _ _ h) front)
             (every_weaker _ _ (drop place items) (λ i h. lt_le lawful _ _
             (lt_trans lawful _ _ _ range_good h)) back) in
             let right =
-            right_whole (line_of order lawful same equal) (take place items)
-            (drop place items) d whole (every_weaker _ _ (take place items) (λ i h. lt_le lawful _ _
+            right_whole line (take place items) (drop place items) d whole
+            (every_weaker _ _ (take place items) (λ i h. lt_le lawful _ _
             (lt_trans lawful _ _ _ h range_good)) front) (every_weaker _ _ (drop place items)
             (λ i h. lt_le lawful _ _ h) back) in
             let on_left =
-            left_apart (line_of order lawful same equal)
-            (take place items ++ drop place items) (take place items) c v left
-            (every_weaker _ _ (take place items)
-            (λ i h. strictly_leads (line_of order lawful same equal) i c v h) front) in
+            left_apart line (take place items ++ drop place items) (take place items) c v left
+            (every_weaker _ _ (take place items) (λ i h. strictly_leads line i c v h) front) in
             let on_right =
-            right_apart (line_of order lawful same equal)
-            (take place items ++ drop place items) (drop place items) d v right
-            (every_weaker _ _ (drop place items)
-            (λ i h. strictly_trails (line_of order lawful same equal) i d v h) back) in
+            right_apart line (take place items ++ drop place items) (drop place items) d v right
+            (every_weaker _ _ (drop place items) (λ i h. strictly_trails line i d v h) back) in
             let changed =
-            places_between_are_bound (line_of order lawful same equal)
-            (take place items ++ drop place items) (take place items)
-            (drop place items) x c d c d v on_left on_right range_good (tied_itself total c)
-            (tied_itself total d) (equal.refl v) in
-            let new_known : Known order lawful same equal
-            (take place items ++ x ∷ drop place items) =
+            subst (λ ys. IsBoundTo line ys new c d v) (sym parts)
+            (places_between_are_bound line (take place items ++ drop place items)
+            (take place items) (drop place items) x c d v on_left on_right range_good
+            (equal.refl v)) in
+            let new_known : Known order lawful same equal new =
             every_append (λ i. IsKnownRange order i.key) (take place items)
-            (x ∷ drop place items) (every_left (λ i. IsKnownRange order i.key)
-            (take place items) (drop place items) all_known) (
-              known,
-              every_right (λ i. IsKnownRange order i.key) (take place items)
-                  (drop place items) all_known,
-            ) in
-            let after =
-            bound_after order lawful same equal (take place items ++ drop place items)
-            (take place items ++ x ∷ drop place items) r v known all_known new_known changed
-            in
-            let joined : take place items ++ drop place items ≡ items = sym split in (
-              chain_stored order lawful same equal
-                  (take place items ++ x ∷ drop place items) new_known changed.chain,
-              subst (λ xs. IsBoundAfter order same xs
-                  (take place items ++ x ∷ drop place items) r v) joined after,
+            (x ∷ drop place items) (known_take order lawful same equal items place all)
+            (known, known_drop order lawful same equal items place all) in (
+              chain_stored order lawful same equal new new_known changed.chain,
+              bound_after order lawful same equal items new r v known all new_known changed,
             )

@@ -10,8 +10,8 @@ use Rattle.std.specs.Option.{ForSome}
 use Rattle.range_store.specs.ListPlaces.{place_before}
 use Rattle.range_change.specs.Edits.{with_start, with_end}
 use Rattle.range_change.specs.Window.{option_items}
-use Rattle.range_algebra.proofs.Lists.{parts_at}
-use Rattle.range_change.specs.Borders.{joined_count, border_at, IsGoodBorder, IsLeftShape, IsRightShape, IsLeftEdited, IsRightEdited}
+use Rattle.range_change.proofs.ItemPlaces.{listed_at}
+use Rattle.range_change.specs.Borders.{BorderSide, IsBorderShape, joined_count, border_at, IsGoodBorder, IsLeftShape, IsRightShape, IsLeftEdited, IsRightEdited}
 use Rattle.range_change.specs.declared.borders.Border.{Border}
 use Rattle.range_change.specs.declared.borders.Border.TheVariants.{Plain, Cut, Joined}
 
@@ -28,9 +28,7 @@ pub standing_item_splits_list : {X : Type 0} (xs : List X) (n m : ℕ) (x : X) �
     → x ≡ get_or xs n x → m ≡ n + 1 → xs ≡ take n xs ++ [] ++ (x ∷ []) ++ [] ++ drop m xs
 standing_item_splits_list xs n m x within read next =
     let split : xs ≡ take n xs ++ x ∷ drop m xs =
-    parts_at xs n x within
-    ∙ (ap (λ y. take n xs ++ y ∷ drop (n + 1) xs) (sym read)
-    ∙ ap (λ k. take n xs ++ x ∷ drop k xs) (sym next)) in
+    listed_at xs n x within read ∙ ap (λ k. take n xs ++ x ∷ drop k xs) (sym next) in
     split
     ∙ (ap (λ ys. ys ++ x ∷ drop m xs) (sym (append-nil (take n xs)))
     ∙ opening_regroups (take n xs) [] [] (drop m xs) x)
@@ -41,11 +39,11 @@ cut_joins_none None b = refl
 cut_joins_none (Some p) b = refl
 
 -- a change that keeps positions and the length keeps places
-pub kept_place : {P : Type 0} (is_good is_good' : P → Type 0) (rank rank' : P → ℕ) (len len' : ℕ)
-    (at : Option P) → ((p : P) → is_good p → is_good' p × (rank' p ≡ rank p)) → len' ≡ len
+pub kept_place : {P : Type 0} {is_good is_good' : P → Type 0} {rank rank' : P → ℕ} {len len' : ℕ}
+    → ((p : P) → is_good p → is_good' p × (rank' p ≡ rank p)) → len' ≡ len → (at : Option P)
     → ForSome at is_good → place_before rank' len' at ≡ place_before rank len at
-kept_place is_good is_good' rank rank' len len' None kept size h = size
-kept_place is_good is_good' rank rank' len len' (Some p) kept size h = (kept p (h p refl)).1
+kept_place kept size None h = size
+kept_place kept size (Some p) h = (kept p (h p refl)).1
 
 same_at : {X : Type 0} (xs ys : List X) (n : ℕ) (d : X) → drop n xs ≡ drop n ys
     → get_or xs n d ≡ get_or ys n d
@@ -92,7 +90,7 @@ module _ {K V P : Type 0} (is_good : P → Type 0) (rank : P → ℕ) (items : L
       }
   left_opened new (Joined p) at from rest start given shape edited =
       let x = shape.4.0 in
-      let item : get_or items (rank p) x ≡ x = ap (λ n. get_or items n x) shape.1 ∙ sym shape.4.1 in
+      let item : get_or items (rank p) x ≡ x = sym shape.4.1 in
       let new_is : new ≡ set items at (with_start x Unbounded) =
       (edited x).0
       ∙ (ap (λ y. set items (rank p) (with_start y Unbounded)) item
@@ -130,7 +128,7 @@ module _ {K V P : Type 0} (is_good : P → Type 0) (rank : P → ℕ) (items : L
   right_opened base new rank' clear ranks kept same_size Plain upto end rest finish given le shape
       edited = record {
         front = λ n l. ap (take n) edited.0;
-        behind = rw (edited.0, shape.1) (kept upto (omega arith) ∙ ap (λ n. drop n items) shape.0);
+        behind = rw (edited.0, shape.1) (kept upto (omega arith) ∙ ap (λ n. drop n items) (sym shape.0));
         same_end = edited.1 ∙ sym shape.2;
         size = ap length edited.0;
       }
@@ -175,53 +173,33 @@ module _ {K V P : Type 0} (is_good : P → Type 0) (rank : P → ℕ) (items : L
             omega (arith, shape.1) in rw new_is (take-set-le n base i (with_end x Unbounded) below);
         behind =
             rw (new_is, shape.3) (drop-set-lt upto base i (with_end x Unbounded) lt
-            ∙ (kept upto (omega arith) ∙ ap (λ n. drop n items) shape.2));
+            ∙ (kept upto (omega arith) ∙ ap (λ n. drop n items) (sym shape.2)));
         same_end =
             (edited x).1 ∙ (ap (λ (y : Item (AnyRange K) V). Some y.key.end) item ∙ sym shape.4.2);
         size = rw new_is (length-set base i (with_end x Unbounded));
       }
 
-module _ {K V P : Type 0} (is_good is_good' : P → Type 0) (rank rank' : P → ℕ)
-    (items items' : List (Item (AnyRange K) V))
+module _ {K V P : Type 0} {is_good is_good' : P → Type 0} {rank rank' : P → ℕ}
+    {items items' : List (Item (AnyRange K) V)}
     (kept : (p : P) → is_good p → is_good' p × (rank' p ≡ rank p)) (same : items' ≡ items) where
-  -- a change that keeps positions and items keeps what is planned
-  pub left_kept : (border : Border K P) (at from : ℕ) (rest : Option (Item (AnyRange K) V))
-      (start : Option (Bound K)) → IsLeftShape is_good rank items border at from rest start
-      → IsLeftShape is_good' rank' items' border at from rest start
-  left_kept Plain at from rest start h = h
-  left_kept (Cut p b) at from rest start h = let k =
+  -- a change that keeps positions and items keeps what is planned on a side
+  pub shape_kept : (side : BorderSide K V) (border : Border K P) (low high : ℕ)
+      (rest : Option (Item (AnyRange K) V)) (given : Option (Bound K))
+      → IsBorderShape side is_good rank items border low high rest given
+      → IsBorderShape side is_good' rank' items' border low high rest given
+  shape_kept side Plain low high rest given h = h
+  shape_kept side (Cut p b) low high rest given h = let k =
       kept p h.0 in (
         k.0,
         k.1 ∙ h.1,
         h.2,
         h.3,
-        (h.4.0, h.4.1 ∙ ap (λ ys. get_or ys at h.4.0) (sym same), h.4.2),
+        (h.4.0, h.4.1 ∙ ap (λ ys. get_or ys low h.4.0) (sym same), h.4.2),
       )
-  left_kept (Joined p) at from rest start h = let k =
+  shape_kept side (Joined p) low high rest given h = let k =
       kept p h.0 in (
         k.0,
-        k.1 ∙ h.1,
-        h.2,
-        h.3,
-        (h.4.0, h.4.1 ∙ ap (λ ys. get_or ys at h.4.0) (sym same), h.4.2),
-      )
-
-  pub right_kept : (border : Border K P) (upto end : ℕ) (rest : Option (Item (AnyRange K) V))
-      (finish : Option (Bound K)) → IsRightShape is_good rank items border upto end rest finish
-      → IsRightShape is_good' rank' items' border upto end rest finish
-  right_kept Plain upto end rest finish h = h
-  right_kept (Cut p b) upto end rest finish h = let k =
-      kept p h.0 in (
-        k.0,
-        k.1 ∙ h.1,
-        h.2,
-        h.3,
-        (h.4.0, h.4.1 ∙ ap (λ ys. get_or ys upto h.4.0) (sym same), h.4.2),
-      )
-  right_kept (Joined p) upto end rest finish h = let k =
-      kept p h.0 in (
-        k.0,
-        ap (λ n. n + 1) k.1 ∙ h.1,
+        ap side.place k.1 ∙ h.1,
         h.2,
         h.3,
         (
@@ -233,23 +211,10 @@ module _ {K V P : Type 0} (is_good is_good' : P → Type 0) (rank rank' : P → 
         ),
       )
 
-  pub left_good : (border : Border K P) (at from : ℕ) (rest : Option (Item (AnyRange K) V))
-      (start : Option (Bound K)) → IsLeftShape is_good rank items border at from rest start
+  pub border_good : (side : BorderSide K V) (border : Border K P) (low high : ℕ)
+      (rest : Option (Item (AnyRange K) V)) (given : Option (Bound K))
+      → IsBorderShape side is_good rank items border low high rest given
       → IsGoodBorder is_good' border
-  left_good Plain at from rest start h = tt
-  left_good (Cut p b) at from rest start h = (kept p h.0).0
-  left_good (Joined p) at from rest start h = (kept p h.0).0
-
-  pub right_good : (border : Border K P) (upto end : ℕ) (rest : Option (Item (AnyRange K) V))
-      (finish : Option (Bound K)) → IsRightShape is_good rank items border upto end rest finish
-      → IsGoodBorder is_good' border
-  right_good Plain upto end rest finish h = tt
-  right_good (Cut p b) upto end rest finish h = (kept p h.0).0
-  right_good (Joined p) upto end rest finish h = (kept p h.0).0
-
-  pub upto_end : (border : Border K P) (upto end : ℕ) (rest : Option (Item (AnyRange K) V))
-      (finish : Option (Bound K)) → IsRightShape is_good rank items border upto end rest finish
-      → upto ≤ end
-  upto_end Plain upto end rest finish h = omega (arith, h.0)
-  upto_end (Cut p b) upto end rest finish h = omega (arith, h.2)
-  upto_end (Joined p) upto end rest finish h = omega (arith, h.2)
+  border_good side Plain low high rest given h = tt
+  border_good side (Cut p b) low high rest given h = (kept p h.0).0
+  border_good side (Joined p) low high rest given h = (kept p h.0).0

@@ -1,12 +1,15 @@
--- What a new item joins, and the chain with it.
-use Rattle.std.proofs.Common.{◌≡◌, sym, ◌∙◌, true, List, [], ◌∷◌, ◌++◌, inl, inr}
-use Rattle.std.specs.declared.cmp.Ordering.TheVariants.{Equal}
+-- What a range joins beside it, and the chain in which it is bound or unbound.
+use Rattle.std.proofs.Common.{◌≡◌, sym, ◌∙◌, Bool, true, List, [], ◌∷◌, ◌++◌, ◌↔◌, ◌⊎◌, inl, inr}
+use Rattle.std.specs.Cmp.{tied_itself}
 use Rattle.range_algebra.specs.Intervals.{Le, Lt, Every}
-use Rattle.range_algebra.specs.Orders.{le_refl, lt_le, eq_le, eq_ge, le_trans, lt_not_le, lt_le_trans, le_lt_trans, lt_trans}
-use Rattle.range_algebra.proofs.Lists.{any_left, any_right, any_split, every_weaker, every_append, every_right}
-use Rattle.range_change.specs.Chains.{Line, Leads, Trails, Follows, IsChain, Leading, Trailing, IsLeft, IsRight, IsLeftOf, IsRightOf, IsBoundTo, IsUnbound}
-use Rattle.range_change.proofs.Chains.{same_is_symmetric, chain_left, chain_right, chain_tail, follows_above, strictly_leads, strictly_trails, chain_before, chains_join, join_apart}
-use Rattle.range_change.proofs.ChainSides.{none_below, none_above, only_first, only_second}
+use Rattle.range_algebra.specs.Orders.{cases, le_refl, lt_le, le_trans, lt_not_le, lt_le_trans, le_lt_trans}
+use Rattle.range_algebra.proofs.Lists.{any_left, any_right, any_split, every_weaker, every_append}
+use Rattle.range_change.specs.Chains.{Line, Leads, Trails, Follows, IsChain, Has, Held, Respects, Leading, Trailing, IsLeft, IsRight, IsLeftOf, IsRightOf, IsMade, IsBoundTo, IsUnbound, IsSpliced}
+use Rattle.range_change.proofs.Chains.{same_is_symmetric, chain_right, chain_tail, chain_above, follows_above, strictly_leads, strictly_trails, chain_before, chains_join, join_apart}
+use Rattle.range_change.proofs.ChainSides.{none_below, none_above, only_first, only_second, held_alone, leading_like, left_whole}
+
+pub both_ways : {A B C : Type 0} → A ↔ B → C ↔ B → A ↔ C
+both_ways f g = (λ a. g.1 (f.0 a), λ c. f.1 (g.0 c))
 
 module _ {L V X : Type 0} (line : Line L V X) where
   pub leading_last : (front : List X) (y : X) (c : L) (v : V) → IsChain line (front ++ y ∷ [])
@@ -29,138 +32,179 @@ module _ {L V X : Type 0} (line : Line L V X) where
             (lt_le_trans line.cmp line.total _ _ _ chain.0 h))) above,
       )
 
+  -- nothing beside the range joins it
   pub left_apart : (items kept : List X) (c : L) (v : V) → IsLeft line items kept c
       → Leading line c v kept → IsLeftOf line items kept c c v
   left_apart items kept c v left leads = record {
-    chain = left.chain;
+    left = left;
     leads = leads;
     below = le_refl line.cmp line.total c;
-    holds =
-        λ p W alike l. (
-          λ h. (left.holds p W alike l).0
-              (only_first (λ k. lt_not_le line.cmp line.total _ _ l k.0) h),
-          λ h. inl ((left.holds p W alike l).1 h),
-        );
+    joined = λ p W alike from l. absurd (lt_not_le line.cmp line.total _ _ l from);
   }
-
-  pub left_joined : (items front : List X) (y : X) (c : L) (v : V)
-      → IsLeft line items (front ++ y ∷ []) c → Le line.cmp c (line.hi y)
-      → line.same (line.value y) v ≡ true → IsLeftOf line items front c (line.lo y) v
-  left_joined items front y c v left reaches alike_value =
-      let before = chain_before line front y [] left.chain in
-      let good = chain_right line front (y ∷ []) left.chain in
-      let ends = every_right _ front (y ∷ []) left.ends in
-      record {
-        chain = chain_left line front (y ∷ []) left.chain;
-        leads =
-            every_weaker _ _ front (λ z h. (
-              h.0,
-              λ k s.
-                  h.1 k (line.equal.congr (line.value z) v (line.value y) s
-                  ∙ same_is_symmetric line (line.value y) v alike_value),
-            )) before;
-        below =
-            le_trans line.cmp line.total _ _ _ (lt_le line.cmp line.total _ _ good.0) ends.0;
-        holds = λ p W alike l. (
-          λ h. (left.holds p W alike l).0 (elim h [
-            | inl k ↦ any_left _ front (y ∷ []) k
-            | inr k ↦
-                any_right _ front (y ∷ [])
-                (inl (
-                  (k.0, lt_le_trans line.cmp line.total _ _ _ l reaches),
-                  alike v (line.value y) (same_is_symmetric line (line.value y) v alike_value) k.1,
-                ))
-          ]),
-          λ h. elim (any_split _ front (y ∷ []) ((left.holds p W alike l).1 h)) [
-            | inl k ↦ inl k
-            | inr k ↦ let held =
-                only_first (λ e. e) k in inr (held.0.0, alike (line.value y) v alike_value held.1)
-          ],
-        );
-      }
 
   pub right_apart : (items kept : List X) (d : L) (v : V) → IsRight line items kept d
       → Trailing line d v kept → IsRightOf line items kept d d v
   right_apart items kept d v right trails = record {
-    chain = right.chain;
+    right = right;
     trails = trails;
     above = le_refl line.cmp line.total d;
-    holds =
-        λ p W alike l. (
-          λ h. (right.holds p W alike l).0
-              (only_first (λ k. lt_not_le line.cmp line.total _ _ k.0 l) h),
-          λ h. inl ((right.holds p W alike l).1 h),
-        );
+    joined = λ p W alike from l. absurd (lt_not_le line.cmp line.total _ _ l from);
   }
+
+  -- an item with the value reaches or touches the range
+  pub left_joined : (front : List X) (x : X) (rest : List X) (c : L) (v : V)
+      → IsChain line (front ++ x ∷ rest) → Le line.cmp (line.lo x) c → Le line.cmp c (line.hi x)
+      → line.same (line.value x) v ≡ true
+      → IsLeftOf line (front ++ x ∷ rest) front c (line.lo x) v
+  left_joined front x rest c v chain starts reaches alike_value =
+      let before = chain_before line front x rest chain in
+      let whole = chain_right line front (x ∷ rest) chain in
+      record {
+        left =
+            left_whole line front (x ∷ rest) (line.lo x) chain
+            (every_weaker _ _ front (λ z h. h.0) before)
+            (chain_above line (line.lo x) x rest whole (le_refl line.cmp line.total (line.lo x)));
+        leads =
+            every_weaker _ _ front (λ z h. (
+              h.0,
+              λ k s.
+                  h.1 k (line.equal.congr (line.value z) v (line.value x) s
+                  ∙ same_is_symmetric line (line.value x) v alike_value),
+            )) before;
+        below = starts;
+        joined =
+            λ p W alike from l. held_alone line front x rest p W v chain
+            (from, lt_le_trans line.cmp line.total _ _ _ l reaches) alike alike_value;
+      }
 
   follows_trails : (y : X) (ys : List X) → Follows line y ys
       → Trailing line (line.hi y) (line.value y) ys
   follows_trails y [] f = tt
   follows_trails y (z ∷ zs) f = trailing_first z zs (line.hi y) (line.value y) f.1 f.0
 
-  pub right_joined : (items behind : List X) (y : X) (d : L) (v : V)
-      → IsRight line items (y ∷ behind) d → Le line.cmp (line.lo y) d
-      → line.same (line.value y) v ≡ true → IsRightOf line items behind d (line.hi y) v
-  right_joined items behind y d v right reaches alike_value =
-      let follows = right.chain.1 in
-      let value_back = same_is_symmetric line (line.value y) v alike_value in
+  pub right_joined : (front : List X) (x : X) (rest : List X) (d : L) (v : V)
+      → IsChain line (front ++ x ∷ rest) → Le line.cmp (line.lo x) d → Le line.cmp d (line.hi x)
+      → line.same (line.value x) v ≡ true
+      → IsRightOf line (front ++ x ∷ rest) rest d (line.hi x) v
+  right_joined front x rest d v chain reaches ends alike_value =
+      let whole = chain_right line front (x ∷ rest) chain in
+      let low = lt_le line.cmp line.total _ _ whole.0 in
+      let before : Every (λ z. Le line.cmp (line.hi z) (line.hi x)) front =
+      every_weaker _ _ front (λ z h. le_trans line.cmp line.total _ _ _ h.0 low)
+      (chain_before line front x rest chain) in
       record {
-        chain = chain_tail line y behind follows;
+        right = record {
+          chain = chain_tail line x rest whole.1;
+          starts = follows_above line x rest whole.1;
+          holds = λ p W alike l. (
+            λ h. any_right _ front (x ∷ rest) (inr h),
+            λ h.
+                only_second (λ k. lt_not_le line.cmp line.total _ _ k.0.1 l)
+                (only_second (none_above line p (line.hi x) W front l before)
+                (any_split _ front (x ∷ rest) h)),
+          );
+        };
         trails =
-            every_weaker _ _ behind (λ z h.
-            (h.0, λ k s. h.1 k (line.equal.congr (line.value y) v (line.value z) alike_value ∙ s)))
-            (follows_trails y behind follows);
-        above =
-            le_trans line.cmp line.total _ _ _ right.starts.0
-            (lt_le line.cmp line.total _ _ right.chain.0);
-        holds = λ p W alike l. (
-          λ h. (right.holds p W alike l).0 (elim h [
-            | inl k ↦ inr k
-            | inr k ↦
-                inl (
-                  (le_trans line.cmp line.total _ _ _ reaches l, k.0),
-                  alike v (line.value y) value_back k.1,
-                )
-          ]),
-          λ h. elim ((right.holds p W alike l).1 h) [
-            | inl k ↦ inr (k.0.1, alike (line.value y) v alike_value k.1)
-            | inr k ↦ inl k
-          ],
-        );
+            every_weaker _ _ rest (λ z h. (
+              h.0,
+              λ k s. h.1 k (line.equal.congr (line.value x) v (line.value z) alike_value ∙ s),
+            )) (follows_trails x rest whole.1);
+        above = ends;
+        joined =
+            λ p W alike from l. held_alone line front x rest p W v chain
+            (le_trans line.cmp line.total _ _ _ reaches from, l) alike alike_value;
       }
+
+  -- a middle that stands between what is left on each side
+  pub places_between_hold : (items front middle behind : List X) (c d : L)
+      → IsLeft line items front c → IsRight line items behind d → Lt line.cmp c d
+      → IsChain line (front ++ (middle ++ behind))
+      → Every (λ x. Le line.cmp c (line.lo x)) middle
+      → Every (λ x. Le line.cmp (line.hi x) d) middle
+      → IsSpliced line items middle (front ++ (middle ++ behind)) c d
+  places_between_hold items front middle behind c d left right l chain above below =
+      let low = lt_le line.cmp line.total _ _ l in
+      record {
+        chain = chain;
+        inside = λ p W alike from upto. (
+          λ h.
+              only_first (none_below line p d W behind upto right.starts)
+              (any_split _ middle behind
+              (only_second (none_above line p c W front from left.ends)
+              (any_split _ front (middle ++ behind) h))),
+          λ h. any_right _ front (middle ++ behind) (any_left _ middle behind h),
+        );
+        outside = λ p W alike where_. elim where_ [
+          | inl under ↦ (
+            λ h. (left.holds p W alike under).0
+                (only_first (none_below line p c W (middle ++ behind) under
+                (every_append (λ x. Le line.cmp c (line.lo x)) middle behind above
+                (every_weaker _ _ behind (λ x h. le_trans line.cmp line.total _ _ _ low h)
+                right.starts)))
+                (any_split _ front (middle ++ behind) h)),
+            λ h. any_left _ front (middle ++ behind) ((left.holds p W alike under).1 h),
+          )
+          | inr over ↦ (
+            λ h. (right.holds p W alike over).0
+                (only_second (none_above line p d W middle over below)
+                (any_split _ middle behind
+                (only_second (none_above line p c W front
+                (le_trans line.cmp line.total _ _ _ low over) left.ends)
+                (any_split _ front (middle ++ behind) h)))),
+            λ h. any_right _ front (middle ++ behind)
+                (any_right _ middle behind ((right.holds p W alike over).1 h)),
+          )
+        ];
+      }
+
+  -- what is made of a range is made of a wider one, where the places beside the range hold already
+  -- what they come to hold
+  pub hull : (items new : List X) (c d s e : L) (Wide Own : L → (V → Bool) → Type 0)
+      → Le line.cmp s c → Lt line.cmp c d → Le line.cmp d e → IsMade line items new s e Wide
+      → ((p : L) (W : V → Bool) → Respects line W → Le line.cmp c p → Lt line.cmp p d
+      → Wide p W ↔ Own p W)
+      → ((p : L) (W : V → Bool) → Respects line W
+      → (Le line.cmp s p × Lt line.cmp p c) ⊎ (Le line.cmp d p × Lt line.cmp p e)
+      → Has line W p items ↔ Wide p W)
+      → IsMade line items new c d Own
+  hull items new c d s e Wide Own low l high made own beside = record {
+    chain = made.chain;
+    inside = λ p W alike from upto. let wide =
+        made.inside p W alike (le_trans line.cmp line.total _ _ _ low from)
+        (lt_le_trans line.cmp line.total _ _ _ upto high) in let narrow =
+        own p W alike from upto in (λ h. narrow.0 (wide.0 h), λ h. wide.1 (narrow.1 h));
+    outside = λ p W alike where_. elim where_ [
+      | inl under ↦ elim (cases line.cmp line.total p s) [
+        | inl below ↦ made.outside p W alike (inl below)
+        | inr from ↦
+            both_ways
+            (made.inside p W alike from (lt_le_trans line.cmp line.total _ _ _ under
+            (le_trans line.cmp line.total _ _ _ (lt_le line.cmp line.total _ _ l) high)))
+            (beside p W alike (inl (from, under)))
+      ]
+      | inr over ↦ elim (cases line.cmp line.total p e) [
+        | inl upto ↦
+            both_ways
+            (made.inside p W alike (le_trans line.cmp line.total _ _ _ low
+            (le_trans line.cmp line.total _ _ _ (lt_le line.cmp line.total _ _ l) over)) upto)
+            (beside p W alike (inr (over, upto)))
+        | inr above ↦ made.outside p W alike (inr above)
+      ]
+    ];
+  }
 
   pub places_between_are_unbound : (items front behind : List X) (c d : L)
       → IsLeft line items front c → IsRight line items behind d → Lt line.cmp c d
       → IsUnbound line items (front ++ behind) c d
-  places_between_are_unbound items front behind c d left right l = record {
-    chain = join_apart line front behind c d l left.chain right.chain left.ends right.starts;
-    inside = λ p W from upto h. elim (any_split _ front behind h) [
-      | inl k ↦ none_above line p c W front from left.ends k
-      | inr k ↦ none_below line p d W behind upto right.starts k
-    ];
-    outside = λ p W alike where_. elim where_ [
-      | inl below ↦ (
-        λ h. (left.holds p W alike below).0
-            (only_first (none_below line p d W behind
-            (lt_trans line.cmp line.total _ _ _ below l) right.starts)
-            (any_split _ front behind h)),
-        λ h. any_left _ front behind ((left.holds p W alike below).1 h),
-      )
-      | inr above ↦ (
-        λ h. (right.holds p W alike above).0
-            (only_second (none_above line p c W front
-            (le_trans line.cmp line.total _ _ _ (lt_le line.cmp line.total _ _ l) above) left.ends)
-            (any_split _ front behind h)),
-        λ h. any_right _ front behind ((right.holds p W alike above).1 h),
-      )
-    ];
-  }
+  places_between_are_unbound items front behind c d left right l =
+      places_between_hold items front [] behind c d left right l
+      (join_apart line front behind c d l left.chain right.chain left.ends right.starts) tt tt
 
-  bound_follows : (m : X) (ys : List X) (e : L) (v : V) → Le line.cmp (line.hi m) e
+  pub trailing_follows : (m : X) (ys : List X) (e : L) (v : V) → Le line.cmp (line.hi m) e
       → Le line.cmp e (line.hi m) → line.same (line.value m) v ≡ true → IsChain line ys
       → Trailing line e v ys → Follows line m ys
-  bound_follows m [] e v h k s chain trails = tt
-  bound_follows m (y ∷ ys) e v h k s chain trails = (
+  trailing_follows m [] e v h k s chain trails = tt
+  trailing_follows m (y ∷ ys) e v h k s chain trails = (
     (
       le_trans line.cmp line.total _ _ _ h trails.0.0,
       λ q t. trails.0.1 (le_trans line.cmp line.total _ _ _ q h)
@@ -169,108 +213,46 @@ module _ {L V X : Type 0} (line : Line L V X) where
     chain,
   )
 
-  pub places_between_are_bound : (items front behind : List X) (m : X) (c d s e : L) (v : V)
-      → IsLeftOf line items front c s v → IsRightOf line items behind d e v → Lt line.cmp c d
-      → line.cmp (line.lo m) s ≡ Equal → line.cmp (line.hi m) e ≡ Equal
-      → line.same (line.value m) v ≡ true → IsBoundTo line items (front ++ m ∷ behind) c d v
-  places_between_are_bound items front behind m c d s e v left right l at_lo at_hi alike_value =
-      let value_back = same_is_symmetric line (line.value m) v alike_value in
-      let s_low = eq_le line.cmp line.total _ _ at_lo in
-      let s_high = eq_ge line.cmp line.total _ _ at_lo in
-      let e_low = eq_le line.cmp line.total _ _ at_hi in
-      let e_high = eq_ge line.cmp line.total _ _ at_hi in
+  -- the new item is all that the hull holds
+  pub places_between_are_bound : (items front behind : List X) (m : X) (c d : L) (v : V)
+      → IsLeftOf line items front c (line.lo m) v → IsRightOf line items behind d (line.hi m) v
+      → Lt line.cmp c d → line.same (line.value m) v ≡ true
+      → IsBoundTo line items (front ++ m ∷ behind) c d v
+  places_between_are_bound items front behind m c d v left right l alike_value =
+      let high = le_trans line.cmp line.total _ _ _ (lt_le line.cmp line.total _ _ l) right.above in
       let good : Lt line.cmp (line.lo m) (line.hi m) =
-      le_lt_trans line.cmp line.total _ _ _ (le_trans line.cmp line.total _ _ _ s_low left.below)
-      (lt_le_trans line.cmp line.total _ _ _ l
-      (le_trans line.cmp line.total _ _ _ right.above e_high)) in
-      let ends : Every (λ x. Le line.cmp (line.hi x) c) front =
-      every_weaker _ _ front (λ z h.
-      le_trans line.cmp line.total _ _ _ h.0 left.below) left.leads in
-      let starts : Every (λ x. Le line.cmp d (line.lo x)) behind =
-      every_weaker _ _ behind (λ z h.
-      le_trans line.cmp line.total _ _ _ right.above h.0) right.trails in
-      let leads : Leading line (line.lo m) (line.value m) front =
-      every_weaker _ _ front (λ z h. (
-        le_trans line.cmp line.total _ _ _ h.0 s_high,
-        λ k t. h.1 (le_trans line.cmp line.total _ _ _ s_high k)
-            (line.equal.congr (line.value z) (line.value m) v t ∙ alike_value),
-      )) left.leads in
-      record {
-        chain =
-            chains_join line front m behind left.chain
-            (good, bound_follows m behind e v e_low e_high alike_value right.chain right.trails)
-            leads;
-        inside = λ p W alike from upto. (
-          λ h.
-              elim (only_second (none_above line p c W front from ends)
-              (any_split _ front (m ∷ behind) h)) [
-                | inl k ↦ alike (line.value m) v alike_value k.1
-                | inr k ↦ absurd (none_below line p d W behind upto starts k)
-              ],
-          λ w. any_right _ front (m ∷ behind)
-              (inl (
-                (
-                  le_trans line.cmp line.total _ _ _
-                      (le_trans line.cmp line.total _ _ _ s_low left.below) from,
-                  lt_le_trans line.cmp line.total _ _ _ upto
-                      (le_trans line.cmp line.total _ _ _ right.above e_high),
-                ),
-                alike v (line.value m) value_back w,
-              )),
-        );
-        outside = λ p W alike where_. elim where_ [
-          | inl below ↦ (
-            λ h. (left.holds p W alike below).0 (elim (any_split _ front (m ∷ behind) h) [
-              | inl k ↦ inl k
-              | inr k ↦ let held =
-                  only_first (none_below line p d W behind
-                  (lt_trans line.cmp line.total _ _ _ below l) starts) k in inr (
-                    le_trans line.cmp line.total _ _ _ s_high held.0.0,
-                    alike (line.value m) v alike_value held.1,
-                  )
-            ]),
-            λ h. elim ((left.holds p W alike below).1 h) [
-              | inl k ↦ any_left _ front (m ∷ behind) k
-              | inr k ↦
-                  any_right _ front (m ∷ behind)
-                  (inl (
-                    (
-                      le_trans line.cmp line.total _ _ _ s_low k.0,
-                      lt_le_trans line.cmp line.total _ _ _ below
-                          (le_trans line.cmp line.total _ _ _ (le_trans line.cmp line.total _ _ _
-                          (lt_le line.cmp line.total _ _ l) right.above) e_high),
-                    ),
-                    alike v (line.value m) value_back k.1,
-                  ))
-            ],
-          )
-          | inr above ↦ (
-            λ h. (right.holds p W alike above).0
-                (elim
-                (only_second (none_above line p c W front
-                (le_trans line.cmp line.total _ _ _ (lt_le line.cmp line.total _ _ l) above) ends)
-                (any_split _ front (m ∷ behind) h)) [
-                  | inl k ↦
-                      inr (
-                        lt_le_trans line.cmp line.total _ _ _ k.0.1 e_low,
-                        alike (line.value m) v alike_value k.1,
-                      )
-                  | inr k ↦ inl k
-                ]),
-            λ h. any_right _ front (m ∷ behind) (elim ((right.holds p W alike above).1 h) [
-              | inl k ↦ inr k
-              | inr k ↦
-                  inl (
-                    (
-                      le_trans line.cmp line.total _ _ _ s_low
-                          (le_trans line.cmp line.total _ _ _ left.below
-                          (le_trans line.cmp line.total _ _ _
-                          (lt_le line.cmp line.total _ _ l) above)),
-                      lt_le_trans line.cmp line.total _ _ _ k.0 e_high,
-                    ),
-                    alike v (line.value m) value_back k.1,
-                  )
-            ]),
-          )
-        ];
-      }
+      le_lt_trans line.cmp line.total _ _ _ left.below
+      (lt_le_trans line.cmp line.total _ _ _ l right.above) in
+      let chain =
+      chains_join line front m behind left.left.chain (
+        good,
+        trailing_follows m behind (line.hi m) v (le_refl line.cmp line.total (line.hi m))
+            (le_refl line.cmp line.total (line.hi m)) alike_value right.right.chain right.trails,
+      )
+      (leading_like line front m (line.lo m) v left.leads
+      (tied_itself line.total (line.lo m)) alike_value) in
+      let made =
+      places_between_hold items front (m ∷ []) behind (line.lo m) (line.hi m) left.left right.right
+      good chain (le_refl line.cmp line.total (line.lo m), tt)
+      (le_refl line.cmp line.total (line.hi m), tt) in
+      let own : (p : L) (W : V → Bool) → Respects line W → Held line p m
+      → Has line W p (m ∷ []) ↔ (W v ≡ true) =
+      λ p W alike held. held_alone line [] m [] p W v (good, tt) held alike alike_value in
+      hull items (front ++ m ∷ behind) c d (line.lo m) (line.hi m)
+      (λ p W. Has line W p (m ∷ [])) (λ p W. W v ≡ true) left.below l right.above made
+      (λ p W alike from upto. own p W alike (
+        le_trans line.cmp line.total _ _ _ left.below from,
+        lt_le_trans line.cmp line.total _ _ _ upto right.above,
+      ))
+      (λ p W alike where_. elim where_ [
+        | inl k ↦
+            both_ways (left.joined p W alike k.0 k.1)
+            (own p W alike (k.0, lt_le_trans line.cmp line.total _ _ _ k.1 high))
+        | inr k ↦
+            both_ways (right.joined p W alike k.0 k.1)
+            (own p W alike (
+              le_trans line.cmp line.total _ _ _ left.below
+                  (le_trans line.cmp line.total _ _ _ (lt_le line.cmp line.total _ _ l) k.0),
+              k.1,
+            ))
+      ])

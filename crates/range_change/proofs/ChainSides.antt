@@ -1,10 +1,10 @@
 -- What stands on each side of a range that is cut out of a chain.
-use Rattle.std.proofs.Common.{◌≡◌, ◌∙◌, Bool, true, List, [], ◌∷◌, ◌++◌, ◌⊎◌, inl, inr}
+use Rattle.std.proofs.Common.{◌≡◌, ◌∙◌, Bool, true, List, [], ◌∷◌, ◌++◌, ◌⊎◌, ◌↔◌, inl, inr}
 use Rattle.std.specs.declared.cmp.Ordering.TheVariants.{Equal}
 use Rattle.range_algebra.specs.Intervals.{Le, Lt, Every}
 use Rattle.range_algebra.specs.Orders.{lt_le, eq_le, eq_ge, le_trans, lt_not_le, lt_le_trans, le_lt_trans}
 use Rattle.range_algebra.proofs.Lists.{any_left, any_right, any_split, any_none, every_weaker, every_append}
-use Rattle.range_change.specs.Chains.{Line, IsChain, Has, Leading, IsLeft, IsRight}
+use Rattle.range_change.specs.Chains.{Line, IsChain, Has, Held, Respects, Leading, IsLeft, IsRight}
 use Rattle.range_change.proofs.Chains.{same_is_symmetric, chain_left, chain_right, follows_above, chain_before, chains_join, follows_like}
 
 pub only_first : {A B : Type 0} → (B → ⊥) → A ⊎ B → A
@@ -30,6 +30,55 @@ module _ {L V X : Type 0} (line : Line L V X) where
       any_none _ (λ x. Le line.cmp (line.hi x) d) xs all
       (λ x le held. lt_not_le line.cmp line.total _ _ held.0.1
       (le_trans line.cmp line.total _ _ _ le l)) h
+
+  -- a place that an item of a chain holds has that item's value and no other
+  pub held_alone : (front : List X) (x : X) (rest : List X) (p : L) (W : V → Bool) (v : V)
+      → IsChain line (front ++ x ∷ rest) → Held line p x → Respects line W
+      → line.same (line.value x) v ≡ true → Has line W p (front ++ x ∷ rest) ↔ (W v ≡ true)
+  held_alone front x rest p W v chain held alike alike_value =
+      let whole = chain_right line front (x ∷ rest) chain in
+      let above = follows_above line x rest whole.1 in
+      let ends : Every (λ z. Le line.cmp (line.hi z) (line.lo x)) front =
+      every_weaker _ _ front (λ z h. h.0) (chain_before line front x rest chain) in (
+        λ h.
+            elim (only_second (none_above p (line.lo x) W front held.0 ends)
+            (any_split _ front (x ∷ rest) h)) [
+              | inl k ↦ alike (line.value x) v alike_value k.1
+              | inr k ↦ absurd (none_below p (line.hi x) W rest held.1 above k)
+            ],
+        λ w. any_right _ front (x ∷ rest)
+            (inl (
+              held,
+              alike v (line.value x) (same_is_symmetric line (line.value x) v alike_value) w,
+            )),
+      )
+
+  -- an item in the place of another with an equal value, at a place that it holds too
+  pub like_item : (front others behind beyond : List X) (x y : X) (p : L) (W : V → Bool)
+      → Respects line W → line.same (line.value x) (line.value y) ≡ true
+      → (Held line p x → Held line p y) → (Has line W p front → Has line W p others)
+      → (Has line W p behind → Has line W p beyond) → Has line W p (front ++ x ∷ behind)
+      → Has line W p (others ++ y ∷ beyond)
+  like_item front others behind beyond x y p W alike alike_value held left right h =
+      elim (any_split _ front (x ∷ behind) h) [
+        | inl k ↦ any_left _ others (y ∷ beyond) (left k)
+        | inr k ↦ any_right _ others (y ∷ beyond) (elim k [
+          | inl e ↦ inl (held e.0, alike (line.value x) (line.value y) alike_value e.1)
+          | inr e ↦ inr (right e)
+        ])
+      ]
+
+  -- what leads to an item leads to one that starts there with an equal value
+  pub leading_like : (front : List X) (m : X) (s : L) (v : V) → Leading line s v front
+      → line.cmp (line.lo m) s ≡ Equal → line.same (line.value m) v ≡ true
+      → Leading line (line.lo m) (line.value m) front
+  leading_like front m s v leads at alike_value =
+      let high = eq_ge line.cmp line.total _ _ at in
+      every_weaker _ _ front (λ z h. (
+        le_trans line.cmp line.total _ _ _ h.0 high,
+        λ k t. h.1 (le_trans line.cmp line.total _ _ _ high k)
+            (line.equal.congr (line.value z) (line.value m) v t ∙ alike_value),
+      )) leads
 
   -- a front that ends at the place at most, before what starts there at least
   pub left_whole : (front rest : List X) (c : L) → IsChain line (front ++ rest)
@@ -58,15 +107,10 @@ module _ {L V X : Type 0} (line : Line L V X) where
       let good : Lt line.cmp (line.lo y) (line.hi y) =
       le_lt_trans line.cmp line.total _ _ _ (eq_le line.cmp line.total _ _ at_lo)
       (lt_le_trans line.cmp line.total _ _ _ starts (eq_ge line.cmp line.total _ _ at_hi)) in
-      let before = chain_before line front x rest chain in
-      let leads : Leading line (line.lo y) (line.value y) front =
-      every_weaker _ _ front (λ z h. (
-        le_trans line.cmp line.total _ _ _ h.0 (eq_ge line.cmp line.total _ _ at_lo),
-        λ k s.
-            h.1 (le_trans line.cmp line.total _ _ _ (eq_ge line.cmp line.total _ _ at_lo) k)
-            (line.equal.congr (line.value z) (line.value y) (line.value x) s ∙ alike_value),
-      ))
-      before in
+      let value_back = same_is_symmetric line (line.value y) (line.value x) alike_value in
+      let leads =
+      leading_like front y (line.lo x) (line.value x) (chain_before line front x rest chain) at_lo
+      alike_value in
       record {
         chain =
             chains_join line front y [] (chain_left line front (x ∷ rest) chain) (good, tt) leads;
@@ -76,37 +120,21 @@ module _ {L V X : Type 0} (line : Line L V X) where
             le_trans line.cmp line.total _ _ _ h.0 (le_trans line.cmp line.total _ _ _
             (eq_le line.cmp line.total _ _ at_lo) (lt_le line.cmp line.total _ _ starts))) leads)
             (eq_le line.cmp line.total _ _ at_hi, tt);
-        holds = λ p W alike l. (
-          λ h. elim (any_split _ front (y ∷ []) h) [
-            | inl k ↦ any_left _ front (x ∷ rest) k
-            | inr k ↦ let held =
-                only_first (λ e. e) k in any_right _ front (x ∷ rest)
-                (inl (
-                  (
-                    le_trans line.cmp line.total _ _ _
-                        (eq_ge line.cmp line.total _ _ at_lo) held.0.0,
-                    lt_le_trans line.cmp line.total _ _ _ l reaches,
-                  ),
-                  alike (line.value y) (line.value x) alike_value held.1,
-                ))
-          ],
-          λ h. elim (any_split _ front (x ∷ rest) h) [
-            | inl k ↦ any_left _ front (y ∷ []) k
-            | inr k ↦ let held =
-                only_first (none_below p (line.hi x) W rest
-                (lt_le_trans line.cmp line.total _ _ _ l reaches) above) k in any_right
-                _ front (y ∷ [])
-                (inl (
-                  (
-                    le_trans line.cmp line.total _ _ _
-                        (eq_le line.cmp line.total _ _ at_lo) held.0.0,
+        holds = λ p W alike l. let inside =
+            lt_le_trans line.cmp line.total _ _ _ l reaches in (
+              like_item front front [] rest y x p W alike alike_value
+                  (λ h. (
+                    le_trans line.cmp line.total _ _ _ (eq_ge line.cmp line.total _ _ at_lo) h.0,
+                    inside,
+                  ))
+                  (λ k. k) (λ k. absurd k),
+              like_item front front rest [] x y p W alike value_back
+                  (λ h. (
+                    le_trans line.cmp line.total _ _ _ (eq_le line.cmp line.total _ _ at_lo) h.0,
                     lt_le_trans line.cmp line.total _ _ _ l (eq_ge line.cmp line.total _ _ at_hi),
-                  ),
-                  alike (line.value x) (line.value y)
-                      (same_is_symmetric line (line.value y) (line.value x) alike_value) held.1,
-                ))
-          ],
-        );
+                  ))
+                  (λ k. k) (none_below p (line.hi x) W rest inside above),
+            );
       }
 
   -- a back that starts at the place at least, after what ends there at most
@@ -146,35 +174,23 @@ module _ {L V X : Type 0} (line : Line L V X) where
           every_weaker _ _ behind (λ z h.
               le_trans line.cmp line.total _ _ _ d_low h) above,
         );
-        holds = λ p W alike l. (
-          λ h. any_right _ rest (x ∷ behind) (elim h [
-            | inl k ↦
-                inl (
-                  (
-                    le_trans line.cmp line.total _ _ _ reaches l,
-                    lt_le_trans line.cmp line.total _ _ _ k.0.1
-                        (eq_le line.cmp line.total _ _ at_hi),
-                  ),
-                  alike (line.value y) (line.value x) alike_value k.1,
-                )
-            | inr k ↦ inr k
-          ]),
-          λ h.
-              elim (only_second (none_above p d W rest l
-              (every_weaker _ _ rest (λ z e.
-              le_trans line.cmp line.total _ _ _ e.0 reaches) before))
-              (any_split _ rest (x ∷ behind) h)) [
-                | inl k ↦
-                    inl (
-                      (
-                        le_trans line.cmp line.total _ _ _ (eq_le line.cmp line.total _ _ at_lo) l,
-                        lt_le_trans line.cmp line.total _ _ _ k.0.1
-                            (eq_ge line.cmp line.total _ _ at_hi),
-                      ),
-                      alike (line.value x) (line.value y)
-                          (same_is_symmetric line (line.value y) (line.value x) alike_value) k.1,
-                    )
-                | inr k ↦ inr k
-              ],
-        );
+        holds = λ p W alike l. let inside =
+            le_trans line.cmp line.total _ _ _ reaches l in (
+              like_item [] rest behind behind y x p W alike alike_value
+                  (λ h. (
+                    inside,
+                    lt_le_trans line.cmp line.total _ _ _ h.1 (eq_le line.cmp line.total _ _ at_hi),
+                  ))
+                  (λ k. absurd k) (λ k. k),
+              like_item rest [] behind behind x y p W alike
+                  (same_is_symmetric line (line.value y) (line.value x) alike_value)
+                  (λ h. (
+                    le_trans line.cmp line.total _ _ _ (eq_le line.cmp line.total _ _ at_lo) l,
+                    lt_le_trans line.cmp line.total _ _ _ h.1 (eq_ge line.cmp line.total _ _ at_hi),
+                  ))
+                  (none_above p d W rest l
+                  (every_weaker _ _ rest (λ z e.
+                  le_trans line.cmp line.total _ _ _ e.0 reaches) before))
+                  (λ k. k),
+            );
       }

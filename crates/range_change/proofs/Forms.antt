@@ -1,5 +1,5 @@
 -- What is stored and bound, by places.
-use Rattle.std.proofs.Common.{◌≡◌, refl, sym, ◌∙◌, ◌↔◌, Option, Some, None, Bool, true, IsTrue, List, [], ◌∷◌, ◌⊎◌, inl, inr}
+use Rattle.std.proofs.Common.{◌≡◌, ℕ, take, drop, refl, sym, ◌∙◌, ◌↔◌, Option, Some, None, Bool, true, IsTrue, List, [], ◌∷◌, ◌⊎◌, inl, inr}
 use Rattle.std.specs.declared.ops.Bound.{Bound}
 use Rattle.std.specs.declared.ops.Bound.TheVariants.{Included, Excluded, Unbounded}
 use Rattle.std.specs.declared.cmp.Ordering.{Ordering}
@@ -23,6 +23,7 @@ use Rattle.range_algebra.specs.Cuts.{past, lower, upper}
 use Rattle.range_change.specs.Stored.{IsStored}
 use Rattle.range_change.specs.Bindings.{IsBound, BindsTo, Binds, IsSomeOf, IsBoundAfter, IsUnboundAfter}
 use Rattle.range_change.proofs.Listed.{IsListed, stored_list_is_listed, stored_by}
+use Rattle.range_algebra.proofs.Lists.{list_is_take_and_drop, every_left, every_right}
 use Rattle.range_algebra.proofs.Places.{reaching_is_before_past, flipped_bound_is_past, unbounded_end, held_between}
 
 module _ {K : Type 0} (order : KeyOrder K) (lawful : IsLawful order) where
@@ -226,13 +227,13 @@ module _ {K : Type 0} (order : KeyOrder K) (lawful : IsLawful order) where
         → (b : Option V) → Binds order same after k b ↔ (b ≡ None)
     inside_unbound before after r k known key changed from upto (Some w) = (
       λ h.
-          absurd (changed.inside (Beside k At) (λ u. same u w) from upto
+          absurd ((changed.inside (Beside k At) (λ u. same u w) (respects_same w) from upto).0
           ((binds_hold after k w known key).0 h)),
       λ h. absurd (cc),
     )
     inside_unbound before after r k known key changed from upto None = (
       λ h. refl,
-      λ h e. changed.inside (Beside k At) (λ u. true) from upto
+      λ h e. (changed.inside (Beside k At) (λ u. true) respects_any from upto).0
           ((bound_hold after k known key).0 e),
     )
 
@@ -249,3 +250,13 @@ module _ {K : Type 0} (order : KeyOrder K) (lawful : IsLawful order) where
           (λ W alike. changed.outside (Beside k At) W alike
           (unheld_lies_outside r k known_range key h));
     }
+
+    pub known_take : (items : List (Item (AnyRange K) V)) (n : ℕ)
+        → Known items → Known (take n items)
+    known_take items n known =
+        every_left _ (take n items) (drop n items) (rw (list_is_take_and_drop items n) at known)
+
+    pub known_drop : (items : List (Item (AnyRange K) V)) (n : ℕ)
+        → Known items → Known (drop n items)
+    known_drop items n known =
+        every_right _ (take n items) (drop n items) (rw (list_is_take_and_drop items n) at known)

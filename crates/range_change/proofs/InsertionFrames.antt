@@ -1,30 +1,32 @@
 -- Which items give way to a range, and what stands in their place.
 use Rattle.std.proofs.Common.{◌≡◌, ℕ, zero, suc, ◌+◌, ◌-◌, ◌<◌, ◌≤◌, List, [], ◌∷◌, ◌++◌, length, take, drop, get_or, refl, ap, sym, ◌∙◌, arith, subst, Option, Some, None, Bool, true, IsTrue, ◌⊎◌, inl, inr, length-append, length-drop, append_assoc}
-use Rattle.std.proofs.lemmas.List.{append-nil, get_or-drop, get_or-take, drop-take, drop-drop, take_more, length-take-le}
+use Rattle.std.proofs.lemmas.List.{append-nil, get_or-drop, get_or-take, drop-take, drop-drop, length-take-le}
 use Rattle.std.specs.Cmp.{IsEquivalence}
 use Rattle.std.specs.Option.{unwrap_or}
 use Rattle.std.specs.declared.ops.Bound.{Bound}
 use Rattle.range_keys.specs.Order.{KeyOrder, IsLawful}
 use Rattle.range_algebra.specs.declared.any.AnyRange.{AnyRange}
 use Rattle.range_algebra.specs.Range.{IsKnownRange}
-use Rattle.range_algebra.specs.Intervals.{Lt, Any, Every}
-use Rattle.range_change.proofs.PlaceOrder.{lt_trans, lt_not_le, le_lt_trans, PLe, PLt}
+use Rattle.range_algebra.specs.Intervals.{Any, Every}
+use Rattle.range_change.proofs.PlaceOrder.{lt_trans, lt_not_le, le_lt_trans, PLt}
 use Rattle.range_change.specs.Chains.{line_of}
-use Rattle.range_change.proofs.Chains.{chain_before}
+use Rattle.range_change.proofs.Chains.{chain_before, chain_left}
 use Rattle.range_algebra.specs.Cuts.{upper}
-use Rattle.range_algebra.proofs.Lists.{list_is_take_and_drop, parts_at, every_at, any_left, any_right, any_none, every_weaker, every_append, every_left, every_right}
-use Rattle.range_change.proofs.RangeSides.{element_at}
+use Rattle.range_algebra.proofs.Lists.{list_is_take_and_drop, every_at, any_left, any_right, any_none, every_weaker, every_append, every_left, every_right}
+use Rattle.range_change.proofs.CoveredPlaces.{chained_items_have_places}
+use Rattle.range_change.proofs.ItemPlaces.{element_at, element_at_is_read, listed_at, upto_item}
 use Rattle.range_store.specs.declared.storage.Item.{Item}
-use Rattle.range_change.specs.Stored.{item_lower, item_upper}
+use Rattle.range_change.specs.Stored.{item_lower}
 use Rattle.range_algebra.specs.Relations.{LiesBefore}
 use Rattle.range_change.specs.Lookups.{MeetsSome, Overlap}
 use Rattle.range_change.specs.Window.{IsWindow, option_items}
 use Rattle.range_change.specs.declared.window.Window.{Window}
 use Rattle.range_change.specs.Frames.{IsStartOf, IsEndOf, HasValue, IsNewItem, IsInsertionFrame, IsPart, IsRemovalFrame}
+use Rattle.range_change.specs.Borders.{joined_item}
 use Rattle.range_change.specs.Plans.{IsLeftFrame, IsRightFrame}
-use Rattle.range_change.proofs.Forms.{places, before_is, Chained, stored_known, stored_chain}
+use Rattle.range_change.proofs.Forms.{before_is, stored_known, stored_chain, known_take, known_drop}
+use Rattle.range_change.proofs.Lengths.{one_item}
 use Rattle.range_change.proofs.Windows.{every_both}
-use Rattle.range_change.proofs.CutOut.{known_take, known_drop}
 
 any_at : {X : Type 0} (P : X → Type 0) (xs : List X) (k : ℕ) (d : X) → k < length xs
     → P (get_or xs k d) → Any P xs
@@ -77,78 +79,40 @@ pub reassociate_pieces : {X : Type 0} (a b c d e : List X)
     → a ++ b ++ c ++ d ++ e ≡ a ++ (b ++ c ++ d) ++ e
 reassociate_pieces a b c d e = simp append_assoc
 
-item_is : {K V : Type 0} (m : Item (AnyRange K) V) (r : AnyRange K) (v : V) → m.key.start ≡ r.start
-    → m.key.end ≡ r.end → m.value ≡ v → m ≡ record { key = r; value = v }
-item_is {K} {V} m r v e f h =
-    let by_start : Bound K → Item (AnyRange K) V =
-    λ b. record { key = record { start = b; end = m.key.end }; value = m.value } in
-    let by_end : Bound K → Item (AnyRange K) V =
-    λ b. record { key = record { start = r.start; end = b }; value = m.value } in
-    let by_value : V → Item (AnyRange K) V = λ u. record { key = r; value = u } in
-    ap by_start e ∙ (ap by_end f ∙ ap by_value h)
-
 module _ {K : Type 0} {order : KeyOrder K} (lawful : IsLawful order) {V : Type 0}
     {same : V → V → Bool} (equal : IsEquivalence same) where
   abbrev Stored : Type 0
   Stored = Item (AnyRange K) V
 
-  start_more : (run more : List (Item (AnyRange K) V)) (r : AnyRange K) (b : Bound K)
-      → IsStartOf order run r b → IsStartOf order (run ++ more) r b
-  start_more run more r b (inl h) = inl h
-  start_more run more r b (inr (inl h)) = inr (inl (any_left (λ i. b ≡ i.key.start) run more h))
-  start_more run more r b (inr (inr h)) = inr (inr h)
+  start_within : (run wider : List (Item (AnyRange K) V))
+      → ((Q : Item (AnyRange K) V → Type 0) → Any Q run → Any Q wider) → (r : AnyRange K)
+      (b : Bound K) → IsStartOf order run r b → IsStartOf order wider r b
+  start_within run wider inside r b h = elim h [
+    | inl own ↦ inl own
+    | inr other ↦ inr (elim other [ inl k ↦ inl (inside (λ i. b ≡ i.key.start) k) | inr k ↦ inr k ])
+  ]
 
-  start_later : (more run : List (Item (AnyRange K) V)) (r : AnyRange K) (b : Bound K)
-      → IsStartOf order run r b → IsStartOf order (more ++ run) r b
-  start_later more run r b (inl h) = inl h
-  start_later more run r b (inr (inl h)) = inr (inl (any_right (λ i. b ≡ i.key.start) more run h))
-  start_later more run r b (inr (inr h)) = inr (inr h)
+  end_within : (run wider : List (Item (AnyRange K) V))
+      → ((Q : Item (AnyRange K) V → Type 0) → Any Q run → Any Q wider) → (r : AnyRange K)
+      (b : Bound K) → IsEndOf order run r b → IsEndOf order wider r b
+  end_within run wider inside r b h = elim h [
+    | inl own ↦ inl own
+    | inr other ↦ inr (elim other [ inl k ↦ inl (inside (λ i. b ≡ i.key.end) k) | inr k ↦ inr k ])
+  ]
 
-  end_more : (run more : List (Item (AnyRange K) V)) (r : AnyRange K) (b : Bound K)
-      → IsEndOf order run r b → IsEndOf order (run ++ more) r b
-  end_more run more r b (inl h) = inl h
-  end_more run more r b (inr (inl h)) = inr (inl (any_left (λ i. b ≡ i.key.end) run more h))
-  end_more run more r b (inr (inr h)) = inr (inr h)
-
-  end_later : (more run : List (Item (AnyRange K) V)) (r : AnyRange K) (b : Bound K)
-      → IsEndOf order run r b → IsEndOf order (more ++ run) r b
-  end_later more run r b (inl h) = inl h
-  end_later more run r b (inr (inl h)) = inr (inl (any_right (λ i. b ≡ i.key.end) more run h))
-  end_later more run r b (inr (inr h)) = inr (inr h)
-
-  value_more : (run more : List (Item (AnyRange K) V)) (v u : V)
-      → IsTrue (same u v) ⊎ HasValue order same run u
-      → IsTrue (same u v) ⊎ HasValue order same (run ++ more) u
-  value_more run more v u (inl h) = inl h
-  value_more run more v u (inr h) = inr (any_left (λ i. IsTrue (same u i.value)) run more h)
-
-  value_later : (more run : List (Item (AnyRange K) V)) (v u : V)
-      → IsTrue (same u v) ⊎ HasValue order same run u
-      → IsTrue (same u v) ⊎ HasValue order same (more ++ run) u
-  value_later more run v u (inl h) = inl h
-  value_later more run v u (inr h) = inr (any_right (λ i. IsTrue (same u i.value)) more run h)
-
-  made_more : (run more made : List (Item (AnyRange K) V)) (r : AnyRange K) (v : V)
-      → Every (IsNewItem order same run r v) made
-      → Every (IsNewItem order same (run ++ more) r v) made
-  made_more run more made r v all =
+  -- what is put in the place of a run is put so in that of a wider one
+  made_within : (run wider made : List (Item (AnyRange K) V))
+      → ((Q : Item (AnyRange K) V → Type 0) → Any Q run → Any Q wider) → (r : AnyRange K) (v : V)
+      → Every (IsNewItem order same run r v) made → Every (IsNewItem order same wider r v) made
+  made_within run wider made inside r v all =
       every_weaker _ _ made (λ j h.
       record {
-        start = start_more run more r j.key.start h.start;
-        end = end_more run more r j.key.end h.end;
-        value = value_more run more v j.value h.value;
-      })
-      all
-
-  made_later : (more run made : List (Item (AnyRange K) V)) (r : AnyRange K) (v : V)
-      → Every (IsNewItem order same run r v) made
-      → Every (IsNewItem order same (more ++ run) r v) made
-  made_later more run made r v all =
-      every_weaker _ _ made (λ j h.
-      record {
-        start = start_later more run r j.key.start h.start;
-        end = end_later more run r j.key.end h.end;
-        value = value_later more run v j.value h.value;
+        start = start_within run wider inside r j.key.start h.start;
+        end = end_within run wider inside r j.key.end h.end;
+        value = elim h.value [
+          | inl e ↦ inl e
+          | inr k ↦ inr (inside (λ i. IsTrue (same j.value i.value)) k)
+        ];
       })
       all
 
@@ -169,13 +133,6 @@ module _ {K : Type 0} {order : KeyOrder K} (lawful : IsLawful order) {V : Type 0
   no_rest run r v (Some y) all made apart =
       absurd (apart.0 (has_equal run y.value v made.0.value all))
 
-  front_items_have_places : (xs ys : List (Item (AnyRange K) V))
-      → Chained order lawful same equal (xs ++ ys)
-      → Every (λ i. PLt lawful (item_lower order i) (item_upper order i)) xs
-  front_items_have_places [] ys h = tt
-  front_items_have_places (x ∷ []) ys h = (h.0, tt)
-  front_items_have_places (x ∷ y ∷ xs) ys h = (h.0, front_items_have_places (y ∷ xs) ys h.1.1)
-
   module _ {P : Type 0} {is_good : P → Type 0} {rank : P → ℕ} {items : List (Item (AnyRange K) V)}
       {r : AnyRange K} {w : Window P} {place : ℕ}
       (window : IsWindow order same is_good rank items r w place) where
@@ -187,40 +144,40 @@ module _ {K : Type 0} {order : KeyOrder K} (lawful : IsLawful order) {V : Type 0
         (known_drop order lawful same equal items place
         (stored_known order lawful same equal items window.stored)) window.above)
 
-    window_items_reach_range : (d : Item (AnyRange K) V) → 0 < w.count
+    window_items_reach_range : 0 < w.count
         → Every (λ i. LiesBefore order r i.key → ⊥) (take (place + w.count) items)
-    window_items_reach_range d some =
-        let cmp = places order lawful in
-        let chain = stored_chain order lawful same equal items window.stored in
+    window_items_reach_range some =
         let all = stored_known order lawful same equal items window.stored in
         let end = place + w.count in
-        let last = get_or items (end - 1) d in
-        let next : end - 1 + 1 ≡ end = omega (arith, some) in
-        let within : end - 1 < length items = omega (arith, some, window.in_range) in
-        let split = parts_at items (end - 1) d within in
-        let ordered =
-        chain_before (line_of order lawful same equal) (take (end - 1) items) last
-        (drop (end - 1 + 1) items) (rw split at chain) in
-        let meets = window.meets d some in
-        let full =
-        front_items_have_places (take (end - 1) items) (last ∷ drop (end - 1 + 1) items)
-        (rw split at chain) in
+        let k = end - 1 in
+        let within : k < length items = omega (arith, some, window.in_range) in
+        let x = element_at items k within in
+        let read = element_at_is_read items k within x in
+        let whole =
+        rw (listed_at items k x within read) at (stored_chain order lawful same equal items
+        window.stored) in
+        let front =
+        every_both _ _ (take k items)
+        (chain_before (line_of order lawful same equal) (take k items) x (drop (k + 1) items) whole)
+        (chained_items_have_places order lawful same equal (take k items)
+        (chain_left (line_of order lawful same equal) (take k items) (x ∷ drop (k + 1) items)
+        whole)) in
+        let starts : Every (λ i. PLt lawful (item_lower order i) (upper order r)) (take end items) =
+        rw (upto_item items k end x (omega (arith, some)) within read)
+        (every_append _ (take k items) (x ∷ [])
+        (every_weaker _ _ (take k items) (λ i h. lt_trans lawful _ _ _ h.1
+        (le_lt_trans lawful _ _ _ h.0.0 (rw (← read) at (window.meets x some)))) front)
+        (rw (← read) at (window.meets x some), tt)) in
         every_weaker _ _ (take end items) (λ i h k. lt_not_le lawful _ _ h.1
         ((before_is order lawful r.end i.key.start window.known.1 h.0.0).0 k))
         (every_both (λ i. IsKnownRange order i.key) _ (take end items)
-        (known_take order lawful same equal items end all)
-        (subst (λ (ys : List (Item (AnyRange K) V)). Every
-        (λ i. Lt cmp (item_lower order i) (upper order r)) ys)
-        (sym (take_more items (end - 1) d within) ∙ ap (λ n. take n items) next)
-        (every_append _ (take (end - 1) items) (last ∷ [])
-        (every_weaker _ _ (take (end - 1) items) (λ i h. lt_trans lawful _ _ _ h.1
-        (le_lt_trans lawful _ _ _ h.0.0 meets)) (every_both _ _ (take (end - 1) items) ordered full))
-        (meets, tt))))
+        (known_take order lawful same equal items end all) starts)
 
     -- each item of the window meets the range
-    pub window_meets : (d : Item (AnyRange K) V) → 0 < w.count
+    meets_by : (n : ℕ) → w.count ≡ n
         → Every (λ i. Overlap order i.key r) (take w.count (drop place items))
-    window_meets d some =
+    meets_by zero e = rw e tt
+    meets_by (suc n) e =
         let before =
         every_left (λ i. LiesBefore order i.key r → ⊥) (take w.count (drop place items))
         (drop w.count (drop place items))
@@ -229,15 +186,9 @@ module _ {K : Type 0} {order : KeyOrder K} (lawful : IsLawful order) {V : Type 0
         let behind =
         every_right (λ i. LiesBefore order r i.key → ⊥) (take place front)
         (drop place front) (rw (list_is_take_and_drop front place) at
-        (window_items_reach_range d some)) in
+        (window_items_reach_range (omega (arith, e)))) in
         every_both (λ i. LiesBefore order i.key r → ⊥) (λ i. LiesBefore order r i.key → ⊥)
         (take w.count (drop place items)) before (rw (drop-take place w.count items) at behind)
-
-    meets_by : (n : ℕ) → w.count ≡ n
-        → Every (λ i. Overlap order i.key r) (take w.count (drop place items))
-    meets_by zero e = rw e tt
-    meets_by (suc n) e =
-        window_meets (element_at items place (omega (arith, e, window.in_range))) (omega arith)
 
     pub all_meet : Every (λ i. Overlap order i.key r) (take w.count (drop place items))
     all_meet = meets_by w.count refl
@@ -263,29 +214,6 @@ module _ {K : Type 0} {order : KeyOrder K} (lawful : IsLawful order) {V : Type 0
         any_none (λ i. Overlap order i.key r) (λ i. Overlap order i.key r → ⊥) items none
         (λ i no met. no met) (meets_some some)
 
-    -- an empty window leaves no item that meets the range
-    pub none_meets : w.count ≡ 0 → Every (λ i. Overlap order i.key r → ⊥) items
-    none_meets none =
-        let all = stored_known order lawful same equal items window.stored in
-        let at : place + w.count ≡ place = omega (arith, none) in
-        let behind : Every (λ i. PLe lawful (upper order r) (item_lower order i))
-        (drop place items) = rw at at window.behind in
-        let before =
-        every_weaker _ _ (take place items)
-        (λ i h m.
-        m.0 ((before_is order lawful i.key.end r.start h.0.1 window.known.0).1 h.1))
-        (every_both (λ i. IsKnownRange order i.key) _ (take place items)
-        (known_take order lawful same equal items place all) window.below) in
-        let after =
-        every_weaker _ _ (drop place items)
-        (λ i h m.
-        m.1 ((before_is order lawful r.end i.key.start window.known.1 h.0.0).1 h.1))
-        (every_both (λ i. IsKnownRange order i.key) _ (drop place items)
-        (known_drop order lawful same equal items place all) behind) in
-        rw (list_is_take_and_drop items place)
-        (every_append (λ i. Overlap order i.key r → ⊥) (take place items)
-        (drop place items) before after)
-
     -- nothing gives way to nothing
     pub not_cut : IsRemovalFrame order same items items r
     not_cut = record {
@@ -302,11 +230,10 @@ module _ {K : Type 0} {order : KeyOrder K} (lawful : IsLawful order) {V : Type 0
         → 0 < w.count →
         Every (IsPart order same (take w.count (drop place items)) r) (option_items left)
         → Every (IsPart order same (take w.count (drop place items)) r) (option_items right) →
-        length (option_items left) ≤ 1 → length (option_items right) ≤ 1 →
         new ≡ take place items ++ option_items left ++ [] ++ option_items right
         ++ drop (place + w.count) items →
         IsRemovalFrame order same items new r
-    cut_way new left right some made_left made_right few_left few_right list =
+    cut_way new left right some made_left made_right list =
         let met = take w.count (drop place items) in
         let size = run_size items place w.count window.in_range in
         record {
@@ -330,8 +257,8 @@ module _ {K : Type 0} {order : KeyOrder K} (lawful : IsLawful order) {V : Type 0
                   arith,
                   some,
                   size,
-                  few_left,
-                  few_right,
+                  one_item left,
+                  one_item right,
                   length-append (option_items left) (option_items right),
                 );
             whole = λ e. absurd (run_some items place w.count window.in_range some e);
@@ -339,19 +266,19 @@ module _ {K : Type 0} {order : KeyOrder K} (lawful : IsLawful order) {V : Type 0
           };
         }
 
-    pub insertion_frame : (new : List (Item (AnyRange K) V)) (v : V) (m : Item (AnyRange K) V)
-        (at end : ℕ)
+    pub insertion_frame : (new : List (Item (AnyRange K) V)) (v u : V) (at end : ℕ)
         (left right : Option (Item (AnyRange K) V)) (start finish : Option (Bound K)) →
         IsLeftFrame order same items r v place w.count at left start
         → IsRightFrame order same items r v place w.count end right finish →
         length (option_items left) + length (option_items right) ≤ w.count + 1 →
-        m.key.start ≡ unwrap_or start r.start → m.key.end ≡ unwrap_or finish r.end
-        → same m.value v ≡ true → (w.count ≡ 0 → m.value ≡ v) →
-        new ≡ take at items ++ option_items left ++ option_items (Some m) ++ option_items right
-        ++ drop end items →
+        same u v ≡ true → (w.count ≡ 0 → u ≡ v) →
+        new ≡ take at items ++ option_items left
+        ++ option_items (Some (joined_item (record { key = r; value = u }) start finish))
+        ++ option_items right ++ drop end items →
         IsInsertionFrame order same items new r v
-    insertion_frame new v m at end left right start finish on_left on_right few starts ends values
-        own_value list =
+    insertion_frame new v u at end left right start finish on_left on_right few values own_value
+        list =
+        let m : Item (AnyRange K) V = joined_item (record { key = r; value = u }) start finish in
         let met = take w.count (drop place items) in
         let run = on_left.extra ++ met ++ on_right.extra in
         let pieces = option_items left ++ option_items (Some m) ++ option_items right in
@@ -360,22 +287,22 @@ module _ {K : Type 0} {order : KeyOrder K} (lawful : IsLawful order) {V : Type 0
         append_assoc on_left.extra met on_right.extra in
         let middle : drop place items ≡ met ++ drop (place + w.count) items =
         parts_of items place w.count in
+        let on_start = λ (Q : Item (AnyRange K) V → Type 0) (h : Any Q (on_left.extra ++ met)).
+        any_left Q (on_left.extra ++ met) on_right.extra h in
         let made_left =
-        made_more (on_left.extra ++ met) on_right.extra
-        (option_items left) r v on_left.made in
+        made_within (on_left.extra ++ met) run (option_items left) on_start r v on_left.made in
         let made_right : Every (IsNewItem order same run r v) (option_items right) =
-        rw regroup (made_later on_left.extra (met ++ on_right.extra)
-        (option_items right) r v on_right.made) in
-        let own_end : IsEndOf order run r m.key.end =
-        rw (
-          regroup,
-          ends,
-        ) (end_later on_left.extra (met ++ on_right.extra) r
+        rw regroup (made_within (met ++ on_right.extra) (on_left.extra ++ (met ++ on_right.extra))
+        (option_items right) (λ Q h. any_right Q on_left.extra (met ++ on_right.extra) h) r v
+        on_right.made) in
+        let own_end : IsEndOf order run r (unwrap_or finish r.end) =
+        rw regroup (end_within (met ++ on_right.extra) (on_left.extra ++ (met ++ on_right.extra))
+        (λ Q h. any_right Q on_left.extra (met ++ on_right.extra) h) r
         (unwrap_or finish r.end) on_right.end_of) in
         let own : IsNewItem order same run r v m = record {
           start =
-              rw starts (start_more (on_left.extra ++ met) on_right.extra r
-              (unwrap_or start r.start) on_left.start_of);
+              start_within (on_left.extra ++ met) run on_start r
+              (unwrap_or start r.start) on_left.start_of;
           end = own_end;
           value = inl values;
         } in
@@ -417,10 +344,8 @@ module _ {K : Type 0} {order : KeyOrder K} (lawful : IsLawful order) {V : Type 0
                 on_right.whole (none_right on_left.extra (met ++ on_right.extra)
                 (sym regroup ∙ e)) in let none : w.count ≡ 0 = sym size
                 ∙ ap length (none_right on_left.extra met
-                (none_left (on_left.extra ++ met) on_right.extra e)) in let item = item_is m r v
-                (starts ∙ ap (λ o. unwrap_or o r.start) l.1)
-                (ends ∙ ap (λ o. unwrap_or o r.end) k.1) (own_value none) in rw (l.0, k.0)
-                (ap (λ y. y ∷ []) item);
+                (none_left (on_left.extra ++ met) on_right.extra e)) in rw (l.0, k.0, l.1, k.1)
+                (ap (λ (y : V). record { key = r; value = y } ∷ []) (own_value none));
             one = λ all.
                 let on_left_none =
                 no_rest (on_left.extra ++ met) r v left

@@ -1,10 +1,11 @@
 -- What is to become of the items on each side of a range that is bound.
-use Rattle.std.proofs.Common.{◌≡◌, ℕ, ◌+◌, ◌-◌, ◌<◌, ◌≤◌, List, length, get_or, refl, ap, sym, ◌∙◌, arith, subst, Option, Some, None, Bool, true, false, IsTrue, [], ◌∷◌, ◌++◌, take, drop, inl, inr}
-use Rattle.std.proofs.lemmas.List.{append-nil, take_more, drop_more}
+use Rattle.std.proofs.Common.{◌≡◌, ℕ, ◌+◌, ◌-◌, ◌<◌, List, length, get_or, refl, ap, sym, ◌∙◌, arith, subst, Option, Some, None, Bool, true, false, IsTrue, [], ◌∷◌, ◌++◌, take, drop, inl, inr}
+use Rattle.std.proofs.lemmas.List.{append-nil}
 use Rattle.range_algebra.proofs.Lists.{any_left, any_right}
-use Rattle.range_algebra.specs.Intervals.{Every}
+use Rattle.range_algebra.specs.Intervals.{Any}
 use Rattle.range_algebra.specs.Relations.{Touches}
-use Rattle.range_change.specs.Frames.{IsPart}
+use Rattle.range_change.specs.Frames.{IsPart, IsNewItem}
+use Rattle.range_change.specs.Seams.{IsLeftCutting, IsRightCutting}
 use Rattle.range_change.proofs.InsertionFrames.{any_of_run, run_some}
 use Rattle.std.specs.Cmp.{IsEquivalence}
 use Rattle.std.specs.declared.ops.Bound.{Bound}
@@ -18,10 +19,12 @@ use Rattle.range_change.specs.Window.{IsWindow, option_items}
 use Rattle.range_change.specs.declared.window.Window.{Window}
 use Rattle.range_change.specs.Edits.{flipped_bound, with_start, with_end}
 use Rattle.range_change.specs.Reach.{ReachesBefore, ReachesAfter}
-use Rattle.range_change.specs.Borders.{border_at, IsLeftShape, IsRightShape, IsLeftRest, IsRightRest, TouchesBefore, TouchesNoneBefore, TouchesAfter, TouchesNoneAfter}
+use Rattle.range_change.specs.Borders.{border_at, TouchesBefore, TouchesNoneBefore, TouchesAfter, TouchesNoneAfter}
 use Rattle.range_change.specs.Plans.{IsLeftFrame, IsRightFrame, IsLeftPlan, IsRightPlan}
 use Rattle.range_change.specs.declared.borders.Border.TheVariants.{Plain, Cut, Joined}
-use Rattle.range_change.proofs.RangeSides.{element_at, element_at_is_read, left_rest_whole, left_rest_cut, right_rest_whole, right_rest_cut, left_border_inside, left_border_rest, left_border_joined, left_border_none, right_border_inside, right_border_rest, right_border_joined, right_border_none}
+use Rattle.range_change.proofs.RangeSides.{left_rest_whole, left_rest_cut, right_rest_whole, right_rest_cut, left_border_at, left_border_rest, left_border_none, right_border_at, right_border_rest, right_border_none, first_reaches, last_starts, touching_before, touching_after}
+use Rattle.range_change.proofs.ItemPlaces.{element_at, element_at_is_read, upto_item, from_item}
+use Rattle.range_change.proofs.PlaceOrder.{lt_le}
 
 none_last : {X : Type 0} (xs : List X) (y : X) → xs ++ y ∷ [] ≡ [] → ⊥
 none_last [] y e = cc
@@ -30,16 +33,47 @@ none_last (x ∷ xs) y e = cc
 module _ {K : Type 0} {order : KeyOrder K} (lawful : IsLawful order) {V : Type 0}
     {same : V → V → Bool} (equal : IsEquivalence same) {P : Type 0} {is_good : P → Type 0}
     {rank : P → ℕ} {items : List (Item (AnyRange K) V)} {r : AnyRange K} {w : Window P} {place : ℕ}
+    (window : IsWindow order same is_good rank items r w place) where
+  -- the first item of a window is one of the run, and so is the last
+  first_met : (x : Item (AnyRange K) V) → x ≡ get_or items place x → 0 < w.count
+      → (Q : Item (AnyRange K) V → Type 0) → Q x → Any Q (take w.count (drop place items))
+  first_met x here some Q h =
+      let plus : place ≡ place + 0 = omega arith in
+      any_of_run Q items place w.count 0 x window.in_range some
+      (here ∙ ap (λ n. get_or items n x) plus) h
+
+  last_met : (x : Item (AnyRange K) V) → x ≡ get_or items (place + w.count - 1) x → 0 < w.count
+      → (Q : Item (AnyRange K) V → Type 0) → Q x → Any Q (take w.count (drop place items))
+  last_met x here some Q h =
+      let plus : place + w.count - 1 ≡ place + (w.count - 1) = omega arith in
+      any_of_run Q items place w.count (w.count - 1) x window.in_range (omega (arith, some))
+      (here ∙ ap (λ n. get_or items n x) plus) h
+
+  -- what is left of them
+  pub left_part : (x : Item (AnyRange K) V) → x ≡ get_or items place x → 0 < w.count → (b : Bound K)
+      → SameBound order (flipped_bound r.start) b
+      → IsPart order same (take w.count (drop place items)) r (with_end x b)
+  left_part x here some b same_b = record {
+    start = inr (inl (first_met x here some (λ i. x.key.start ≡ i.key.start) refl));
+    end = inr (inr same_b);
+    value = first_met x here some (λ i. IsTrue (same x.value i.value)) (equal.refl x.value);
+  }
+
+  pub right_part : (x : Item (AnyRange K) V) → x ≡ get_or items (place + w.count - 1) x
+      → 0 < w.count → (b : Bound K) (u : V) → SameBound order (flipped_bound r.end) b
+      → same u x.value ≡ true
+      → IsPart order same (take w.count (drop place items)) r
+      (record { key = record { start = b; end = x.key.end }; value = u })
+  right_part x here some b u same_b values = record {
+    start = inr (inr same_b);
+    end = inr (inl (last_met x here some (λ i. x.key.end ≡ i.key.end) refl));
+    value = last_met x here some (λ i. IsTrue (same u i.value)) values;
+  }
+
+module _ {K : Type 0} {order : KeyOrder K} (lawful : IsLawful order) {V : Type 0}
+    {same : V → V → Bool} (equal : IsEquivalence same) {P : Type 0} {is_good : P → Type 0}
+    {rank : P → ℕ} {items : List (Item (AnyRange K) V)} {r : AnyRange K} {w : Window P} {place : ℕ}
     (window : IsWindow order same is_good rank items r w place) (v : V) where
-  first_read : (x : Item (AnyRange K) V) → x ≡ get_or items place x → x ≡ get_or items (place + 0) x
-  first_read x read = let plus : place ≡ place + 0 =
-      omega arith in read ∙ ap (λ n. get_or items n x) plus
-
-  last_read : (x : Item (AnyRange K) V) → 0 < w.count → x ≡ get_or items (place + w.count - 1) x
-      → x ≡ get_or items (place + (w.count - 1)) x
-  last_read x some read = let plus : place + w.count - 1 ≡ place + (w.count - 1) =
-      omega arith in read ∙ ap (λ n. get_or items n x) plus
-
   pub left_frame_inside : (x : Item (AnyRange K) V) → x ≡ get_or items place x → 0 < w.count
       → IsLeftFrame order same items r v place w.count place None (Some x.key.start)
   left_frame_inside x here some = record {
@@ -48,12 +82,15 @@ module _ {K : Type 0} {order : KeyOrder K} (lawful : IsLawful order) {V : Type 0
     touched = tt;
     start_of =
         inr
-        (inl (any_of_run (λ i. x.key.start ≡ i.key.start) items place w.count 0 x window.in_range
-        some (first_read x here) refl));
+        (inl (first_met lawful equal window x here some (λ i. x.key.start ≡ i.key.start) refl));
     made = tt;
     apart = tt;
     whole = λ e. absurd (run_some items place w.count window.in_range some e);
   }
+
+  new_part : {run : List (Item (AnyRange K) V)} {j : Item (AnyRange K) V}
+      → IsPart order same run r j → IsNewItem order same run r v j
+  new_part part = record { start = part.start; end = part.end; value = inr part.value }
 
   pub left_frame_cut : (x : Item (AnyRange K) V) → x ≡ get_or items place x → 0 < w.count
       → (b : Bound K) → SameBound order (flipped_bound r.start) b → same x.value v ≡ false
@@ -63,19 +100,7 @@ module _ {K : Type 0} {order : KeyOrder K} (lawful : IsLawful order) {V : Type 0
     split = sym (append-nil (take place items));
     touched = tt;
     start_of = inl refl;
-    made = (
-      record {
-        start =
-            inr
-            (inl (any_of_run (λ i. x.key.start ≡ i.key.start) items place w.count 0 x
-            window.in_range some (first_read x here) refl));
-        end = inr (inr same_b);
-        value =
-            inr (any_of_run (λ i. IsTrue (same x.value i.value)) items place w.count 0 x
-            window.in_range some (first_read x here) (equal.refl x.value));
-      },
-      tt,
-    );
+    made = (new_part (left_part lawful equal window x here some b same_b), tt);
     apart = (λ equal_values. cc, tt);
     whole = λ e. absurd (run_some items place w.count window.in_range some e);
   }
@@ -90,8 +115,7 @@ module _ {K : Type 0} {order : KeyOrder K} (lawful : IsLawful order) {V : Type 0
     end_of =
         inr
         (inl (any_left (λ i. x.key.end ≡ i.key.end) (take w.count (drop place items)) []
-        (any_of_run (λ i. x.key.end ≡ i.key.end) items place w.count (w.count - 1) x window.in_range
-        (omega (arith, some)) (last_read x some here) refl)));
+        (last_met lawful equal window x here some (λ i. x.key.end ≡ i.key.end) refl)));
     made = tt;
     apart = tt;
     whole =
@@ -110,21 +134,9 @@ module _ {K : Type 0} {order : KeyOrder K} (lawful : IsLawful order) {V : Type 0
     split = refl;
     touched = tt;
     end_of = inl refl;
-    made = (
-      record {
-        start = inr (inr same_b);
-        end =
-            inr
-            (inl (any_left (λ i. x.key.end ≡ i.key.end) (take w.count (drop place items)) []
-            (any_of_run (λ i. x.key.end ≡ i.key.end) items place w.count
-            (w.count - 1) x window.in_range (omega (arith, some)) (last_read x some here) refl)));
-        value =
-            inr (any_left (λ i. IsTrue (same u i.value)) (take w.count (drop place items)) []
-            (any_of_run (λ i. IsTrue (same u i.value)) items place w.count
-            (w.count - 1) x window.in_range (omega (arith, some)) (last_read x some here) values));
-      },
-      tt,
-    );
+    made =
+        rw (append-nil (take w.count (drop place items)))
+        ((new_part (right_part lawful equal window x here some b u same_b values), tt));
     apart = (λ equal_values. cc, tt);
     whole =
         λ e.
@@ -160,8 +172,11 @@ module _ {K : Type 0} {order : KeyOrder K} (lawful : IsLawful order) {V : Type 0
         begin = place;
         rest = None;
         start = Some x.key.start;
-        shape = (reach.0, reach.1, refl, refl, (x, here, refl));
-        side = left_border_inside lawful equal window v x here reach.2 (reach.3 x here) values;
+        shape = (reach.0, reach.1, refl, refl, (x, read, refl));
+        side =
+            left_border_at lawful equal window v place x
+            (omega (arith, reach.2, window.in_range)) here (lt_le lawful _ _ (reach.3 x here))
+            (first_reaches lawful equal window x here reach.2) values;
         run = (reach.0, reach.1);
         frame = left_frame_inside x here reach.2;
         few = omega arith;
@@ -193,47 +208,37 @@ module _ {K : Type 0} {order : KeyOrder K} (lawful : IsLawful order) {V : Type 0
         begins = omega arith;
       }
 
-  pub left_plan_joined : (q : P) (x : Item (AnyRange K) V)
-      → ReachesBefore order is_good rank items r place w.count None → is_good q → rank q + 1 ≡ place
-      → rank q < length items → x ≡ get_or items (rank q) x
-      → TouchesBefore order same items place r v
-      → IsLeftPlan order same lawful equal is_good rank items r v place w.count None (Joined q)
-      (Some q)
-  left_plan_joined q x reach is at within read touching = record {
-    at = rank q;
-    begin = rank q;
-    rest = None;
-    start = Some x.key.start;
-    shape = (is, refl, refl, refl, (x, read, refl));
-    side =
-        left_border_joined lawful equal window v (rank q) x
-        (left_rest_whole lawful equal window reach) at within read touching;
-    run = (is, refl);
-    frame = record {
-      extra = x ∷ [];
-      split =
-          ap (λ n. take n items) (sym at)
-          ∙ (take_more items (rank q) x within
-          ∙ ap (λ y. take (rank q) items ++ y ∷ []) (sym read));
-      touched = (let t = touched_before (rank q) x at read touching in (t.0, t.1, refl), tt);
-      start_of = inr (inl (inl refl));
-      made = tt;
-      apart = tt;
-      whole = λ e. absurd (cc);
-    };
-    few = omega arith;
-    begins = omega (arith, at);
-  }
-
-  -- the item is the one at the position
-  pub left_joined_at : (q : P) → ReachesBefore order is_good rank items r place w.count None
+  pub left_plan_joined : (q : P) → ReachesBefore order is_good rank items r place w.count None
       → is_good q → rank q + 1 ≡ place → rank q < length items
       → TouchesBefore order same items place r v
       → IsLeftPlan order same lawful equal is_good rank items r v place w.count None (Joined q)
       (Some q)
-  left_joined_at q reach is at within touching =
-      left_plan_joined q (element_at items (rank q) within) reach is at within
-      (element_at_is_read items (rank q) within (element_at items (rank q) within)) touching
+  left_plan_joined q reach is at within touching =
+      let x = element_at items (rank q) within in
+      let read = element_at_is_read items (rank q) within x in
+      let touch = touched_before (rank q) x at read touching in
+      let up = touching_before lawful equal window (rank q) x at within read touch.0 in record {
+        at = rank q;
+        begin = rank q;
+        rest = None;
+        start = Some x.key.start;
+        shape = (is, refl, refl, refl, (x, read, refl));
+        side =
+            left_border_at lawful equal window v (rank q) x within read up.0 up.1 touch.1;
+        run = (is, refl);
+        frame = record {
+          extra = x ∷ [];
+          split =
+              upto_item items (rank q) place x at within read;
+          touched = ((touch.0, touch.1, refl), tt);
+          start_of = inr (inl (inl refl));
+          made = tt;
+          apart = tt;
+          whole = λ e. absurd (cc);
+        };
+        few = omega arith;
+        begins = omega (arith, at);
+      }
 
   pub left_plan_free : (from : Option P) → IsAt is_good rank (length items) from place
       → ReachesBefore order is_good rank items r place w.count None
@@ -246,7 +251,7 @@ module _ {K : Type 0} {order : KeyOrder K} (lawful : IsLawful order) {V : Type 0
     start = None;
     shape = (refl, refl, refl);
     side =
-        left_border_none lawful equal window v (omega (arith, window.in_range))
+        left_border_none lawful equal window v
         (left_rest_whole lawful equal window reach) none;
     run = run;
     frame = record {
@@ -279,7 +284,11 @@ module _ {K : Type 0} {order : KeyOrder K} (lawful : IsLawful order) {V : Type 0
         rest = None;
         finish = Some x.key.end;
         shape = (reach.0, reach.1, refl, refl, (x, read, refl));
-        side = right_border_inside lawful equal window v x here reach.2 (reach.3 x here) values;
+        side =
+            right_border_at lawful equal window (place + w.count) (place + w.count - 1) v x
+            (omega (arith, reach.2)) (omega (arith, reach.2, window.in_range)) here
+            (last_starts lawful equal window x here reach.2)
+            (lt_le lawful _ _ (reach.3 x here)) values;
         frame = right_frame_inside x here reach.2;
         few = omega arith;
         ends = omega arith;
@@ -307,13 +316,17 @@ module _ {K : Type 0} {order : KeyOrder K} (lawful : IsLawful order) {V : Type 0
         ends = omega (arith, reach.2);
       }
 
-  pub right_plan_joined : (q : P) (x : Item (AnyRange K) V)
-      → ReachesAfter order is_good rank items r place w.count None → is_good q
-      → rank q ≡ place + w.count → rank q < length items → x ≡ get_or items (rank q) x
+  pub right_plan_joined : (q : P) → ReachesAfter order is_good rank items r place w.count None
+      → is_good q → rank q ≡ place + w.count → rank q < length items
       → TouchesAfter order same items (place + w.count) r v
       → IsRightPlan order same lawful equal is_good rank items r v place w.count None (Joined q)
-  right_plan_joined q x reach is at within read touching =
+  right_plan_joined q reach is at within touching =
+      let x = element_at items (rank q) within in
+      let read = element_at_is_read items (rank q) within x in
       let here : x ≡ get_or items (place + w.count) x = read ∙ ap (λ n. get_or items n x) at in
+      let within' : place + w.count < length items = omega (arith, at, within) in
+      let touch = touched_after x here touching in
+      let up = touching_after lawful equal window x within' here touch.0 in
       record {
         upto = place + w.count + 1;
         end = place + w.count + 1;
@@ -321,14 +334,13 @@ module _ {K : Type 0} {order : KeyOrder K} (lawful : IsLawful order) {V : Type 0
         finish = Some x.key.end;
         shape = (is, omega (arith, at), refl, refl, (x, read, refl));
         side =
-            right_border_joined lawful equal window (place + w.count) v x
-            (omega (arith, at, within)) here (right_rest_whole lawful equal window reach) touching;
+            right_border_at lawful equal window (place + w.count + 1) (place + w.count) v x refl
+            within' here up.0 up.1 touch.1;
         frame = record {
           extra = x ∷ [];
           split =
-              drop_more items (place + w.count) x (omega (arith, at, within))
-              ∙ ap (λ y. y ∷ drop (place + w.count + 1) items) (sym here);
-          touched = (let t = touched_after x here touching in (t.0, t.1, refl), tt);
+              from_item items (place + w.count) x within' here;
+          touched = ((touch.0, touch.1, refl), tt);
           end_of =
               inr
               (inl (any_right (λ i. x.key.end ≡ i.key.end) (take w.count (drop place items))
@@ -340,14 +352,6 @@ module _ {K : Type 0} {order : KeyOrder K} (lawful : IsLawful order) {V : Type 0
         few = omega arith;
         ends = omega arith;
       }
-
-  pub right_joined_at : (q : P) → ReachesAfter order is_good rank items r place w.count None
-      → is_good q → rank q ≡ place + w.count → rank q < length items
-      → TouchesAfter order same items (place + w.count) r v
-      → IsRightPlan order same lawful equal is_good rank items r v place w.count None (Joined q)
-  right_joined_at q reach is at within touching =
-      right_plan_joined q (element_at items (rank q) within) reach is at within
-      (element_at_is_read items (rank q) within (element_at items (rank q) within)) touching
 
   pub right_plan_plain : ReachesAfter order is_good rank items r place w.count None
       → TouchesNoneAfter order same items (place + w.count) r v
@@ -378,64 +382,21 @@ module _ {K : Type 0} {order : KeyOrder K} (lawful : IsLawful order) {V : Type 0
     {same : V → V → Bool} (equal : IsEquivalence same) {P : Type 0} {is_good : P → Type 0}
     {rank : P → ℕ} {items : List (Item (AnyRange K) V)} {r : AnyRange K} {w : Window P} {place : ℕ}
     (window : IsWindow order same is_good rank items r w place) where
-  -- what is left of the first item of a window, and of the last
-  pub left_part : (x : Item (AnyRange K) V) → x ≡ get_or items place x → 0 < w.count → (b : Bound K)
-      → SameBound order (flipped_bound r.start) b
-      → IsPart order same (take w.count (drop place items)) r (with_end x b)
-  left_part x here some b same_b =
-      let plus : place ≡ place + 0 = omega arith in
-      let read : x ≡ get_or items (place + 0) x = here ∙ ap (λ n. get_or items n x) plus in
-      record {
-        start =
-            inr
-            (inl (any_of_run (λ i. x.key.start ≡ i.key.start) items place w.count 0 x
-            window.in_range some read refl));
-        end = inr (inr same_b);
-        value =
-            any_of_run (λ i. IsTrue (same x.value i.value)) items place w.count 0 x window.in_range
-            some read (equal.refl x.value);
-      }
-
-  pub right_part : (x : Item (AnyRange K) V) → x ≡ get_or items (place + w.count - 1) x
-      → 0 < w.count → (b : Bound K) (u : V) → SameBound order (flipped_bound r.end) b
-      → same u x.value ≡ true
-      → IsPart order same (take w.count (drop place items)) r
-      (record { key = record { start = b; end = x.key.end }; value = u })
-  right_part x here some b u same_b values =
-      let plus : place + w.count - 1 ≡ place + (w.count - 1) = omega arith in
-      let read : x ≡ get_or items (place + (w.count - 1)) x =
-      here ∙ ap (λ n. get_or items n x) plus in
-      record {
-        start = inr (inr same_b);
-        end =
-            inr
-            (inl (any_of_run (λ i. x.key.end ≡ i.key.end) items place w.count
-            (w.count - 1) x window.in_range (omega (arith, some)) read refl));
-        value =
-            any_of_run (λ i. IsTrue (same u i.value)) items place w.count
-            (w.count - 1) x window.in_range (omega (arith, some)) read values;
-      }
-
-  -- what stands before a range that is unbound
-  pub record IsLeftCut (first : Option P) (b : Bound K) : Type 0 where
-    pub rest : Option (Item (AnyRange K) V)
-    pub shape : IsLeftShape is_good rank items (border_at first b) place
-        (place + length (option_items first)) rest None
-    pub side : IsLeftRest order same lawful equal items r place rest
-    pub made : Every (IsPart order same (take w.count (drop place items)) r) (option_items rest)
-    pub few : length (option_items rest) ≤ 1
-
-  pub left_cut_plan : (first : Option P) (b : Bound K)
+  -- an item that reaches out of the range is cut
+  pub left_cut_out : (first : Option P) (b : Bound K) (from : Option P)
       → ReachesBefore order is_good rank items r place w.count first → IsKnownBound order b
-      → SameBound order (flipped_bound r.start) b → IsLeftCut first b
-  left_cut_plan None b reach known_b same_b = record {
+      → SameBound order (flipped_bound r.start) b
+      → IsAt is_good rank (length items) from (place + length (option_items first))
+      → IsLeftCutting order same lawful equal is_good rank items r place w.count first
+      (border_at first b) from
+  left_cut_out None b from reach known_b same_b next = record {
     rest = None;
     shape = (omega arith, refl, refl);
     side = left_rest_whole lawful equal window reach;
+    run = next;
     made = tt;
-    few = omega arith;
   }
-  left_cut_plan (Some p) b reach known_b same_b =
+  left_cut_out (Some p) b from reach known_b same_b next =
       let within : place < length items = omega (arith, reach.2, window.in_range) in
       let x = element_at items place within in
       let here = element_at_is_read items place within x in
@@ -443,45 +404,42 @@ module _ {K : Type 0} {order : KeyOrder K} (lawful : IsLawful order) {V : Type 0
         rest = Some (with_end x b);
         shape = (reach.0, reach.1, omega arith, refl, (x, here, refl));
         side = left_rest_cut lawful equal window x here reach.2 (reach.3 x here) b known_b same_b;
-        made = (left_part x here reach.2 b same_b, tt);
-        few = omega arith;
+        run = next;
+        made = (left_part lawful equal window x here reach.2 b same_b, tt);
       }
 
-  pub record IsRightCut (last : Option P) (b : Bound K) (upto : ℕ) : Type 0 where
-    pub rest : Option (Item (AnyRange K) V)
-    pub shape : IsRightShape is_good rank items (border_at last b) upto (place + w.count) rest None
-    pub side : IsRightRest order same lawful equal items r (place + w.count) rest
-    pub made : Every (IsPart order same (take w.count (drop place items)) r) (option_items rest)
-    pub few : length (option_items rest) ≤ 1
-
-  pub right_cut_plan : (last : Option P) (b : Bound K) (upto : ℕ)
-      → upto + length (option_items last) ≡ place + w.count
+  pub right_cut_out : (last : Option P) (b : Bound K)
       → ReachesAfter order is_good rank items r place w.count last → IsKnownBound order b
-      → SameBound order (flipped_bound r.end) b → IsRightCut last b upto
-  right_cut_plan None b upto at reach known_b same_b = record {
+      → SameBound order (flipped_bound r.end) b
+      → IsRightCutting order same lawful equal is_good rank items r place w.count last
+      (border_at last b)
+  right_cut_out None b reach known_b same_b = record {
+    upto = place + w.count;
     rest = None;
-    shape = (omega (arith, at), refl, refl);
+    shape = (refl, refl, refl);
     side = right_rest_whole lawful equal window reach;
     made = tt;
-    few = omega arith;
+    ends = omega arith;
   }
-  right_cut_plan (Some p) b upto at reach known_b same_b =
-      let within : place + w.count - 1 < length items = omega (arith, reach.2, window.in_range) in
-      let x = element_at items (place + w.count - 1) within in
-      let here = element_at_is_read items (place + w.count - 1) within x in
-      let index : place + w.count - 1 ≡ upto = omega (arith, at) in
+  right_cut_out (Some p) b reach known_b same_b =
+      let k = place + w.count - 1 in
+      let within : k < length items = omega (arith, reach.2, window.in_range) in
+      let x = element_at items k within in
+      let here = element_at_is_read items k within x in
       record {
+        upto = k;
         rest = Some (with_start x b);
         shape = (
           reach.0,
-          omega (arith, at, reach.1),
-          omega (arith, at),
+          omega (arith, reach.1),
+          omega (arith, reach.2),
           refl,
-          (x, here ∙ ap (λ n. get_or items n x) index, refl),
+          (x, here, refl),
         );
         side =
             right_rest_cut lawful equal window x here reach.2
             (reach.3 x here) b known_b same_b x.value (equal.refl x.value);
-        made = (right_part x here reach.2 b x.value same_b (equal.refl x.value), tt);
-        few = omega arith;
+        made =
+            (right_part lawful equal window x here reach.2 b x.value same_b (equal.refl x.value), tt);
+        ends = omega (arith, reach.2);
       }

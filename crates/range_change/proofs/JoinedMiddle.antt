@@ -7,13 +7,12 @@ use Rattle.std.specs.Option.{unwrap_or}
 use Rattle.std.specs.declared.cmp.Ordering.TheVariants.{Equal}
 use Rattle.std.specs.declared.ops.Bound.{Bound}
 use Rattle.range_keys.specs.Order.{KeyOrder, IsLawful}
-use Rattle.range_keys.specs.Position.{end_position}
+use Rattle.range_keys.specs.Position.{start_position, end_position}
 use Rattle.range_keys.specs.PositionOrder.{position_total}
 use Rattle.range_keys.specs.declared.inner.position.Position.{Position}
 use Rattle.range_algebra.proofs.Lists.{any_left, any_right, every_weaker, every_append, every_left, every_right}
-use Rattle.range_change.specs.Chains.{line_of, IsLeftOf, IsRightOf}
+use Rattle.range_change.specs.Chains.{line_of, IsLeftOf, IsRightOf, IsSpliced}
 use Rattle.range_change.proofs.Chains.{chain_before, chain_right, follows_above}
-use Rattle.range_algebra.specs.Clones.{SameBound}
 use Rattle.range_algebra.specs.Compared.{flipped}
 use Rattle.range_algebra.specs.Cuts.{past, lower, upper}
 use Rattle.range_algebra.specs.Intervals.{Le, Lt, Any, Every}
@@ -25,10 +24,9 @@ use Rattle.range_algebra.proofs.Places.{reaching_is_before_past, flipped_bound_i
 use Rattle.range_store.specs.declared.storage.Item.{Item}
 use Rattle.range_store.specs.ListPlaces.{IsAt}
 use Rattle.range_change.specs.declared.borders.Border.{Border}
-use Rattle.range_change.specs.declared.borders.Border.TheVariants.{Plain, Cut, Joined}
 use Rattle.range_change.specs.declared.window.Window.{Window}
-use Rattle.range_change.specs.Borders.{IsLeftShape, IsRightShape, IsRunStart, joined_count, border_at, seam_border, border_start, border_end, TouchesBefore, TouchesNoneBefore, TouchesAfter, TouchesNoneAfter}
-use Rattle.range_change.specs.Edits.{flipped_bound, with_start}
+use Rattle.range_change.specs.Borders.{IsLeftShape, IsRightShape, IsRunStart, left_side, right_side, joined_count, seam_border, TouchesBefore, TouchesNoneBefore, TouchesAfter, TouchesNoneAfter}
+use Rattle.range_change.specs.Edits.{with_start}
 use Rattle.range_change.specs.Frames.{HasValue}
 use Rattle.range_change.specs.Stored.{item_lower, item_upper, IsStored}
 use Rattle.range_change.specs.Pieces.{LiesIn}
@@ -37,13 +35,13 @@ use Rattle.range_change.specs.Reach.{ReachesBefore, ReachesAfter}
 use Rattle.range_change.specs.Replaced.{AreWithin}
 use Rattle.range_change.specs.Seams.{with_first_start, with_last_end, IsLeftCutting, IsRightCutting, IsLeftSeam, IsRightSeam}
 use Rattle.range_change.specs.Window.{IsWindow, option_items}
-use Rattle.range_change.proofs.CutOut.{known_take, known_drop}
 use Rattle.range_change.proofs.CutParts.{ends_never}
-use Rattle.range_change.proofs.OuterBounds.{last_of, regrouped_last, item_with_end, with_last, started_last}
-use Rattle.range_change.proofs.Forms.{places, Known, Chained, stored_known, stored_chain}
+use Rattle.range_change.proofs.OuterBounds.{last_of, item_with_end, with_last, started_last}
+use Rattle.range_change.proofs.Forms.{places, Known, Chained, stored_known, stored_chain, known_take, known_drop}
 use Rattle.range_change.proofs.BoundEdits.{cut_joins_none}
-use Rattle.range_change.proofs.InsertionPlans.{left_cut_plan, right_cut_plan, left_plan_free, left_joined_at, right_joined_at, right_plan_plain}
-use Rattle.range_change.proofs.Splices.{IsFilled, IsSpliced, filled_apart, filled_joined, spliced_apart, spliced_joined}
+use Rattle.range_change.proofs.Lengths.{border_joins_none}
+use Rattle.range_change.proofs.InsertionPlans.{left_plan_free, left_plan_joined, right_plan_joined, right_plan_plain}
+use Rattle.range_change.proofs.Splices.{IsFilled, filled_apart, filled_joined, spliced_apart, spliced_joined}
 
 pub got_only : {X : Type 0} (P : X → Type 0) (o : Option (Bor X)) (i : Bor X) → o ≡ Some i → P i.now
     → (m : X) → option_copied o ≡ Some m → P m
@@ -79,25 +77,6 @@ module _ {K : Type 0} (order : KeyOrder K) (lawful : IsLawful order) where
       not_lt lawful (upper order part) (upper order r) (λ over.
       within_by part r (flipped r.end) refl known others within.ends over)
 
-joins_none_before : {K V P : Type 0} (is_good : P → Type 0) (rank : P → ℕ)
-    (items : List (Item (AnyRange K) V)) (border : Border K P) (at from : ℕ)
-    (rest : Option (Item (AnyRange K) V)) → IsLeftShape is_good rank items border at from rest None
-    → joined_count border ≡ 0
-joins_none_before is_good rank items Plain at from rest shape = refl
-joins_none_before is_good rank items (Cut p b) at from rest shape = refl
-joins_none_before is_good rank items (Joined p) at from rest shape =
-    absurd (let e = shape.4.2 in cc)
-
-joins_none_after : {K V P : Type 0} (is_good : P → Type 0) (rank : P → ℕ)
-    (items : List (Item (AnyRange K) V)) (border : Border K P) (upto end : ℕ)
-    (rest : Option (Item (AnyRange K) V)) → IsRightShape is_good rank items border upto end rest
-    None
-    → joined_count border ≡ 0
-joins_none_after is_good rank items Plain upto end rest shape = refl
-joins_none_after is_good rank items (Cut p b) upto end rest shape = refl
-joins_none_after is_good rank items (Joined p) upto end rest shape =
-    absurd (let e = shape.4.2 in cc)
-
 -- only an item that joins gives way beyond the window
 pub seam_count : {K P : Type 0} (joined reaching : Option P) (b : Bound K)
     → joined_count (seam_border joined reaching b) ≡ length (option_items joined)
@@ -107,8 +86,9 @@ seam_count (Some q) reaching b = refl
 module _ {K : Type 0} (order : KeyOrder K) (lawful : IsLawful order) {V : Type 0}
     (same : V → V → Bool) (equal : IsEquivalence same) where
   abbrev pub Filled : List (Item (AnyRange K) V) → List (Item (AnyRange K) V)
-      → List (Item (AnyRange K) V) → Position K → Type 0
-  Filled items middle new c = IsFilled (line_of order lawful same equal) items middle new c
+      → List (Item (AnyRange K) V) → List (Item (AnyRange K) V) → Position K → Type 0
+  Filled items front wide middle c =
+      IsFilled (line_of order lawful same equal) items front wide middle c
 
   abbrev pub Spliced : List (Item (AnyRange K) V) → List (Item (AnyRange K) V)
       → List (Item (AnyRange K) V) → AnyRange K → Type 0
@@ -143,8 +123,8 @@ module _ {K : Type 0} (order : KeyOrder K) (lawful : IsLawful order) {V : Type 0
       pub shape : IsLeftShape is_good rank items border at begin rest start
       pub run : IsAt is_good rank (length items) from begin
       pub begins : begin + joined_count border ≡ place + length (option_items first)
-      pub filled : Filled items middle
-          ((take at items ++ option_items rest) ++ with_first_start start middle) (lower order r)
+      pub filled : Filled items (take at items ++ option_items rest)
+          (with_first_start start middle) middle (lower order r)
       pub known : Known order lawful same equal
           ((take at items ++ option_items rest) ++ with_first_start start middle)
       pub extra : List (Item (AnyRange K) V)
@@ -182,22 +162,22 @@ module _ {K : Type 0} (order : KeyOrder K) (lawful : IsLawful order) {V : Type 0
           middle j.value) (option_items rest)
 
     start_filled : (start : Option (Bound K)) (front ms : List (Item (AnyRange K) V))
-        (m : Item (AnyRange K) V) (s : Position K)
-        → places order lawful (border_start order same start r) s ≡ Equal
-        → IsLeftOf (line_of order lawful same equal) items front (lower order r) s m.value
+        (m : Item (AnyRange K) V)
+        → IsLeftOf (line_of order lawful same equal) items front (lower order r)
+        (start_position order (unwrap_or start r.start)) m.value
         → Chained order lawful same equal (m ∷ ms)
         → places order lawful (item_lower order m) (lower order r) ≡ Equal
-        → Filled items (m ∷ ms) (front ++ with_first_start start (m ∷ ms)) (lower order r)
-    start_filled None front ms m s starts left chain at =
-        let total = position_total order.cmp lawful.total in
-        filled_joined (line_of order lawful same equal) items front m m ms
-        (lower order r) s left chain at
-        (total.congr (item_lower order m) (lower order r) s at ∙ starts)
-        (tied_itself total (item_upper order m)) (equal.refl m.value)
-    start_filled (Some b) front ms m s starts left chain at =
+        → Filled items front (with_first_start start (m ∷ ms)) (m ∷ ms) (lower order r)
+    start_filled None front ms m left chain at =
+        filled_joined (line_of order lawful same equal) items front m m ms (lower order r)
+        (lower order r) left chain at at
+        (tied_itself (position_total order.cmp lawful.total) (item_upper order m))
+        (equal.refl m.value)
+    start_filled (Some b) front ms m left chain at =
         let total = position_total order.cmp lawful.total in
         filled_joined (line_of order lawful same equal) items front m (with_start m b) ms
-        (lower order r) s left chain at starts (tied_itself total (item_upper order m))
+        (lower order r) (start_position order b) left chain at
+        (tied_itself total (start_position order b)) (tied_itself total (item_upper order m))
         (equal.refl m.value)
 
     start_known : (start : Option (Bound K)) (m : Item (AnyRange K) V)
@@ -209,7 +189,7 @@ module _ {K : Type 0} (order : KeyOrder K) (lawful : IsLawful order) {V : Type 0
 
     takes_start : (start : Option (Bound K)) (m : Item (AnyRange K) V)
         (ms : List (Item (AnyRange K) V)) (i : Item (AnyRange K) V) → start ≡ Some i.key.start
-        → PLe lawful (border_start order same start r) (lower order r)
+        → PLe lawful (start_position order (unwrap_or start r.start)) (lower order r)
         → PLt lawful (lower order r) (upper order r)
         → PLt lawful (lower order r) (item_upper order m) → IsTrue (same i.value m.value)
         → TakesStartOf i (with_first_start start (m ∷ ms))
@@ -234,9 +214,7 @@ module _ {K : Type 0} (order : KeyOrder K) (lawful : IsLawful order) {V : Type 0
         from → IsLeftFill (m ∷ ms) first border from
     left_joining m ms first border from good stored middle at plan =
         let chain = stored_chain order lawful same equal (m ∷ ms) middle in
-        let le =
-        le_trans lawful _ _ _ (eq_le lawful _ _ plan.side.starts)
-        plan.side.left.below in
+        let le = plan.side.left.below in
         let over =
         le_lt_trans lawful _ _ _ (eq_ge lawful _ _ at) chain.0 in
         record {
@@ -249,7 +227,7 @@ module _ {K : Type 0} (order : KeyOrder K) (lawful : IsLawful order) {V : Type 0
           begins = plan.begins;
           filled =
               start_filled plan.start (take plan.at items ++ option_items plan.rest) ms m
-              plan.side.s plan.side.starts plan.side.left chain at;
+              plan.side.left chain at;
           known =
               every_append _ (take plan.at items ++ option_items plan.rest)
               (with_first_start plan.start (m ∷ ms))
@@ -275,7 +253,7 @@ module _ {K : Type 0} (order : KeyOrder K) (lawful : IsLawful order) {V : Type 0
         IsLeftFill middle first border from
     left_cutting middle first border from stored others starts cut =
         let none =
-        joins_none_before is_good rank items border place
+        border_joins_none is_good rank items left_side border place
         (place + length (option_items first)) cut.rest cut.shape in
         record {
           at = place;
@@ -298,7 +276,7 @@ module _ {K : Type 0} (order : KeyOrder K) (lawful : IsLawful order) {V : Type 0
           extra = [];
           split = sym (append-nil (take place items));
           touched = tt;
-          valued = every_weaker _ _ (option_items cut.rest) (λ j h. inl h) cut.valued;
+          valued = every_weaker _ _ (option_items cut.rest) (λ j h. inl h.value) cut.made;
         }
 
     all_later : (m : Item (AnyRange K) V) (ms : List (Item (AnyRange K) V))
@@ -343,14 +321,13 @@ module _ {K : Type 0} (order : KeyOrder K) (lawful : IsLawful order) {V : Type 0
     ended_lower (Some b) z =
         tied_itself (position_total order.cmp lawful.total) (item_lower order z)
 
-    ended_upper : (finish : Option (Bound K)) (z : Item (AnyRange K) V) (e : Position K)
-        → places order lawful (border_end order same finish r) e ≡ Equal
+    ended_upper : (finish : Option (Bound K)) (z : Item (AnyRange K) V)
         → places order lawful (item_upper order z) (upper order r) ≡ Equal
-        → places order lawful (item_upper order (item_with_end finish z)) e ≡ Equal
-    ended_upper None z e ends at =
-        (position_total order.cmp lawful.total).congr (item_upper order z) (upper order r) e at
-        ∙ ends
-    ended_upper (Some b) z e ends at = ends
+        → places order lawful (item_upper order (item_with_end finish z))
+        (past order (end_position order (unwrap_or finish r.end))) ≡ Equal
+    ended_upper None z at = at
+    ended_upper (Some b) z at =
+        tied_itself (position_total order.cmp lawful.total) (past order (end_position order b))
 
     ended_value : (finish : Option (Bound K)) (z : Item (AnyRange K) V)
         → same (item_with_end finish z).value z.value ≡ true
@@ -376,7 +353,7 @@ module _ {K : Type 0} (order : KeyOrder K) (lawful : IsLawful order) {V : Type 0
     right_joining : (middle front init : List (Item (AnyRange K) V)) (m : Item (AnyRange K) V)
         (start : Option (Bound K)) (last : Option P) (border : Border K P) → IsStored order same
         items → PLt lawful (lower order r) (upper order r) → middle ≡ init ++ m ∷ []
-        → Filled items middle (front ++ with_first_start start middle) (lower order r)
+        → Filled items front (with_first_start start middle) middle (lower order r)
         → Known order lawful same equal (front ++ with_first_start start middle)
         → places order lawful (item_upper order m) (upper order r) ≡ Equal
         → IsRightPlan order same lawful equal is_good rank items r m.value place count last border
@@ -391,27 +368,27 @@ module _ {K : Type 0} (order : KeyOrder K) (lawful : IsLawful order) {V : Type 0
         ap (with_first_start start) split ∙ s.2 in
         let other = item_with_end plan.finish z in
         let behind = option_items plan.rest ++ drop plan.end items in
-        let grouped : front ++ with_first_start start middle ≡ (front ++ s.0) ++ z ∷ [] =
-        ap (λ ys. front ++ ys) body ∙ sym (append_assoc front s.0 (z ∷ [])) in
+        let body_end : with_last_end plan.finish (with_first_start start middle) ≡ s.0
+        ++ other ∷ [] = ap (with_last_end plan.finish) body ∙ with_last plan.finish s.0 z in
         let list : (front ++ with_last_end plan.finish (with_first_start start middle))
-        ++ behind ≡ (front ++ s.0) ++ other ∷ behind =
-        ap (λ ys. (front ++ ys) ++ behind)
-        (ap (with_last_end plan.finish) body ∙ with_last plan.finish s.0 z)
-        ∙ regrouped_last front s.0 behind other in
+        ++ behind ≡ front ++ ((s.0 ++ other ∷ []) ++ behind) =
+        ap (λ ys. (front ++ ys) ++ behind) body_end ∙ append_assoc front (s.0 ++ other ∷ []) behind
+        in
         let z_ends : places order lawful (item_upper order z) (upper order r) ≡ Equal =
         subst (λ (b : Bound K). places order lawful (past order (end_position order b))
         (upper order r) ≡ Equal) (sym s.3) at in
+        let e = past order (end_position order (unwrap_or plan.finish r.end)) in
         let right =
         subst (λ (v : V). IsRightOf (line_of order lawful same equal) items behind
-        (upper order r) plan.side.e v) (sym s.4) plan.side.right in
-        let filled = subst (λ ys. Filled items middle ys (lower order r)) grouped fill in
-        let all = subst (λ ys. Known order lawful same equal ys) grouped known in
-        let known_z = every_right _ (front ++ s.0) (z ∷ []) all in
+        (upper order r) e v) (sym s.4) plan.side.right in
+        let filled = subst (λ ys. Filled items front ys middle (lower order r)) body fill in
+        let all : Known order lawful same equal (front ++ (s.0 ++ z ∷ [])) = rw body at known in
+        let own_all = every_right _ front (s.0 ++ z ∷ []) all in
+        let known_z = every_right _ s.0 (z ∷ []) own_all in
         let cmp = places order lawful in
-        let body_end : with_last_end plan.finish (with_first_start start middle) ≡ s.0
-        ++ other ∷ [] = ap (with_last_end plan.finish) body ∙ with_last plan.finish s.0 z in
         let full =
-        (chain_right (line_of order lawful same equal) (front ++ s.0) (z ∷ []) filled.chain).0 in
+        (chain_right (line_of order lawful same equal) s.0 (z ∷ [])
+        (chain_right (line_of order lawful same equal) front (s.0 ++ z ∷ []) filled.chain)).0 in
         let under =
         le_lt_trans lawful _ _ _ (eq_le lawful _ _ (ended_lower plan.finish z))
         (lt_le_trans lawful _ _ _ full (eq_le lawful _ _ z_ends))
@@ -420,24 +397,21 @@ module _ {K : Type 0} (order : KeyOrder K) (lawful : IsLawful order) {V : Type 0
         lt_le_trans lawful _ _ _ good plan.side.right.above in
         let over =
         lt_le_trans lawful _ _ _ above (eq_ge lawful _ _
-        (ended_upper plan.finish z plan.side.e plan.side.ends z_ends)) in
+        (ended_upper plan.finish z z_ends)) in
         let same_value : m.value ≡ other.value = sym (ended_same plan.finish z ∙ s.4) in
-        let beyond =
-        lt_le_trans lawful _ _ _ above (eq_ge lawful _ _ plan.side.ends) in
         let done =
-        spliced_joined (line_of order lawful same equal) items middle
-        (front ++ s.0) behind z other (lower order r)
-        (upper order r) plan.side.e filled good z_ends right (ended_lower plan.finish z)
-        (ended_upper plan.finish z plan.side.e plan.side.ends z_ends)
+        spliced_joined (line_of order lawful same equal) items front s.0 middle behind z other
+        (lower order r) (upper order r) e filled good z_ends right (ended_lower plan.finish z)
+        (ended_upper plan.finish z z_ends)
         (ended_value plan.finish z) in
         let known_new =
-        every_append _ (front ++ s.0) (other ∷ behind)
-        (every_left _ (front ++ s.0) (z ∷ []) all) (
-          ended_known plan.finish z known_z.0 plan.side.known_end,
-          every_append _ (option_items plan.rest) (drop plan.end items) plan.side.known
-              (known_drop order lawful same equal items plan.end
-              (stored_known order lawful same equal items stored)),
-        ) in
+        every_append _ front ((s.0 ++ other ∷ []) ++ behind) (every_left _ front _ all)
+        (every_append _ (s.0 ++ other ∷ []) behind
+        (every_append _ s.0 (other ∷ []) (every_left _ s.0 (z ∷ []) own_all)
+        (ended_known plan.finish z known_z.0 plan.side.known_end, tt))
+        (every_append _ (option_items plan.rest) (drop plan.end items) plan.side.known
+        (known_drop order lawful same equal items plan.end
+        (stored_known order lawful same equal items stored)))) in
         record {
           upto = plan.upto;
           end = plan.end;
@@ -462,8 +436,8 @@ module _ {K : Type 0} (order : KeyOrder K) (lawful : IsLawful order) {V : Type 0
                       subst (λ v. IsTrue (same i.value v)) same_value h.1,
                     ))),
               )) plan.frame.touched;
-          reaches = λ b is. subst (λ o. Lt cmp (lower order r) (border_end order same o r)) is
-              beyond;
+          reaches = λ b is. subst (λ o. Lt cmp (lower order r)
+              (past order (end_position order (unwrap_or o r.end)))) is above;
           valued =
               every_weaker _ _ (option_items plan.rest)
               (λ j h.
@@ -477,13 +451,13 @@ module _ {K : Type 0} (order : KeyOrder K) (lawful : IsLawful order) {V : Type 0
         (last : Option P) (border : Border K P) (u : Position K) → IsStored order same items
         → place + count ≤ length items → PLe lawful (lower order r) u → PLt lawful u (upper order r)
         → Every (λ i. PLe lawful (item_upper order i) u) middle
-        → Filled items middle (front ++ with_first_start start middle) (lower order r)
+        → Filled items front (with_first_start start middle) middle (lower order r)
         → Known order lawful same equal (front ++ with_first_start start middle)
         → IsRightCutting order same lawful equal is_good rank items r place count last border
         → IsRightFill middle front start last border
     right_cutting middle front start last border u stored within le lt all fill known cut =
         let none =
-        joins_none_after is_good rank items border cut.upto
+        border_joins_none is_good rank items right_side border cut.upto
         (place + count) cut.rest cut.shape in
         let behind = option_items cut.rest ++ drop (place + count) items in
         record {
@@ -495,8 +469,8 @@ module _ {K : Type 0} (order : KeyOrder K) (lawful : IsLawful order) {V : Type 0
           ends = omega (arith, none, cut.ends);
           in_range = within;
           spliced =
-              spliced_apart (line_of order lawful same equal) items middle
-              (front ++ with_first_start start middle) behind (lower order r) u
+              spliced_apart (line_of order lawful same equal) items front
+              (with_first_start start middle) middle behind (lower order r) u
               (upper order r) fill le lt all cut.side.right;
           known =
               every_append _ (front ++ with_first_start start middle) behind known
@@ -509,14 +483,14 @@ module _ {K : Type 0} (order : KeyOrder K) (lawful : IsLawful order) {V : Type 0
           reaches = λ b is. absurd (cc);
           valued =
               every_weaker _ _ (option_items cut.rest)
-              (λ j h. inl (any_left _ (take count (drop place items)) [] h)) cut.valued;
+              (λ j h. inl (any_left _ (take count (drop place items)) [] h.value)) cut.made;
         }
 
     pub right_fill : (middle front : List (Item (AnyRange K) V)) (start : Option (Bound K))
         (last : Option P) (border : Border K P) → IsStored order same items → IsStored order same
         middle → AreWithin order middle r → PLt lawful (lower order r) (upper order r)
         → place + count ≤ length items
-        → Filled items middle (front ++ with_first_start start middle) (lower order r)
+        → Filled items front (with_first_start start middle) middle (lower order r)
         → Known order lawful same equal (front ++ with_first_start start middle)
         → IsRightSeam order same lawful equal is_good rank items r place count
         (slice_get middle (length middle - 1)) last border → IsRightFill middle front start last
@@ -564,23 +538,6 @@ module _ {K : Type 0} {order : KeyOrder K} (lawful : IsLawful order) {V : Type 0
     {same : V → V → Bool} (equal : IsEquivalence same) {P : Type 0} {is_good : P → Type 0}
     {rank : P → ℕ} {items : List (Item (AnyRange K) V)} {r : AnyRange K} {w : Window P} {place : ℕ}
     (window : IsWindow order same is_good rank items r w place) where
-  -- an item that reaches out of the range is cut
-  pub left_cut_out : (first : Option P) (b : Bound K) (from : Option P)
-      → ReachesBefore order is_good rank items r place w.count first → IsKnownBound order b
-      → SameBound order (flipped_bound r.start) b
-      → IsAt is_good rank (length items) from (place + length (option_items first))
-      → IsLeftCutting order same lawful equal is_good rank items r place w.count first
-      (border_at first b) from
-  left_cut_out first b from reach known_b same_b next =
-      let cut = left_cut_plan lawful equal window first b reach known_b same_b in
-      record {
-        rest = cut.rest;
-        shape = cut.shape;
-        side = cut.side;
-        run = next;
-        valued = every_weaker _ _ (option_items cut.rest) (λ j h. h.value) cut.made;
-      }
-
   -- no item reaches out of it, and the one before may join
   pub left_touched : (v : V) (joined : Option P) (b : Bound K) (at : Option P)
       → ((p : P) → is_good p → rank p < length items)
@@ -595,35 +552,8 @@ module _ {K : Type 0} {order : KeyOrder K} (lawful : IsLawful order) {V : Type 0
       left_plan_free lawful equal window v at
       (subst (λ n. IsAt is_good rank (length items) at n) plus start) reach none
   left_touched v (Some q) b at in_range reach found start =
-      rw start (left_joined_at lawful equal window v q reach found.0 found.1
+      rw start (left_plan_joined lawful equal window v q reach found.0 found.1
       (in_range q found.0) found.2)
-
-  right_cut_from : (last : Option P) (b : Bound K) (upto : ℕ)
-      → upto + length (option_items last) ≡ place + w.count
-      → ReachesAfter order is_good rank items r place w.count last → IsKnownBound order b
-      → SameBound order (flipped_bound r.end) b
-      → IsRightCutting order same lawful equal is_good rank items r place w.count last
-      (border_at last b)
-  right_cut_from last b upto at reach known_b same_b =
-      let cut = right_cut_plan lawful equal window last b upto at reach known_b same_b in
-      record {
-        upto = upto;
-        rest = cut.rest;
-        shape = cut.shape;
-        side = cut.side;
-        valued = every_weaker _ _ (option_items cut.rest) (λ j h. h.value) cut.made;
-        ends = at;
-      }
-
-  pub right_cut_any : (last : Option P) (b : Bound K)
-      → ReachesAfter order is_good rank items r place w.count last → IsKnownBound order b
-      → SameBound order (flipped_bound r.end) b
-      → IsRightCutting order same lawful equal is_good rank items r place w.count last
-      (border_at last b)
-  right_cut_any None b reach known_b same_b =
-      right_cut_from None b (place + w.count) (omega arith) reach known_b same_b
-  right_cut_any (Some p) b reach known_b same_b =
-      right_cut_from (Some p) b (place + w.count - 1) (omega (arith, reach.2)) reach known_b same_b
 
   pub right_touched : (v : V) (joined : Option P) (b : Bound K)
       → ((p : P) → is_good p → rank p < length items)
@@ -635,4 +565,4 @@ module _ {K : Type 0} {order : KeyOrder K} (lawful : IsLawful order) {V : Type 0
       (seam_border joined None b)
   right_touched v None b in_range reach none = right_plan_plain lawful equal window v reach none
   right_touched v (Some q) b in_range reach found =
-      right_joined_at lawful equal window v q reach found.0 found.1 (in_range q found.0) found.2
+      right_plan_joined lawful equal window v q reach found.0 found.1 (in_range q found.0) found.2

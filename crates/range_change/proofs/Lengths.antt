@@ -1,5 +1,5 @@
 -- How long a list is once it was changed.
-use Rattle.std.proofs.Common.{◌≡◌, ℕ, ◌+◌, ◌≤◌, List, ◌∷◌, ◌++◌, length, take, drop, ap, arith, length-append, length-drop}
+use Rattle.std.proofs.Common.{◌≡◌, ℕ, ◌+◌, ◌≤◌, List, ◌∷◌, ◌++◌, length, take, drop, refl, ap, arith, length-append, length-drop}
 use Rattle.std.specs.Prelude.{Option, Some, None}
 use Rattle.std.specs.declared.ops.Bound.{Bound}
 use Rattle.std.proofs.lemmas.List.{length-take-le}
@@ -7,7 +7,7 @@ use Rattle.range_algebra.specs.declared.any.AnyRange.{AnyRange}
 use Rattle.range_store.specs.declared.storage.Item.{Item}
 use Rattle.range_change.specs.declared.borders.Border.{Border}
 use Rattle.range_change.specs.declared.borders.Border.TheVariants.{Plain, Cut, Joined}
-use Rattle.range_change.specs.Borders.{IsLeftShape, IsRightShape}
+use Rattle.range_change.specs.Borders.{BorderSide, IsBorderShape, joined_count}
 use Rattle.range_change.specs.Window.{option_items}
 
 -- an option names at most one item
@@ -62,23 +62,22 @@ le_sum a b = omega arith
 
 module _ {K V P : Type 0} (is_good : P → Type 0) (rank : P → ℕ)
     (items : List (Item (AnyRange K) V)) where
-  -- the items that stand before a run, with the rest of a cut one
-  pub left_length : (border : Border K P) (at from : ℕ) (rest : Option (Item (AnyRange K) V))
-      (start : Option (Bound K)) → IsLeftShape is_good rank items border at from rest start
-      → at + length (option_items rest) ≡ from
-  left_length Plain at from rest start h = omega (arith, h.0, ap (λ o. length (option_items o)) h.1)
-  left_length (Cut p b) at from rest start h =
+  -- a border takes up as many places as it leaves items of what it cuts
+  pub border_length : (side : BorderSide K V) (border : Border K P) (low high : ℕ)
+      (rest : Option (Item (AnyRange K) V)) (given : Option (Bound K))
+      → IsBorderShape side is_good rank items border low high rest given
+      → high ≡ low + length (option_items rest)
+  border_length side Plain low high rest given h =
+      omega (arith, h.0, ap (λ o. length (option_items o)) h.1)
+  border_length side (Cut p b) low high rest given h =
       omega (arith, h.2, ap (λ o. length (option_items o)) h.4.2)
-  left_length (Joined p) at from rest start h =
+  border_length side (Joined p) low high rest given h =
       omega (arith, h.2, ap (λ o. length (option_items o)) h.3)
 
-  -- those after it
-  pub right_length : (border : Border K P) (upto end : ℕ) (rest : Option (Item (AnyRange K) V))
-      (finish : Option (Bound K)) → IsRightShape is_good rank items border upto end rest finish
-      → end ≡ upto + length (option_items rest)
-  right_length Plain upto end rest finish h =
-      omega (arith, h.0, ap (λ o. length (option_items o)) h.1)
-  right_length (Cut p b) upto end rest finish h =
-      omega (arith, h.2, ap (λ o. length (option_items o)) h.4.2)
-  right_length (Joined p) upto end rest finish h =
-      omega (arith, h.2, ap (λ o. length (option_items o)) h.3)
+  -- where no bound is given, nothing is joined
+  pub border_joins_none : (side : BorderSide K V) (border : Border K P) (low high : ℕ)
+      (rest : Option (Item (AnyRange K) V))
+      → IsBorderShape side is_good rank items border low high rest None → joined_count border ≡ 0
+  border_joins_none side Plain low high rest h = refl
+  border_joins_none side (Cut p b) low high rest h = refl
+  border_joins_none side (Joined p) low high rest h = absurd (let e = h.4.2 in cc)

@@ -7,7 +7,6 @@ pub mod ChainSides
 pub mod Chains
 pub mod Comparisons
 pub mod CoveredPlaces
-pub mod CutOut
 pub mod CutParts
 pub mod DividedItems
 pub mod Extents
@@ -17,6 +16,7 @@ pub mod FreeReach
 pub mod Freeing
 pub mod InsertionFrames
 pub mod InsertionPlans
+pub mod ItemPlaces
 pub mod JoinedMiddle
 pub mod Lengths
 pub mod Listed
@@ -37,6 +37,7 @@ pub mod RunItems
 pub mod SpelledChanges
 pub mod Spelling
 pub mod Splices
+pub mod Succeeding
 pub mod Surrounded
 pub mod Tests
 pub mod UpdatedLists

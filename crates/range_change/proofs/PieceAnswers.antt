@@ -1,6 +1,6 @@
 -- The answers to the pieces of a range, one after the other.
-use Rattle.std.proofs.Common.{ℕ, ◌+◌, take, drop, ◌≡◌, refl, sym, ap, ◌∙◌, Option, Some, None, Bool, true, List, [], ◌∷◌, ◌++◌, append_assoc, inl, inr, ◌↔◌, map, Result, Ok}
-use Rattle.std.proofs.lemmas.List.{append-nil, drop-drop, map-append}
+use Rattle.std.proofs.Common.{ℕ, arith, ◌+◌, take, drop, ◌≡◌, refl, sym, ap, ◌∙◌, Option, Some, None, Bool, true, List, [], ◌∷◌, ◌++◌, append_assoc, inl, inr, ◌↔◌, map, Result, Ok}
+use Rattle.std.proofs.lemmas.List.{append-nil, drop-drop, length_push, map-append}
 use Rattle.std.specs.Fn.{Shared}
 use denote.Ref.{Bor}
 use Rattle.std.specs.declared.ops.Bound.{Bound}
@@ -15,7 +15,7 @@ use Rattle.range_algebra.specs.Intervals.{Any, Every}
 use Rattle.range_algebra.proofs.Lists.{every_append, every_right, every_weaker, list_is_take_and_drop}
 use Rattle.range_algebra.proofs.Places.{held_between}
 use Rattle.range_store.specs.declared.storage.Item.{Item}
-use Rattle.range_change.specs.Answers.{MayAnswer, MayBeAsked, Answered, IsAsAnswered, AnswersPiece, IsGathered, piece_of}
+use Rattle.range_change.specs.Answers.{MayAnswer, MayBeAsked, Answered, IsAsAnswered, AnswersPiece, SucceedsAtFirst, IsGathered, piece_of}
 use Rattle.range_change.specs.Bindings.{Binds}
 use Rattle.range_change.specs.PieceLists.{pieces_of}
 use Rattle.range_change.specs.Put.{IsPut}
@@ -193,6 +193,42 @@ module _ {K : Type 0} {order : KeyOrder K} (lawful : IsLawful order) {V : Type 0
           says = says;
         }
 
+    -- the answers so far and one to the next piece
+    abbrev more : Option V → List (Answered K V)
+    more answer = was.answers ++ record { key = key; value = value; answer = answer } ∷ []
+
+    list_more : (answer : Option V) → Pieces ≡ map piece_of (more answer) ++ rest
+    list_more answer =
+        let a : Answered K V = record { key = key; value = value; answer = answer } in
+        was.list
+        ∙ sym (ap (λ ps. ps ++ rest) (map-append piece_of was.answers (a ∷ []))
+        ∙ append_assoc Done (piece_of a ∷ []) rest)
+
+    given_more : (answer : Option V) → MayAnswer calls f value (Ok answer)
+        → Every (λ a. MayAnswer calls f a.value (Ok a.answer)) (more answer)
+    given_more answer says = every_append _ was.answers _ was.given (says, tt)
+
+    -- the closure may answer to the pieces so far and to the next one without an error
+    pub next_succeeds : (answer : Option V) → MayAnswer calls f value (Ok answer)
+        → SucceedsAtFirst order same calls f items r
+    next_succeeds answer says =
+        let are =
+        pieces_are lawful equal items r window.stored window.known window.nonempty Met met in
+        record {
+          front = more answer;
+          rest = rest;
+          some = omega (
+            arith,
+            length_push was.answers (record {
+              key = key;
+              value = value;
+              answer = answer;
+            }),
+          );
+          pieces = rw (list_more answer) at are;
+          given = given_more answer says;
+        }
+
     module _ (is_clone : K → K → Type 0)
         (clones : (a b : Bound K) → IsBoundClone is_clone a b → SameBound order a b)
         (new : List (Item (AnyRange K) V)) (answer : Option V)
@@ -200,15 +236,11 @@ module _ {K : Type 0} {order : KeyOrder K} (lawful : IsLawful order) {V : Type 0
       pub one_more : MayAnswer calls f value (Ok answer)
           → IsUnderway order lawful same equal r calls f Pieces rest new
       one_more says =
-          let a : Answered K V = record { key = key; value = value; answer = answer } in
           let inside = (every_right _ Done _ (rw was.list at cut.inside)).0 in
           record {
-            answers = was.answers ++ a ∷ [];
-            list =
-                was.list
-                ∙ sym (ap (λ ps. ps ++ rest) (map-append piece_of was.answers (a ∷ []))
-                ∙ append_assoc Done (piece_of a ∷ []) rest);
-            given = every_append _ was.answers (a ∷ []) was.given (says, tt);
+            answers = more answer;
+            list = list_more answer;
+            given = given_more answer says;
             from = upper order key;
             ahead = (rises_right order lawful Done _ (rw was.list at cut.rising)).0;
             filled =

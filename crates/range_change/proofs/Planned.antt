@@ -1,7 +1,7 @@
 -- What a change makes of a list where both sides of a range are planned.
 use Rattle.std.proofs.Common.{◌≡◌, ℕ, ◌+◌, ◌-◌, ◌*◌, ◌≤◌, List, ◌++◌, length, take, drop, refl, ap, sym, ◌∙◌, arith, subst, Option, Some, Bool}
 use Rattle.std.specs.Cmp.{IsEquivalence}
-use Rattle.std.specs.Option.{ForSome, unwrap_or}
+use Rattle.std.specs.Option.{ForSome}
 use Rattle.std.specs.declared.ops.Bound.{Bound}
 use Rattle.range_keys.specs.Order.{KeyOrder, IsLawful}
 use Rattle.range_algebra.specs.declared.any.AnyRange.{AnyRange}
@@ -9,15 +9,14 @@ use Rattle.range_store.specs.ListPlaces.{place_before, IsAt}
 use Rattle.range_store.specs.declared.storage.Item.{Item}
 use Rattle.range_store.proofs.ListPlaces.{place_at, kept_at, good_at}
 use Rattle.range_change.specs.Changes.{IsInserted}
-use Rattle.range_change.specs.Borders.{joined_count, IsGoodBorder, IsLeftShape, IsRightShape}
+use Rattle.range_change.specs.Borders.{joined_item, joined_count, IsGoodBorder, IsLeftShape, IsRightShape, left_side, right_side}
 use Rattle.range_change.specs.Plans.{IsLeftPlan, IsRightPlan}
 use Rattle.range_change.specs.Window.{option_items, IsWindow}
 use Rattle.range_change.specs.declared.borders.Border.{Border}
 use Rattle.range_change.specs.declared.window.Window.{Window}
 use Rattle.range_change.proofs.RangeSides.{borders_insert}
-use Rattle.range_change.proofs.InsertionFrames.{insertion_frame}
-use Rattle.range_change.proofs.Lengths.{one_item, changed_length, left_length, right_length}
-use Rattle.range_change.proofs.BoundEdits.{left_kept, right_kept, left_good, right_good, upto_end}
+use Rattle.range_change.proofs.Lengths.{one_item, changed_length, border_length}
+use Rattle.range_change.proofs.BoundEdits.{shape_kept, border_good}
 
 -- the borders and the run are such that a container can be changed so
 pub record IsFit {K V P : Type 0} (is_good : P → Type 0) (rank : P → ℕ)
@@ -51,27 +50,26 @@ module _ {K V P : Type 0} {is_good is_good' : P → Type 0} {rank rank' : P → 
       let here : place_before rank' (length items') from ≡ begin =
       ap (λ n. place_before rank' n from) size
       ∙ place_at is_good' rank' (length items) from begin moved in
-      let least : upto ≤ end =
-      upto_end is_good is_good' rank rank' items items' kept same_list right upto end after
-      finish on_right in
+      let least =
+      border_length is_good rank items right_side right upto end after finish on_right in
       record {
         left_good =
-            left_good is_good is_good' rank rank' items items' kept same_list left at begin before
-            start on_left;
+            border_good kept same_list left_side left at
+            begin before start on_left;
         right_good =
-            right_good is_good is_good' rank rank' items items' kept same_list right upto end after
-            finish on_right;
+            border_good kept same_list right_side right
+            upto end after finish on_right;
         good = good_at is_good' rank' (length items) from begin moved;
         in_range = rw (here, size, sum) (omega (arith, least, within));
         on_left =
             subst (λ n. IsLeftShape is_good' rank' items' left at n before start) (sym here)
-            (left_kept is_good is_good' rank rank' items items' kept same_list left at begin before
-            start on_left);
+            (shape_kept kept same_list left_side left at
+            begin before start on_left);
         on_right =
             subst (λ n. IsRightShape is_good' rank' items' right n end after finish)
             (sym (ap (λ n. n + count) here ∙ sum))
-            (right_kept is_good is_good' rank rank' items items' kept same_list right upto end after
-            finish on_right);
+            (shape_kept kept same_list right_side right
+            upto end after finish on_right);
       }
 
 module _ {K : Type 0} {order : KeyOrder K} {lawful : IsLawful order} {V : Type 0}
@@ -85,27 +83,15 @@ module _ {K : Type 0} {order : KeyOrder K} {lawful : IsLawful order} {V : Type 0
     (apart : length (option_items first) + length (option_items last) ≤ w.count) where
   -- the range with the bounds of those that it joins
   abbrev made_item : Item (AnyRange K) V
-  made_item =
-      record {
-        key = record {
-          start = unwrap_or left.start r.start;
-          end = unwrap_or right.finish r.end;
-        };
-        value = v;
-      }
+  made_item = joined_item (record { key = r; value = v }) left.start right.finish
 
   pub planned_insert : (new : List (Item (AnyRange K) V))
       → new ≡ take left.at items ++ option_items left.rest ++ option_items (Some made_item)
       ++ option_items right.rest ++ drop right.end items → IsInserted order same items new r v
   planned_insert new made =
-      let few : length (option_items left.rest) + length (option_items right.rest) ≤ w.count + 1 =
-      omega (arith, left.few, right.few, apart) in
-      let frame =
-      insertion_frame lawful equal window new v made_item left.at right.end left.rest right.rest
-      left.start right.finish left.frame right.frame few refl refl (equal.refl v)
-      (λ e. refl) made in
-      borders_insert lawful equal window new v made_item left.at right.end left.rest right.rest
-      left.start right.finish left.side right.side refl refl (equal.refl v) frame made
+      borders_insert lawful equal window new v v left.at right.end left.rest right.rest left.start
+      right.finish left.side right.side left.frame right.frame
+      (omega (arith, left.few, right.few, apart)) (equal.refl v) (λ e. refl) made
 
   pub planned_size : (new : List (Item (AnyRange K) V))
       → new ≡ take left.at items ++ option_items left.rest ++ option_items (Some made_item)
@@ -113,10 +99,12 @@ module _ {K : Type 0} {order : KeyOrder K} {lawful : IsLawful order} {V : Type 0
       → 2 * length new + w.count ≤ 2 * length items + 4
   planned_size new made =
       let left_is =
-      left_length is_good rank items border left.at left.begin left.rest left.start left.shape
+      border_length is_good rank items left_side border left.at left.begin left.rest left.start
+      left.shape
       in
       let right_is =
-      right_length is_good rank items behind right.upto right.end right.rest right.finish
+      border_length is_good rank items right_side behind right.upto right.end right.rest
+      right.finish
       right.shape in
       let size =
       changed_length items new (option_items left.rest) (option_items (Some made_item))
@@ -140,10 +128,9 @@ module _ {K : Type 0} {order : KeyOrder K} {lawful : IsLawful order} {V : Type 0
       (w.count - (length (option_items first) + length (option_items last))) + joined_count behind
       ≤ length items
   planned_count =
-      let least : right.upto ≤ right.end =
-      upto_end is_good is_good rank rank items items
-      (λ p h. (h, refl)) refl behind right.upto right.end right.rest right.finish
-      right.shape in
+      let least =
+      border_length is_good rank items right_side behind right.upto right.end right.rest
+      right.finish right.shape in
       omega (arith, left.begins, right.ends, apart, least, right.side.in_range)
 
   -- where the run takes in the items that join, it ends where the plan after it begins

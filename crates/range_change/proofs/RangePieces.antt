@@ -1,5 +1,5 @@
 -- Parts that share out a range are its pieces.
-use Rattle.std.proofs.Common.{◌≡◌, refl, sym, subst, ap, ◌∙◌, ℕ, ◌+◌, ◌<◌, length, get_or, take, drop, Option, Some, None, Bool, true, false, List, [], ◌∷◌, ◌++◌, ◌⊎◌, inl, inr, map, if◌then◌else◌}
+use Rattle.std.proofs.Common.{◌≡◌, refl, sym, subst, ap, ◌∙◌, ℕ, ◌<◌, length, get_or, Option, Some, None, Bool, true, false, List, [], ◌∷◌, ◌++◌, ◌⊎◌, inl, inr, map, if◌then◌else◌}
 use Rattle.std.specs.declared.cmp.Ordering.TheVariants.{Equal}
 use Rattle.std.specs.Ordering.{is_gt}
 use Rattle.std.specs.Cmp.{IsEquivalence, tied_back}
@@ -13,7 +13,7 @@ use Rattle.range_algebra.specs.Range.{IsKnownRange}
 use Rattle.range_algebra.specs.RangeOrder.{range_cmp}
 use Rattle.range_algebra.specs.Intervals.{Le, Lt, Any, Every}
 use Rattle.range_change.proofs.PlaceOrder.{le_refl, lt_le, eq_le, eq_ge, le_trans, lt_not_le, cases, both, le_lt_trans, lt_le_trans}
-use Rattle.range_algebra.proofs.Lists.{every_at, every_weaker, parts_at}
+use Rattle.range_algebra.proofs.Lists.{every_at, every_weaker}
 use Rattle.range_change.specs.Chains.{line_of}
 use Rattle.range_change.proofs.Chains.{follows_above, chain_tail}
 use Rattle.range_algebra.specs.Combined.{common}
@@ -30,12 +30,6 @@ use Rattle.range_change.proofs.Forms.{Known, Chained, before_is, nonempty_good}
 pub item_at : {X : Type 0} (P : X → Type 0) (items : List X) (k : ℕ) (x : X) → Every P items
     → k < length items → x ≡ get_or items k x → P x
 item_at P items k x all within read = subst P (sym read) (every_at P items k x all within)
-
--- the items up to one, that one, and those after it
-pub listed_at : {X : Type 0} (items : List X) (n : ℕ) (x : X) → n < length items
-    → x ≡ get_or items n x → items ≡ take n items ++ x ∷ drop (n + 1) items
-listed_at items n x within read =
-    parts_at items n x within ∙ ap (λ y. take n items ++ y ∷ drop (n + 1) items) (sym read)
 
 -- some item is such and is used so
 pub any_use : {X R : Type 0} (P Q : X → Type 0) (xs : List X) → Any P xs → Every Q xs

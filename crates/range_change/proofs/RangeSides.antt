@@ -1,31 +1,32 @@
 -- What stands on each side of a range, and the list in which it is bound or unbound.
 use Rattle.std.proofs.Common.{◌≡◌, ℕ, zero, suc, ◌+◌, ◌-◌, ◌<◌, ◌≤◌, List, [], ◌∷◌, ◌++◌, length, take, drop, get_or, refl, ap, sym, ◌∙◌, arith, subst, Option, Some, None, Bool, true, false, length-drop}
-use Rattle.std.proofs.lemmas.List.{append-nil, drop_more, take_more, get_or-drop}
-use Rattle.std.specs.declared.cmp.Ordering.TheVariants.{Equal}
+use Rattle.std.proofs.lemmas.List.{append-nil, get_or-drop}
 use Rattle.std.specs.Cmp.{IsEquivalence}
 use Rattle.range_keys.specs.Order.{KeyOrder, IsLawful}
-use Rattle.range_keys.specs.Position.{start_position, end_position}
 use Rattle.range_keys.specs.PositionOrder.{position_total}
 use Rattle.range_algebra.specs.declared.any.AnyRange.{AnyRange}
 use Rattle.range_algebra.specs.Range.{IsKnownRange}
 use Rattle.range_store.specs.declared.storage.Item.{Item}
 use Rattle.range_algebra.specs.Intervals.{Every}
-use Rattle.range_change.proofs.PlaceOrder.{eq_le, eq_ge, lt_le, le_trans, PLe, PLt}
-use Rattle.range_change.specs.Chains.{line_of, Leads, Trails}
+use Rattle.range_change.proofs.PlaceOrder.{lt_le, le_trans, PLe, PLt}
+use Rattle.range_change.specs.Chains.{line_of, Leads, Trails, IsLeft, IsRight, IsLeftOf, IsRightOf}
+use Rattle.range_change.proofs.Chains.{chain_above, chain_before, chain_right}
+use Rattle.range_change.proofs.ChainSides.{left_whole, left_cut, right_whole, right_cut}
 use Rattle.range_change.proofs.ChainJoins.{places_between_are_unbound, left_apart, left_joined, right_apart, right_joined, leading_last, trailing_first, places_between_are_bound}
-use Rattle.range_algebra.specs.Cuts.{past, lower, upper}
+use Rattle.range_algebra.specs.Cuts.{lower, upper}
 use Rattle.range_change.specs.Stored.{item_lower, item_upper}
-use Rattle.range_change.specs.Window.{IsWindow, IsLeftPart, IsRightPart, option_items}
+use Rattle.range_change.specs.Window.{IsWindow, option_items}
 use Rattle.range_change.specs.declared.window.Window.{Window}
-use Rattle.range_change.proofs.Forms.{places, nonempty_good, Known, stored_known, stored_chain, chain_stored, unbound_after}
+use Rattle.range_change.proofs.Forms.{nonempty_good, Known, Chained, stored_known, stored_chain, known_take, known_drop, chain_stored, unbound_after}
 use Rattle.range_algebra.proofs.Lists.{every_at, list_is_take_and_drop, every_weaker, every_append, every_right}
 use Rattle.std.specs.Cmp.{tied_itself}
 use Rattle.std.specs.declared.ops.Bound.{Bound}
-use Rattle.std.specs.Option.{unwrap_or}
 use Rattle.range_algebra.specs.Relations.{Touches}
 use Rattle.range_change.specs.Changes.{IsInserted, IsRemoved}
 use Rattle.range_change.specs.Lookups.{Overlap}
-use Rattle.range_change.specs.Frames.{IsInsertionFrame, IsRemovalFrame}
+use Rattle.range_change.specs.Frames.{IsPart, IsRemovalFrame}
+use Rattle.range_change.specs.Plans.{IsLeftFrame, IsRightFrame}
+use Rattle.range_change.proofs.InsertionFrames.{insertion_frame, cut_way, not_cut}
 use Rattle.range_change.proofs.Forms.{before_is}
 use Rattle.range_change.proofs.Windows.{every_both}
 use Rattle.range_change.specs.Reach.{ReachesBefore, ReachesAfter}
@@ -34,37 +35,13 @@ use Rattle.range_algebra.specs.Clones.{SameBound}
 use Rattle.range_algebra.specs.Range.{IsKnownBound}
 use Rattle.range_change.proofs.CoveredPlaces.{meets_bound}
 use Rattle.range_change.proofs.BoundEdits.{opening_regroups, regrouped_out}
-use Rattle.range_change.proofs.CutParts.{cut_end, cut_start, known_turned, same_turned}
-use Rattle.range_change.specs.Borders.{IsLeftRest, IsRightRest, IsLeftBorder, IsRightBorder, TouchesBefore, TouchesNoneBefore, TouchesAfter, TouchesNoneAfter, border_start, border_end}
+use Rattle.range_change.proofs.CutParts.{cut_end, cut_start}
+use Rattle.range_change.specs.Borders.{joined_item, IsLeftRest, IsRightRest, IsLeftBorder, IsRightBorder, TouchesNoneBefore, TouchesNoneAfter}
 use Rattle.range_change.proofs.Forms.{touches_is, bound_after}
-use Rattle.range_change.proofs.CutOut.{Left, Right, left_all, right_all, left_of, right_of, left_known, right_known, known_take, known_drop}
+use Rattle.range_change.proofs.ItemPlaces.{element_at, element_at_is_read, listed_at, upto_item, from_item}
 
 both_truths : (b : Bool) → b ≡ true → b ≡ false → ⊥
 both_truths b e f = let clash : true ≡ false = sym e ∙ f in cc
-
-pub element_at : {X : Type 0} (xs : List X) (n : ℕ) → n < length xs → X
-element_at [] n within = absurd (omega arith)
-element_at (x ∷ xs) zero within = x
-element_at (x ∷ xs) (suc n) within = element_at xs n (omega arith)
-
-pub element_at_is_read : {X : Type 0} (xs : List X) (n : ℕ) (within : n < length xs) (d : X)
-    → element_at xs n within ≡ get_or xs n d
-unfolding element_at
-element_at_is_read [] n within d = absurd (omega arith)
-element_at_is_read (x ∷ xs) zero within d = refl
-element_at_is_read (x ∷ xs) (suc n) within d = element_at_is_read xs n (omega arith) d
-
-border_start_is : {K : Type 0} (order : KeyOrder K) {V : Type 0} (same : V → V → Bool)
-    (o : Option (Bound K)) (r : AnyRange K)
-    → start_position order (unwrap_or o r.start) ≡ border_start order same o r
-border_start_is order same None r = refl
-border_start_is order same (Some b) r = refl
-
-border_end_is : {K : Type 0} (order : KeyOrder K) {V : Type 0} (same : V → V → Bool)
-    (o : Option (Bound K)) (r : AnyRange K)
-    → past order (end_position order (unwrap_or o r.end)) ≡ border_end order same o r
-border_end_is order same None r = refl
-border_end_is order same (Some b) r = refl
 
 module _ {K : Type 0} {order : KeyOrder K} (lawful : IsLawful order) {V : Type 0}
     {same : V → V → Bool} (equal : IsEquivalence same) where
@@ -74,82 +51,8 @@ module _ {K : Type 0} {order : KeyOrder K} (lawful : IsLawful order) {V : Type 0
     range_has_places : PLt lawful (lower order r) (upper order r)
     range_has_places = (nonempty_good order lawful r window.known).0 window.nonempty
 
-    rest_starts_after_range : w.count ≡ 0
-        → Every (λ i. PLe lawful (upper order r) (item_lower order i)) (drop place items)
-    rest_starts_after_range none = let at : place + w.count ≡ place =
-        omega (arith, none) in rw at at window.behind
-
-    left_reaches : (x y : Item (AnyRange K) V) (rest : Option (Item (AnyRange K) V))
-        → IsLeftPart order same x r rest → rest ≡ Some y
-        → PLe lawful (lower order r) (item_upper order y)
-    left_reaches x y None part e = absurd (cc)
-    left_reaches x y (Some z) part e = let at : z ≡ y =
-        cc in rw (← at) (eq_ge lawful _ _ part.2)
-
-    pub left_rest_none : w.count ≡ 0 → IsLeftRest order same lawful equal items r place None
-    left_rest_none none =
-        record {
-          left =
-              rw (append-nil (take place items))
-              (left_all order lawful same equal items (take place items) (drop place items)
-              (lower order r) (list_is_take_and_drop items place)
-              (stored_chain order lawful same equal items window.stored) window.below
-              (every_weaker _ _ (drop place items) (λ i h. le_trans lawful _ _ _
-              (lt_le lawful _ _ range_has_places) h) (rest_starts_after_range none)));
-          known = tt;
-          reaches = λ y e. absurd (cc);
-        }
-
-    pub left_rest_some : 0 < w.count → (x : Item (AnyRange K) V) → x ≡ get_or items place x
-        → (rest : Option (Item (AnyRange K) V)) → IsLeftPart order same x r rest
-        → IsLeftRest order same lawful equal items r place rest
-    left_rest_some some x read rest part =
-        record {
-          left =
-              left_of order lawful same equal items place x r rest (omega (arith, window.in_range))
-              (stored_chain order lawful same equal items window.stored) window.below window.above
-              (subst (λ (y : Item (AnyRange K) V). IsLeftPart order same y r rest) read part);
-          known = left_known order lawful same equal x r rest part;
-          reaches = λ y e. left_reaches x y rest part e;
-        }
-
-    right_reaches : (x y : Item (AnyRange K) V) (rest : Option (Item (AnyRange K) V))
-        → IsRightPart order same x r rest → rest ≡ Some y
-        → PLe lawful (item_lower order y) (upper order r)
-    right_reaches x y None part e = absurd (cc)
-    right_reaches x y (Some z) part e = let at : z ≡ y =
-        cc in rw (← at) (eq_le lawful _ _ part.1)
-
-    pub right_rest_none : w.count ≡ 0
-        → IsRightRest order same lawful equal items r (place + w.count) None
-    right_rest_none none =
-        let at : place + w.count ≡ place = omega (arith, none) in
-        rw at (record {
-          right =
-              right_all order lawful same equal items (take place items) (drop place items)
-              (upper order r) (list_is_take_and_drop items place)
-              (stored_chain order lawful same equal items window.stored)
-              (every_weaker _ _ (take place items) (λ i h. le_trans lawful _ _ _ h
-              (lt_le lawful _ _ range_has_places)) window.below) (rest_starts_after_range none);
-          known = tt;
-          reaches = λ y e. absurd (cc);
-        })
-
-    pub right_rest_some : 0 < w.count → (x : Item (AnyRange K) V)
-        → x ≡ get_or items (place + w.count - 1) x → (rest : Option (Item (AnyRange K) V))
-        → IsRightPart order same x r rest
-        → IsRightRest order same lawful equal items r (place + w.count) rest
-    right_rest_some some x read rest part =
-        record {
-          right =
-              right_of order lawful same equal items (place + w.count) x r rest
-              (omega arith) window.in_range
-              (stored_chain order lawful same equal items window.stored)
-              (window.meets x some) window.behind
-              (subst (λ (y : Item (AnyRange K) V). IsRightPart order same y r rest) read part);
-          known = right_known order lawful same equal x r rest part;
-          reaches = λ y e. right_reaches x y rest part e;
-        }
+    in_order : Chained order lawful same equal items
+    in_order = stored_chain order lawful same equal items window.stored
 
     known_at : (n : ℕ) (x : Item (AnyRange K) V) → n < length items → x ≡ get_or items n x
         → IsKnownRange order x.key
@@ -157,29 +60,105 @@ module _ {K : Type 0} {order : KeyOrder K} (lawful : IsLawful order) {V : Type 0
         every_at (λ i. IsKnownRange order i.key) items n x
         (stored_known order lawful same equal items window.stored) within in rw (← read) at at
 
-    left_rest_by : (n : ℕ) → w.count ≡ n
-        → ReachesBefore order is_good rank items r place w.count None
-        → IsLeftRest order same lawful equal items r place None
-    left_rest_by zero e reach = left_rest_none e
-    left_rest_by (suc n) e reach =
+    -- the first item of the window ends after the range starts, and the last starts before it ends
+    pub first_reaches : (x : Item (AnyRange K) V) → x ≡ get_or items place x → 0 < w.count
+        → PLe lawful (lower order r) (item_upper order x)
+    first_reaches x read some =
+        let within : place < length items = omega (arith, some, window.in_range) in
+        let first = rw (from_item items place x within read) at window.above in
+        lt_le lawful _ _ first.0
+
+    pub last_starts : (x : Item (AnyRange K) V) → x ≡ get_or items (place + w.count - 1) x
+        → 0 < w.count → PLe lawful (item_lower order x) (upper order r)
+    last_starts x read some = rw (← read) at (lt_le lawful _ _ (window.meets x some))
+
+    -- an item beside the window that touches the range lies up to it
+    pub touching_before : (n : ℕ) (x : Item (AnyRange K) V) → n + 1 ≡ place → n < length items
+        → x ≡ get_or items n x → Touches order x.key r
+        → PLe lawful (item_lower order x) (lower order r)
+        × PLe lawful (lower order r) (item_upper order x)
+    touching_before n x at within read touching =
+        let full =
+        chain_right (line_of order lawful same equal) (take n items) (x ∷ drop (n + 1) items)
+        (rw (listed_at items n x within read) at in_order) in
+        let ends : Every (λ i. PLe lawful (item_upper order i) (lower order r)) (x ∷ []) =
+        every_right _ (take n items) (x ∷ [])
+        (rw (upto_item items n place x at within read) at window.below) in (
+          le_trans lawful _ _ _ (lt_le lawful _ _ full.0) ends.0,
+          (touches_is order lawful x.key.end r window.known range_has_places ends.0).0 touching,
+        )
+
+    pub touching_after : (x : Item (AnyRange K) V) → place + w.count < length items
+        → x ≡ get_or items (place + w.count) x → Touches order r x.key
+        → PLe lawful (item_lower order x) (upper order r)
+        × PLe lawful (upper order r) (item_upper order x)
+    touching_after x within read touching =
+        let full =
+        chain_right (line_of order lawful same equal) (take (place + w.count) items)
+        (x ∷ drop (place + w.count + 1) items)
+        (rw (listed_at items (place + w.count) x within read) at in_order) in
+        let starts = rw (from_item items (place + w.count) x within read) at window.behind in
+        let known_x = known_at (place + w.count) x within read in (
+          (touches_is order lawful r.end x.key known_x full.0 starts.0).0 touching,
+          le_trans lawful _ _ _ starts.0 (lt_le lawful _ _ full.0),
+        )
+
+    -- no item of the window starts before the range
+    met_start : (n : ℕ) → w.count ≡ n → ReachesBefore order is_good rank items r place w.count None
+        → Every (λ i. PLe lawful (lower order r) (item_lower order i)) (drop place items)
+    met_start zero e reach =
+        let at : place + w.count ≡ place = omega (arith, e) in
+        let behind : Every (λ i. PLe lawful (upper order r) (item_lower order i))
+        (drop place items) = rw at at window.behind in
+        every_weaker _ _ (drop place items)
+        (λ i h. le_trans lawful _ _ _ (lt_le lawful _ _ range_has_places) h) behind
+    met_start (suc n) e reach =
         let within : place < length items = omega (arith, e, window.in_range) in
         let x = element_at items place within in
         let read = element_at_is_read items place within x in
-        left_rest_some (omega arith) x read None (reach x (omega arith) read)
+        let rest = drop (place + 1) items in
+        let whole =
+        chain_right (line_of order lawful same equal) (take place items) (x ∷ rest)
+        (rw (listed_at items place x within read) at in_order) in
+        rw (from_item items place x within read) (chain_above (line_of order lawful same equal) (lower order r) x rest whole
+        (reach x (omega (arith, e)) read))
 
-    right_rest_by : (n : ℕ) → w.count ≡ n
-        → ReachesAfter order is_good rank items r place w.count None
-        → IsRightRest order same lawful equal items r (place + w.count) None
-    right_rest_by zero e reach = right_rest_none e
-    right_rest_by (suc n) e reach =
-        let within : place + w.count - 1 < length items = omega (arith, e, window.in_range) in
-        let x = element_at items (place + w.count - 1) within in
-        let read = element_at_is_read items (place + w.count - 1) within x in
-        right_rest_some (omega arith) x read None (reach x (omega arith) read)
+    -- no item of the window ends after the range
+    met_end : (n : ℕ) → w.count ≡ n → ReachesAfter order is_good rank items r place w.count None
+        → Every (λ i. PLe lawful (item_upper order i) (upper order r)) (take (place + w.count) items)
+    met_end zero e reach =
+        let at : place + w.count ≡ place = omega (arith, e) in
+        rw at (every_weaker _ _ (take place items)
+        (λ i h. le_trans lawful _ _ _ h (lt_le lawful _ _ range_has_places)) window.below)
+    met_end (suc n) e reach =
+        let k = place + w.count - 1 in
+        let within : k < length items = omega (arith, e, window.in_range) in
+        let x = element_at items k within in
+        let read = element_at_is_read items k within x in
+        let some : 0 < w.count = omega (arith, e) in
+        let before =
+        chain_before (line_of order lawful same equal) (take k items) x (drop (k + 1) items)
+        (rw (listed_at items k x within read) at in_order) in
+        rw (upto_item items k (place + w.count) x (omega (arith, e)) within read)
+        (every_append _ (take k items) (x ∷ [])
+        (every_weaker _ _ (take k items)
+        (λ i h. le_trans lawful _ _ _ h.0 (last_starts x read some)) before)
+        (reach x some read, tt))
 
     pub left_rest_whole : ReachesBefore order is_good rank items r place w.count None
         → IsLeftRest order same lawful equal items r place None
-    left_rest_whole reach = left_rest_by w.count refl reach
+    left_rest_whole reach =
+        let parts = list_is_take_and_drop items place in
+        record {
+          left =
+              rw (append-nil (take place items))
+              (subst (λ ys. IsLeft (line_of order lawful same equal) ys (take place items)
+              (lower order r)) (sym parts)
+              (left_whole (line_of order lawful same equal) (take place items)
+              (drop place items) (lower order r) (rw parts at in_order) window.below
+              (met_start w.count refl reach)));
+          known = tt;
+        }
 
     -- an item that starts before the range
     pub left_rest_cut : (x : Item (AnyRange K) V) → x ≡ get_or items place x → 0 < w.count
@@ -187,18 +166,36 @@ module _ {K : Type 0} {order : KeyOrder K} (lawful : IsLawful order) {V : Type 0
         → SameBound order (flipped_bound r.start) b
         → IsLeftRest order same lawful equal items r place (Some (with_end x b))
     left_rest_cut x read some starts b known_b same_b =
-        let known_x = known_at place x (omega (arith, window.in_range)) read in
-        left_rest_some some x read (Some (with_end x b)) (
-          starts,
-          tied_itself (position_total order.cmp lawful.total) (item_lower order x),
-          cut_end order lawful x.key.start r.start b known_x.0 starts same_b,
-          equal.refl x.value,
-          (known_x.0, known_b),
-        )
+        let within : place < length items = omega (arith, some, window.in_range) in
+        let known_x = known_at place x within read in
+        let split = listed_at items place x within read in
+        record {
+          left =
+              subst (λ ys. IsLeft (line_of order lawful same equal) ys
+              (take place items ++ with_end x b ∷ []) (lower order r)) (sym split)
+              (left_cut (line_of order lawful same equal) (take place items) x
+              (drop (place + 1) items) (with_end x b) (lower order r) (rw split at in_order) starts
+              (first_reaches x read some)
+              (tied_itself (position_total order.cmp lawful.total) (item_lower order x))
+              (cut_end order lawful x.key.start r.start b known_x.0 starts same_b)
+              (equal.refl x.value));
+          known = ((known_x.0, known_b), tt);
+        }
 
     pub right_rest_whole : ReachesAfter order is_good rank items r place w.count None
         → IsRightRest order same lawful equal items r (place + w.count) None
-    right_rest_whole reach = right_rest_by w.count refl reach
+    right_rest_whole reach =
+        let end = place + w.count in
+        let parts = list_is_take_and_drop items end in
+        record {
+          right =
+              subst (λ ys. IsRight (line_of order lawful same equal) ys (drop end items)
+              (upper order r)) (sym parts)
+              (right_whole (line_of order lawful same equal) (take end items)
+              (drop end items) (upper order r) (rw parts at in_order)
+              (met_end w.count refl reach) window.behind);
+          known = tt;
+        }
 
     -- an item that ends after the range, with a value that equals its own
     pub right_rest_cut : (x : Item (AnyRange K) V) → x ≡ get_or items (place + w.count - 1) x
@@ -207,35 +204,42 @@ module _ {K : Type 0} {order : KeyOrder K} (lawful : IsLawful order) {V : Type 0
         → same u x.value ≡ true → IsRightRest order same lawful equal items r (place + w.count)
         (Some (record { key = record { start = b; end = x.key.end }; value = u }))
     right_rest_cut x read some ends b known_b same_b u values =
-        let known_x = known_at (place + w.count - 1) x (omega (arith, window.in_range)) read in
-        right_rest_some some x read
-        (Some (record { key = record { start = b; end = x.key.end }; value = u })) (
-          ends,
-          cut_start order lawful x.key.end r.end b known_x.1 ends same_b,
-          tied_itself (position_total order.cmp lawful.total) (item_upper order x),
-          values,
-          (known_b, known_x.1),
-        )
-
-    -- the item has an equal value: the range takes its start
-    pub left_border_inside : (v : V) (x : Item (AnyRange K) V) → x ≡ get_or items place x
-        → 0 < w.count → PLt lawful (item_lower order x) (lower order r) → same x.value v ≡ true
-        → IsLeftBorder order same lawful equal items r v place None (Some x.key.start)
-    left_border_inside v x read some starts values =
-        let total = position_total order.cmp lawful.total in
-        let rest =
-        left_rest_cut x read some starts (flipped_bound r.start)
-        (known_turned order lawful r.start window.known.0) (same_turned order lawful r.start) in
-        let y = with_end x (flipped_bound r.start) in
+        let k = place + w.count - 1 in
+        let end = place + w.count in
+        let next : k + 1 ≡ end = omega (arith, some) in
+        let within : k < length items = omega (arith, some, window.in_range) in
+        let known_x = known_at k x within read in
+        let y : Item (AnyRange K) V =
+        record { key = record { start = b; end = x.key.end }; value = u } in
+        let split : items ≡ take k items ++ x ∷ drop end items =
+        listed_at items k x within read ∙ ap (λ m. take k items ++ x ∷ drop m items) next in
         record {
-          s = item_lower order x;
-          starts = tied_itself total (item_lower order x);
+          right =
+              subst (λ ys. IsRight (line_of order lawful same equal) ys (y ∷ drop end items)
+              (upper order r)) (sym split)
+              (right_cut (line_of order lawful same equal) (take k items) x (drop end items) y
+              (upper order r) (rw split at in_order) (last_starts x read some) ends
+              (cut_start order lawful x.key.end r.end b known_x.1 ends same_b)
+              (tied_itself (position_total order.cmp lawful.total) (item_upper order x)) values);
+          known = ((known_b, known_x.1), tt);
+        }
+
+    -- an item that reaches or touches the range has an equal value: the range takes its start
+    pub left_border_at : (v : V) (n : ℕ) (x : Item (AnyRange K) V) → n < length items
+        → x ≡ get_or items n x → PLe lawful (item_lower order x) (lower order r)
+        → PLe lawful (lower order r) (item_upper order x) → same x.value v ≡ true
+        → IsLeftBorder order same lawful equal items r v n None (Some x.key.start)
+    left_border_at v n x within read starts reaches values =
+        let split = listed_at items n x within read in
+        record {
           left =
-              rw (append-nil (take place items))
-              (left_joined (line_of order lawful same equal) items (take place items) y
-              (lower order r) v rest.left (rest.reaches y refl) values);
+              rw (append-nil (take n items))
+              (subst (λ ys. IsLeftOf (line_of order lawful same equal) ys (take n items)
+              (lower order r) (item_lower order x) v) (sym split)
+              (left_joined (line_of order lawful same equal) (take n items) x
+              (drop (n + 1) items) (lower order r) v (rw split at in_order) starts reaches values));
           known = tt;
-          known_start = (known_at place x (omega (arith, window.in_range)) read).0;
+          known_start = (known_at n x within read).0;
         }
 
     -- it has another value: its lower part stays
@@ -243,11 +247,8 @@ module _ {K : Type 0} {order : KeyOrder K} (lawful : IsLawful order) {V : Type 0
         → IsLeftRest order same lawful equal items r place (Some y) → same y.value v ≡ false
         → IsLeftBorder order same lawful equal items r v place (Some y) None
     left_border_rest v y rest values =
-        let total = position_total order.cmp lawful.total in
         let ends = every_right _ (take place items) (y ∷ []) rest.left.ends in
         record {
-          s = lower order r;
-          starts = tied_itself total (lower order r);
           left =
               left_apart (line_of order lawful same equal) items (take place items ++ y ∷ [])
               (lower order r) v rest.left
@@ -258,143 +259,66 @@ module _ {K : Type 0} {order : KeyOrder K} (lawful : IsLawful order) {V : Type 0
           known_start = window.known.0;
         }
 
-    take_last : (n : ℕ) (d : Item (AnyRange K) V) → 0 < n → n ≤ length items
-        → take n items ≡ take (n - 1) items ++ get_or items (n - 1) d ∷ []
-    take_last n d some within = let last : n - 1 + 1 ≡ n =
-        omega arith in ap (λ m. take m items) (sym last) ∙ take_more items (n - 1) d (omega arith)
-
-    -- an item before the range touches it and has an equal value: the range takes its start
-    pub left_border_joined : (v : V) (n : ℕ) (x : Item (AnyRange K) V)
-        → IsLeftRest order same lawful equal items r place None → n + 1 ≡ place → n < length items
-        → x ≡ get_or items n x → TouchesBefore order same items place r v
-        → IsLeftBorder order same lawful equal items r v n None (Some x.key.start)
-    left_border_joined v n x rest at within read touching =
-        let total = position_total order.cmp lawful.total in
-        let before : place - 1 ≡ n = omega (arith, at) in
-        let same_item : get_or items (place - 1) x ≡ x =
-        ap (λ n. get_or items n x) before ∙ sym read in
-        let split : take place items ≡ take n items ++ x ∷ [] =
-        take_last place x (omega (arith, at)) (omega (arith, at))
-        ∙ (ap (λ n. take n items ++ get_or items (place - 1) x ∷ []) before
-        ∙ ap (λ y. take n items ++ y ∷ []) same_item) in
-        let front : take place items ++ option_items None ≡ take n items ++ x ∷ [] =
-        append-nil (take place items) ∙ split in
-        let left : Left order lawful same equal items (take n items ++ x ∷ []) (lower order r) =
-        subst (λ (ys : List (Item (AnyRange K) V)). Left order lawful same equal items ys
-        (lower order r)) front rest.left in
-        let ends = every_right _ (take n items) (x ∷ []) left.ends in
-        let touch : Touches order x.key r × (same x.value v ≡ true) =
-        subst (λ (y : Item (AnyRange K) V). Touches order y.key r × (same y.value v ≡ true))
-        same_item (touching x) in
-        record {
-          s = item_lower order x;
-          starts = tied_itself total (item_lower order x);
-          left =
-              rw (append-nil (take n items))
-              (left_joined (line_of order lawful same equal) items (take n items) x
-              (lower order r) v left
-              ((touches_is order lawful x.key.end r window.known range_has_places ends.0).0 touch.0)
-              touch.1);
-          known = tt;
-          known_start = (known_at n x within read).0;
-        }
-
-    first_of : (n : ℕ) → n < length items → Item (AnyRange K) V
-    first_of n within = element_at items n within
-
-    parts_lead : (n : ℕ) (v : V) (d : Item (AnyRange K) V) → place - 1 ≡ n → n < length items
-        → Left order lawful same equal items (take place items) (lower order r)
-        → TouchesNoneBefore order same items place r v → suc n ≡ place
-        → Every (λ i. Leads (line_of order lawful same equal) i (lower order r) v)
-        (take (suc n) items)
-    parts_lead n v d before within left none e =
-        let size : place ≤ length items = omega arith in
-        let split : take place items ≡ take n items ++ get_or items n d ∷ [] =
-        take_last place d (omega arith) size
-        ∙ ap (λ m. take m items ++ get_or items m d ∷ []) before in
-        let whole : Left order lawful same equal items (take n items ++ get_or items n d ∷ [])
-        (lower order r) =
-        subst (λ (ys : List (Item (AnyRange K) V)). Left order lawful same equal items ys
-        (lower order r)) split left in
-        let ends = every_right _ (take n items) (get_or items n d ∷ []) whole.ends in
-        let apart : Touches order (get_or items n d).key r → same (get_or items n d).value v ≡ true
-        → ⊥ =
-        subst (λ (m : ℕ). Touches order (get_or items m d).key r
-        → same (get_or items m d).value v ≡ true → ⊥) before (none d (omega arith)) in
-        subst (λ (m : ℕ). Every (λ i. Leads (line_of order lawful same equal) i (lower order r) v)
-        (take m items)) (sym e) (rw split
-        (leading_last (line_of order lawful same equal) (take n items) (get_or items n d)
-        (lower order r) v whole.chain (
-          ends.0,
-          λ k t.
-              apart ((touches_is order lawful
-              (get_or items n d).key.end r window.known range_has_places ends.0).1 k) t,
-        )))
-
-    all_lead : (n : ℕ) (v : V) → n ≡ place → place ≤ length items
-        → IsLeftRest order same lawful equal items r place None
+    all_lead : (n : ℕ) (v : V) → place ≡ n → IsLeftRest order same lawful equal items r place None
         → TouchesNoneBefore order same items place r v
-        → Every (λ i. Leads (line_of order lawful same equal) i (lower order r) v) (take n items)
-    all_lead zero v e within rest none = tt
-    all_lead (suc n) v e within rest none =
-        let before : place - 1 ≡ n = omega arith in
-        let within' : n < length items = omega arith in
-        parts_lead n v (first_of n within') before within'
-        (subst (λ (ys : List (Item (AnyRange K) V)). Left order lawful same equal items ys
-        (lower order r)) (append-nil (take place items)) rest.left) none e
+        → Every (λ i. Leads (line_of order lawful same equal) i (lower order r) v)
+        (take place items)
+    all_lead zero v e rest none = rw e tt
+    all_lead (suc n) v e rest none =
+        let next : n + 1 ≡ place = omega (arith, e) in
+        let within : n < length items = omega (arith, e, window.in_range) in
+        let x = element_at items n within in
+        let read = element_at_is_read items n within x in
+        let last = upto_item items n place x next within read in
+        let before : place - 1 ≡ n = omega (arith, e) in
+        let ends = every_right _ (take n items) (x ∷ []) (rw last at window.below) in
+        let apart : Touches order x.key r → same x.value v ≡ true → ⊥ =
+        subst (λ (y : Item (AnyRange K) V). Touches order y.key r → same y.value v ≡ true → ⊥)
+        (ap (λ m. get_or items m x) before ∙ sym read) (none x (omega (arith, e))) in
+        rw last (leading_last (line_of order lawful same equal) (take n items) x (lower order r) v
+        (rw (append-nil (take place items) ∙ last) at rest.left.chain) (
+          ends.0,
+          λ k t. apart ((touches_is order lawful x.key.end r window.known range_has_places ends.0).1
+              k) t,
+        ))
 
-    pub left_border_none : (v : V) → place ≤ length items
-        → IsLeftRest order same lawful equal items r place None
+    pub left_border_none : (v : V) → IsLeftRest order same lawful equal items r place None
         → TouchesNoneBefore order same items place r v
         → IsLeftBorder order same lawful equal items r v place None None
-    left_border_none v within rest none =
-        let total = position_total order.cmp lawful.total in
+    left_border_none v rest none =
         record {
-          s = lower order r;
-          starts = tied_itself total (lower order r);
           left =
               left_apart (line_of order lawful same equal) items (take place items ++ [])
               (lower order r) v rest.left
-              (rw (append-nil (take place items)) (all_lead place v refl within rest none));
+              (rw (append-nil (take place items)) (all_lead place v refl rest none));
           known = tt;
           known_start = window.known.0;
         }
 
-    pub right_border_inside : (v : V) (x : Item (AnyRange K) V)
-        → x ≡ get_or items (place + w.count - 1) x → 0 < w.count
-        → PLt lawful (upper order r) (item_upper order x) → same x.value v ≡ true
-        → IsRightBorder order same lawful equal items r v (place + w.count) None (Some x.key.end)
-    right_border_inside v x read some ends values =
-        let total = position_total order.cmp lawful.total in
-        let rest =
-        right_rest_cut x read some ends (flipped_bound r.end)
-        (known_turned order lawful r.end window.known.1)
-        (same_turned order lawful r.end) x.value (equal.refl x.value) in
-        let y : Item (AnyRange K) V =
+    pub right_border_at : (end n : ℕ) (v : V) (x : Item (AnyRange K) V) → n + 1 ≡ end
+        → n < length items → x ≡ get_or items n x → PLe lawful (item_lower order x) (upper order r)
+        → PLe lawful (upper order r) (item_upper order x) → same x.value v ≡ true
+        → IsRightBorder order same lawful equal items r v end None (Some x.key.end)
+    right_border_at end n v x at within read reaches ends values =
+        let split : items ≡ take n items ++ x ∷ drop end items =
+        listed_at items n x within read ∙ ap (λ m. take n items ++ x ∷ drop m items) at in
         record {
-          key = record { start = flipped_bound r.end; end = x.key.end };
-          value = x.value;
-        } in
-        record {
-          in_range = window.in_range;
-          e = item_upper order x;
-          ends = tied_itself total (item_upper order x);
+          in_range = omega (arith, at, within);
           right =
-              right_joined (line_of order lawful same equal) items (drop (place + w.count) items) y
-              (upper order r) v rest.right (rest.reaches y refl) values;
+              subst (λ ys. IsRightOf (line_of order lawful same equal) ys (drop end items)
+              (upper order r) (item_upper order x) v) (sym split)
+              (right_joined (line_of order lawful same equal) (take n items) x
+              (drop end items) (upper order r) v (rw split at in_order) reaches ends values);
           known = tt;
-          known_end = (known_at (place + w.count - 1) x (omega (arith, window.in_range)) read).1;
+          known_end = (known_at n x within read).1;
         }
 
     pub right_border_rest : (end : ℕ) (v : V) (y : Item (AnyRange K) V) → end ≤ length items
         → IsRightRest order same lawful equal items r end (Some y) → same y.value v ≡ false
         → IsRightBorder order same lawful equal items r v end (Some y) None
     right_border_rest end v y within rest values =
-        let total = position_total order.cmp lawful.total in
         record {
           in_range = within;
-          e = upper order r;
-          ends = tied_itself total (upper order r);
           right =
               right_apart (line_of order lawful same equal) items (y ∷ drop end items)
               (upper order r) v rest.right
@@ -408,36 +332,8 @@ module _ {K : Type 0} {order : KeyOrder K} (lawful : IsLawful order) {V : Type 0
           known_end = window.known.1;
         }
 
-    pub right_border_joined : (end : ℕ) (v : V) (x : Item (AnyRange K) V) → end < length items
-        → x ≡ get_or items end x → IsRightRest order same lawful equal items r end None
-        → TouchesAfter order same items end r v
-        → IsRightBorder order same lawful equal items r v (end + 1) None (Some x.key.end)
-    right_border_joined end v x within read rest touching =
-        let total = position_total order.cmp lawful.total in
-        let known_x = known_at end x within read in
-        let split : drop end items ≡ x ∷ drop (end + 1) items =
-        drop_more items end x within ∙ ap (λ y. y ∷ drop (end + 1) items) (sym read) in
-        let right : Right order lawful same equal items (x ∷ drop (end + 1) items) (upper order r) =
-        subst (λ (ys : List (Item (AnyRange K) V)). Right order lawful same equal items ys
-        (upper order r)) split rest.right in
-        let touch : Touches order r x.key × (same v x.value ≡ true) =
-        subst (λ (y : Item (AnyRange K) V). Touches order r y.key × (same v y.value ≡ true))
-        (sym read) (touching x) in
-        record {
-          in_range = omega arith;
-          e = item_upper order x;
-          ends = tied_itself total (item_upper order x);
-          right =
-              right_joined (line_of order lawful same equal) items (drop (end + 1) items) x
-              (upper order r) v right
-              ((touches_is order lawful r.end x.key known_x right.chain.0 right.starts.0).0 touch.0)
-              (equal.symm x.value v ∙ touch.1);
-          known = tt;
-          known_end = known_x.1;
-        }
-
     all_trail : (end : ℕ) (v : V) (ys : List (Item (AnyRange K) V))
-        → Known order lawful same equal ys → Right order lawful same equal items ys (upper order r)
+        → Known order lawful same equal ys → IsRight (line_of order lawful same equal) items ys (upper order r)
         → ((d : Item (AnyRange K) V) → 0 < length ys → Touches order r (get_or ys 0 d).key
         → same v (get_or ys 0 d).value ≡ true → ⊥)
         → Every (λ i. Trails (line_of order lawful same equal) (upper order r) v i) ys
@@ -454,15 +350,12 @@ module _ {K : Type 0} {order : KeyOrder K} (lawful : IsLawful order) {V : Type 0
         → TouchesNoneAfter order same items end r v
         → IsRightBorder order same lawful equal items r v end None None
     right_border_none end v within rest none =
-        let total = position_total order.cmp lawful.total in
         let plus : end + 0 ≡ end = omega arith in
         let others =
         known_drop order lawful same equal items end
         (stored_known order lawful same equal items window.stored) in
         record {
           in_range = within;
-          e = upper order r;
-          ends = tied_itself total (upper order r);
           right =
               right_apart (line_of order lawful same equal) items (drop end items)
               (upper order r) v rest.right (all_trail end v (drop end items) others rest.right
@@ -476,18 +369,21 @@ module _ {K : Type 0} {order : KeyOrder K} (lawful : IsLawful order) {V : Type 0
         }
 
     -- the list with the range bound to v
-    pub borders_insert : (new : List (Item (AnyRange K) V)) (v : V) (m : Item (AnyRange K) V)
-        (at end : ℕ) (left right : Option (Item (AnyRange K) V)) (start finish : Option (Bound K)) →
+    pub borders_insert : (new : List (Item (AnyRange K) V)) (v u : V) (at end : ℕ)
+        (left right : Option (Item (AnyRange K) V)) (start finish : Option (Bound K)) →
         IsLeftBorder order same lawful equal items r v at left start
         → IsRightBorder order same lawful equal items r v end right finish →
-        m.key.start ≡ unwrap_or start r.start → m.key.end ≡ unwrap_or finish r.end
-        → same m.value v ≡ true →
-        IsInsertionFrame order same items new r v →
-        new ≡ take at items ++ option_items left ++ option_items (Some m) ++ option_items right
-        ++ drop end items →
+        IsLeftFrame order same items r v place w.count at left start
+        → IsRightFrame order same items r v place w.count end right finish →
+        length (option_items left) + length (option_items right) ≤ w.count + 1 →
+        same u v ≡ true → (w.count ≡ 0 → u ≡ v) →
+        new ≡ take at items ++ option_items left
+        ++ option_items (Some (joined_item (record { key = r; value = u }) start finish))
+        ++ option_items right ++ drop end items →
         IsInserted order same items new r v
-    borders_insert new v m at end left right start finish on_left on_right starts ends values frame
-        changed =
+    borders_insert new v u at end left right start finish on_left on_right frame_left frame_right
+        few values own_value changed =
+        let m : Item (AnyRange K) V = joined_item (record { key = r; value = u }) start finish in
         let all = stored_known order lawful same equal items window.stored in
         let front = take at items ++ option_items left in
         let behind = option_items right ++ drop end items in
@@ -495,16 +391,10 @@ module _ {K : Type 0} {order : KeyOrder K} (lawful : IsLawful order) {V : Type 0
         changed
         ∙ sym (opening_regroups (take at items) (option_items left) (option_items right)
         (drop end items) m) in
-        let at_start : places order lawful (item_lower order m) on_left.s ≡ Equal =
-        rw starts (rw (border_start_is order same start r) on_left.starts) in
-        let at_end : places order lawful (item_upper order m) on_right.e ≡ Equal =
-        rw ends (rw (border_end_is order same finish r) on_right.ends) in
         let result =
         places_between_are_bound (line_of order lawful same equal) items front behind m
-        (lower order r) (upper order r) on_left.s on_right.e v on_left.left on_right.right
-        range_has_places at_start at_end values in
-        let known_m : IsKnownRange order m.key =
-        (rw starts on_left.known_start, rw ends on_right.known_end) in
+        (lower order r) (upper order r) v on_left.left on_right.right range_has_places values in
+        let known_m : IsKnownRange order m.key = (on_left.known_start, on_right.known_end) in
         let others = every_append _ front (m ∷ behind)
         (every_append _ (take at items) (option_items left)
         (known_take order lawful same equal items at all) on_left.known) (
@@ -518,7 +408,9 @@ module _ {K : Type 0} {order : KeyOrder K} (lawful : IsLawful order) {V : Type 0
           bound =
               rw list (bound_after order lawful same equal items
               (front ++ m ∷ behind) r v window.known all others result);
-          frame = frame;
+          frame =
+              insertion_frame lawful equal window new v u at end left right start finish frame_left
+              frame_right few values own_value changed;
           meets =
               rw list (meets_bound order lawful same equal items
               (front ++ m ∷ behind) r v all others
@@ -528,14 +420,14 @@ module _ {K : Type 0} {order : KeyOrder K} (lawful : IsLawful order) {V : Type 0
         }
 
     -- the list with the range unbound
-    pub borders_remove : (new : List (Item (AnyRange K) V)) (at end : ℕ)
+    removed_by : (new : List (Item (AnyRange K) V)) (at end : ℕ)
         (left right : Option (Item (AnyRange K) V)) →
         IsLeftRest order same lawful equal items r at left
         → IsRightRest order same lawful equal items r end right →
         IsRemovalFrame order same items new r →
         new ≡ take at items ++ option_items left ++ [] ++ option_items right ++ drop end items →
         IsRemoved order same items new r
-    borders_remove new at end left right on_left on_right frame changed =
+    removed_by new at end left right on_left on_right frame changed =
         let all = stored_known order lawful same equal items window.stored in
         let front = take at items ++ option_items left in
         let behind = option_items right ++ drop end items in
@@ -546,17 +438,13 @@ module _ {K : Type 0} {order : KeyOrder K} (lawful : IsLawful order) {V : Type 0
         let result =
         places_between_are_unbound (line_of order lawful same equal) items front behind
         (lower order r) (upper order r) on_left.left on_right.right range_has_places in
-        let others = every_append _ front behind
-        (every_append _ (take at items) (option_items left)
-        (known_take order lawful same equal items at all) on_left.known)
-        (every_append _ (option_items right) (drop end items) on_right.known
-        (known_drop order lawful same equal items end all)) in
         let known_front =
         every_append _ (take at items) (option_items left)
         (known_take order lawful same equal items at all) on_left.known in
         let known_behind =
         every_append _ (option_items right) (drop end items) on_right.known
         (known_drop order lawful same equal items end all) in
+        let others = every_append _ front behind known_front known_behind in
         let before =
         every_weaker _ _ front (λ i h m.
         m.0 ((before_is order lawful i.key.end r.start h.0.1 window.known.0).1 h.1))
@@ -576,3 +464,36 @@ module _ {K : Type 0} {order : KeyOrder K} (lawful : IsLawful order) {V : Type 0
           apart = rw list (every_append (λ i. Overlap order i.key r → ⊥) front behind before after);
           frame = frame;
         }
+
+    pub borders_remove : (new : List (Item (AnyRange K) V))
+        (left right : Option (Item (AnyRange K) V)) → 0 < w.count →
+        IsLeftRest order same lawful equal items r place left
+        → IsRightRest order same lawful equal items r (place + w.count) right →
+        Every (IsPart order same (take w.count (drop place items)) r) (option_items left)
+        → Every (IsPart order same (take w.count (drop place items)) r) (option_items right) →
+        new ≡ take place items ++ option_items left ++ [] ++ option_items right
+        ++ drop (place + w.count) items →
+        IsRemoved order same items new r
+    borders_remove new left right some on_left on_right made_left made_right changed =
+        removed_by new place (place + w.count) left right on_left on_right
+        (cut_way lawful equal window new left right some made_left made_right changed) changed
+
+    -- a range that meets nothing is unbound
+    pub unmet_is_unbound : w.count ≡ 0 → IsRemoved order same items items r
+    unmet_is_unbound none =
+        let at : place + w.count ≡ place = omega (arith, none) in
+        let list : items ≡ take place items ++ [] ++ [] ++ [] ++ drop (place + w.count) items =
+        rw (
+          at,
+          append-nil (take place items),
+          append-nil (take place items),
+          append-nil (take place items),
+        ) (list_is_take_and_drop items place) in
+        removed_by items place (place + w.count) None None
+        (left_rest_whole (λ x some read. absurd (omega (arith, some, none))))
+        (right_rest_whole (λ x some read. absurd (omega (arith, some, none))))
+        (not_cut lawful equal window) list
+
+    -- an empty window leaves no item that meets the range
+    pub none_meets : w.count ≡ 0 → Every (λ i. Overlap order i.key r → ⊥) items
+    none_meets none = (unmet_is_unbound none).apart

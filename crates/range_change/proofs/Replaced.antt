@@ -1,5 +1,5 @@
 -- The list in which a middle stands for what a range held.
-use Rattle.std.proofs.Common.{◌≡◌, refl, ℕ, ◌+◌, ◌-◌, ◌≤◌, List, ◌++◌, length, take, drop, ap, ◌∙◌, arith, subst, Option, Bool, IsTrue, ◌⊎◌, inl, inr, append_assoc}
+use Rattle.std.proofs.Common.{◌≡◌, ℕ, ◌+◌, ◌-◌, ◌≤◌, List, ◌++◌, length, take, drop, ap, ◌∙◌, arith, subst, Option, Bool, IsTrue, ◌⊎◌, inl, inr, append_assoc}
 use Rattle.std.specs.Cmp.{IsEquivalence}
 use Rattle.std.specs.Prelude.{slice_get}
 use Rattle.std.specs.declared.ops.Bound.{Bound}
@@ -18,7 +18,7 @@ use Rattle.range_change.specs.Edits.{flipped_bound}
 use Rattle.range_change.specs.Frames.{HasValue}
 use Rattle.range_change.specs.Lookups.{Overlap}
 use Rattle.range_change.specs.Replaced.{AreWithin, IsReplaced}
-use Rattle.range_change.specs.Borders.{IsRunStart, seam_border}
+use Rattle.range_change.specs.Borders.{IsRunStart, seam_border, right_side}
 use Rattle.range_change.specs.Seams.{with_first_start, with_last_end, IsLeftSeam, IsRightSeam}
 use Rattle.range_change.specs.Stored.{IsStored}
 use Rattle.range_change.specs.Window.{option_items}
@@ -28,7 +28,7 @@ use Rattle.range_change.proofs.RangePieces.{any_with}
 use Rattle.range_change.proofs.Forms.{Known, nonempty_good, stored_known, chain_stored, same_binds, unheld_lies_outside}
 use Rattle.range_change.proofs.InsertionFrames.{parts_of, append_reassociates, reassociate_pieces}
 use Rattle.range_change.proofs.MergedItems.{crossing_meets}
-use Rattle.range_change.proofs.BoundEdits.{upto_end}
+use Rattle.range_change.proofs.Lengths.{border_length}
 use Rattle.range_change.proofs.JoinedMiddle.{seam_count, Crosses, TakesStartOf, IsLeftFill, IsRightFill, left_fill, right_fill}
 
 module _ {K : Type 0} (order : KeyOrder K) (lawful : IsLawful order) {V : Type 0}
@@ -215,8 +215,7 @@ module _ {K : Type 0} (order : KeyOrder K) (lawful : IsLawful order) {V : Type 0
       (on_right behind (known_turned order lawful r.end known.1)
       (same_turned order lawful r.end))) in
       let least =
-      upto_end is_good is_good rank rank items items (λ p h. (h, refl)) refl
-      (seam_border other last behind) right.upto right.end right.rest right.finish right.shape
+      border_length is_good rank items right_side (seam_border other last behind) right.upto right.end right.rest right.finish right.shape
       in
       record {
         left = left;

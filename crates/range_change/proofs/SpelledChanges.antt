@@ -1,6 +1,5 @@
 -- That what a change puts in the place of a range is spelled as what it replaces.
 use Rattle.std.proofs.Common.{◌≡◌, refl, sym, ap, subst, ◌∙◌, ℕ, ◌+◌, ◌-◌, ◌<◌, ◌≤◌, arith, Option, Some, None, Bool, List, [], ◌∷◌, ◌++◌, inl, inr, length, get_or, take, drop}
-use Rattle.std.proofs.lemmas.List.{drop_more}
 use Rattle.std.proofs.lemmas.Option.{same_Some}
 use Rattle.std.specs.Cmp.{IsEquivalence}
 use Rattle.std.specs.declared.ops.Bound.{Bound}
@@ -21,11 +20,12 @@ use Rattle.range_change.specs.Frames.{IsStartOf, IsEndOf, IsNewItem, IsPart}
 use Rattle.range_change.specs.Reach.{ReachesBefore, ReachesAfter, IsReach, IsSurrounded}
 use Rattle.range_change.specs.Seams.{with_first_start, with_last_end}
 use Rattle.range_change.specs.Spelling.{IsStartAsIn, IsEndAsIn, IsSpelledAsIn, KeepsSpelling}
-use Rattle.range_change.specs.Stored.{IsStored, item_lower, item_upper}
+use Rattle.range_change.specs.Stored.{IsStored, item_lower}
 use Rattle.range_change.specs.Window.{option_items}
 use Rattle.range_change.specs.declared.reach.Reach.{Reach}
 use Rattle.range_change.specs.declared.window.Window.{Window}
-use Rattle.range_change.proofs.RangePieces.{any_use, listed_at, item_at}
+use Rattle.range_change.proofs.RangePieces.{any_use, item_at}
+use Rattle.range_change.proofs.ItemPlaces.{listed_at, from_item}
 use Rattle.range_change.proofs.Extents.{past_le, end_le}
 use Rattle.range_change.proofs.Forms.{Known, Chained, stored_known, stored_chain, nonempty_good}
 use Rattle.range_change.proofs.Spelling.{own_spelling, start_is_kept, end_is_kept, cut_end_is_kept, cut_start_is_kept}
@@ -89,17 +89,14 @@ module _ {K : Type 0} {order : KeyOrder K} (lawful : IsLawful order) {V : Type 0
         let at_is : at ≡ place = sym here ∙ before.1 in
         let within : place < length items = omega (arith, found.window.in_range, before.2) in
         let x_is : x ≡ get_or items place x = read ∙ ap (λ n. get_or items n x) at_is in
-        let above = rw (drop_more items place x within) at found.window.above in
-        let ends =
-        subst (λ y. PLt lawful (lower order r) (item_upper order y)) (sym x_is)
-        above.0 in
+        let above = rw (from_item items place x within x_is) at found.window.above in
         let spelled = one_is_spelled place x within x_is in (
           rw is (
             (
               spelled.0,
               cut_end_is_kept order lawful same equal items known chain (take place items)
                   (drop (place + 1) items) x (listed_at items place x within x_is) r
-                  found.window.known (before.3 x x_is) ends (flipped_bound r.start)
+                  found.window.known (before.3 x x_is) above.0 (flipped_bound r.start)
                   (same_itself order lawful (flipped_bound r.start)),
             ),
             tt,
@@ -109,9 +106,9 @@ module _ {K : Type 0} {order : KeyOrder K} (lawful : IsLawful order) {V : Type 0
     left_is_spelled (Some q) first at begin rest start (good, here, next, none, (x, read, is)) size
         few before =
         let one : begin + 1 ≡ place + length (option_items first) = size in
-        let within : at < length items =
-        omega (arith, found.window.in_range, one, few, next) in
-        let spelled = one_is_spelled at x within read in (
+        let within : rank q < length items =
+        omega (arith, found.window.in_range, one, few, next, here) in
+        let spelled = one_is_spelled (rank q) x within read in (
           rw none tt,
           λ b e. subst (IsStartAsIn order items) (same_Some x.key.start b (sym is ∙ e)) spelled.0,
         )

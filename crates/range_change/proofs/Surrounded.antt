@@ -23,16 +23,16 @@ use Rattle.range_change.specs.Window.{option_items}
 use Rattle.range_change.specs.declared.cut.DividedItem.{DividedItem}
 use Rattle.range_change.specs.declared.reach.Reach.{Reach}
 use Rattle.range_change.specs.declared.window.Window.{Window}
-use Rattle.range_change.proofs.RangePieces.{IsFull, all_full, item_at, listed_at}
-use Rattle.range_change.proofs.RangeSides.{borders_insert, borders_remove, left_border_inside, right_border_inside, left_rest_cut, right_rest_cut, left_border_rest, right_border_rest}
+use Rattle.range_change.proofs.RangePieces.{IsFull, all_full, item_at}
+use Rattle.range_change.proofs.ItemPlaces.{listed_at}
+use Rattle.range_change.proofs.RangeSides.{borders_insert, borders_remove, left_border_at, right_border_at, first_reaches, last_starts, left_rest_cut, right_rest_cut, left_border_rest, right_border_rest}
 use Rattle.range_change.proofs.Forms.{Chained, stored_known, stored_chain, nonempty_good}
-use Rattle.range_change.proofs.InsertionFrames.{insertion_frame, cut_way}
 use Rattle.range_change.proofs.Lengths.{changed_length}
 use Rattle.range_change.proofs.MergedItems.{surrounded_alone}
 use Rattle.range_change.proofs.BoundEdits.{standing_item_splits_list}
 use Rattle.range_change.proofs.InsertionPlans.{left_frame_inside, left_frame_cut, right_frame_inside, right_frame_cut, left_part, right_part}
 use Rattle.range_change.proofs.UpdatedLists.{whole_piece, whole_answer}
-use Rattle.range_change.proofs.PlaceOrder.{PLt}
+use Rattle.range_change.proofs.PlaceOrder.{PLt, lt_le}
 
 none_of : {P : Type 0} (o : Option P) → length (option_items o) ≤ 0 → o ≡ None
 none_of None few = refl
@@ -122,24 +122,28 @@ module _ {K : Type 0} {order : KeyOrder K} (lawful : IsLawful order) {V : Type 0
   some : 0 < w.count
   some = omega (arith, within.one)
 
+  within_list : place < length items
+  within_list = omega (arith, within.window.in_range, some)
+
   -- it has an equal value: nothing changes
   pub stands : (v : V) → same x.value v ≡ true → IsInserted order same items items r v
   stands v values =
       let window = within.window in
-      let left = left_border_inside lawful equal window v x here some (within.starts x here)
+      let left =
+      left_border_at lawful equal window v place x within_list here
+      (lt_le lawful _ _ (within.starts x here)) (first_reaches lawful equal window x here some)
       values in
       let right =
-      right_border_inside lawful equal window v x here_end some (within.ends x here) values in
+      right_border_at lawful equal window (place + w.count) place v x (sym next) within_list here
+      (last_starts lawful equal window x here_end some) (lt_le lawful _ _ (within.ends x here))
+      values in
       let list =
       standing_item_splits_list items place (place + w.count) x
       (omega (arith, window.in_range, some)) here next in
-      let frame =
-      insertion_frame lawful equal window items v x place (place + w.count) None None
-      (Some x.key.start) (Some x.key.end) (left_frame_inside lawful equal window v x here some)
-      (right_frame_inside lawful equal window v x here_end some)
-      (omega arith) refl refl values (λ e. absurd (omega (arith, within.one, e))) list in
-      borders_insert lawful equal window items v x place (place + w.count) None None
-      (Some x.key.start) (Some x.key.end) left right refl refl values frame list
+      borders_insert lawful equal window items v x.value place (place + w.count) None None
+      (Some x.key.start) (Some x.key.end) left right (left_frame_inside lawful equal window v x here
+      some) (right_frame_inside lawful equal window v x here_end some) (omega arith) values
+      (λ e. absurd (omega (arith, within.one, e))) list
 
   -- the range is cut out of it: what the copies are, and the list with the parts
   module _ (parts : DividedItem K V)
@@ -183,7 +187,6 @@ module _ {K : Type 0} {order : KeyOrder K} (lawful : IsLawful order) {V : Type 0
         → IsInserted order same items new r v
     divided_around v differs divided =
         let window = within.window in
-        let m : Item (AnyRange K) V = record { key = r; value = v } in
         let other : same parts.value v ≡ false =
         equal.congr parts.value x.value v copied ∙ differs in
         let left =
@@ -193,15 +196,11 @@ module _ {K : Type 0} {order : KeyOrder K} (lawful : IsLawful order) {V : Type 0
         right_border_rest lawful equal window (place + w.count) v behind window.in_range
         (right_rest_cut lawful equal window x here_end some
         (within.ends x here) parts.start start_is.0 start_is.1 parts.value copied) other in
-        let list = list_is (Some m) divided in
-        let frame =
-        insertion_frame lawful equal window new v m place (place + w.count) (Some front)
-        (Some behind) None None (left_frame_cut lawful equal window v x here some parts.end
-        end_is.1 differs) (right_frame_cut lawful equal window v x here_end some parts.start
-        parts.value start_is.1 copied other) (omega (arith, within.one)) refl refl
-        (equal.refl v) (λ e. refl) list in
-        borders_insert lawful equal window new v m place (place + w.count) (Some front)
-        (Some behind) None None left right refl refl (equal.refl v) frame list
+        borders_insert lawful equal window new v v place (place + w.count) (Some front)
+        (Some behind) None None left right (left_frame_cut lawful equal window v x here some
+        parts.end end_is.1 differs) (right_frame_cut lawful equal window v x here_end some
+        parts.start parts.value start_is.1 copied other) (omega (arith, within.one)) (equal.refl v)
+        (λ e. refl) (list_is (Some (record { key = r; value = v })) divided)
 
     -- the range is unbound
     pub divided_alone : IsDivided others new at parts None → IsRemoved order same items new r
@@ -213,19 +212,12 @@ module _ {K : Type 0} {order : KeyOrder K} (lawful : IsLawful order) {V : Type 0
         let right =
         right_rest_cut lawful equal window x here_end some
         (within.ends x here) parts.start start_is.0 start_is.1 parts.value copied in
-        let list = list_is None divided in
-        let frame =
-        cut_way lawful equal window new (Some front) (Some behind) some
+        borders_remove lawful equal window new (Some front) (Some behind) some left right
         (left_part lawful equal window x here some parts.end end_is.1, tt) (
           right_part lawful equal window x here_end some parts.start parts.value start_is.1
               copied,
           tt,
-        ) (omega arith) (omega arith) list in
-        borders_remove lawful equal window new place (place + w.count) (Some front)
-        (Some behind) left right frame list
-
-  within_list : place < length items
-  within_list = omega (arith, within.window.in_range, some)
+        ) (list_is None divided)
 
   split : items ≡ take place items ++ x ∷ drop (place + 1) items
   split = listed_at items place x within_list here

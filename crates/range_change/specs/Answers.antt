@@ -1,5 +1,5 @@
 -- What the closure of an update may be asked and may answer, and what its answers make of a list.
-use Rattle.std.specs.Prelude.{◌≡◌, ◌↔◌, Bool, IsTrue, List, Option, Some, None, Result, Ok, Err, map}
+use Rattle.std.specs.Prelude.{◌≡◌, ◌<◌, ◌↔◌, ◌++◌, Bool, IsTrue, List, Option, Some, None, Result, Ok, Err, length, map}
 use Rattle.std.specs.Fn.{Shared}
 use Rattle.std.specs.Option.{option_copied}
 use denote.Ref.{Bor}
@@ -102,9 +102,13 @@ module _ {K : Type 0} (order : KeyOrder K) {V : Type 0} (same : V → V → Bool
     abbrev pub FailsAt : List (Item (AnyRange K) V) → AnyRange K → E → Type 0
     FailsAt items r e = AnswersPiece items r (Err e)
 
-    -- f may answer to the value of a piece without an error
-    abbrev pub SucceedsAt : List (Item (AnyRange K) V) → AnyRange K → Type 0
-    SucceedsAt items r = (answer : Option V) × AnswersPiece items r (Ok answer)
+    -- f may answer to each of the first pieces, of one at least, without an error
+    pub record SucceedsAtFirst (items : List (Item (AnyRange K) V)) (r : AnyRange K) : Type 0 where
+      pub front : List (Answered K V)
+      pub rest : List (Item (AnyRange K) (Option V))
+      pub some : 0 < length front
+      pub pieces : ArePieces order items r (map piece_of front ++ rest)
+      pub given : Every (λ a. MayAnswer calls f a.value (Ok a.answer)) front
 
     -- a list in stored form within the range, which binds its keys as the answers to its pieces say
     pub record IsGathered (items : List (Item (AnyRange K) V)) (r : AnyRange K)

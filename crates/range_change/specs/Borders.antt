@@ -1,11 +1,9 @@
 -- How a range that is bound joins what stands beside it.
 use Rattle.std.specs.Prelude.{◌≡◌, ℕ, ◌+◌, ◌-◌, ◌<◌, ◌≤◌, Bool, true, List, ◌++◌, length, take, drop, slice_index_or, slice_set, Option, Some, None, MatchOption, ⊤}
 use Rattle.std.specs.declared.ops.Bound.{Bound}
-use Rattle.std.specs.declared.cmp.Ordering.TheVariants.{Equal}
 use Rattle.std.specs.Cmp.{IsEquivalence}
 use Rattle.range_keys.specs.Order.{KeyOrder, IsLawful}
-use Rattle.range_keys.specs.Position.{start_position, end_position, position_cmp}
-use Rattle.range_keys.specs.declared.inner.position.Position.{Position}
+use Rattle.range_keys.specs.Position.{start_position, end_position}
 use Rattle.range_algebra.specs.Range.{IsKnownRange, IsKnownBound}
 use Rattle.std.specs.Option.{unwrap_or}
 use Rattle.std.specs.declared.ops.Bound.TheVariants.{Unbounded}
@@ -21,24 +19,14 @@ use Rattle.range_store.specs.declared.inner.cursor.Cursor.{Cursor}
 use Rattle.range_store.specs.declared.storage.Item.{Item}
 use Rattle.range_change.specs.declared.cut.DividedItem.{DividedItem}
 use Rattle.range_change.specs.declared.window.Window.{Window}
-use Rattle.range_algebra.specs.Intervals.{Every, Le}
+use Rattle.range_algebra.specs.Intervals.{Every}
 use Rattle.range_change.specs.Chains.{line_of, IsLeft, IsRight, IsLeftOf, IsRightOf}
 use Rattle.range_algebra.specs.Cuts.{past, lower, upper}
-use Rattle.range_change.specs.Stored.{item_lower, item_upper}
 use Rattle.range_algebra.specs.Relations.{Touches}
 use Rattle.range_change.specs.Reach.{inner_count}
 use Rattle.range_change.specs.Window.{option_items}
 
 module _ {K : Type 0} (order : KeyOrder K) {V : Type 0} (same : V → V → Bool) where
-  -- where a range starts that has another start bound in the place of its own
-  abbrev pub border_start : Option (Bound K) → AnyRange K → Position K
-  border_start None r = lower order r
-  border_start (Some b) r = start_position order b
-
-  abbrev pub border_end : Option (Bound K) → AnyRange K → Position K
-  border_end None r = upper order r
-  border_end (Some b) r = past order (end_position order b)
-
   -- no item just before the place touches the range with an equal value
   abbrev pub TouchesNoneBefore : List (Item (AnyRange K) V) → ℕ → AnyRange K → V → Type 0
   TouchesNoneBefore items place r v = (d : Item (AnyRange K) V) → 0 < place
@@ -68,25 +56,20 @@ module _ {K : Type 0} (order : KeyOrder K) {V : Type 0} (same : V → V → Bool
       pub left : IsLeft (line_of order lawful same equal) items
           (take place items ++ option_items rest) (lower order r)
       pub known : Every (λ i. IsKnownRange order i.key) (option_items rest)
-      pub reaches : (y : Item (AnyRange K) V) → rest ≡ Some y
-          → Le (position_cmp order.cmp) (lower order r) (item_upper order y)
 
     pub record IsRightRest (items : List (Item (AnyRange K) V)) (r : AnyRange K) (end : ℕ)
         (rest : Option (Item (AnyRange K) V)) : Type 0 where
       pub right : IsRight (line_of order lawful same equal) items
           (option_items rest ++ drop end items) (upper order r)
       pub known : Every (λ i. IsKnownRange order i.key) (option_items rest)
-      pub reaches : (y : Item (AnyRange K) V) → rest ≡ Some y
-          → Le (position_cmp order.cmp) (item_lower order y) (upper order r)
 
     -- what stands before the range when it is bound to v: the first `at` items and a rest, after
     -- which the range starts at `start`
     pub record IsLeftBorder (items : List (Item (AnyRange K) V)) (r : AnyRange K) (v : V) (at : ℕ)
         (rest : Option (Item (AnyRange K) V)) (start : Option (Bound K)) : Type 0 where
-      pub s : Position K
-      pub starts : position_cmp order.cmp (border_start start r) s ≡ Equal
       pub left : IsLeftOf (line_of order lawful same equal) items
-          (take at items ++ option_items rest) (lower order r) s v
+          (take at items ++ option_items rest) (lower order r)
+          (start_position order (unwrap_or start r.start)) v
       pub known : Every (λ i. IsKnownRange order i.key) (option_items rest)
       pub known_start : IsKnownBound order (unwrap_or start r.start)
 
@@ -94,10 +77,9 @@ module _ {K : Type 0} (order : KeyOrder K) {V : Type 0} (same : V → V → Bool
     pub record IsRightBorder (items : List (Item (AnyRange K) V)) (r : AnyRange K) (v : V) (end : ℕ)
         (rest : Option (Item (AnyRange K) V)) (finish : Option (Bound K)) : Type 0 where
       pub in_range : end ≤ length items
-      pub e : Position K
-      pub ends : position_cmp order.cmp (border_end finish r) e ≡ Equal
       pub right : IsRightOf (line_of order lawful same equal) items
-          (option_items rest ++ drop end items) (upper order r) e v
+          (option_items rest ++ drop end items) (upper order r)
+          (past order (end_position order (unwrap_or finish r.end))) v
       pub known : Every (λ i. IsKnownRange order i.key) (option_items rest)
       pub known_end : IsKnownBound order (unwrap_or finish r.end)
 
@@ -110,8 +92,34 @@ pub record IsOpened {K V : Type 0} (items new : List (Item (AnyRange K) V))
   pub front : take from new ≡ take at items ++ option_items before
   pub behind : drop upto new ≡ option_items after ++ drop end items
 
+-- one side of a range: an item there with another bound towards the range, with another outer one, its
+-- outer bound, and the place at which the range joins it
+pub record BorderSide (K V : Type 0) : Type 0 where
+  pub shortened : Item (AnyRange K) V → Bound K → Item (AnyRange K) V
+  pub extended : Item (AnyRange K) V → Bound K → Item (AnyRange K) V
+  pub outer : Item (AnyRange K) V → Bound K
+  pub place : ℕ → ℕ
+
+abbrev pub left_side : {K V : Type 0} → BorderSide K V
+left_side =
+    record {
+      shortened = with_end;
+      extended = with_start;
+      outer = λ i. i.key.start;
+      place = λ n. n;
+    }
+
+abbrev pub right_side : {K V : Type 0} → BorderSide K V
+right_side =
+    record {
+      shortened = with_start;
+      extended = with_end;
+      outer = λ i. i.key.end;
+      place = λ n. n + 1;
+    }
+
 module _ {K P : Type 0} where
-  -- how many items an border adds to those that give way
+  -- how many items a border adds to those that give way
   abbrev pub joined_count : Border K P → ℕ
   joined_count Plain = 0
   joined_count (Cut p b) = 0
@@ -141,55 +149,51 @@ module _ {K P : Type 0} where
   IsGoodBorder is_good (Joined p) = is_good p
 
   module _ {V : Type 0} where
-    -- how an border before a range changes the items, and the start that it gives the range
+    -- how a border changes the items, and the bound that it gives the range
+    abbrev pub IsBorderEdit : BorderSide K V → (P → ℕ) → List (Item (AnyRange K) V)
+        → List (Item (AnyRange K) V) → Border K P → Option (Bound K) → Type 0
+    IsBorderEdit side rank items new Plain given = (new ≡ items) × (given ≡ None)
+    IsBorderEdit side rank items new (Cut p b) given =
+        ((d : Item (AnyRange K) V)
+        → new ≡ slice_set items (rank p) (side.shortened (slice_index_or items (rank p) d) b))
+        × (given ≡ None)
+    IsBorderEdit side rank items new (Joined p) given = (d : Item (AnyRange K) V)
+        → (new ≡ slice_set items (rank p)
+        (side.extended (slice_index_or items (rank p) d) Unbounded))
+        × (given ≡ Some (side.outer (slice_index_or items (rank p) d)))
+
     abbrev pub IsLeftEdited : (P → ℕ) → List (Item (AnyRange K) V) → List (Item (AnyRange K) V)
         → Border K P → Option (Bound K) → Type 0
-    IsLeftEdited rank items new Plain start = (new ≡ items) × (start ≡ None)
-    IsLeftEdited rank items new (Cut p b) start =
-        ((d : Item (AnyRange K) V)
-        → new ≡ slice_set items (rank p) (with_end (slice_index_or items (rank p) d) b))
-        × (start ≡ None)
-    IsLeftEdited rank items new (Joined p) start = (d : Item (AnyRange K) V)
-        → (new ≡ slice_set items (rank p) (with_start (slice_index_or items (rank p) d) Unbounded))
-        × (start ≡ Some (slice_index_or items (rank p) d).key.start)
+    IsLeftEdited = IsBorderEdit left_side
 
     abbrev pub IsRightEdited : (P → ℕ) → List (Item (AnyRange K) V) → List (Item (AnyRange K) V)
         → Border K P → Option (Bound K) → Type 0
-    IsRightEdited rank items new Plain finish = (new ≡ items) × (finish ≡ None)
-    IsRightEdited rank items new (Cut p b) finish =
-        ((d : Item (AnyRange K) V)
-        → new ≡ slice_set items (rank p) (with_start (slice_index_or items (rank p) d) b))
-        × (finish ≡ None)
-    IsRightEdited rank items new (Joined p) finish = (d : Item (AnyRange K) V)
-        → (new ≡ slice_set items (rank p) (with_end (slice_index_or items (rank p) d) Unbounded))
-        × (finish ≡ Some (slice_index_or items (rank p) d).key.end)
+    IsRightEdited = IsBorderEdit right_side
+
+    -- from one place to another lies what is cut, and a rest of it stays; or an item is joined there,
+    -- and its outer bound given
+    abbrev pub IsBorderShape : BorderSide K V → (P → Type 0) → (P → ℕ) → List (Item (AnyRange K) V)
+        → Border K P → ℕ → ℕ → Option (Item (AnyRange K) V) → Option (Bound K) → Type 0
+    IsBorderShape side is_good rank items Plain low high rest given =
+        (high ≡ low) × (rest ≡ None) × (given ≡ None)
+    IsBorderShape side is_good rank items (Cut p b) low high rest given =
+        is_good p × (rank p ≡ low) × (high ≡ low + 1) × (given ≡ None)
+        × ((x : Item (AnyRange K) V) × (x ≡ slice_index_or items low x)
+        × (rest ≡ Some (side.shortened x b)))
+    IsBorderShape side is_good rank items (Joined p) low high rest given =
+        is_good p × (side.place (rank p) ≡ low) × (high ≡ low) × (rest ≡ None)
+        × ((x : Item (AnyRange K) V) × (x ≡ slice_index_or items (rank p) x)
+        × (given ≡ Some (side.outer x)))
 
     -- `at` items and a rest stand before the run, which begins at `from`
     abbrev pub IsLeftShape : (P → Type 0) → (P → ℕ) → List (Item (AnyRange K) V) → Border K P
         → ℕ → ℕ → Option (Item (AnyRange K) V) → Option (Bound K) → Type 0
-    IsLeftShape is_good rank items Plain at from rest start =
-        (from ≡ at) × (rest ≡ None) × (start ≡ None)
-    IsLeftShape is_good rank items (Cut p b) at from rest start =
-        is_good p × (rank p ≡ at) × (from ≡ at + 1) × (start ≡ None)
-        × ((x : Item (AnyRange K) V) × (x ≡ slice_index_or items at x)
-        × (rest ≡ Some (with_end x b)))
-    IsLeftShape is_good rank items (Joined p) at from rest start =
-        is_good p × (rank p ≡ at) × (from ≡ at) × (rest ≡ None)
-        × ((x : Item (AnyRange K) V) × (x ≡ slice_index_or items at x) × (start ≡ Some x.key.start))
+    IsLeftShape = IsBorderShape left_side
 
     -- a rest and the items from `end` on stand after the run, which ends at `upto`
     abbrev pub IsRightShape : (P → Type 0) → (P → ℕ) → List (Item (AnyRange K) V) → Border K P
         → ℕ → ℕ → Option (Item (AnyRange K) V) → Option (Bound K) → Type 0
-    IsRightShape is_good rank items Plain upto end rest finish =
-        (upto ≡ end) × (rest ≡ None) × (finish ≡ None)
-    IsRightShape is_good rank items (Cut p b) upto end rest finish =
-        is_good p × (rank p ≡ upto) × (end ≡ upto + 1) × (finish ≡ None)
-        × ((x : Item (AnyRange K) V) × (x ≡ slice_index_or items upto x)
-        × (rest ≡ Some (with_start x b)))
-    IsRightShape is_good rank items (Joined p) upto end rest finish =
-        is_good p × (rank p + 1 ≡ upto) × (upto ≡ end) × (rest ≡ None)
-        × ((x : Item (AnyRange K) V) × (x ≡ slice_index_or items (rank p) x)
-        × (finish ≡ Some x.key.end))
+    IsRightShape = IsBorderShape right_side
 
     -- the items beside a run are edited as the borders say
     abbrev pub AreOpened : (P → Type 0) → (P → ℕ) → List (Item (AnyRange K) V)

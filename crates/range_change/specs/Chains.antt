@@ -79,36 +79,43 @@ module _ {L V X : Type 0} (line : Line L V X) where
     pub starts : Every (λ x. Le line.cmp d (line.lo x)) kept
     pub holds : (p : L) (W : V → Bool) → Respects W → Le line.cmp d p → Has W p kept ↔ Has W p items
 
-  -- the items below a place are these and the new one, which starts at `s`
+  -- the items below a place are these and others with the value, which start at `s`
   pub record IsLeftOf (items kept : List X) (c s : L) (v : V) : Type 0 where
-    pub chain : IsChain kept
+    pub left : IsLeft items kept s
     pub leads : Leading s v kept
     pub below : Le line.cmp s c
-    pub holds : (p : L) (W : V → Bool) → Respects W → Lt line.cmp p c
-        → (Has W p kept ⊎ (Le line.cmp s p × (W v ≡ true))) ↔ Has W p items
+    pub joined : (p : L) (W : V → Bool) → Respects W → Le line.cmp s p → Lt line.cmp p c
+        → Has W p items ↔ (W v ≡ true)
 
-  -- the items from a place on are the new one, which ends at `e`, and these
+  -- the items from a place on are others with the value, which end at `e`, and these
   pub record IsRightOf (items kept : List X) (d e : L) (v : V) : Type 0 where
-    pub chain : IsChain kept
+    pub right : IsRight items kept e
     pub trails : Trailing e v kept
     pub above : Le line.cmp d e
-    pub holds : (p : L) (W : V → Bool) → Respects W → Le line.cmp d p
-        → (Has W p kept ⊎ (Lt line.cmp p e × (W v ≡ true))) ↔ Has W p items
+    pub joined : (p : L) (W : V → Bool) → Respects W → Le line.cmp d p → Lt line.cmp p e
+        → Has W p items ↔ (W v ≡ true)
 
-  -- what a chain becomes where a range from `c` up to `d` is bound to `v`
-  pub record IsBoundTo (items new : List X) (c d : L) (v : V) : Type 0 where
+  -- what a chain becomes where the places from `c` up to `d` hold what is said, and all others what
+  -- they held
+  pub record IsMade (items new : List X) (c d : L)
+      (Holds : L → (V → Bool) → Type 0) : Type 0 where
     pub chain : IsChain new
     pub inside : (p : L) (W : V → Bool) → Respects W → Le line.cmp c p → Lt line.cmp p d
-        → Has W p new ↔ (W v ≡ true)
+        → Has W p new ↔ Holds p W
     pub outside : (p : L) (W : V → Bool) → Respects W → Lt line.cmp p c ⊎ Le line.cmp d p
         → Has W p new ↔ Has W p items
 
-  -- what a chain becomes where a range from `c` up to `d` is unbound
-  pub record IsUnbound (items new : List X) (c d : L) : Type 0 where
-    pub chain : IsChain new
-    pub inside : (p : L) (W : V → Bool) → Le line.cmp c p → Lt line.cmp p d → Has W p new → ⊥
-    pub outside : (p : L) (W : V → Bool) → Respects W → Lt line.cmp p c ⊎ Le line.cmp d p
-        → Has W p new ↔ Has W p items
+  -- a range from `c` up to `d` is bound to `v`
+  abbrev pub IsBoundTo : List X → List X → L → L → V → Type 0
+  IsBoundTo items new c d v = IsMade items new c d (λ p W. W v ≡ true)
+
+  -- it is unbound
+  abbrev pub IsUnbound : List X → List X → L → L → Type 0
+  IsUnbound items new c d = IsMade items new c d (λ p W. ⊥)
+
+  -- it holds what the middle does
+  abbrev pub IsSpliced : List X → List X → List X → L → L → Type 0
+  IsSpliced items middle new c d = IsMade items new c d (λ p W. Has W p middle)
 
 -- the line of positions on which stored items lie
 abbrev pub line_of : {K : Type 0} (order : KeyOrder K) (lawful : IsLawful order) {V : Type 0}

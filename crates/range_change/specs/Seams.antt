@@ -15,7 +15,7 @@ use Rattle.range_store.specs.ListPlaces.{IsAt, place_before}
 use Rattle.range_change.specs.declared.borders.Border.{Border}
 use Rattle.range_change.specs.Borders.{IsLeftRest, IsRightRest, IsLeftShape, IsRightShape, IsRunStart, seam_border}
 use Rattle.range_change.specs.Edits.{flipped_bound, with_start, with_end}
-use Rattle.range_change.specs.Frames.{HasValue}
+use Rattle.range_change.specs.Frames.{IsPart}
 use Rattle.range_change.specs.Stored.{item_lower, item_upper}
 use Rattle.range_change.specs.Plans.{IsLeftPlan, IsRightPlan}
 use Rattle.range_change.specs.Window.{option_items}
@@ -47,8 +47,7 @@ module _ {K : Type 0} (order : KeyOrder K) {V : Type 0} (same : V → V → Bool
         (place + length (option_items first)) rest None
     pub side : IsLeftRest order same lawful equal items r place rest
     pub run : IsAt is_good rank (length items) from (place + length (option_items first))
-    pub valued : Every (λ j. HasValue order same (take count (drop place items)) j.value)
-        (option_items rest)
+    pub made : Every (IsPart order same (take count (drop place items)) r) (option_items rest)
 
   -- nothing joins it on the other side: `last` is cut
   pub record IsRightCutting (last : Option P) (border : Border K P) : Type 0 where
@@ -56,8 +55,7 @@ module _ {K : Type 0} (order : KeyOrder K) {V : Type 0} (same : V → V → Bool
     pub rest : Option (Item (AnyRange K) V)
     pub shape : IsRightShape is_good rank items border upto (place + count) rest None
     pub side : IsRightRest order same lawful equal items r (place + count) rest
-    pub valued : Every (λ j. HasValue order same (take count (drop place items)) j.value)
-        (option_items rest)
+    pub made : Every (IsPart order same (take count (drop place items)) r) (option_items rest)
     pub ends : upto + length (option_items last) ≡ place + count
 
   -- an item that starts where the range does may join, and before any other the range is cut out

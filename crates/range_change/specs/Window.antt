@@ -1,6 +1,5 @@
--- Where a range lies among the items, and what is left of those that it cuts.
-use Rattle.std.specs.Prelude.{◌≡◌, ℕ, ◌+◌, ◌-◌, ◌<◌, ◌≤◌, Bool, IsTrue, List, [], ◌∷◌, length, take, drop, slice_index_or, Option, Some, None}
-use Rattle.std.specs.declared.cmp.Ordering.TheVariants.{Equal}
+-- Where a range lies among the items.
+use Rattle.std.specs.Prelude.{◌≡◌, ℕ, ◌+◌, ◌-◌, ◌<◌, ◌≤◌, Bool, List, [], ◌∷◌, length, take, drop, slice_index_or, Option, Some, None}
 use Rattle.range_keys.specs.Order.{KeyOrder}
 use Rattle.range_keys.specs.Position.{start_position, end_position, position_cmp}
 use Rattle.range_keys.specs.declared.inner.position.Position.{Position}
@@ -98,22 +97,3 @@ module _ {K : Type 0} (order : KeyOrder K) {V : Type 0} where
     IsWindowOf is_good rank items stored r w =
         IsWindow (is_good stored) (rank stored) (items stored) r w
         (place_before (rank stored) (length (items stored)) w.from)
-
-    -- what is left of an item below a range
-    abbrev pub IsLeftPart : Item (AnyRange K) V → AnyRange K → Option (Item (AnyRange K) V) → Type 0
-    IsLeftPart i r None = Le (position_cmp order.cmp) (lower order r) (item_lower order i)
-    IsLeftPart i r (Some j) =
-        Lt (position_cmp order.cmp) (item_lower order i) (lower order r)
-        × (position_cmp order.cmp (item_lower order j) (item_lower order i) ≡ Equal)
-        × (position_cmp order.cmp (item_upper order j) (lower order r) ≡ Equal)
-        × IsTrue (same j.value i.value) × IsKnownRange order j.key
-
-    -- what is left of an item above a range
-    abbrev pub IsRightPart : Item (AnyRange K) V → AnyRange K → Option (Item (AnyRange K) V)
-        → Type 0
-    IsRightPart i r None = Le (position_cmp order.cmp) (item_upper order i) (upper order r)
-    IsRightPart i r (Some j) =
-        Lt (position_cmp order.cmp) (upper order r) (item_upper order i)
-        × (position_cmp order.cmp (item_lower order j) (upper order r) ≡ Equal)
-        × (position_cmp order.cmp (item_upper order j) (item_upper order i) ≡ Equal)
-        × IsTrue (same j.value i.value) × IsKnownRange order j.key

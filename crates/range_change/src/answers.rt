@@ -4,7 +4,7 @@ ghost use Rattle.std.specs.Option.{option_copied};
 ghost use Rattle.range_algebra.specs.Intervals.{Every};
 ghost use Rattle.range_algebra.specs.Range.{ClonesAreEqual};
 ghost use Rattle.range_algebra.specs.References.{range_of};
-ghost use Rattle.range_change.specs.Answers.{MayAnswer, MayBeAsked, IsAnsweredBy, FailsAt, SucceedsAt, IsGathered};
+ghost use Rattle.range_change.specs.Answers.{MayAnswer, MayBeAsked, IsAnsweredBy, FailsAt, SucceedsAtFirst, IsGathered};
 ghost use Rattle.range_change.specs.Put.{JoinsLast, JoinsNoLast, IsPut};
 ghost use Rattle.range_change.specs.Edits.{with_end, IsEditedAt};
 ghost use Rattle.range_change.specs.Spelling.{KeepsSpelling};
@@ -141,7 +141,7 @@ pub fn gather<
     ensures closure { (e : E) → result ≡ Err (ClosureError e)
         → FailsAt K.order V.eq F.Fn f.now (C.items stored.now) range.now e }
     ensures memory { result ≡ Err MemoryError
-        → SucceedsAt K.order V.eq F.Fn f.now (C.items stored.now) range.now }
+        → SucceedsAtFirst K.order V.eq F.Fn f.now (C.items stored.now) range.now }
 {
     let mut middle = Vec::new(alloc);
     let mut pieces = pieces_within::<K, V, C>(stored, window, range);

@@ -26,6 +26,7 @@
 //!   `proofs/{RangePieces,PieceLists,PieceSteps}.antt`
 //! - what a closure returns for each of them, as one list: `src/answers.rt`,
 //!   `specs/{Answers,Put}.antt`, `proofs/{AnswerLists,PieceAnswers}.antt`
+//! - an update by such a closure: `src/update.rt`, `proofs/Succeeding.antt`
 //! - which bounds an update leaves as they are written: `specs/Spelling.antt`,
 //!   `proofs/{Spelling,SpelledChanges}.antt`
 //! - how many steps a call takes: `specs/Costs.antt`, proved in `proofs/Lengths.antt`
@@ -46,4 +47,5 @@ pub mod replace;
 pub mod runs;
 pub mod splice;
 pub mod unbind;
+pub mod update;
 pub mod window;

@@ -2,6 +2,7 @@
 ghost use Rattle.std.specs.Prelude.{◌≡◌, ◌+◌, ◌*◌, ◌≤◌, ◌<◌, length, None, OnOk, OnErr, IsOk};
 ghost use Rattle.range_algebra.specs.Range.{ClonesAreEqual, IsEmptyRange};
 ghost use Rattle.range_store.specs.Counting.{AddsSteps};
+ghost use Rattle.range_change.specs.Bindings.{IsUnboundAfter};
 ghost use Rattle.range_change.specs.Clones.{ClonesNeverFail};
 ghost use Rattle.range_change.specs.Stored.{IsStored};
 ghost use Rattle.range_change.specs.Window.{IsWindowOf};
@@ -17,6 +18,7 @@ use crate::reach::{Reach, reaching, run_start, surrounding};
 use crate::splice::{change, divide};
 use crate::window::{Window, find_window};
 use range_algebra::any::AnyRange;
+use range_algebra::inner;
 use range_algebra::range::AsRange;
 use range_keys::traits::Measure;
 use range_store::inner::cursor::{Cursor, remove_rest};
@@ -180,4 +182,49 @@ pub fn unbind<
         return Ok(());
     }
     unbind_met::<K, V, C, R>(stored, window, range, steps)
+}
+
+/// Binds no key of the range. An empty range changes nothing, and takes no step.
+pub fn unbind_any<
+    K: Measure + Clone,
+    V: Eq + Clone,
+    C: Storage<Item<AnyRange<K>, V>>,
+    R: AsRange<Item = K>,
+>(stored: &mut C, range: &R, steps: &mut Steps) -> Result<(), AllocError>
+    requires keys { ClonesAreEqual K.is_clone K.eq }
+    requires values { ClonesAreEqual V.is_clone V.eq }
+    requires stored { IsStored K.order V.eq (C.items stored.old) }
+    ensures removed { OnOk result
+        (¬ IsEmptyRange K.order (R.range range.now)
+        → IsRemoved K.order V.eq (C.items stored.old) (C.items stored.new) (R.range range.now)) }
+    ensures unbound { OnOk result
+        (IsUnboundAfter K.order V.eq (C.items stored.old) (C.items stored.new)
+        (R.range range.now)) }
+    ensures form { IsStored K.order V.eq (C.items stored.new) }
+    ensures few { length (C.items stored.new) ≤ length (C.items stored.old) + 1 }
+    ensures most { OnOk result
+        (TakesAsChange steps.old steps.new (C.most_asks stored.old) (length (C.items stored.old))
+        (length (C.items stored.new))) }
+    ensures least { ¬ IsEmptyRange K.order (R.range range.now)
+        → TakesAtLeast steps.old steps.new (C.least_asks stored.old) }
+    ensures refused { OnErr result (C.items stored.new ≡ C.items stored.old) }
+    ensures space { C.room stored.old + length (C.items stored.old)
+        ≤ C.room stored.new + length (C.items stored.new) }
+    ensures succeeds { ClonesNeverFail K.is_infallible → ClonesNeverFail V.is_infallible
+        → 1 ≤ C.room stored.old → IsOk result }
+    ensures unmet { Every (λ i. ¬ Overlap K.order i.key (R.range range.now)) (C.items stored.old)
+        → IsOk result }
+    ensures unmet_unchanged { Every (λ i. ¬ Overlap K.order i.key (R.range range.now))
+        (C.items stored.old) → C.items stored.new ≡ C.items stored.old }
+    ensures empty { IsEmptyRange K.order (R.range range.now) → IsOk result }
+    ensures empty_unchanged { IsEmptyRange K.order (R.range range.now)
+        → C.items stored.new ≡ C.items stored.old }
+    ensures empty_uncounted { IsEmptyRange K.order (R.range range.now) → steps.new ≡ steps.old }
+{
+    inner::known_range(range);
+    if range.is_empty() {
+        return Ok(());
+    }
+    unbind::<K, V, C, R>(stored, range, steps)?;
+    Ok(())
 }

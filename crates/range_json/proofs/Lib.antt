@@ -1,4 +1,5 @@
 pub mod Exact
+pub mod FoundMeetings
 pub mod Keeping
 pub mod MapReading
 pub mod Meetings

@@ -15,7 +15,7 @@ use Rattle.range_algebra.specs.Clones.{IsBoundClone}
 use Rattle.range_algebra.specs.Range.{IsKnownRange}
 use Rattle.range_algebra.specs.RangeOrder.{range_cmp}
 use Rattle.range_store.specs.declared.storage.Item.{Item}
-use Rattle.range_map.specs.ListOrder.{same_list}
+use Rattle.range_reads.specs.ListOrder.{same_list}
 use Rattle.range_change.specs.Stored.{IsStored}
 use Rattle.range_map.proofs.CloneLists.{equal_items_are_copy, copy_stored, item_clone}
 use Rattle.range_json.specs.Shapes.{bound_shape, range_shape, pair_shape, map_shape}

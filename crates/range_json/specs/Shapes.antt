@@ -6,7 +6,7 @@ use Rattle.std.specs.declared.ops.Bound.TheVariants.{Included, Excluded, Unbound
 use Rattle.serde_json.specs.Data.{Data, null, boolean, number, string, array, object, unsigned, Items, no_items, item, Members, no_members, member}
 use Rattle.serde_json.specs.View.{items_of}
 use Rattle.range_algebra.specs.declared.any.AnyRange.{AnyRange}
-use Rattle.range_map.specs.FreeRanges.{item_ranges}
+use Rattle.range_reads.specs.FreeRanges.{item_ranges}
 use Rattle.range_store.specs.declared.storage.Item.{Item}
 
 -- an array of two

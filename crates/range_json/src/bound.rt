@@ -1,5 +1,5 @@
 //! Bounds as JSON values.
-ghost use Rattle.std.specs.Prelude.{◌≡◌, ◌⊎◌, Some, None, option_map, IfOk, OnOk, IfErr};
+ghost use Rattle.std.specs.Prelude.{◌≡◌, ◌⊎◌, Some, None, option_map, IfOk, OnOk, IfErr, IsErrOf};
 ghost use Rattle.serde_json.specs.Data.{object, member, no_members};
 ghost use Rattle.serde_json.specs.View.{view};
 ghost use Rattle.range_json.specs.Faults.{IsBoundRead, bound_fault, key_fault};
@@ -40,6 +40,7 @@ fn key_from_json<K: Json>(alloc: Global, value: &Value, index: usize) -> Result<
     ensures sound { OnOk result (key_fault K.reads index (view value.now) ≡ None) }
     ensures fault { IfErr result
         (λ e. (e ≡ Memory) ⊎ (key_fault K.reads index (view value.now) ≡ Some e)) }
+    ensures memory { IsErrOf result Memory → ¬ K.reads_in_place }
 {
     match K::from_json(alloc, value) {
         Ok(key) => Ok(key),
@@ -70,6 +71,7 @@ pub(crate) fn bound_from_json<K: Json>(
     ensures sound { OnOk result (bound_fault K.reads index (view value.now) ≡ None) }
     ensures fault { IfErr result
         (λ e. (e ≡ Memory) ⊎ (bound_fault K.reads index (view value.now) ≡ Some e)) }
+    ensures memory { IsErrOf result Memory → ¬ K.reads_in_place }
 {
     if let Some(text) = value.as_str() {
         return if text == "Unbounded" {

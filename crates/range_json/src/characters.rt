@@ -1,5 +1,5 @@
 //! `char` as a text of one character.
-ghost use Rattle.std.specs.Prelude.{◌≡◌, Some, is_some};
+ghost use Rattle.std.specs.Prelude.{◌≡◌, Some, is_some, ⊤};
 ghost use Rattle.range_keys.specs.Characters.{character_order};
 ghost use Rattle.range_json.specs.Keys.{character_of, character_shape};
 ghost use Rattle.range_json.specs.ReadBack.{character_back, told_some, same_number};
@@ -18,6 +18,8 @@ impl Json for char {
     ghost is_value = { character_order.is_key };
 
     ghost is_read = { λ d x. character_of d ≡ Some x };
+
+    ghost reads_in_place = { ⊤ };
 
     fn to_json(&self, alloc: Global) -> Result<Value, AllocError> {
         self.known();

@@ -1,8 +1,9 @@
 //! What an error says of the JSON value that was not read.
-ghost use Rattle.std.specs.Prelude.{◌≡◌, ℕ, IfSome};
+ghost use Rattle.std.specs.Prelude.{◌≡◌, ℕ, IfSome, IsSome};
 ghost use Rattle.serde_json.specs.View.{view};
-ghost use Rattle.range_json.specs.MapFaults.{HasOneReading};
-ghost use Rattle.range_json.specs.Meetings.{IsFirstMetBy};
+ghost use Rattle.range_json.specs.MapFaults.{HasOneReading, IsMapFault};
+ghost use Rattle.range_json.specs.Meetings.{IsFirstMetBy, MayMeetEarlier};
+ghost use Rattle.range_json.specs.ValueSets.{reads_some_values, AreValuesRead};
 ghost use Rattle.range_json.specs.declared.error.JsonError.TheVariants.{Meets};
 
 use crate::array::elements_of_array;
@@ -135,6 +136,28 @@ impl JsonError {
         }
     }
 
+    /// What an error of a map found whose values have to be such.
+    fn explained_element<K: Json + Measure>(&self, values: &'static str, map: &Value) -> Explanation
+        ensures error { result.error ≡ self.now }
+        ensures earlier { IfSome result.earlier
+            (λ j. (i : ℕ) → self.now ≡ Meets i → HasOneReading K.order K.is_read
+            → IsFirstMetBy K.order K.is_read (view map.now) i j) }
+        ensures found { (i : ℕ) → self.now ≡ Meets i → K.reads_in_place
+            → HasOneReading K.order K.is_read
+            → MayMeetEarlier K.order K.is_read K.reads (view map.now) i
+            → IsSome result.earlier }
+    {
+        let place = place_in_map::<K>(self, map);
+        match *self {
+            JsonError::Value(_) => self.explained(values, place, map),
+            JsonError::Meets(index) => Explanation {
+                earlier: met_earlier::<K>(map, index),
+                ..self.explained(K::name(), place, map)
+            },
+            _ => self.explained(K::name(), place, map),
+        }
+    }
+
     /// What this error of `range_from_json` found in the JSON value that it was given.
     pub fn explained_range<K: Json>(&self, value: &Value) -> Explanation
         ensures { result.error ≡ self.now }
@@ -152,7 +175,8 @@ impl JsonError {
     /// What this error of `map_from_json` or `map_from_json_overwriting` found in the JSON value that
     /// it was given.
     ///
-    /// Allocates nothing, unless keys are read that do.
+    /// Allocates nothing, unless keys are read that do. Where their memory runs out, it does not say
+    /// which earlier element is met.
     ///
     /// ```
     /// let told = JsonError::Meets(1).explained_map::<i32, i64>(&value); // by `map_from_json`
@@ -164,16 +188,12 @@ impl JsonError {
         ensures earlier { IfSome result.earlier
             (λ j. (i : ℕ) → self.now ≡ Meets i → HasOneReading K.order K.is_read
             → IsFirstMetBy K.order K.is_read (view value.now) i j) }
+        ensures found { (i : ℕ) → self.now ≡ Meets i → K.reads_in_place
+            → HasOneReading K.order K.is_read
+            → IsMapFault K.order K.reads V.reads K.is_read V.is_read (view value.now) (Meets i)
+            → IsSome result.earlier }
     {
-        let place = place_in_map::<K>(self, value);
-        match *self {
-            JsonError::Value(_) => self.explained(V::name(), place, value),
-            JsonError::Meets(index) => Explanation {
-                earlier: met_earlier::<K>(value, index),
-                ..self.explained(K::name(), place, value)
-            },
-            _ => self.explained(K::name(), place, value),
-        }
+        self.explained_element::<K>(V::name(), value)
     }
 
     /// What this error of `multimap_from_json` found in the JSON value that it was given.
@@ -182,8 +202,12 @@ impl JsonError {
         ensures earlier { IfSome result.earlier
             (λ j. (i : ℕ) → self.now ≡ Meets i → HasOneReading K.order K.is_read
             → IsFirstMetBy K.order K.is_read (view value.now) i j) }
+        ensures found { (i : ℕ) → self.now ≡ Meets i → K.reads_in_place
+            → HasOneReading K.order K.is_read
+            → IsMapFault K.order K.reads (reads_some_values V.reads) K.is_read
+            (AreValuesRead V.cmp V.is_read) (view value.now) (Meets i) → IsSome result.earlier }
     {
-        let explanation = self.explained_map::<K, BTreeSet<V>>(value);
+        let explanation = self.explained_element::<K>(BTreeSet::<V>::name(), value);
         match (self, place_in_map::<K>(self, value)) {
             (JsonError::Value(_), Some(place)) if elements_of_array(place) == Ok(&[]) =>
                 Explanation {

@@ -2,7 +2,7 @@
 ghost use Rattle.std.specs.Prelude.{◌≡◌, Bool, true, false, IsTrue, IfOk, OnOk, IsErrOf};
 ghost use Rattle.serde_json.specs.Data.{Data};
 ghost use Rattle.serde_json.specs.View.{view};
-ghost use Rattle.range_json.specs.declared.error.ReadError.TheVariants.{Refused};
+ghost use Rattle.range_json.specs.declared.error.ReadError.TheVariants.{Memory, Refused};
 
 pub use crate::error::{JsonError, ReadError};
 pub use crate::explanation::Explanation;
@@ -27,6 +27,9 @@ pub trait Json: Sized + Drop {
     // The value is one that may be read there.
     ghost is_read: { Data → Self → Type 0 };
 
+    // To read a value takes no memory. A type that does not say so need not show it.
+    ghost reads_in_place: { Type 0 } = { ⊥ };
+
     /// The JSON value that this value is written as. Fails where an allocation fails.
     fn to_json(&self, alloc: Global) -> Result<Value, AllocError>
         ensures written { IfOk result (λ v. view v ≡ shape self.now) }
@@ -37,7 +40,8 @@ pub trait Json: Sized + Drop {
     fn from_json(alloc: Global, value: &Value) -> Result<Self, ReadError>
         ensures read { IfOk result (is_read (view value.now)) }
         ensures readable { OnOk result (IsTrue (reads (view value.now))) }
-        ensures refused { IsErrOf result Refused → reads (view value.now) ≡ false };
+        ensures refused { IsErrOf result Refused → reads (view value.now) ≡ false }
+        ensures memory { IsErrOf result Memory → ¬ reads_in_place };
 
     /// What a JSON value has to be to be read as such a value, as an explained error says it:
     /// `a u32`, `a string`.

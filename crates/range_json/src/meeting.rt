@@ -1,8 +1,10 @@
 //! Which earlier element of a map is met by one that is not read.
-ghost use Rattle.std.specs.Prelude.{◌≡◌, ◌↔◌, IsTrue, IfSome};
+ghost use Rattle.std.specs.Prelude.{◌≡◌, ◌↔◌, IsTrue, IfSome, IsSome};
 ghost use Rattle.serde_json.specs.View.{view};
+ghost use Rattle.std.specs.List.{AllByRecursion};
+ghost use Rattle.range_algebra.specs.Intervals.{Any};
 ghost use Rattle.range_json.specs.MapFaults.{HasOneReading, MeetNonempty};
-ghost use Rattle.range_json.specs.Meetings.{all_views, IsFirstMeeting, IsFirstMetBy, IsRangeOf};
+ghost use Rattle.range_json.specs.Meetings.{all_views, HasSoundRange, IsFirstMeeting, IsFirstMetBy, IsRangeOf, MayMeet, MayMeetEarlier};
 
 use crate::json::Json;
 use crate::range::{element_range, pair};
@@ -26,7 +28,8 @@ fn meet<K: Measure>(range: &AnyRange<K>, other: &AnyRange<K>) -> bool
 
 /// The range of an element that was read before. `None` where a key allocates and that fails.
 fn range_again<K: Json>(element: &Value) -> Option<AnyRange<K>>
-    ensures { IfSome result (IsRangeOf K.is_read (view element.now)) }
+    ensures read { IfSome result (IsRangeOf K.is_read (view element.now)) }
+    ensures found { K.reads_in_place → HasSoundRange K.reads (view element.now) → IsSome result }
 {
     let alloc = *element.as_array()?.allocator();
     let (range, _value) = pair(element)?;
@@ -35,9 +38,14 @@ fn range_again<K: Json>(element: &Value) -> Option<AnyRange<K>>
 
 /// The index of the first of the elements that the other element meets.
 fn first_met<K: Json + Measure>(earlier: &[Value], element: &Value) -> Option<usize>
-    ensures { IfSome result
+    ensures first { IfSome result
         (λ j. HasOneReading K.order K.is_read
         → IsFirstMeeting K.order K.is_read (all_views earlier.now) (view element.now) j) }
+    ensures found { K.reads_in_place → HasOneReading K.order K.is_read
+        → AllByRecursion (HasSoundRange K.reads) (all_views earlier.now)
+        → HasSoundRange K.reads (view element.now)
+        → Any (λ e. MayMeet K.order K.is_read e (view element.now)) (all_views earlier.now)
+        → IsSome result }
 {
     let range = range_again::<K>(element)?;
     for (index, other) in earlier.iter().enumerate() {
@@ -50,9 +58,11 @@ fn first_met<K: Json + Measure>(earlier: &[Value], element: &Value) -> Option<us
 
 /// The index of the first element of a map that is met by the one at `index`.
 pub(crate) fn met_earlier<K: Json + Measure>(whole: &Value, index: usize) -> Option<usize>
-    ensures { IfSome result
+    ensures first { IfSome result
         (λ j. HasOneReading K.order K.is_read
         → IsFirstMetBy K.order K.is_read (view whole.now) index j) }
+    ensures found { K.reads_in_place → HasOneReading K.order K.is_read
+        → MayMeetEarlier K.order K.is_read K.reads (view whole.now) index → IsSome result }
 {
     let Ok(elements) = elements_of_map(whole) else {
         return None;

@@ -18,6 +18,8 @@ impl Json for bool {
 
     ghost is_read = { λ d x. as_bool d ≡ Some x };
 
+    ghost reads_in_place = { ⊤ };
+
     fn to_json(&self, _alloc: Global) -> Result<Value, AllocError> {
         Ok(Value::from(*self))
     }

@@ -1,5 +1,5 @@
 //! Ranges as JSON values.
-ghost use Rattle.std.specs.Prelude.{◌≡◌, ◌⊎◌, Some, None, option_map, IfOk, OnOk, IfErr};
+ghost use Rattle.std.specs.Prelude.{◌≡◌, ◌⊎◌, Some, None, option_map, IfOk, OnOk, IfErr, IsErrOf};
 ghost use Rattle.serde_json.specs.View.{view};
 ghost use Rattle.range_json.specs.Shapes.{range_shape, pair_of};
 ghost use Rattle.range_json.specs.Faults.{IsRangeRead, range_fault};
@@ -46,6 +46,7 @@ pub fn element_range<K: Json>(
     ensures sound { OnOk result (range_fault K.reads index (view value.now) ≡ None) }
     ensures fault { IfErr result
         (λ e. (e ≡ Memory) ⊎ (range_fault K.reads index (view value.now) ≡ Some e)) }
+    ensures memory { IsErrOf result Memory → ¬ K.reads_in_place }
 {
     match pair(value) {
         Some((start, end)) => Ok(AnyRange {

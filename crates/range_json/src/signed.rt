@@ -1,5 +1,5 @@
 //! The signed integers as JSON numbers.
-ghost use Rattle.std.specs.Prelude.{◌≡◌, ◌≤ℤ◌, pos, unsigned_abs, Some, None, is_some, MatchResult};
+ghost use Rattle.std.specs.Prelude.{◌≡◌, ◌≤ℤ◌, pos, unsigned_abs, Some, None, is_some, MatchResult, ⊤};
 ghost use Rattle.std.proofs.Common.{lit<};
 ghost use Rattle.serde_json.specs.View.{view};
 ghost use Rattle.range_keys.specs.Signed.{IsSigned};
@@ -33,6 +33,8 @@ impl Json for i8 {
 
     ghost is_read = { λ d x. signed_of 127 d ≡ Some x };
 
+    ghost reads_in_place = { ⊤ };
+
     fn to_json(&self, _alloc: Global) -> Result<Value, AllocError> {
         let value = *self;
         Ok(Value::from(value))
@@ -63,6 +65,8 @@ impl Json for i16 {
     ghost is_value = { IsSigned 32_767 };
 
     ghost is_read = { λ d x. signed_of 32_767 d ≡ Some x };
+
+    ghost reads_in_place = { ⊤ };
 
     fn to_json(&self, _alloc: Global) -> Result<Value, AllocError> {
         let value = *self;
@@ -95,6 +99,8 @@ impl Json for i32 {
 
     ghost is_read = { λ d x. signed_of 2_147_483_647 d ≡ Some x };
 
+    ghost reads_in_place = { ⊤ };
+
     fn to_json(&self, _alloc: Global) -> Result<Value, AllocError> {
         let value = *self;
         Ok(Value::from(value))
@@ -125,6 +131,8 @@ impl Json for i64 {
     ghost is_value = { IsSigned 9_223_372_036_854_775_807 };
 
     ghost is_read = { λ d x. signed_of 9_223_372_036_854_775_807 d ≡ Some x };
+
+    ghost reads_in_place = { ⊤ };
 
     fn to_json(&self, _alloc: Global) -> Result<Value, AllocError> {
         let value = *self;

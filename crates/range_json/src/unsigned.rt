@@ -1,5 +1,5 @@
 //! The unsigned integers as JSON numbers.
-ghost use Rattle.std.specs.Prelude.{◌≡◌, ◌≤◌, Some, None, is_some, MatchResult};
+ghost use Rattle.std.specs.Prelude.{◌≡◌, ◌≤◌, Some, None, is_some, MatchResult, ⊤};
 ghost use Rattle.serde_json.specs.View.{view};
 ghost use Rattle.range_json.specs.Keys.{unsigned_of, unsigned_shape};
 ghost use Rattle.range_json.specs.ReadBack.{unsigned_back, told_some, same_number};
@@ -29,6 +29,8 @@ impl Json for u8 {
     ghost is_value = { λ x. x ≤ 255 };
 
     ghost is_read = { λ d x. unsigned_of 255 d ≡ Some x };
+
+    ghost reads_in_place = { ⊤ };
 
     fn to_json(&self, _alloc: Global) -> Result<Value, AllocError> {
         let value = *self;
@@ -61,6 +63,8 @@ impl Json for u16 {
 
     ghost is_read = { λ d x. unsigned_of 65_535 d ≡ Some x };
 
+    ghost reads_in_place = { ⊤ };
+
     fn to_json(&self, _alloc: Global) -> Result<Value, AllocError> {
         let value = *self;
         Ok(Value::from(value))
@@ -91,6 +95,8 @@ impl Json for u32 {
     ghost is_value = { λ x. x ≤ 4_294_967_295 };
 
     ghost is_read = { λ d x. unsigned_of 4_294_967_295 d ≡ Some x };
+
+    ghost reads_in_place = { ⊤ };
 
     fn to_json(&self, _alloc: Global) -> Result<Value, AllocError> {
         let value = *self;
@@ -123,6 +129,8 @@ impl Json for u64 {
 
     ghost is_read = { λ d x. unsigned_of 18_446_744_073_709_551_615 d ≡ Some x };
 
+    ghost reads_in_place = { ⊤ };
+
     fn to_json(&self, _alloc: Global) -> Result<Value, AllocError> {
         let value = *self;
         Ok(Value::from(value))
@@ -153,6 +161,8 @@ impl Json for usize {
     ghost is_value = { λ x. x ≤ 18_446_744_073_709_551_615 };
 
     ghost is_read = { λ d x. unsigned_of 18_446_744_073_709_551_615 d ≡ Some x };
+
+    ghost reads_in_place = { ⊤ };
 
     fn to_json(&self, _alloc: Global) -> Result<Value, AllocError> {
         let value = *self;

@@ -1,6 +1,5 @@
 -- What the closure of an update may answer, told by what its calls may.
-use Rattle.range_map.proofs.Common.{◌≡◌, ◌<◌, Bool, List, [], ◌∷◌, length, map, arith, Option, Some, Result, Ok, Err, Bor, Shared, KeyOrder, Any, Every, every_weaker, AnyRange, Item, Answered, IsPiece, MayAnswer, IsAnswered, IsUpdated, MayFail, FailsAt, piece_of, AreRebound}
-use Rattle.range_change.specs.Answers.{SucceedsAt, IsGathered}
+use Rattle.range_map.proofs.Common.{Bool, List, [], ◌∷◌, Option, Result, Ok, Err, Bor, Shared, KeyOrder, Every, every_weaker, AnyRange, Item, MayAnswer, IsAnswered, IsUpdated, MayFail, FailsAt, AreRebound}
 
 pub every_one : {X : Type 0} (P : X → Type 0) (xs : List X) → ((x : X) → P x) → Every P xs
 every_one P [] each = tt
@@ -55,29 +54,3 @@ module _ {K : Type 0} (order : KeyOrder K) {V : Type 0} (same : V → V → Bool
         is_piece = failed.is_piece;
         says = told failed.value (Err e) failed.says;
       }
-
-some_such : {X : Type 0} (P : X → Type 0) (xs : List X) → Any P xs → 0 < length xs
-some_such P [] h = absurd h
-some_such P (x ∷ xs) h = omega arith
-
-module _ {K : Type 0} (order : KeyOrder K) {V : Type 0} (same : V → V → Bool) {F E : Type 0}
-    (calls : Shared F (Option (Bor V) × Unit {0}) (Result (Option V) E)) (f : F)
-    (items : List (Item (AnyRange K) V)) (r : AnyRange K) where
-  first_succeeds : (answers : List (Answered K V))
-      → Every (λ a. MayAnswer calls f a.value (Ok a.answer)) answers
-      → Every (λ p. IsPiece order items r p.key p.value) (map piece_of answers)
-      → 0 < length answers → SucceedsAt order same calls f items r
-  first_succeeds [] given each some = absurd (omega (arith, some))
-  first_succeeds (a ∷ answers) given each some = (
-    a.answer,
-    record { piece = a.key; value = a.value; is_piece = each.0; says = given.0 },
-  )
-
-  -- where an answer makes an item, the closure answered without an error
-  pub gathered_succeeds : (middle : List (Item (AnyRange K) V))
-      → IsGathered order same calls f items r middle → 0 < length middle
-      → SucceedsAt order same calls f items r
-  gathered_succeeds [] h some = absurd (omega (arith, some))
-  gathered_succeeds (j ∷ middle) h some =
-      first_succeeds h.answers h.given h.pieces.each
-      (some_such (λ (a : Answered K V). a.answer ≡ Some j.value) h.answers h.valued.0)

@@ -64,11 +64,11 @@ pub use Rattle.range_change.proofs.PlaceOrder.{both, cases, eq_ge, eq_le, le_lt_
 pub use Rattle.range_map.specs.Appending.{IsApartFromLast, LieBefore, appended, are_one, as_one, joined}
 pub use Rattle.range_merge.specs.Combining.{AreCombined, IsCombinedAt, MayAnswerBoth}
 pub use Rattle.range_map.specs.Extending.{AreBoundAfter, item_of}
-pub use Rattle.range_map.specs.FreeRanges.{AreGaps, IsHeldOnce, free_after, free_from, full_range, item_ranges}
-pub use Rattle.range_map.specs.ListOrder.{IsCopyOf, item_input, list_cmp, list_input, lists_fed, lists_order, lists_tied, same_list}
+pub use Rattle.range_reads.specs.FreeRanges.{AreGaps, IsHeldOnce, free_after, free_from, full_range, item_ranges}
+pub use Rattle.range_reads.specs.ListOrder.{IsCopyOf, item_input, list_cmp, list_input, lists_fed, lists_order, lists_tied, same_list}
 pub use Rattle.range_map.specs.Overlays.{IsCopyOfValue, IsOverlaid, IsRestricted, IsSecondOrFirst, IsWithout, MayOverlay, first_where}
 pub use Rattle.range_map.specs.PartWay.{AreUnboundAfter, BeforeOne, BeforeOneGap}
-pub use Rattle.range_map.specs.PieceLists.{AreGapsWithin, free_ranges, range_if_free}
+pub use Rattle.range_reads.specs.PieceLists.{AreGapsWithin, free_ranges, range_if_free}
 pub use Rattle.range_map.specs.Rebinding.{AreRebound, IsRebound}
 pub use Rattle.range_map.specs.Retaining.{BindOnlyAsBefore, CalledAtItem}
 pub use Rattle.range_map.specs.Sorting.{IsFirstFault, IsNext, IsSorted, last_key}

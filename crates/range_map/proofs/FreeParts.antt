@@ -4,7 +4,8 @@ use Rattle.range_map.proofs.Common.{append-nil, IsEquivalence, Bound, Unbounded,
 use Rattle.range_map.proofs.BoundKeys.{bound_or_not, bound_ranges, shared_key_is_overlap}
 use Rattle.range_map.proofs.BindingAll.{point_is_free, within_nonempty}
 use Rattle.range_change.proofs.RunItems.{ends_full}
-use Rattle.range_map.proofs.FreePieces.{Pairs, all_free, all_pieces, any_free, free_append, free_pairs, gaps_within_are, pieces_ascend}
+use Rattle.range_reads.proofs.FreeRanges.{free_append}
+use Rattle.range_map.proofs.FreePieces.{Pairs, all_free, all_pieces, any_free, free_pairs, gaps_within_are, pieces_ascend}
 use Rattle.range_map.proofs.Together.{IsAscending, stored_ascends}
 
 pairs_append : {X : Type 0} (R : X → X → Type 0) (xs ys : List X) → Pairs R xs → Pairs R ys

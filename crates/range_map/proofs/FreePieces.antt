@@ -22,13 +22,6 @@ each_next R (x ∷ xs) h = (before_first R x xs h.0, each_next R xs h.1)
 
 -- the free ones of a list of pieces
 module _ {K V : Type 0} where
-  pub free_append : (xs ys : List (Item (AnyRange K) (Option V)))
-      → free_ranges (xs ++ ys) ≡ free_ranges xs ++ free_ranges ys
-  free_append [] ys = refl
-  free_append (x ∷ xs) ys =
-      ap (λ rs. range_if_free x.key x.value ++ rs) (free_append xs ys)
-      ∙ sym (append_assoc (range_if_free x.key x.value) (free_ranges xs) (free_ranges ys))
-
   every_free : (P : AnyRange K → Type 0) (pieces : List (Item (AnyRange K) (Option V)))
       → Every (λ p. p.value ≡ None → P p.key) pieces → Every P (free_ranges pieces)
   every_free P [] h = tt

@@ -2,7 +2,6 @@ mod Common
 pub mod AppendedLists
 pub mod BindingAll
 pub mod BoundKeys
-pub mod Chunks
 pub mod CloneLists
 pub mod ClosureAnswers
 pub mod Coarse

@@ -1,6 +1,6 @@
 -- A clone of a range in the place of the range.
-use Rattle.range_map.proofs.Common.{◌≡◌, refl, ◌∙◌, Option, Some, None, Bool, false, IsTrue, List, ◌⊎◌, inl, inr, Result, Shared, Bor, Bound, Included, Excluded, Unbounded, Ordering, Equal, Greater, is_gt, is_eq, tied_back, tied_itself, KeyOrder, IsLawful, start_position, end_position, position_cmp, position_total, Position, AnyRange, SameBound, same_start, same_end, starts_at_end, Holds, IsEmptyRange, every_weaker, Item, IsUpdated, later, earlier, IsCommonPart, LiesIn, IsFreePart, IsPiece, Overlap, eq_is_equal, not_both_greater_and_not, PLe, any_over, later_over, earlier_under, either_choice_holds, eq_le, eq_ge, le_trans, lt_le_trans, le_lt_trans, both, IsMergedInto}
-use Rattle.range_change.specs.Answers.{AnswersPiece}
+use Rattle.range_map.proofs.Common.{◌≡◌, refl, ◌∙◌, Option, Some, None, Bool, false, IsTrue, List, ◌⊎◌, inl, inr, Result, Shared, Bor, Bound, Included, Excluded, Unbounded, Ordering, Equal, Greater, is_gt, is_eq, tied_back, tied_itself, KeyOrder, IsLawful, start_position, end_position, position_cmp, position_total, Position, AnyRange, SameBound, same_start, same_end, starts_at_end, Holds, IsEmptyRange, every_weaker, Item, IsUpdated, later, earlier, IsCommonPart, LiesIn, IsFreePart, IsPiece, ArePieces, Overlap, eq_is_equal, not_both_greater_and_not, PLe, any_over, later_over, earlier_under, either_choice_holds, eq_le, eq_ge, le_trans, lt_le_trans, le_lt_trans, both, IsMergedInto}
+use Rattle.range_change.specs.Answers.{AnswersPiece, SucceedsAtFirst}
 use Rattle.range_merge.proofs.HeldInside.{lies_in_holds}
 use Rattle.range_change.proofs.MergedItems.{way_follows}
 
@@ -163,9 +163,35 @@ module _ {K : Type 0} {order : KeyOrder K} (lawful : IsLawful order) where
                 h.1,
           ))
 
+    pieces_too : {V : Type 0} (items : List (Item (AnyRange K) V))
+        (pieces : List (Item (AnyRange K) (Option V))) → ArePieces order items s pieces
+        → ArePieces order items r pieces
+    pieces_too items pieces are =
+        record {
+          each =
+              every_weaker _ _ _
+              (λ p t. piece_too items s r starts_alike ends_alike p.key p.value t) are.each;
+          rising = are.rising;
+          all =
+              λ part binding known piece. are.all part binding known
+              (piece_too items r s (same_start order lawful r.start s.start start)
+              (same_end order lawful r.end s.end end) part binding piece);
+        }
+
     module _ {V : Type 0} (same : V → V → Bool) {F E : Type 0}
         (calls : Shared F (Option (Bor V) × Unit {0}) (Result (Option V) E)) (f : F)
         (items : List (Item (AnyRange K) V)) where
+      pub succeeds_too : SucceedsAtFirst order same calls f items s
+          → SucceedsAtFirst order same calls f items r
+      succeeds_too h =
+          record {
+            front = h.front;
+            rest = h.rest;
+            some = h.some;
+            pieces = pieces_too items _ h.pieces;
+            given = h.given;
+          }
+
       pub answers_too : (answer : Result (Option V) E)
           → AnswersPiece order same calls f items s answer
           → AnswersPiece order same calls f items r answer
@@ -182,18 +208,7 @@ module _ {K : Type 0} {order : KeyOrder K} (lawful : IsLawful order) where
       updated_too new h = record {
         answered = record {
           answers = h.answered.answers;
-          pieces = record {
-            each =
-                every_weaker _ _ _
-                (λ p t. piece_too items s r starts_alike ends_alike p.key p.value t)
-                h.answered.pieces.each;
-            rising = h.answered.pieces.rising;
-            all =
-                λ part binding known piece.
-                h.answered.pieces.all part binding known
-                (piece_too items r s (same_start order lawful r.start s.start start)
-                (same_end order lawful r.end s.end end) part binding piece);
-          };
+          pieces = pieces_too items _ h.answered.pieces;
           given = h.answered.given;
           held =
               λ k key in_r. h.answered.held k key

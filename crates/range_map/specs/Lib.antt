@@ -2,16 +2,12 @@ pub mod Appending
 pub mod Askable
 mod Common
 pub mod Extending
-pub mod FreeRanges
 pub mod Freeing
-pub mod Iteration
-pub mod ListOrder
 pub mod MappedValues
 pub mod OrderedSets
 pub mod Overlapping
 pub mod Overlays
 pub mod PartWay
-pub mod PieceLists
 pub mod Rebinding
 pub mod Retaining
 pub mod SimpleUpdates

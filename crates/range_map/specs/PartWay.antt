@@ -1,7 +1,7 @@
 -- How far a call came that goes over a list and failed at one of its elements.
 use Rattle.std.specs.Prelude.{◌≡◌, ◌↔◌, Bool, Option, List, ◌∷◌, ◌++◌}
 use Rattle.range_map.specs.Common.{KeyOrder, Any, Holds, AnyRange, Item, IsBound, Binds}
-use Rattle.range_map.specs.FreeRanges.{AreGaps}
+use Rattle.range_reads.specs.FreeRanges.{AreGaps}
 
 -- P holds of what stands before some element of the list
 abbrev pub BeforeOne : {A : Type 0} → List A → (List A → Type 0) → Type 0

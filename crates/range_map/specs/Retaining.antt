@@ -1,7 +1,7 @@
 -- What a closure is shown of the stored items, and what is left where it answers which are kept.
 use Rattle.std.specs.Prelude.{◌≡◌, ◌↔◌, Bool, List, Option}
 use Rattle.range_map.specs.Common.{Mut, Called, Bor, KeyOrder, AnyRange, Item, Binds, IsBound}
-use Rattle.range_map.specs.Iteration.{shown_item}
+use Rattle.range_reads.specs.Iteration.{shown_item}
 
 -- a call of f at references to the range and the value of the item may answer b, and leave f'
 pub record CalledAtItem {F K V : Type 0}

@@ -5,7 +5,7 @@ ghost use Rattle.range_change.specs.Stored.{IsStored};
 ghost use Rattle.range_keys.specs.Order.{IsComplete};
 ghost use Rattle.range_store.specs.Counting.{AddsSteps};
 ghost use Rattle.range_change.specs.Bindings.{Binds, IsCoarse, IsItemFor, IsStoredFor, IsOnlyCoarse, IsLeastCount};
-ghost use Rattle.range_map.specs.Iteration.{shown_item};
+ghost use Rattle.range_reads.specs.Iteration.{shown_item};
 
 mod append;
 mod clear;
@@ -21,7 +21,6 @@ mod in_place;
 mod insert;
 mod insert_disconnected;
 mod into_iter;
-mod iter;
 mod len;
 mod levels;
 mod lookup;
@@ -47,19 +46,17 @@ pub use from_sorted::NotSorted;
 pub use gaps::Gaps;
 pub use gaps_within::GapsWithin;
 pub use into_iter::IntoIter;
-pub use iter::Iter;
 pub use levels::one_level_is_greatest;
 pub use overlapping::Overlapping;
 pub use pieces::Pieces;
 use range_algebra::any::AnyRange;
 pub use range_change::error::{MapError, NotAppended, NotInserted, UpdateError};
-use range_change::window::{ends_before, find_last_started};
-use range_keys::bound::Directed;
 use range_keys::traits::PartialEnum;
+pub use range_reads::iter::Iter;
+use range_reads::lookup::stored_for;
 use range_store::storage::{Item, Steps, Storage};
 use std::alloc::Global;
 use std::marker::{Model, PhantomData};
-use std::ops::Bound;
 pub use try_insert::NotFree;
 
 /// A map that binds the keys of ranges to values.
@@ -132,32 +129,6 @@ impl<K: PartialEnum, V: Eq + Drop, C: Storage<Item<AnyRange<K>, V>>> RangeMap<K,
         self.stored.len()
     }
 
-    /// The stored item whose range holds the key; adds the steps that it takes to find it.
-    fn stored_for(&self, key: K, steps: &mut Steps) -> Option<&Item<AnyRange<K>, V>>
-        ensures value { Binds K.order V.eq (C.items self.now) key
-            (option_map (λ i. i.now.value) result) }
-        ensures stored { IfSome result (λ i. IsItemFor K.order (C.items self.now) key i.now) }
-        ensures counted { AddsSteps steps.old steps.new (C.least_asks self.now)
-            (C.most_asks self.now + 1) }
-        ensures none { C.items self.now ≡ [] → AddsSteps steps.old steps.new 0 0 }
-    {
-        key.known();
-        let end = Directed::End(Bound::Included(&key));
-        let last = find_last_started::<K, V, C>(&self.stored, &end, steps);
-        match last {
-            None => None,
-            Some(p) => {
-                let item = self.stored.get(p);
-                let start = Directed::Start(Bound::Included(&key));
-                if ends_before::<K, V>(item, &start, steps) {
-                    None
-                } else {
-                    Some(item)
-                }
-            }
-        }
-    }
-
     /// The value to which the key is bound, or none.
     ///
     /// Costs one search and one comparison more. Allocates nothing.
@@ -193,7 +164,8 @@ impl<K: PartialEnum, V: Eq + Drop, C: Storage<Item<AnyRange<K>, V>>> RangeMap<K,
             (C.most_asks self.now + 1) }
         ensures none { C.items self.now ≡ [] → AddsSteps steps.old steps.new 0 0 }
     {
-        match self.stored_for(key, steps) {
+        self.in_form();
+        match stored_for::<K, V, C>(&self.stored, key, steps) {
             Some(item) => Some(&item.value),
             None => None,
         }
@@ -214,7 +186,8 @@ impl<K: PartialEnum, V: Eq + Drop, C: Storage<Item<AnyRange<K>, V>>> RangeMap<K,
             (λ pair. IsItemFor K.order (C.items self.now) key (shown_item pair)) }
     {
         let mut steps = Steps::new();
-        match self.stored_for(key, &mut steps) {
+        self.in_form();
+        match stored_for::<K, V, C>(&self.stored, key, &mut steps) {
             Some(item) => Some(item.as_pair()),
             None => None,
         }

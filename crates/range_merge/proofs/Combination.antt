@@ -1,14 +1,15 @@
 -- A merged pass over two lists: what the answers so far make of both.
 use Rattle.std.proofs.Common.{◌≡◌, refl, sym, ◌∙◌, ◌↔◌, ◌⊎◌, inl, inr, arith, Bool, true, Option, Some, None, Result, Ok, List, [], ◌∷◌, ◌++◌}
-use Rattle.range_merge.proofs.Common.{IsEquivalence, Bound, KeyOrder, IsLawful, Position, Beside, At, IsBoundClone, SameBound, lower, upper, Any, Every, Holds, LiesBefore, AnyRange, any_left, any_none, any_split, every_append, every_weaker, Item, Answered, IsAsAnswered, IsBound, Binds, BindsTo, LiesIn, IsStored}
+use Rattle.range_merge.proofs.Common.{IsEquivalence, Bound, Equal, KeyOrder, IsLawful, Position, position_cmp, Beside, At, IsBoundClone, SameBound, lower, upper, Lt, Any, Every, Holds, LiesBefore, AnyRange, any_left, any_none, any_split, every_append, every_weaker, Item, Answered, IsAsAnswered, IsBound, Binds, BindsTo, LiesIn, IsStored}
 use Rattle.range_merge.specs.Combining.{Combined, IsConstantOn, IsSharedPiece, AreCombined, IsCombination, MayAnswerOnBoth}
-use Rattle.range_change.proofs.PlaceOrder.{le_refl, lt_le, le_trans, lt_not_le}
+use Rattle.range_change.proofs.PlaceOrder.{le_refl, lt_le, le_trans, lt_le_trans, lt_not_le, lt_trans}
+use Rattle.range_algebra.specs.RangeOrder.{range_cmp}
 use Rattle.range_algebra.proofs.Places.{held_between, unbounded_start, unbounded_end}
 use Rattle.range_change.specs.Put.{IsPut}
 use Rattle.range_merge.specs.Merged.{IsFirstPiece}
 use Rattle.range_change.specs.Neighbours.{EachNext}
 use Rattle.range_change.specs.Window.{option_items}
-use Rattle.range_merge.proofs.Combining.{full_range, PLe, HoldsAt, SomeHoldsAt, IsSideUpTo, IsTaken, taken, side_none, side_more, side_all, constant_on, some_of}
+use Rattle.range_merge.proofs.Combining.{full_range, PLe, HoldsAt, SomeHoldsAt, IsSideUpTo, IsTaken, taken, not_left, side_none, side_more, side_all, constant_on, some_of}
 use Rattle.range_merge.proofs.WidestPieces.{IsEnd, LiesBetweenEnds, LieBetweenEnds, constant_held, same_piece, widest, rest_between, piece_between, items_between, others_between}
 use Rattle.range_change.proofs.RangePieces.{any_end, any_over, any_use, any_with, every_with, next_last}
 use Rattle.range_change.proofs.AnswerLists.{IsFilledUpTo, filled_none, fill_more, Alike, Gives}
@@ -97,6 +98,38 @@ module _ {K : Type 0} {order : KeyOrder K} (lawful : IsLawful order) {V W X : Ty
     free = λ p h. h;
   }
 
+  seen_done : {U : Type 0} {xs left : List (Item (AnyRange K) U)} {m p : Position K}
+      {Done : Position K → Type 0} → IsSideUpTo order xs m left Done
+      → (SomeHoldsAt order p left → ⊥) → SomeHoldsAt order p xs → Done p
+  seen_done side none at = elim (side.seen _ at) [
+    | inl later ↦ absurd (none later)
+    | inr done ↦ done
+  ]
+
+  -- a piece of which nothing is left was asked about
+  was_asked : {left : List (Item (AnyRange K) V)} {right : List (Item (AnyRange K) W)}
+      {middle : List (Item (AnyRange K) X)} (was : IsCombinedUpTo left right middle)
+      (piece : AnyRange K) (value : Option V) (other : Option W)
+      → IsSharedPiece order items others piece value other
+      → (SomeHoldsAt order (lower order piece) left → ⊥)
+      → (SomeHoldsAt order (lower order piece) right → ⊥)
+      → Any (λ c. (range_cmp order c.key piece ≡ Equal) × (c.left ≡ value) × (c.right ≡ other))
+      was.answers
+  was_asked was piece value other is no_left no_right =
+      let part = is.part in
+      let good = (nonempty_good order lawful piece part.known).0 part.nonempty in
+      let at : HoldsAt order (lower order piece) piece = (le_refl lawful _, good) in
+      let done : IsDone was.answers (lower order piece) =
+      elim (some_of value other part.bound) [
+        | inl some ↦ seen_done was.first no_left (constant_held lawful was.first piece
+            part.known value part.first some _ at)
+        | inr some ↦ seen_done was.second no_right (constant_held lawful was.second piece
+            part.known other part.second some _ at)
+      ] in
+      any_with _ _ _ was.answers done (every_both _ _ was.answers was.each was.ended)
+      (λ c held own. same_piece lawful was.first was.second c.key piece c.left value c.right
+      other own.0.part own.1 is at held)
+
   -- the next piece, and the lists of which it is the first
   module _ {middle : List (Item (AnyRange K) X)}
       {first : Option (Item (AnyRange K) V)} {rest : List (Item (AnyRange K) V)}
@@ -144,11 +177,46 @@ module _ {K : Type 0} {order : KeyOrder K} (lawful : IsLawful order) {V W X : Ty
       widest = widest lawful was.first was.second key piece.placed ends value other;
     }
 
+    -- nothing of what is left holds a place before it
+    none_earlier : (p : Position K) → Lt (position_cmp order.cmp) p (lower order key)
+        → (SomeHoldsAt order p (option_items first ++ rest) → ⊥)
+        × (SomeHoldsAt order p (option_items second ++ others_rest) → ⊥)
+    none_earlier p less =
+        let past = lt_trans lawful _ _ _ less piece.placed.good in (
+          λ at. elim (took.places p at) [
+            | inl here ↦ lt_not_le lawful _ _ less here.0.0
+            | inr later ↦ not_left lawful items _ _ p took.from past later
+          ],
+          λ at. elim (took_other.places p at) [
+            | inl here ↦ lt_not_le lawful _ _ less here.0.0
+            | inr later ↦ not_left lawful others _ _ p took_other.from past later
+          ],
+        )
+
+    -- the closure may answer to a piece before it without an error
+    earlier_succeeds : (r : AnyRange K) (v : Option V) (w : Option W)
+        → IsSharedPiece order items others r v w → LiesBefore order r key
+        → (earlier : Option X) × may v w (Ok earlier)
+    earlier_succeeds r v w is before =
+        let known = is.part.known in
+        let less =
+        lt_le_trans lawful _ _ _ ((nonempty_good order lawful r known).0 is.part.nonempty)
+        ((before_is order lawful r.end key.start known.1 piece.placed.known.0).0 before) in
+        let none = none_earlier (lower order r) less in
+        any_use _ _ was.answers (was_asked was r v w is none.0 none.1) was.given
+        (λ c alike given. (c.answer, rw (alike.1, alike.2) at given))
+
     -- what the closure may answer to it
     pub answered_piece : (answer : Result (Option X) E) → may value other answer
         → MayAnswerOnBoth order may items others answer
-    answered_piece answer says =
-        record { piece = key; left = value; right = other; is_piece = is_shared; says = says }
+    answered_piece answer says = record {
+      piece = key;
+      left = value;
+      right = other;
+      is_piece = is_shared;
+      says = says;
+      before = earlier_succeeds;
+    }
 
     abbrev more : Option X → List Answer
     more answer =
@@ -257,14 +325,6 @@ module _ {K : Type 0} {order : KeyOrder K} (lawful : IsLawful order) {V W X : Ty
   constant_bound xs r (Some v) k key held constant some =
       inside_holds lawful r xs k key held (any_over _ _ xs (λ i h. h.0) constant)
 
-  seen_done : {U : Type 0} {xs left : List (Item (AnyRange K) U)} {m p : Position K}
-      {Done : Position K → Type 0} → IsSideUpTo order xs m left Done → left ≡ []
-      → SomeHoldsAt order p xs → Done p
-  seen_done side none at = elim (side.seen _ at) [
-    | inl later ↦ absurd (rw none at later)
-    | inr done ↦ done
-  ]
-
   -- where nothing is left, the answers are the combination
   pub combined_all : {left : List (Item (AnyRange K) V)}
       {right : List (Item (AnyRange K) W)} {new : List (Item (AnyRange K) X)}
@@ -277,20 +337,9 @@ module _ {K : Type 0} {order : KeyOrder K} (lawful : IsLawful order) {V W X : Ty
       answers = was.answers;
       each = was.each;
       rising = was.rising;
-      all = λ piece left right is.
-          let part = is.part in
-          let good = (nonempty_good order lawful piece part.known).0 part.nonempty in
-          let at : HoldsAt order (lower order piece) piece = (le_refl lawful _, good) in
-          let done : IsDone was.answers (lower order piece) =
-          elim (some_of left right part.bound) [
-            | inl some ↦ seen_done was.first no_left (constant_held lawful was.first piece
-                part.known left part.first some _ at)
-            | inr some ↦ seen_done was.second no_right (constant_held lawful was.second piece
-                part.known right part.second some _ at)
-          ] in
-          any_with _ _ _ was.answers done (every_both _ _ was.answers was.each was.ended)
-          (λ c held own. same_piece lawful was.first was.second c.key piece c.left left c.right
-          right own.0.part own.1 is at held);
+      all =
+          λ piece left right is. was_asked was piece left right is (λ later. rw no_left at later)
+          (λ later. rw no_right at later);
       given = was.given;
       held = λ k key bound.
           let done : IsDone was.answers (Beside k At) =

@@ -139,18 +139,22 @@ module _ {K : Type 0} (order : KeyOrder K) where
 
     module _ {X E : Type 0} (may : Option V → Option W → Result (Option X) E → Type 0)
         (items : List (Item (AnyRange K) V)) (others : List (Item (AnyRange K) W)) where
-      -- the closure may answer so to what a piece is bound to
+      -- the closure may answer so to what a piece is bound to, and without an error to each piece
+      -- before it
       pub record MayAnswerOnBoth (answer : Result (Option X) E) : Type 0 where
         pub piece : AnyRange K
         pub left : Option V
         pub right : Option W
         pub is_piece : IsSharedPiece items others piece left right
         pub says : may left right answer
+        pub before : (other : AnyRange K) (first : Option V) (second : Option W)
+            → IsSharedPiece items others other first second → LiesBefore order other piece
+            → (earlier : Option X) × may first second (Ok earlier)
 
-      -- the closure may answer an error to what a piece is bound to
+      -- the closure may answer an error to what a piece is bound to, and none to those before it
       abbrev pub MayFailOnBoth : E → Type 0
       MayFailOnBoth e = MayAnswerOnBoth (Err e)
 
-      -- the closure may answer a value to what a piece is bound to
+      -- the closure may answer a value to what a piece is bound to, and no error to those before it
       abbrev pub MayGiveValueOnBoth : Type 0
       MayGiveValueOnBoth = (value : X) × MayAnswerOnBoth (Ok (Some value))

@@ -9,7 +9,7 @@ use Rattle.range_keys.specs.Order.{KeyOrder, IsLawful}
 use Rattle.range_algebra.specs.declared.any.AnyRange.{AnyRange}
 use Rattle.range_algebra.specs.Range.{IsKnownRange}
 use Rattle.range_store.specs.declared.storage.Item.{Item}
-use Rattle.range_map.specs.FreeRanges.{item_ranges}
+use Rattle.range_reads.specs.FreeRanges.{item_ranges}
 use Rattle.range_map.proofs.CloneLists.{equal_items_are_copy, copy_stored}
 use Rattle.range_sets.proofs.Filling.{all_equal}
 use Rattle.range_sets.proofs.Likeness.{same_sets}

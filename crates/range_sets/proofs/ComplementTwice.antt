@@ -15,8 +15,8 @@ use Rattle.range_algebra.specs.RangeOrder.{range_cmp, range_total}
 use Rattle.range_algebra.specs.Relations.{LiesBefore}
 use Rattle.range_algebra.proofs.Places.{unbounded_start}
 use Rattle.range_store.specs.declared.storage.Item.{Item}
-use Rattle.range_map.specs.FreeRanges.{full_range, AreGaps, free_from}
-use Rattle.range_map.specs.ListOrder.{same_list}
+use Rattle.range_reads.specs.FreeRanges.{full_range, AreGaps, free_from}
+use Rattle.range_reads.specs.ListOrder.{same_list}
 use Rattle.range_change.specs.Pieces.{LiesIn, IsFreePart, IsPiece}
 use Rattle.range_change.specs.Lookups.{Overlap}
 use Rattle.range_map.proofs.FreeParts.{gaps_are}

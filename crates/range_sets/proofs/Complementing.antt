@@ -14,7 +14,7 @@ use Rattle.range_algebra.specs.Range.{IsKnownRange, IsEmptyRange}
 use Rattle.range_algebra.specs.Relations.{LiesBefore, Touches}
 use Rattle.range_algebra.specs.declared.any.AnyRange.{AnyRange}
 use Rattle.range_store.specs.declared.storage.Item.{Item}
-use Rattle.range_map.specs.FreeRanges.{full_range, AreGaps}
+use Rattle.range_reads.specs.FreeRanges.{full_range, AreGaps}
 use Rattle.range_change.specs.Neighbours.{EachNext}
 use Rattle.range_change.specs.Pieces.{IsFreePart, IsPiece}
 use Rattle.range_change.specs.Lookups.{Overlap}

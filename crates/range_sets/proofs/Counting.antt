@@ -8,7 +8,7 @@ use Rattle.range_algebra.specs.Range.{IsEmptyRange}
 use Rattle.range_algebra.specs.declared.any.AnyRange.{AnyRange}
 use Rattle.range_store.specs.declared.storage.Item.{Item}
 use Rattle.range_change.specs.Frames.{IsInsertionFrame}
-use Rattle.range_map.specs.FreeRanges.{item_ranges}
+use Rattle.range_reads.specs.FreeRanges.{item_ranges}
 
 pub ranges_length : {K V : Type 0} (items : List (Item (AnyRange K) V))
     → length (item_ranges items) ≡ length items

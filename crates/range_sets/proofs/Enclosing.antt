@@ -15,7 +15,7 @@ use Rattle.range_algebra.specs.Orders.{eq_ge, le_trans, lt_not_le, not_le, not_l
 use Rattle.range_algebra.specs.Range.{IsKnownBound, IsKnownRange, IsEmptyRange}
 use Rattle.range_algebra.proofs.Places.{reaching_is_before_past, flipped_bound_is_past, flipped_back, flipped_known, unbounded_start}
 use Rattle.range_store.specs.declared.storage.Item.{Item}
-use Rattle.range_map.specs.FreeRanges.{between, free_from}
+use Rattle.range_reads.specs.FreeRanges.{between, free_from}
 use Rattle.range_change.specs.Pieces.{LiesIn}
 use Rattle.range_change.specs.Lookups.{Overlap}
 use Rattle.range_change.proofs.Forms.{before_is, nonempty_good, touches_is}

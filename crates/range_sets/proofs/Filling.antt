@@ -13,8 +13,8 @@ use Rattle.range_algebra.specs.RangeOrder.{range_cmp, range_total}
 use Rattle.range_algebra.specs.declared.any.AnyRange.{AnyRange}
 use Rattle.range_algebra.proofs.Canonical.{equal_is_same}
 use Rattle.range_store.specs.declared.storage.Item.{Item}
-use Rattle.range_map.specs.ListOrder.{IsCopyOf}
-use Rattle.range_map.specs.FreeRanges.{item_ranges, IsHeldOnce}
+use Rattle.range_reads.specs.ListOrder.{IsCopyOf}
+use Rattle.range_reads.specs.FreeRanges.{item_ranges, IsHeldOnce}
 use Rattle.range_map.proofs.CloneLists.{copy_stored}
 use Rattle.range_map.proofs.HeldOnce.{one_of_two}
 use Rattle.range_sets.specs.KeySets.{HoldsKey, HoldsTheOthers, IsStoredSet, SomeHolds}

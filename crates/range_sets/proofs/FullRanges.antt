@@ -19,7 +19,7 @@ use Rattle.range_store.specs.declared.storage.Item.{Item}
 use Rattle.range_change.specs.Pieces.{LiesIn}
 use Rattle.range_change.proofs.Extents.{end_le}
 use Rattle.range_change.proofs.Forms.{before_is}
-use Rattle.range_map.specs.FreeRanges.{between}
+use Rattle.range_reads.specs.FreeRanges.{between}
 use Rattle.range_map.proofs.FreePieces.{Pairs}
 use Rattle.range_map.proofs.Together.{IsAscending}
 

@@ -10,8 +10,8 @@ use Rattle.range_algebra.specs.RangeOrder.{range_cmp, range_input}
 use Rattle.range_algebra.specs.declared.any.AnyRange.{AnyRange}
 use Rattle.range_store.specs.declared.storage.Item.{Item}
 use Rattle.range_change.specs.Bindings.{BindAlike}
-use Rattle.range_map.specs.FreeRanges.{item_ranges}
-use Rattle.range_map.specs.ListOrder.{same_list, list_cmp, list_input, item_input}
+use Rattle.range_reads.specs.FreeRanges.{item_ranges}
+use Rattle.range_reads.specs.ListOrder.{same_list, list_cmp, list_input, item_input}
 use Rattle.range_map.proofs.StoredLists.{same_keys}
 use Rattle.range_sets.specs.KeySets.{HoldAlike}
 use Rattle.range_sets.specs.SetOrder.{same_ranges, ranges_cmp, ranges_input}

@@ -14,7 +14,7 @@ use Rattle.range_algebra.specs.declared.any.AnyRange.{AnyRange}
 use Rattle.range_store.specs.declared.storage.Item.{Item}
 use Rattle.range_change.specs.Answers.{IsAsAnswered, MayAnswer, IsUpdated}
 use Rattle.range_change.specs.Bindings.{IsBound, IsItemFor, BindsTo, Binds}
-use Rattle.range_map.specs.ListOrder.{IsCopyOf}
+use Rattle.range_reads.specs.ListOrder.{IsCopyOf}
 use Rattle.range_change.specs.Frames.{IsMergeFrame, HasValue}
 use Rattle.range_map.specs.Rebinding.{AreRebound}
 use Rattle.range_sets.specs.Members.{HasNone, HaveSame, HasAlso, HasAllBut, among}

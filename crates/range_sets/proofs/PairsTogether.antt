@@ -6,7 +6,7 @@ use Rattle.range_algebra.specs.declared.any.AnyRange.{AnyRange}
 use Rattle.range_algebra.proofs.Canonical.{equal_is_same}
 use Rattle.range_algebra.proofs.Lists.{every_right}
 use Rattle.range_store.specs.declared.storage.Item.{Item}
-use Rattle.range_map.specs.ListOrder.{IsCopyOf}
+use Rattle.range_reads.specs.ListOrder.{IsCopyOf}
 use Rattle.range_sets.specs.Members.{HaveSame}
 use Rattle.range_sets.specs.Pairs.{HasNoEmptySet, HasPair, HasAllPairsAlso, HasAllPairsWithout, HasPairsOfEither, HasPairsOfFirstAlone}
 use Rattle.range_map.proofs.PartWay.{IsPartWay}

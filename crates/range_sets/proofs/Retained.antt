@@ -4,7 +4,7 @@ use Rattle.std.specs.List.{items_where_true}
 use Rattle.std.specs.List.Retain.{ReturnsInTurn, IsFiltered}
 use Rattle.range_algebra.specs.declared.any.AnyRange.{AnyRange}
 use Rattle.range_store.specs.declared.storage.Item.{Item}
-use Rattle.range_map.specs.FreeRanges.{item_ranges}
+use Rattle.range_reads.specs.FreeRanges.{item_ranges}
 use Rattle.range_sets.proofs.Counting.{ranges_length}
 
 module _ {K V : Type 0} where

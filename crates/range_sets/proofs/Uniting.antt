@@ -29,7 +29,7 @@ use Rattle.range_change.specs.Window.{option_items}
 use Rattle.range_change.proofs.Chains.{chains_join, strictly_leads}
 use Rattle.range_change.proofs.Extents.{past_le}
 use Rattle.range_change.proofs.Forms.{Known, Chained, chain_stored, stored_chain, stored_known}
-use Rattle.range_map.specs.FreeRanges.{full_range, item_ranges}
+use Rattle.range_reads.specs.FreeRanges.{full_range, item_ranges}
 use Rattle.range_merge.specs.Merged.{IsPlaced}
 use Rattle.range_merge.proofs.FirstPieces.{past_same}
 use Rattle.range_change.proofs.PlaceOrder.{le_refl, lt_le, eq_le, eq_ge, le_trans, lt_le_trans, le_lt_trans, not_le, cases}

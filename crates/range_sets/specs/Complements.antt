@@ -6,7 +6,7 @@ use Rattle.range_keys.specs.Order.{KeyOrder}
 use Rattle.range_algebra.specs.RangeOrder.{range_cmp}
 use Rattle.range_algebra.specs.declared.any.AnyRange.{AnyRange}
 use Rattle.range_store.specs.declared.storage.Item.{Item}
-use Rattle.range_map.specs.FreeRanges.{AreGaps}
+use Rattle.range_reads.specs.FreeRanges.{AreGaps}
 
 module _ {K : Type 0} (order : KeyOrder K) {V : Type 0} where
   -- the ranges equal, one by one, the gaps of the items

@@ -10,7 +10,7 @@ use Rattle.range_keys.specs.Order.{KeyOrder, IsLawful}
 use Rattle.range_algebra.specs.RangeOrder.{range_cmp, range_total, range_input, range_respects}
 use Rattle.range_algebra.specs.declared.any.AnyRange.{AnyRange}
 use Rattle.range_store.specs.declared.storage.Item.{Item}
-use Rattle.range_map.specs.FreeRanges.{item_ranges}
+use Rattle.range_reads.specs.FreeRanges.{item_ranges}
 
 module _ {K : Type 0} (order : KeyOrder K) {V : Type 0} where
   -- as many ranges, each equal to the other's by position

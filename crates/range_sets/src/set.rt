@@ -2,7 +2,7 @@
 ghost use Rattle.std.specs.Prelude.{◌≡◌, ◌↔◌, ◌+◌, ◌≤◌, ◌++◌, [], length, true, IsTrue};
 ghost use Rattle.range_keys.specs.Order.{IsComplete};
 ghost use Rattle.range_algebra.specs.Range.{IsEmptyRange};
-ghost use Rattle.range_map.specs.FreeRanges.{AreGaps, IsHeldOnce, item_ranges};
+ghost use Rattle.range_reads.specs.FreeRanges.{AreGaps, IsHeldOnce, item_ranges};
 ghost use Rattle.range_store.specs.Counting.{AddsSteps};
 ghost use Rattle.range_change.specs.Bindings.{IsCoarse, IsOnlyCoarse};
 ghost use Rattle.range_change.specs.Lookups.{MeetsSome, BindsKeyOf};

@@ -42,12 +42,12 @@ module _ {T : Type 0} (s : Heap T) where
     pub place_is : place s below number edge ≡ ahead + place s left at inner
     pub after : ComesAfter below number behind (ahead + length (items_below s (suc left) at))
 
-  pub sets_out : (below number : ℕ) (edge : Edge) → ShapedBut 1 CAPACITY s below number
+  pub sets_out : {below number : ℕ} (edge : Edge) → ShapedBut 1 CAPACITY s below number
       → IsEdge s below number edge → IsOnTheWay below number edge below number 0 1 edge None
-  sets_out below number edge shaped is =
+  sets_out {below} {number} edge shaped is =
       record {
         ahead = 0;
-        lies = lies_itself s below number shaped;
+        lies = lies_itself s shaped;
         is = is;
         leaf_is = refl;
         index_is = refl;
@@ -55,18 +55,18 @@ module _ {T : Type 0} (s : Heap T) where
         after = omega arith;
       }
 
-  module _ (below number : ℕ) (edge : Edge) (left at path weight : ℕ) (inner : Edge)
-      (behind : Option Subtree) (above : left ≢ 0)
+  module _ {below number : ℕ} {edge : Edge} {left at path weight : ℕ} {inner : Edge}
+      {behind : Option Subtree} (above : left ≢ 0)
       (way : IsOnTheWay below number edge left at path weight inner behind) (i : ℕ)
       (i_is : i ≡ turn inner) where
     abbrev kid : ℕ → ℕ
     kid k = get_or (children_of (node_of s at)) k 0
 
     pub turn_low : i ≤ length (items_of (node_of s at))
-    turn_low = rw i_is (below_turn s left at above way.lies.shaped inner way.is)
+    turn_low = rw i_is (below_turn above way.lies.shaped inner way.is)
 
     level : suc (left - 1) ≡ left
-    level = level_of_children s left at above way.lies.shaped
+    level = level_of_children above way.lies.shaped
 
     further : (later : Option Subtree)
         → ComesAfter below number later
@@ -74,12 +74,11 @@ module _ {T : Type 0} (s : Heap T) where
         → IsOnTheWay below number edge (left - 1) (kid i) (path + weight * i) (weight * PATH_BASE)
         (inside inner) later
     further later after =
-        let here = rw (← i_is) at (below_here s left at above way.lies.shaped inner) in
+        let here = rw (← i_is) at (below_here above way.lies.shaped inner) in
         record {
           ahead = way.ahead + ahead_of s left at i;
-          lies =
-              lies_in_child s below number left at path weight way.ahead above way.lies i turn_low;
-          is = rw i_is (below_inside s left at above way.lies.shaped inner way.is);
+          lies = lies_in_child s at path weight way.ahead above way.lies i turn_low;
+          is = rw i_is (below_inside above way.lies.shaped inner way.is);
           leaf_is = way.leaf_is;
           index_is = way.index_is;
           place_is = omega (arith, way.place_is, here);
@@ -91,7 +90,7 @@ module _ {T : Type 0} (s : Heap T) where
         → IsOnTheWay below number edge (left - 1) (kid i) (path + weight * i) (weight * PATH_BASE)
         (inside inner) behind
     goes_by_the_last last =
-        let all = past_last s left at above way.lies.shaped i (omega (arith, turn_low)) in
+        let all = past_last above way.lies.shaped i (omega (arith, turn_low)) in
         let same : way.ahead + length (items_below s (suc left) at)
         ≡ way.ahead + ahead_of s left at i + length (items_below s left (kid i)) =
         omega (arith, all) in
@@ -106,31 +105,29 @@ module _ {T : Type 0} (s : Heap T) where
           path = path + weight * i + weight;
         }))
     goes_by_another less =
-        let next = lies_in_child s below number left at path weight way.ahead above way.lies (i + 1)
-        (omega arith) in
+        let next = lies_in_child s at path weight way.ahead above way.lies (i + 1) (omega arith) in
         let path_is : path + weight * (i + 1) ≡ path + weight * i + weight =
         omega (arith, mul-add weight i 1) in
-        let count : way.ahead + ahead_of s left at (i + 1)
-        ≡ way.ahead + ahead_of s left at i + length (items_below s left (kid i)) + 1 =
-        omega (arith, before_next s left at above way.lies.shaped i less) in
+        let count : way.ahead + ahead_of s left at (i + 1) ≡ way.ahead + ahead_of s left at i +
+        length (items_below s left (kid i)) + 1 = omega
+        (arith, before_next above way.lies.shaped i less) in
         further _ (record {
           low = next.low;
           shaped = next.shaped;
-          first = λ e is none.
-              rw (← path_is, ← count) (first_below s below number (left - 1) (kid (i + 1))
+          first = λ e is none. rw (← path_is, ← count) (first_below s (kid (i + 1))
               (path + weight * (i + 1)) (weight * PATH_BASE)
               (way.ahead + ahead_of s left at (i + 1)) next e is none);
         })
 
   -- at the end of the leaf all items are passed that stand before the edge
-  pub comes_to_the_end : (below number : ℕ) (edge : Edge) (left at path weight : ℕ) (inner : Edge)
+  pub comes_to_the_end : {below number : ℕ} {edge : Edge} (left at path weight : ℕ) (inner : Edge)
       (behind : Option Subtree) → left ≡ 0
       → IsOnTheWay below number edge left at path weight inner behind
       → length (items_of (node_of s edge.leaf)) ≤ edge.index
       → ComesAfter below number behind (place s below number edge)
-  comes_to_the_end below number edge (suc left) at path weight inner behind bottom way last =
+  comes_to_the_end {below} {number} {edge} (suc left) at path weight inner behind bottom way last =
       absurd (omega arith)
-  comes_to_the_end below number edge zero at path weight inner behind bottom way last =
+  comes_to_the_end {below} {number} {edge} zero at path weight inner behind bottom way last =
       let leaf : edge.leaf ≡ at = sym way.leaf_is ∙ leaf_is s at inner way.is in
       let end : length (items_of (node_of s at)) ≤ edge.index =
       subst (λ n. length (items_of (node_of s n)) ≤ edge.index) leaf last in

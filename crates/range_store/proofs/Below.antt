@@ -18,9 +18,9 @@ unfolding Shaped
 Shaped-but s d n shaped = record { node = shaped.0; children = shaped.1 }
 
 -- the bounds on a node may be wider
-pub shaped_within_wider : {T : Type 0} (low least most top : ℕ) (s : Heap T) (d n : ℕ) → low ≤ least
-    → most ≤ top → ShapedBut least most s d n → ShapedBut low top s d n
-shaped_within_wider low least most top s d n le le' shaped = record {
+pub shaped_within_wider : {T : Type 0} (low : ℕ) {least most : ℕ} (top : ℕ) {s : Heap T} {d n : ℕ}
+    → low ≤ least → most ≤ top → ShapedBut least most s d n → ShapedBut low top s d n
+shaped_within_wider low top le le' shaped = record {
   node =
       record {
         present = shaped.node.present;
@@ -60,7 +60,7 @@ pub weave_items_below : {T : Type 0} (s : Heap T) (d n : ℕ)
 unfolding items_below
 weave_items_below s d n = refl
 
-module _ {T : Type 0} (least most : ℕ) (s : Heap T) (d n : ℕ) (inner : 0 < d)
+module _ {T : Type 0} {least most : ℕ} {s : Heap T} {d n : ℕ} (inner : 0 < d)
     (shaped : ShapedBut least most s d n) where
   pub children_length : length (children_of (node_of s n)) ≡ length (items_of (node_of s n)) + 1
   children_length = shaped.node.branches ∙ child_count_inner d _ inner

@@ -29,9 +29,9 @@ weave_more xs x (k ∷ ks) l many =
     ∙ ap (λ zs. weave xs (k ∷ ks) ++ (x ∷ zs)) (append-nil l)
 
 -- a built node with enough items is one that is not the root
-pub built_shaped : {T : Type 0} (r s : Heap T) (d n many : ℕ) → IsBuilt r s d n many
+pub built_shaped : {T : Type 0} {r s : Heap T} {d n many : ℕ} → IsBuilt r s d n many
     → MIN_LEN ≤ many → Shaped s (suc d) n
-built_shaped r s d n many built enough =
+built_shaped {T} {r} {s} {d} {n} built enough =
     Shaped-from_but s d n (record {
       node =
           record {
@@ -44,7 +44,7 @@ built_shaped r s d n many built enough =
     })
 
 -- what a node, of which the rest of the heap is old, becomes with an item and perhaps a child more
-module _ {T : Type 0} (r s t : Heap T) (d n many : ℕ) (cs : List ℕ) (built : IsBuilt r s d n many)
+module _ {T : Type 0} {r s t : Heap T} {d n many : ℕ} (cs : List ℕ) (built : IsBuilt r s d n many)
     (moved : Moves s t [] (flat_map (used t d) cs)) where
   abbrev xs : List T
   xs = items_of (node_of s n)
@@ -53,9 +53,11 @@ module _ {T : Type 0} (r s t : Heap T) (d n many : ℕ) (cs : List ℕ) (built :
   ks = children_of (node_of s n)
 
   agree : AgreeAt s t (used s (suc d) n)
-  agree =
-      Moves-agree s t [] (flat_map (used t d) cs) (used s (suc d) n)
-      (λ k. omega (arith, built.moved.owned k, occurrences-nil k)) moved
+  agree = Moves-agree (used s (suc d) n) (λ k. omega (
+    arith,
+    built.moved.owned k,
+    occurrences-nil k,
+  )) moved
 
   pub built_kept : node_of t n ≡ node_of s n
   built_kept =
@@ -81,7 +83,7 @@ module _ {T : Type 0} (r s t : Heap T) (d n many : ℕ) (cs : List ℕ) (built :
       let old = used s (suc d) n in
       let more = flat_map (used t d) cs in
       let under = flat_map (used s d) ks in
-      Moves-like r t [] [] (more ++ old) (n ∷ flat_map (used t d) (ks ++ cs))
+      Moves-like [] (n ∷ flat_map (used t d) (ks ++ cs))
       (record { occur = λ k. refl; len = refl })
       (record {
         occur =
@@ -103,51 +105,46 @@ module _ {T : Type 0} (r s t : Heap T) (d n many : ℕ) (cs : List ℕ) (built :
               ap length used_all,
               length-append under more,
             );
-      })
-      (Moves-then r s t [] old (more ++ old) built.moved (Moves-beside s t [] more old moved))
+      }) (Moves-then built.moved (Moves-beside old moved))
 
-  module _ (u : Heap T) (x : T) (room : many < CAPACITY) (shaped : All (Shaped t d) cs)
+  module _ {u : Heap T} (x : T) (room : many < CAPACITY) (shaped : All (Shaped t d) cs)
       (branches : length cs + length ks ≡ child_count d (many + 1))
       (written : Writes t u n (xs ++ x ∷ []) (ks ++ cs)) where
     longer : length (xs ++ x ∷ []) ≡ many + 1
     longer = length_push xs x ∙ ap (λ m. m + 1) built.items
 
     content : IsContent t d n (xs ++ x ∷ []) (ks ++ cs)
-    content = record {
-      present = rw built_kept built.shape.node.present;
-      shaped = All-append (Shaped t d) ks cs (same.shaped_same built.shape.children) shaped;
-      branches =
-          rw longer (omega (arith, length-append ks cs, branches));
-      owned = λ k. omega (arith, nodes_moved.owned k, occurrences-nil k);
-    }
+    content =
+        record {
+          present = rw built_kept built.shape.node.present;
+          shaped = All-append (Shaped t d) ks cs (same.shaped_same built.shape.children) shaped;
+          branches = rw longer (omega (arith, length-append ks cs, branches));
+          owned = λ k. omega (arith, nodes_moved.owned k, occurrences-nil k);
+        }
 
     holds : Holds t u d n (xs ++ x ∷ []) (ks ++ cs)
-    holds = written_holds t u d n (xs ++ x ∷ []) (ks ++ cs) content written
+    holds = written_holds u content written
 
     pub built_more : IsBuilt r u d n (many + 1)
     built_more = record {
-      shape =
-          held_shape t u d n (xs ++ x ∷ []) (ks ++ cs) holds 0 (omega arith)
-          (omega (arith, longer, room)) content.branches content.shaped;
+      shape = held_shape holds 0 (omega arith) (omega (arith, longer, room)) content.branches
+          content.shaped;
       items = ap length written.items_are ∙ longer;
-      moved =
-          Moves-then r t u [] (n ∷ flat_map (used t d) (ks ++ cs)) (used u (suc d) n) nodes_moved
-          (subst (λ zs. Moves t u (n ∷ flat_map (used t d) (ks ++ cs)) zs)
-          (sym (held_used t u d n (xs ++ x ∷ []) (ks ++ cs) holds))
-          (Writes-moves t u n (xs ++ x ∷ []) (ks ++ cs) (flat_map (used t d) (ks ++ cs)) written));
+      moved = Moves-then nodes_moved (subst
+          (λ zs. Moves t u (n ∷ flat_map (used t d) (ks ++ cs)) zs) (sym (held_used holds))
+          (Writes-moves (flat_map (used t d) (ks ++ cs)) written));
     }
 
     pub listed_more : items_below u (suc d) n
         ≡ weave (xs ++ x ∷ []) (map (items_below s d) ks ++ map (items_below t d) cs)
-    listed_more =
-        held_items_below t u d n (xs ++ x ∷ []) (ks ++ cs) holds
+    listed_more = held_items_below holds
         ∙ ap (weave (xs ++ x ∷ [])) (map-append (items_below t d) ks cs
         ∙ ap (λ zs. zs ++ map (items_below t d) cs) same.items_below_same)
 
 -- a leaf of new items
-pub built_leaf : {T : Type 0} (r s : Heap T) (n : ℕ) (xs : List T) → Stores r s n xs []
+pub built_leaf : {T : Type 0} {r s : Heap T} {n : ℕ} {xs : List T} → Stores r s n xs []
     → length xs ≤ CAPACITY → IsBuilt r s 0 n (length xs) × (items_below s (suc 0) n ≡ xs)
-built_leaf r s n xs stored fits =
+built_leaf {T} {r} {s} {n} {xs} stored fits =
     let childless : length (children_of (node_of s n)) ≡ 0 = ap length stored.children_are in
     let built : IsBuilt r s 0 n (length xs) = record {
       shape = record {
@@ -161,14 +158,12 @@ built_leaf r s n xs stored fits =
         children = rw stored.children_are (All-nil (Shaped s zero));
       };
       items = ap length stored.items_are;
-      moved =
-          subst (Moves r s []) (sym (used_leaf s n childless))
-          (Stores-moves r s n xs [] [] stored);
+      moved = subst (Moves r s []) (sym (used_leaf s n childless)) (Stores-moves [] stored);
     } in
     (built, items_below_leaf s n childless ∙ stored.items_are)
 
 -- a node above its first child
-module _ {T : Type 0} (r s t : Heap T) (d n c : ℕ) (inner : 0 < d)
+module _ {T : Type 0} {r s t : Heap T} (d : ℕ) {n : ℕ} (c : ℕ) (inner : 0 < d)
     (moved : Moves r s [] (used s d c)) (shaped : Shaped s d c)
     (stored : Stores s t n [] (c ∷ [])) where
   alone : flat_map (used s d) (c ∷ []) ≡ used s d c
@@ -181,33 +176,28 @@ module _ {T : Type 0} (r s t : Heap T) (d n c : ℕ) (inner : 0 < d)
       omega (arith, among, ap (occurrences k) alone, moved.owned k, occurrences-nil k, absent))
 
   above_holds : Holds s t d n [] (c ∷ [])
-  above_holds = record {
-    present = stored.present;
-    items_are = stored.items_are;
-    children_are = stored.children_are;
-    same = same_children s t d (c ∷ []) above_agree;
-  }
+  above_holds =
+      record {
+        present = stored.present;
+        items_are = stored.items_are;
+        children_are = stored.children_are;
+        same = same_children s t d (c ∷ []) above_agree;
+      }
 
   pub begun_above : IsBuilt r t d n 0
   begun_above = record {
-    shape =
-        held_shape s t d n [] (c ∷ []) above_holds 0 (omega arith) (omega arith)
-        (sym (child_count_inner d 0 inner)) (All-cons (Shaped s d) c [] shaped
-        (All-nil (Shaped s d)));
+    shape = held_shape above_holds 0 (omega arith) (omega arith) (sym (child_count_inner d 0 inner))
+        (All-cons (Shaped s d) c [] shaped (All-nil (Shaped s d)));
     items = ap length stored.items_are;
-    moved =
-        Moves-then r s t [] (used s d c) (used t (suc d) n) moved
-        (subst (λ zs. Moves s t (used s d c) zs)
-        (sym (held_used s t d n [] (c ∷ []) above_holds ∙ ap (λ zs. n ∷ zs) alone))
-        (Stores-moves s t n [] (c ∷ []) (used s d c) stored));
+    moved = Moves-then moved (subst (λ zs. Moves s t (used s d c) zs)
+        (sym (held_used above_holds ∙ ap (λ zs. n ∷ zs) alone)) (Stores-moves (used s d c) stored));
   }
 
   pub listed_above : items_below t (suc d) n ≡ items_below s d c
-  listed_above =
-      held_items_below s t d n [] (c ∷ []) above_holds ∙ append-nil (items_below s d c)
+  listed_above = held_items_below above_holds ∙ append-nil (items_below s d c)
 
 -- a node gets an item, and a child after it
-module _ {T : Type 0} (r s t : Heap T) (d n c many : ℕ) (inner : 0 < d)
+module _ {T : Type 0} {r s t : Heap T} {d n : ℕ} (c : ℕ) {many : ℕ} (inner : 0 < d)
     (built : IsBuilt r s d n many) (moved : Moves s t [] (used t d c)) where
   one_moved : Moves s t [] (flat_map (used t d) (c ∷ []))
   one_moved = subst (Moves s t []) (sym (append-nil (used t d c))) moved
@@ -218,7 +208,7 @@ module _ {T : Type 0} (r s t : Heap T) (d n c many : ℕ) (inner : 0 < d)
       ∙ ap (λ m. m + 1) built.items
 
   pub node_kept : node_of t n ≡ node_of s n
-  node_kept = built_kept r s t d n many (c ∷ []) built one_moved
+  node_kept = built_kept (c ∷ []) built one_moved
 
   pub node_there : HasNode t n
   node_there = rw node_kept built.shape.node.present
@@ -231,41 +221,40 @@ module _ {T : Type 0} (r s t : Heap T) (d n c many : ℕ) (inner : 0 < d)
       ap (λ node. length (children_of node)) node_kept ∙ branches
       ∙ ap (λ m. m + 1) (sym node_items)
 
-  module _ (u : Heap T) (x : T) (room : many < CAPACITY) (shaped : Shaped t d c)
-      (put : Writes t u n (insert (items_of (node_of t n)) many x)
-      (insert (children_of (node_of t n)) (many + 1) c)) where
-    child_written : Writes t u n (items_of (node_of s n) ++ x ∷ [])
-        (children_of (node_of s n) ++ c ∷ [])
-    child_written =
-        let xs = items_of (node_of s n) in
-        let ks = children_of (node_of s n) in
-        let items : insert (items_of (node_of t n)) many x ≡ xs ++ x ∷ [] =
-        ap (λ node. insert (items_of node) many x) node_kept
-        ∙ ap (λ m. insert xs m x) (sym built.items) ∙ insert_end xs x in
-        let children : insert (children_of (node_of t n)) (many + 1) c ≡ ks ++ c ∷ [] =
-        ap (λ node. insert (children_of node) (many + 1) c) node_kept
-        ∙ ap (λ m. insert ks m c) (sym branches) ∙ insert_end ks c in
-        subst (λ ys. Writes t u n ys (ks ++ c ∷ [])) items
-        (subst (Writes t u n (insert (items_of (node_of t n)) many x)) children put)
+  module _ {u : Heap T} (x : T) (room : many < CAPACITY) (shaped : Shaped t d c) (put : Writes t u n
+      (insert (items_of (node_of t n)) many x) (insert (children_of (node_of t n)) (many + 1) c))
+    where
+      child_written : Writes t u n (items_of (node_of s n) ++ x ∷ [])
+          (children_of (node_of s n) ++ c ∷ [])
+      child_written =
+          let xs = items_of (node_of s n) in
+          let ks = children_of (node_of s n) in
+          let items : insert (items_of (node_of t n)) many x ≡ xs ++ x ∷ [] =
+          ap (λ node. insert (items_of node) many x) node_kept
+          ∙ ap (λ m. insert xs m x) (sym built.items) ∙ insert_end xs x in
+          let children : insert (children_of (node_of t n)) (many + 1) c ≡ ks ++ c ∷ [] =
+          ap (λ node. insert (children_of node) (many + 1) c) node_kept
+          ∙ ap (λ m. insert ks m c) (sym branches) ∙ insert_end ks c in
+          subst (λ ys. Writes t u n ys (ks ++ c ∷ [])) items
+          (subst (Writes t u n (insert (items_of (node_of t n)) many x)) children put)
 
-    below_one : All (Shaped t d) (c ∷ [])
-    below_one = All-cons (Shaped t d) c [] shaped (All-nil (Shaped t d))
+      below_one : All (Shaped t d) (c ∷ [])
+      below_one = All-cons (Shaped t d) c [] shaped (All-nil (Shaped t d))
 
-    both : length (c ∷ []) + length (children_of (node_of s n)) ≡ child_count d (many + 1)
-    both = omega (arith, branches, child_count_inner d (many + 1) inner)
+      both : length (c ∷ []) + length (children_of (node_of s n)) ≡ child_count d (many + 1)
+      both = omega (arith, branches, child_count_inner d (many + 1) inner)
 
-    pub child_more : IsBuilt r u d n (many + 1)
-    child_more =
-        built_more r s t d n many (c ∷ []) built one_moved u x room below_one both child_written
+      pub child_more : IsBuilt r u d n (many + 1)
+      child_more = built_more (c ∷ []) built one_moved x room below_one both child_written
 
-    pub child_listed : items_below u (suc d) n ≡ items_below s (suc d) n ++ x ∷ items_below t d c
-    child_listed =
-        let xs = items_of (node_of s n) in
-        let ks = children_of (node_of s n) in
-        listed_more r s t d n many (c ∷ []) built one_moved u x room below_one both child_written
-        ∙ weave_more xs x (map (items_below s d) ks) (items_below t d c)
-        (omega (arith, length-map ks (items_below s d), branches, built.items))
-        ∙ ap (λ zs. zs ++ x ∷ items_below t d c) (sym (weave_items_below s d n))
+      pub child_listed : items_below u (suc d) n ≡ items_below s (suc d) n ++ x ∷ items_below t d c
+      child_listed =
+          let xs = items_of (node_of s n) in
+          let ks = children_of (node_of s n) in
+          listed_more (c ∷ []) built one_moved x room below_one both child_written
+          ∙ weave_more xs x (map (items_below s d) ks) (items_below t d c)
+          (omega (arith, length-map ks (items_below s d), branches, built.items))
+          ∙ ap (λ zs. zs ++ x ∷ items_below t d c) (sym (weave_items_below s d n))
 
 -- a child below a node, with so many items, was built of new nodes
 module _ {T : Type 0} where
@@ -275,15 +264,15 @@ module _ {T : Type 0} where
     pub size : length (items_below new d n) ≡ count
     pub few : MIN_LEN * node_count new ≤ MIN_LEN * node_count old + count
 
-pub built_child : {T : Type 0} (r s : Heap T) (d n many count : ℕ) → 0 < d
-    → IsBuilt r s (d - 1) n many → MIN_LEN ≤ many
-    → length (items_below s (suc (d - 1)) n) ≡ count → IsChild r s d n count
-built_child r s zero n many count some built enough size = absurd (omega arith)
-built_child r s (suc d) n many count some built' enough size' =
+pub built_child : {T : Type 0} {r s : Heap T} (d : ℕ) {n many : ℕ} (count : ℕ) → 0 < d
+    → IsBuilt r s (d - 1) n many → MIN_LEN ≤ many → length (items_below s (suc (d - 1)) n) ≡ count
+    → IsChild r s d n count
+built_child {T} {r} {s} zero {n} {many} count some built enough size = absurd (omega arith)
+built_child {T} {r} {s} (suc d) {n} {many} count some built' enough size' =
     let level : suc d - 1 ≡ d = omega arith in
     let built = rw level at built' in
     let size = rw level at size' in
-    let shaped = built_shaped r s d n many built enough in
+    let shaped = built_shaped built enough in
     record {
       moved = built.moved;
       shaped = shaped;
@@ -305,10 +294,10 @@ taken_more all front rest later end now middle x whole next below longer =
     ∙ sym (append_assoc front (x ∷ middle) end) ∙ ap (λ zs. zs ++ end) (sym longer)
 
 -- a tree that was built where there was none
-pub built_tree : {T : Type 0} (r s : Heap T) (levels root d n many : ℕ) → levels ≡ 0
+pub built_tree : {T : Type 0} {r s : Heap T} (levels : ℕ) {root d n many : ℕ} → levels ≡ 0
     → IsTree r levels root → IsBuilt r s d n many → 0 < many → IsTree s (d + 1) n
-built_tree r s (suc e) root d n many none tree built some = absurd (omega arith)
-built_tree r s zero root d n many none tree built some =
+built_tree {T} {r} {s} (suc e) {root} {d} {n} {many} none tree built some = absurd (omega arith)
+built_tree {T} {r} {s} zero {root} {d} none tree built some =
     let next : d + 1 ≡ suc d = omega arith in
     rw next (record {
       shaped = record {

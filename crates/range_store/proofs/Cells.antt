@@ -76,17 +76,15 @@ module _ {T : Type 0} where
       let later = standing xs i (omega arith) in
       record { item = later.item; cell_is = later.cell_is; item_is = later.item_is }
 
-  pub items_held : (row : List (Option T)) (xs : List T) → HoldsItems row xs → items_in row ≡ xs
-  items_held row xs h =
-      ap items_in h.cells_are
+  pub items_held : {row : List (Option T)} {xs : List T} → HoldsItems row xs → items_in row ≡ xs
+  items_held {row} {xs} h = ap items_in h.cells_are
       ∙ filter_map-append (λ cell. cell) (full_cells xs) (replicate (CAPACITY - length xs) None)
       ∙ ap (λ ys. ys ++ items_in (replicate (CAPACITY - length xs) None)) (items_in_full xs)
       ∙ ap (λ ys. xs ++ ys) (items_in_none (CAPACITY - length xs))
       ∙ append-nil xs
 
-  pub row_length : (row : List (Option T)) (xs : List T) → HoldsItems row xs
-      → length row ≡ CAPACITY
-  row_length row xs h = omega (
+  pub row_length : {row : List (Option T)} {xs : List T} → HoldsItems row xs → length row ≡ CAPACITY
+  row_length {row} {xs} h = omega (
     arith,
     ap length h.cells_are,
     length-append (full_cells xs) (replicate (CAPACITY - length xs) None),
@@ -96,21 +94,20 @@ module _ {T : Type 0} where
   )
 
   -- the cell at an index below the number of items
-  pub cell_read : (row : List (Option T)) (xs : List T) → HoldsItems row xs → (i : ℕ)
+  pub cell_read : {row : List (Option T)} {xs : List T} → HoldsItems row xs → (i : ℕ)
       → i < length xs → (stands : Standing xs i) → (d : Option T)
       → get_or row i d ≡ Some stands.item
-  cell_read row xs h i within stands d =
-      ap (λ cells. get_or cells i d) h.cells_are
+  cell_read {row} {xs} h i within stands d = ap (λ cells. get_or cells i d) h.cells_are
       ∙ get_or_append_left (full_cells xs) (replicate (CAPACITY - length xs) None) d i
       (omega (arith, length-full xs))
       ∙ stands.cell_is d
 
   -- an item came to the others
-  pub held_with : (old new : List (Option T)) (xs : List T) (len i : ℕ) (item : T)
-      (carried : Option T) → HoldsItems old xs → len ≡ length xs → i ≤ len → len < CAPACITY
-      → length new ≡ length old → insert new (len + 1) carried ≡ insert old i (Some item)
-      → HoldsItems new (insert xs i item)
-  held_with old new xs len i item carried h many within room long same =
+  pub held_with : {old : List (Option T)} (new : List (Option T)) {xs : List T} (len i : ℕ)
+      (item : T) (carried : Option T) → HoldsItems old xs → len ≡ length xs → i ≤ len
+      → len < CAPACITY → length new ≡ length old
+      → insert new (len + 1) carried ≡ insert old i (Some item) → HoldsItems new (insert xs i item)
+  held_with {old} new {xs} len i item carried h many within room long same =
       let more = insert xs i item in
       let rest : List (Option T) = replicate (CAPACITY - length more) None in
       let longer = length-insert xs i item (omega arith) in
@@ -124,21 +121,18 @@ module _ {T : Type 0} where
       let place : len + 1 ≡ length (full_cells more) = omega (arith, length-full more, longer) in
       record {
         fits = omega (arith, longer);
-        cells_are =
-            sym (without_carried new (len + 1) carried
-            (omega (arith, long, row_length old xs h)))
+        cells_are = sym (without_carried new (len + 1) carried (omega (arith, long, row_length h)))
             ∙ ap (λ cells. remove cells (len + 1)) (same ∙ list)
             ∙ ap (remove (full_cells more ++ None ∷ rest)) place
             ∙ without_between (full_cells more) rest None;
       }
 
   -- an item was taken from the others
-  pub held_without : (old new : List (Option T)) (xs : List T) (len i : ℕ) (carried : Option T)
-      → HoldsItems old xs → len ≡ length xs → i < len → length new ≡ length old
-      → insert new i carried ≡ insert old len None
-      → HoldsItems new (remove xs i)
-      × ((stands : Standing xs i) → carried ≡ Some stands.item)
-  held_without old new xs len i carried h many within long same =
+  pub held_without : {old : List (Option T)} (new : List (Option T)) {xs : List T} (len i : ℕ)
+      (carried : Option T) → HoldsItems old xs → len ≡ length xs → i < len → length new ≡ length old
+      → insert new i carried ≡ insert old len None → HoldsItems new (remove xs i) ×
+      ((stands : Standing xs i) → carried ≡ Some stands.item)
+  held_without {old} new {xs} len i carried h many within long same =
       let fewer = length-remove xs i (omega arith) in
       let rest : List (Option T) = replicate (CAPACITY - length xs) None in
       let left : suc (CAPACITY - length xs) ≡ CAPACITY - length (remove xs i) =
@@ -153,25 +147,28 @@ module _ {T : Type 0} where
       ∙ append_assoc (full_cells xs) (None ∷ []) rest in (
         record {
           fits = omega (arith, fewer, h.fits);
-          cells_are =
-              sym (without_carried new i carried (omega (arith, long, row_length old xs h, h.fits)))
+          cells_are = sym
+              (without_carried new i carried (omega (arith, long, row_length h, h.fits)))
               ∙ ap (λ cells. remove cells i) (same ∙ list)
               ∙ remove-append_left (full_cells xs) (None ∷ rest) i short
               ∙ ap (λ cells. cells ++ None ∷ rest) (full_remove xs i)
               ∙ ap (λ k. full_cells (remove xs i) ++ replicate k None) left;
         },
-        λ stands.
-            sym (get_or-insert_at new i carried carried
-            (omega (arith, long, row_length old xs h, h.fits)))
+        λ stands. sym (get_or-insert_at new i carried carried (omega (
+          arith,
+          long,
+          row_length h,
+          h.fits,
+        )))
             ∙ ap (λ cells. get_or cells i carried) (same ∙ list)
             ∙ get_or_append_left (full_cells xs) (None ∷ rest) carried i short
             ∙ stands.cell_is carried,
       )
 
   -- another item stands for one
-  pub held_set : (old : List (Option T)) (xs : List T) (i : ℕ) (item : T) → HoldsItems old xs
+  pub held_set : {old : List (Option T)} {xs : List T} (i : ℕ) (item : T) → HoldsItems old xs
       → i < length xs → HoldsItems (set old i (Some item)) (set xs i item)
-  held_set old xs i item h within =
+  held_set {old} {xs} i item h within =
       let rest : List (Option T) = replicate (CAPACITY - length xs) None in
       let same : length (set xs i item) ≡ length xs = length_set xs i item in
       record {

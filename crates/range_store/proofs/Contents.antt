@@ -23,7 +23,7 @@ module _ {T : Type 0} where
     pub children_are : children_of (node_of t n) ≡ ks
     pub same : SameChildren s t d ks
 
-module _ {T : Type 0} (s t : Heap T) (d n : ℕ) (xs : List T) (ks : List ℕ)
+module _ {T : Type 0} {s t : Heap T} {d n : ℕ} {xs : List T} {ks : List ℕ}
     (holds : Holds s t d n xs ks) where
   pub held_items_below : items_below t (suc d) n ≡ weave xs (map (items_below s d) ks)
   held_items_below =
@@ -51,7 +51,7 @@ pub child_count_part : (d k m k' m' : ℕ) → m ≡ child_count d k → (m ≡ 
 child_count_part zero k m k' m' h none some = none h
 child_count_part (suc d) k m k' m' h none some = some h
 
-module _ {T : Type 0} (s t : Heap T) (d n : ℕ) (xs : List T) (ks : List ℕ)
+module _ {T : Type 0} {s : Heap T} (t : Heap T) {d n : ℕ} {xs : List T} {ks : List ℕ}
     (content : IsContent s d n xs ks) where
   -- the subtrees of the children do not have the node
   pub content_apart : (k : ℕ) → 0 < occurrences k (flat_map (used s d) ks) → k ≢ n
@@ -82,19 +82,16 @@ module _ {T : Type 0} (s t : Heap T) (d n : ℕ) (xs : List T) (ks : List ℕ)
 
     pub written_settles : length xs ≤ CAPACITY → Settles s t d n xs ks None
     written_settles fits = record {
-      listed = append-nil (items_below t (suc d) n) ∙ held_items_below s t d n xs ks written_holds;
-      moved =
-          subst (λ zs. Moves s t (n ∷ flat_map (used s d) ks) zs)
-          (sym (append-nil (used t (suc d) n) ∙ held_used s t d n xs ks written_holds))
-          (Writes-moves s t n xs ks (flat_map (used s d) ks) written);
-      shape =
-          λ least small enough. All-cons (ShapedBut least CAPACITY t d) n []
-          (held_shape s t d n xs ks written_holds least enough fits content.branches content.shaped)
-          (All-nil _);
+      listed = append-nil (items_below t (suc d) n) ∙ held_items_below written_holds;
+      moved = subst (λ zs. Moves s t (n ∷ flat_map (used s d) ks) zs)
+          (sym (append-nil (used t (suc d) n) ∙ held_used written_holds))
+          (Writes-moves (flat_map (used s d) ks) written);
+      shape = λ least small enough. All-cons (ShapedBut least CAPACITY t d) n []
+          (held_shape written_holds least enough fits content.branches content.shaped) (All-nil _);
     }
 
 -- the items before and after the one at `half`, in two nodes
-module _ {T : Type 0} (s t : Heap T) (d n r half : ℕ) (xs : List T) (ks : List ℕ)
+module _ {T : Type 0} {s t : Heap T} {d n r : ℕ} (half : ℕ) {xs : List T} {ks : List ℕ}
     (content : IsContent s d n xs ks) (low : half < length xs)
     (left : Holds s t d n (take half xs) (take (half + 1) ks))
     (right : Holds s t d r (drop (half + 1) xs) (drop (half + 1) ks)) where
@@ -111,11 +108,11 @@ module _ {T : Type 0} (s t : Heap T) (d n r half : ℕ) (xs : List T) (ks : List
       (length-map ks (items_below s d) ∙ content.branches)
 
   pub left_items_below : items_below t (suc d) n ≡ weave (take half xs) (map (items_below s d) us)
-  left_items_below = held_items_below s t d n (take half xs) us left
+  left_items_below = held_items_below left
 
   right_items_below : items_below t (suc d) r
       ≡ weave (drop (half + 1) xs) (map (items_below s d) vs)
-  right_items_below = held_items_below s t d r (drop (half + 1) xs) vs right
+  right_items_below = held_items_below right
 
   pub halves_listed : (middle : T) → middle ≡ get_or xs half middle
       → items_below t (suc d) n
@@ -135,10 +132,10 @@ module _ {T : Type 0} (s t : Heap T) (d n r half : ℕ) (xs : List T) (ks : List
       ) refl)
 
   left_used : used t (suc d) n ≡ n ∷ flat_map (used s d) us
-  left_used = held_used s t d n (take half xs) us left
+  left_used = held_used left
 
   right_used : used t (suc d) r ≡ r ∷ flat_map (used s d) vs
-  right_used = held_used s t d r (drop (half + 1) xs) vs right
+  right_used = held_used right
 
   pub halves_nodes : SameNodes (r ∷ n ∷ flat_map (used s d) ks)
       (used t (suc d) n ++ (used t (suc d) r ++ []))
@@ -191,19 +188,21 @@ module _ {T : Type 0} (s t : Heap T) (d n r half : ℕ) (xs : List T) (ks : List
   pub halves_shape : MIN_LEN ≤ half → half ≤ CAPACITY → half + 1 + MIN_LEN ≤ length xs
       → length xs ≤ half + 1 + CAPACITY → (least : ℕ) → least ≤ MIN_LEN
       → All (ShapedBut least CAPACITY t d) (n ∷ r ∷ [])
-  halves_shape least_left most_left least_right most_right least small =
-      All-cons (ShapedBut least CAPACITY t d) n (r ∷ [])
-      (held_shape s t d n (take half xs) us left least
-      (omega (arith, left_length, least_left, small)) (omega (arith, left_length, most_left))
+  halves_shape least_left most_left least_right most_right least small = All-cons
+      (ShapedBut least CAPACITY t d) n (r ∷ []) (held_shape left least (omega (
+        arith,
+        left_length,
+        least_left,
+        small,
+      )) (omega (arith, left_length, most_left))
       (branches_left ∙ ap (child_count d) (sym left_length))
-      (All-take (Shaped s d) (half + 1) ks content.shaped))
-      (All-cons (ShapedBut least CAPACITY t d) r []
-      (held_shape s t d r (drop (half + 1) xs) vs right least
-      (omega (arith, right_length, least_right, small))
-      (omega (arith, right_length, most_right))
-      (branches_right ∙ ap (child_count d) (sym right_length))
-      (All-drop (Shaped s d) (half + 1) ks content.shaped))
-      (All-nil _))
+      (All-take (Shaped s d) (half + 1) ks content.shaped)) (All-cons (ShapedBut least CAPACITY t d)
+      r [] (held_shape right least (omega (arith, right_length, least_right, small)) (omega (
+        arith,
+        right_length,
+        most_right,
+      )) (branches_right ∙ ap (child_count d) (sym right_length)) (All-drop
+      (Shaped s d) (half + 1) ks content.shaped)) (All-nil _))
 
 -- they are parts of the children
 pub part_agree : {T : Type 0} (s t : Heap T) (d half : ℕ) (ks : List ℕ)
@@ -222,14 +221,14 @@ part_agree s t d half ks agree =
           (flat_map (used s d) (drop half ks)) parts,
     )
 
-module _ {T : Type 0} (s t : Heap T) (d n half : ℕ) (xs : List T) (ks : List ℕ) (split : Split T)
+module _ {T : Type 0} {s t : Heap T} {d n half : ℕ} {xs : List T} {ks : List ℕ} (split : Split T)
     (content : IsContent s d n xs ks) (cut : Divides s t n half xs ks split.middle split.right)
     (low : half < length xs) where
   pub cut_agree : AgreeAt s t (flat_map (used s d) ks)
   cut_agree k among =
-      let kept : node_of cut.between k ≡ node_of s k =
-      cut.first.others k (content_apart s t d n xs ks content k among) in
-      let was : here s k ≡ 1 = content_there s t d n xs ks content k among in
+      let kept : node_of cut.between k ≡ node_of s k = cut.first.others k
+      (content_apart t content k among) in
+      let was : here s k ≡ 1 = content_there t content k among in
       cut.second.others k (λ same.
       let none : here cut.between k ≡ 0 =
       rw (same, cut.second.fresh) refl in let now : here cut.between k ≡ here s k =
@@ -267,27 +266,17 @@ module _ {T : Type 0} (s t : Heap T) (d n half : ℕ) (xs : List T) (ks : List �
       (used t (suc d) n ++ (used t (suc d) split.right ++ []))
   moved =
       let U = flat_map (used s d) ks in
-      let first =
-      Writes-moves s cut.between n (take half xs) (take (half + 1) ks)
-      (flat_map (used s d) ks) cut.first in
-      let second =
-      Stores-moves cut.between t split.right (drop (half + 1) xs) (drop (half + 1) ks)
-      (n ∷ flat_map (used s d) ks) cut.second in
-      Moves-like s t (n ∷ U) (n ∷ U) (split.right ∷ n ∷ U)
-      (used t (suc d) n ++ (used t (suc d) split.right ++ []))
+      let first = Writes-moves (flat_map (used s d) ks) cut.first in
+      let second = Stores-moves (n ∷ flat_map (used s d) ks) cut.second in
+      Moves-like (n ∷ U) (used t (suc d) n ++ (used t (suc d) split.right ++ []))
       (record { occur = λ k. refl; len = refl })
-      (halves_nodes s t d n split.right half xs ks content low left_holds right_holds)
-      (Moves-then s cut.between t (n ∷ U) (n ∷ U) (split.right ∷ n ∷ U) first second)
+      (halves_nodes half content low left_holds right_holds) (Moves-then first second)
 
   pub cut_settles : MIN_LEN ≤ half → half ≤ CAPACITY → half + 1 + MIN_LEN ≤ length xs
       → length xs ≤ half + 1 + CAPACITY → Settles s t d n xs ks (Some split)
   cut_settles least_left most_left least_right most_right = record {
-    listed =
-        halves_listed s t d n split.right half xs ks content low left_holds right_holds split.middle
-        cut.middle_is;
+    listed = halves_listed half content low left_holds right_holds split.middle cut.middle_is;
     moved = moved;
-    shape =
-        λ least small enough.
-        halves_shape s t d n split.right half xs ks content low left_holds right_holds least_left
+    shape = λ least small enough. halves_shape half content low left_holds right_holds least_left
         most_left least_right most_right least small;
   }

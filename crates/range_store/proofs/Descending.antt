@@ -37,39 +37,34 @@ module _ {T : Type 0} (p : T → Bool) (s : Heap T) where
       → Falls p (items_below s (suc below) number) → Descent below number below number 0 1
   begins below number shaped falls = record {
     ahead = 0;
-    lies = lies_itself s below number shaped;
+    lies = lies_itself s shaped;
     falls = falls;
     count = omega arith;
   }
 
-  pub descends : (below number left at path weight : ℕ) → left ≢ 0
+  pub descends : {below number left : ℕ} (at path weight : ℕ) → left ≢ 0
       → Descent below number left at path weight → (i : ℕ)
-      → i ≡ count_by p (items_of (node_of s at))
-      → Descent below number (left - 1) (get_or (children_of (node_of s at)) i 0)
-      (path + weight * i) (weight * PATH_BASE)
-  descends below number left at path weight inner d i count =
-      let back = level_of_children s left at inner d.lies.shaped in
+      → i ≡ count_by p (items_of (node_of s at)) → Descent below number (left - 1) (get_or
+      (children_of (node_of s at)) i 0) (path + weight * i) (weight * PATH_BASE)
+  descends {below} {number} {left} at path weight inner d i count =
+      let back = level_of_children inner d.lies.shaped in
       let low : i ≤ length (items_of (node_of s at)) =
       omega (arith, count, count_by-le-length p (items_of (node_of s at))) in
-      let step =
-      rw (← count) at (search_step p 1 CAPACITY s left at d.lies.shaped (omega (arith, inner))
-      d.falls) in
+      let step = rw (← count) at (search_step p d.lies.shaped (omega (arith, inner)) d.falls) in
       record {
         ahead = d.ahead + ahead_of s left at i;
-        lies = lies_in_child s below number left at path weight d.ahead inner d.lies i low;
-        falls =
-            rw (← back) at (kid_falls p 1 CAPACITY s left at d.lies.shaped
-            (omega (arith, inner)) i low d.falls);
+        lies = lies_in_child s at path weight d.ahead inner d.lies i low;
+        falls = rw (← back) at (kid_falls p d.lies.shaped (omega (arith, inner)) i low d.falls);
         count = rw back (omega (arith, d.count, step));
       }
 
   -- a leaf ends the path down
-  pub descent_ends : (below number left at path weight : ℕ) → left ≡ 0
+  pub descent_ends : {below number : ℕ} (left at path weight : ℕ) → left ≡ 0
       → Descent below number left at path weight → (i : ℕ)
       → i ≡ count_by p (items_of (node_of s at))
       → Outcome below number (record { path = path; leaf = at; index = i })
-  descent_ends below number (suc left) at path weight bottom d i count = absurd (omega arith)
-  descent_ends below number zero at path weight bottom d i count =
+  descent_ends {below} {number} (suc left) at path weight bottom d i count = absurd (omega arith)
+  descent_ends {below} {number} zero at path weight bottom d i count =
       let all = items_below_leaf s at d.lies.shaped.node.branches in
       let low : i ≤ length (items_of (node_of s at)) =
       omega (arith, count, count_by-le-length p (items_of (node_of s at))) in
@@ -94,11 +89,11 @@ adds_none count below =
     rw none (record { at_most = omega arith; at_least = omega arith })
 
 -- the steps of a node come to those of the nodes above
-pub adds_more : (first before after below left : ℕ) → left ≢ 0 → left ≤ below
+pub adds_more : {first before after : ℕ} (below left : ℕ) → left ≢ 0 → left ≤ below
     → AddsSteps first before (below - left) (MAX_ASKS * (below - left))
     → AddsSteps before after 1 MAX_ASKS
     → AddsSteps first after (below - (left - 1)) (MAX_ASKS * (below - (left - 1)))
-adds_more first before after below left inner low above here = record {
+adds_more below left inner low above here = record {
   at_most = omega (arith, inner, low, above.at_most, here.at_most);
   at_least = omega (arith, inner, low, above.at_least, here.at_least);
 }

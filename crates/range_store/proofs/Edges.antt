@@ -88,25 +88,22 @@ unfolding place
 place_inside s d n g = refl
 
 -- no edge lies past the end
-pub place_within : {T : Type 0} (s : Heap T) (d n : ℕ) (g : Edge) (least most : ℕ)
+pub place_within : {T : Type 0} {s : Heap T} (d : ℕ) {n : ℕ} (g : Edge) {least most : ℕ}
     → ShapedBut least most s d n → IsEdge s d n g → place s d n g ≤ length (items_below s (suc d) n)
-place_within s zero n g least most shaped is =
-    omega (
-      arith,
-      leaf_place s n g,
-      leaf_index s n g is,
-      ap length (items_below_leaf s n shaped.node.branches),
-    )
-place_within s (suc d) n g least most shaped is =
+place_within {T} {s} zero {n} g {least} {most} shaped is = omega (
+  arith,
+  leaf_place s n g,
+  leaf_index s n g is,
+  ap length (items_below_leaf s n shaped.node.branches),
+)
+place_within {T} {s} (suc d) {n} g {least} {most} shaped is =
     let xs = items_of (node_of s n) in
     let lists = map (items_below s (suc d)) (children_of (node_of s n)) in
     let i = turn g in
     let kid = get_or (children_of (node_of s n)) i 0 in
     let low : i ≤ length xs = omega (arith, turn_within s d n g is, shaped.node.branches) in
-    let further =
-    place_within s d kid (inside g) MIN_LEN CAPACITY
-    (kid_shaped least most s d n i shaped low) (edge_inside s d n g is) in
-    let whole = items_below_at least most s (suc d) n (omega arith) shaped i low in
+    let further = place_within d (inside g) (kid_shaped d i shaped low) (edge_inside s d n g is) in
+    let whole = items_below_at (omega arith) shaped i low in
     omega (
       arith,
       place_inside s d n g,

@@ -150,11 +150,11 @@ module _ {X : Type 0} (p : X → Bool) (xs : List X) where
     begun = inr refl;
   }
 
-  pub narrowed : (low left step new first now : ℕ) → 0 < step → step + step ≤ left + 1
+  pub narrowed : {low left : ℕ} (step new : ℕ) {first now : ℕ} → 0 < step → step + step ≤ left + 1
       → (low + step ≤ count_by p xs → new ≡ low + step) → (count_by p xs < low + step → new ≡ low)
       → Narrowed p xs low left first now
       → Narrowed p xs new (left - step) first (one_step_after now)
-  narrowed low left step new first now some half passes fails before =
+  narrowed {low} step new some half passes fails before =
       elim (cases_lt (count_by p xs) (low + step)) [
         | inl less ↦
             let is = fails less in

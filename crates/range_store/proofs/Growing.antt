@@ -29,7 +29,7 @@ module _ {T : Type 0} where
     pub children : children_of (node_of s n) ≡ us ++ (ms ++ vs)
     pub moved : Moves s t (flat_map (used s b) ms) (flat_map (used t b) ts)
 
-module _ {T : Type 0} (s t : Heap T) (b n : ℕ) (us ms vs ts : List ℕ)
+module _ {T : Type 0} {s t : Heap T} {b n : ℕ} {us ms vs ts : List ℕ}
     (run : Runs s t b n us ms vs ts) where
   abbrev rest : List ℕ
   rest = n ∷ (flat_map (used s b) us ++ flat_map (used s b) vs)
@@ -61,7 +61,7 @@ module _ {T : Type 0} (s t : Heap T) (b n : ℕ) (us ms vs ts : List ℕ)
   once k = omega (arith, occur_old k, run.owned k)
 
   agree : AgreeAt s t rest
-  agree = Moves-agree s t (flat_map (used s b) ms) (flat_map (used t b) ts) rest once run.moved
+  agree = Moves-agree rest once run.moved
 
   pub run_kept : node_of t n ≡ node_of s n
   run_kept =
@@ -93,9 +93,7 @@ module _ {T : Type 0} (s t : Heap T) (b n : ℕ) (us ms vs ts : List ℕ)
       ∙ rw (same_before.used_same, same_after.used_same) refl
 
   pub run_moved : Moves s t (used s (suc b) n) (n ∷ flat_map (used t b) (us ++ (ts ++ vs)))
-  run_moved =
-      Moves-like s t (flat_map (used s b) ms ++ rest) (used s (suc b) n)
-      (flat_map (used t b) ts ++ rest) (n ∷ flat_map (used t b) (us ++ (ts ++ vs)))
+  run_moved = Moves-like (used s (suc b) n) (n ∷ flat_map (used t b) (us ++ (ts ++ vs)))
       (record {
         occur = λ k. omega (arith, occur_old k, occurrences-append k (flat_map (used s b) ms) rest);
         len =
@@ -133,8 +131,7 @@ module _ {T : Type 0} (s t : Heap T) (b n : ℕ) (us ms vs ts : List ℕ)
               length-append (flat_map (used t b) ts) rest,
               length-append (flat_map (used s b) us) (flat_map (used s b) vs),
             );
-      })
-      (Moves-beside s t (flat_map (used s b) ms) (flat_map (used t b) ts) rest run.moved)
+      }) (Moves-beside rest run.moved)
 
   pub run_content : (xs : List T) → length (us ++ (ts ++ vs)) ≡ child_count b (length xs)
       → All (Shaped s b) us → All (Shaped t b) ts → All (Shaped s b) vs
@@ -156,16 +153,14 @@ module _ {T : Type 0} (s t : Heap T) (b n : ℕ) (us ms vs ts : List ℕ)
       ∙ rw (same_before.items_below_same, same_after.items_below_same) refl
 
 -- a written node in the place of what became of the old one
-pub settled_replaces : {T : Type 0} (s t u : Heap T) (b n : ℕ) (xs : List T) (ks : List ℕ)
-    (list : List T) (split : Option (Split T))
+pub settled_replaces : {T : Type 0} {s t u : Heap T} {b n : ℕ} {xs : List T} {ks : List ℕ}
+    (list : List T) {split : Option (Split T)}
     → Moves s t (used s (suc b) n) (n ∷ flat_map (used t b) ks)
     → weave xs (map (items_below t b) ks) ≡ list → length (items_of (node_of s n)) ≤ length xs
     → Settles t u b n xs ks split → Replaces s u b n split list
-settled_replaces {T} s t u b n xs ks list split moved listed more settles = record {
+settled_replaces {T} {s} {t} {u} {b} {n} {xs} {ks} list {split} moved listed more settles = record {
   listed = settles.listed ∙ listed;
-  moved =
-      Moves-then s t u (used s (suc b) n) (n ∷ flat_map (used t b) ks)
-      (flat_map (used u (suc b)) (tops n split)) moved settles.moved;
+  moved = Moves-then moved settles.moved;
   shape = λ least small enough. settles.shape least small (still least split enough);
 }
   where
@@ -175,11 +170,11 @@ settled_replaces {T} s t u b n xs ks list split moved listed more settles = reco
     still least (Some cut) enough = tt
 
 -- with all capacity that the item needs there is some for a cut
-pub content_room : {T : Type 0} (s t : Heap T) (b n : ℕ) (xs : List T) (ks : List ℕ)
+pub content_room : {T : Type 0} {s t : Heap T} {b n : ℕ} {xs : List T} {ks : List ℕ}
     → Moves s t (used s (suc b) n) (n ∷ flat_map (used t b) ks) → IsContent t b n xs ks
     → length (weave xs (map (items_below t b) ks)) ≡ length (items_below s (suc b) n) + 1
     → HasTreeRoom s (suc b) n 1 → CAPACITY < length xs → HasRoomFor t 1
-content_room s t b n xs ks moved content longer room over =
+content_room {T} {s} {t} {b} {n} {xs} {ks} moved content longer room over =
     let woven =
     length-weave xs (map (items_below t b) ks)
     (child_count_cases b (length xs) _ (length-map ks (items_below t b) ∙ content.branches))
@@ -188,11 +183,11 @@ content_room s t b n xs ks moved content longer room over =
     omega (arith, woven, few, longer, moved.len, room.filled, moved.capacity, over)
 
 -- the child at i became one or two, with one more item
-module _ {T : Type 0} (s t : Heap T) (b n i rest : ℕ) (item : T) (split : Option (Split T))
+module _ {T : Type 0} {s t : Heap T} {b n : ℕ} (i rest : ℕ) (item : T) {split : Option (Split T)}
     (inner : b ≢ 0) (shaped : ShapedBut 1 CAPACITY s b n) (owned : Owned s (suc b) n)
     (low : i ≤ length (items_of (node_of s n)))
-    (within : rest ≤ length (items_below s b (get_or (children_of (node_of s n)) i 0)))
-    (child : Replaces s t (b - 1) (get_or (children_of (node_of s n)) i 0) split
+    (within : rest ≤ length (items_below s b (get_or (children_of (node_of s n)) i 0))) (child :
+    Replaces s t (b - 1) (get_or (children_of (node_of s n)) i 0) split
     (insert (items_below s (suc (b - 1)) (get_or (children_of (node_of s n)) i 0)) rest item)) where
   abbrev xs : List T
   xs = items_of (node_of s n)
@@ -222,7 +217,7 @@ module _ {T : Type 0} (s t : Heap T) (b n i rest : ℕ) (item : T) (split : Opti
   level = omega arith
 
   many : length ks ≡ length xs + 1
-  many = children_length 1 CAPACITY s b n (omega arith) shaped
+  many = children_length (omega arith) shaped
 
   ks_parts : ks ≡ us ++ (kid ∷ vs)
   ks_parts = list_splits_at ks i 0 (omega (arith, many))
@@ -231,20 +226,20 @@ module _ {T : Type 0} (s t : Heap T) (b n i rest : ℕ) (item : T) (split : Opti
   kid_shape = Shaped-but s (b - 1) kid (rw (← level) at (shaped.children i 0 (omega (arith, many))))
 
   grown_run : Runs s t b n us (kid ∷ []) vs (tops kid split)
-  grown_run = record {
-    present = shaped.node.present;
-    owned = owned;
-    children = ks_parts;
-    moved =
-        subst (λ zs. Moves s t zs (flat_map (used t b) (tops kid split)))
-        (sym (append-nil (used s b kid))) (rw level at child.moved);
-  }
+  grown_run =
+      record {
+        present = shaped.node.present;
+        owned = owned;
+        children = ks_parts;
+        moved = subst (λ zs. Moves s t zs (flat_map (used t b) (tops kid split)))
+            (sym (append-nil (used s b kid))) (rw level at child.moved);
+      }
 
   pub grown_kept : node_of t n ≡ node_of s n
-  grown_kept = run_kept s t b n us (kid ∷ []) vs (tops kid split) grown_run
+  grown_kept = run_kept grown_run
 
   pub grown_moved : Moves s t (used s (suc b) n) (n ∷ flat_map (used t b) new_ks)
-  grown_moved = run_moved s t b n us (kid ∷ []) vs (tops kid split) grown_run
+  grown_moved = run_moved grown_run
 
   tops_shaped : All (Shaped t b) (tops kid split)
   tops_shaped =
@@ -267,23 +262,20 @@ module _ {T : Type 0} (s t : Heap T) (b n i rest : ℕ) (item : T) (split : Opti
   front_many = length-take-le i xs low
 
   pub grown_content : IsContent t b n new_xs new_ks
-  grown_content =
-      run_content s t b n us (kid ∷ []) vs (tops kid split) grown_run new_xs
-      (omega (
-        arith,
-        child_count_inner b (length new_xs) (omega arith),
-        length-append us (tops kid split ++ vs),
-        length-append (tops kid split) vs,
-        tops_many split,
-        us_many,
-        length-append (take i xs) (separators split ++ drop i xs),
-        length-append (separators split) (drop i xs),
-        front_many,
-        length-drop i xs,
-        length-drop (i + 1) ks,
-        many,
-      ))
-      (All-take (Shaped s b) i ks shaped.children) tops_shaped
+  grown_content = run_content grown_run new_xs (omega (
+    arith,
+    child_count_inner b (length new_xs) (omega arith),
+    length-append us (tops kid split ++ vs),
+    length-append (tops kid split) vs,
+    tops_many split,
+    us_many,
+    length-append (take i xs) (separators split ++ drop i xs),
+    length-append (separators split) (drop i xs),
+    front_many,
+    length-drop i xs,
+    length-drop (i + 1) ks,
+    many,
+  )) (All-take (Shaped s b) i ks shaped.children) tops_shaped
       (All-drop (Shaped s b) (i + 1) ks shaped.children)
 
   abbrev lists : List (List T)
@@ -310,8 +302,8 @@ module _ {T : Type 0} (s t : Heap T) (b n i rest : ℕ) (item : T) (split : Opti
   grown_listed =
       let inserted : weave (separators split) (map (items_below t b) (tops kid split))
       ≡ insert (items_below s b kid) rest item = rw level at child.listed in
-      let whole = items_below_at 1 CAPACITY s b n (omega arith) shaped i low in
-      ap (weave new_xs) (run_lists s t b n us (kid ∷ []) vs (tops kid split) grown_run)
+      let whole = items_below_at (omega arith) shaped i low in
+      ap (weave new_xs) (run_lists grown_run)
       ∙ woven split
       ∙ rw (inserted, ← take-map (items_below s b) i ks, ← drop-map (items_below s b) (i + 1) ks)
       refl
@@ -322,7 +314,7 @@ module _ {T : Type 0} (s t : Heap T) (b n i rest : ℕ) (item : T) (split : Opti
   pub grown_longer : length (weave new_xs (map (items_below t b) new_ks))
       ≡ length (items_below s (suc b) n) + 1
   grown_longer =
-      let whole = items_below_at 1 CAPACITY s b n (omega arith) shaped i low in
+      let whole = items_below_at (omega arith) shaped i low in
       let place : length (before xs lists i) + rest ≤ length (items_below s (suc b) n) =
       omega (
         arith,
@@ -348,8 +340,7 @@ module _ {T : Type 0} (s t : Heap T) (b n i rest : ℕ) (item : T) (split : Opti
       let sums = ap (λ m. sum_by length (map (items_below t m) us)) level in
       let front =
       length-before xs lists i low (omega (arith, many, length-map ks (items_below s b))) in
-      let same : map (items_below t b) us ≡ take i lists =
-      (same_before s t b n us (kid ∷ []) vs (tops kid split) grown_run).items_below_same
+      let same : map (items_below t b) us ≡ take i lists = (same_before grown_run).items_below_same
       ∙ sym (take-map (items_below s b) i ks) in
       (rw level at all.0, omega (arith, all.1, front, here, sums, ap (sum_by length) same))
 
@@ -381,11 +372,11 @@ kid_owned s b n i owned low k =
     )
 
 -- a child that was not cut leaves the node as it is
-module _ {T : Type 0} (s t : Heap T) (b n i rest : ℕ) (item : T) (inner : b ≢ 0)
+module _ {T : Type 0} {s t : Heap T} {b n : ℕ} (i rest : ℕ) (item : T) (inner : b ≢ 0)
     (shaped : ShapedBut 1 CAPACITY s b n) (owned : Owned s (suc b) n)
     (low : i ≤ length (items_of (node_of s n)))
-    (within : rest ≤ length (items_below s b (get_or (children_of (node_of s n)) i 0)))
-    (child : Replaces s t (b - 1) (get_or (children_of (node_of s n)) i 0) None
+    (within : rest ≤ length (items_below s b (get_or (children_of (node_of s n)) i 0))) (child :
+    Replaces s t (b - 1) (get_or (children_of (node_of s n)) i 0) None
     (insert (items_below s (suc (b - 1)) (get_or (children_of (node_of s n)) i 0)) rest item)) where
   abbrev xs' : List T
   xs' = take i (items_of (node_of s n)) ++ drop i (items_of (node_of s n))
@@ -396,24 +387,24 @@ module _ {T : Type 0} (s t : Heap T) (b n i rest : ℕ) (item : T) (inner : b �
       ++ (get_or (children_of (node_of s n)) i 0 ∷ drop (i + 1) (children_of (node_of s n)))
 
   kept : node_of t n ≡ node_of s n
-  kept = grown_kept s t b n i rest item None inner shaped owned low within child
+  kept = grown_kept i rest item inner shaped owned low within child
 
   content : IsContent t b n xs' ks'
-  content = grown_content s t b n i rest item None inner shaped owned low within child
+  content = grown_content i rest item inner shaped owned low within child
 
   written : Writes t t n xs' ks'
-  written = record {
-    was = content.present;
-    present = content.present;
-    items_are = ap items_of kept ∙ sym (take-append-drop i (items_of (node_of s n)));
-    children_are =
-        ap children_of kept
-        ∙ list_splits_at (children_of (node_of s n)) i 0
-        (omega (arith, children_length 1 CAPACITY s b n (omega arith) shaped));
-    others = λ k other. refl;
-    len = refl;
-    capacity = refl;
-  }
+  written =
+      record {
+        was = content.present;
+        present = content.present;
+        items_are = ap items_of kept ∙ sym (take-append-drop i (items_of (node_of s n)));
+        children_are = ap children_of kept
+            ∙ list_splits_at (children_of (node_of s n)) i 0
+            (omega (arith, children_length (omega arith) shaped));
+        others = λ k other. refl;
+        len = refl;
+        capacity = refl;
+      }
 
   same_length : length xs' ≡ length (items_of (node_of s n))
   same_length = ap length (take-append-drop i (items_of (node_of s n)))
@@ -422,13 +413,9 @@ module _ {T : Type 0} (s t : Heap T) (b n i rest : ℕ) (item : T) (inner : b �
       (insert (items_below s (suc b) n)
       (length (before (items_of (node_of s n))
       (map (items_below s b) (children_of (node_of s n))) i) + rest) item)
-  none_replaces =
-      settled_replaces s t t b n xs' ks' _ None
-      (grown_moved s t b n i rest item None inner shaped owned low within child)
-      (grown_listed s t b n i rest item None inner shaped owned low within child)
-      (omega (arith, same_length))
-      (written_settles t t b n xs' ks' content written
-      (omega (arith, same_length, shaped.node.fits)))
+  none_replaces = settled_replaces _ (grown_moved i rest item inner shaped owned low within child)
+      (grown_listed i rest item inner shaped owned low within child) (omega (arith, same_length))
+      (written_settles t content written (omega (arith, same_length, shaped.node.fits)))
 
   pub none_edge : (side : ℕ) (g h : Edge) → turn h ≡ i → inside h ≡ g
       → IsSeat t (suc (b - 1)) (separators {T = T} None)
@@ -439,41 +426,36 @@ module _ {T : Type 0} (s t : Heap T) (b n i rest : ℕ) (item : T) (inner : b �
       seat_place t (suc (b - 1)) (separators {T = T} None)
       (tops {T = T} (get_or (children_of (node_of s n)) i 0) None) side g)
   none_edge side g h at into seat =
-      let up =
-      grown_seat s t b n i rest item None inner shaped owned low within child side g seat in
+      let up = grown_seat i rest item inner shaped owned low within child side g seat in
       let one =
       seat_side t (b - 1) (separators {T = T} None)
       (tops {T = T} (get_or (children_of (node_of s n)) i 0) None) side g seat in
-      let holds = written_holds t t b n xs' ks' content written in
-      let agree = written_agree t t b n xs' ks' content written in
+      let holds = written_holds t content written in
+      let agree = written_agree t content written in
       let edge =
       seat_written t t n xs' ks' (i + side) g h b holds agree (λ none. absurd (inner none))
       (λ some. omega (arith, at, one)) (λ some. into) up.0 in
       (edge.0, edge.1 ∙ up.1)
 
 -- a node that may be cut has the item between the halves of its child, and the second of them
-module _ {T : Type 0} (s t : Heap T) (b n i rest : ℕ) (item : T) (split : Split T) (inner : b ≢ 0)
-    (shaped : ShapedBut 1 CAPACITY s b n) (owned : Owned s (suc b) n)
+module _ {T : Type 0} {s t : Heap T} {b n : ℕ} (i rest : ℕ) (item : T) (split : Split T)
+    (inner : b ≢ 0) (shaped : ShapedBut 1 CAPACITY s b n) (owned : Owned s (suc b) n)
     (low : i ≤ length (items_of (node_of s n)))
-    (within : rest ≤ length (items_below s b (get_or (children_of (node_of s n)) i 0)))
-    (child : Replaces s t (b - 1) (get_or (children_of (node_of s n)) i 0) (Some split)
+    (within : rest ≤ length (items_below s b (get_or (children_of (node_of s n)) i 0))) (child :
+    Replaces s t (b - 1) (get_or (children_of (node_of s n)) i 0) (Some split)
     (insert (items_below s (suc (b - 1)) (get_or (children_of (node_of s n)) i 0)) rest item)) where
   pub some_items : take i (items_of (node_of s n))
       ++ (split.middle ∷ drop i (items_of (node_of s n)))
       ≡ insert (items_of (node_of t n)) i split.middle
-  some_items =
-      ap (λ zs. insert zs i split.middle)
-      (sym
-      (ap items_of (grown_kept s t b n i rest item
-      (Some split) inner shaped owned low within child)))
+  some_items = ap (λ zs. insert zs i split.middle)
+      (sym (ap items_of (grown_kept i rest item inner shaped owned low within child)))
 
   pub some_children : take i (children_of (node_of s n))
       ++ (get_or (children_of (node_of s n)) i 0 ∷ split.right ∷ drop (i + 1)
       (children_of (node_of s n))) ≡ insert (children_of (node_of t n)) (i + 1) split.right
-  some_children =
-      sym (with_right (children_of (node_of s n)) i split.right
-      (omega (arith, children_length 1 CAPACITY s b n (omega arith) shaped)))
+  some_children = sym (with_right (children_of (node_of s n)) i split.right (omega (
+    arith,
+    children_length (omega arith) shaped,
+  )))
       ∙ ap (λ zs. insert zs (i + 1) split.right)
-      (sym
-      (ap children_of (grown_kept s t b n i rest item
-      (Some split) inner shaped owned low within child)))
+      (sym (ap children_of (grown_kept i rest item inner shaped owned low within child)))

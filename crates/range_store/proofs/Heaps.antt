@@ -58,17 +58,17 @@ module _ {T : Type 0} where
       ap (λ ys. Some (record { items = ys; children = node.children })) items
       ∙ ap (λ ls. Some (record { items = xs; children = ls })) children
 
-  written_is : (s t : Heap T) (n : ℕ) (xs : List T) (ks : List ℕ) → Writes s t n xs ks
+  written_is : {s t : Heap T} {n : ℕ} {xs : List T} {ks : List ℕ} → Writes s t n xs ks
       → node_of t n ≡ Some (record { items = xs; children = ks })
-  written_is s t n xs ks writes = content_is (node_of t n) xs ks writes.present writes.items_are
-      writes.children_are
+  written_is {s} {t} {n} {xs} {ks} writes = content_is (node_of t n) xs ks writes.present
+      writes.items_are writes.children_are
 
   -- a write between two heaps that differ from two others at another node alone
-  writes_along : (s t u v : Heap T) (n m : ℕ) (xs : List T) (ks : List ℕ) → n ≢ m
+  writes_along : {s t : Heap T} (u v : Heap T) {n : ℕ} (m : ℕ) {xs : List T} {ks : List ℕ} → n ≢ m
       → Writes s t n xs ks → ((k : ℕ) → k ≢ m → node_of u k ≡ node_of s k)
       → ((k : ℕ) → k ≢ m → node_of v k ≡ node_of t k) → node_of v m ≡ node_of u m
       → node_count v ≡ node_count u → v.capacity ≡ u.capacity → Writes u v n xs ks
-  writes_along s t u v n m xs ks apart writes before after here len capacity =
+  writes_along {s} {t} u v {n} m apart writes before after here len capacity =
       record {
         was = rw (before n apart) writes.was;
         present = rw (after n apart) writes.present;
@@ -90,9 +90,9 @@ module _ {T : Type 0} where
       pub first : Writes s between m ys ls
       pub second : Writes between u n xs ks
 
-    pub write_first : (ys : List T) (ls : List ℕ) → Writes s t n xs ks → Writes t u m ys ls
+    pub write_first : {ys : List T} {ls : List ℕ} → Writes s t n xs ks → Writes t u m ys ls
         → WritesFirst ys ls
-    write_first ys ls one two =
+    write_first {ys} {ls} one two =
         let present : HasNode s m = rw (one.others m apart) at two.was in
         let between = with_slot s m (Some (record { items = ys; children = ls })) in
         let first : Writes s between m ys ls = writes_slot s m
@@ -100,9 +100,9 @@ module _ {T : Type 0} where
         record {
           between = between;
           first = first;
-          second = writes_along s t between u n m xs ks (λ e. apart (sym e)) one first.others
-              two.others (written_is t u m ys ls two ∙ sym (written_is s between m ys ls first))
-              (two.len ∙ one.len ∙ sym first.len) (two.capacity ∙ one.capacity
+          second = writes_along between u m (λ e. apart (sym e)) one first.others two.others
+              (written_is two ∙ sym (written_is first)) (two.len ∙ one.len ∙ sym first.len)
+              (two.capacity ∙ one.capacity
               ∙ sym first.capacity);
         }
 
@@ -119,8 +119,8 @@ module _ {T : Type 0} where
         record {
           between = between;
           first = first;
-          second = writes_along s t between u n m xs ks (λ e. apart (sym e)) one first.others
-              two.others (two.gone ∙ sym first.gone) (omega (arith, two.len, one.len, first.len))
+          second = writes_along between u m (λ e. apart (sym e)) one first.others two.others
+              (two.gone ∙ sym first.gone) (omega (arith, two.len, one.len, first.len))
               (two.capacity ∙ one.capacity ∙ sym first.capacity);
         }
 
@@ -144,8 +144,8 @@ module _ {T : Type 0} where
             gone = two.others m apart ∙ one.gone;
             others = λ k other.
                 elim (cases_eq k n) [
-                  | inl same ↦ rw same (written_is t u n xs ks two
-                      ∙ sym (written_is s between n xs ks first))
+                  | inl same ↦ rw same (written_is two
+                      ∙ sym (written_is first))
                   | inr differs ↦ two.others k differs ∙ one.others k other
                       ∙ sym (first.others k differs)
                 ];

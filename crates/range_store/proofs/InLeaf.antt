@@ -28,10 +28,10 @@ module _ {T : Type 0} where
     pub childless : length (children_of (node_of s g.leaf)) ≡ 0
     pub within : g.index ≤ length (items_of (node_of s g.leaf))
 
-pub leaf_of_edge : {T : Type 0} (s : Heap T) (d n : ℕ) (g : Edge) → ShapedBut 1 CAPACITY s d n
+pub leaf_of_edge : {T : Type 0} {s : Heap T} (d : ℕ) {n : ℕ} (g : Edge) → ShapedBut 1 CAPACITY s d n
     → IsEdge s d n g → IsLeafOf s g
 unfolding IsEdge
-leaf_of_edge s zero n g shaped is =
+leaf_of_edge {T} {s} zero {n} g shaped is =
     rw is.0 (record {
       present = shaped.node.present;
       some = shaped.node.enough;
@@ -39,13 +39,12 @@ leaf_of_edge s zero n g shaped is =
       childless = shaped.node.branches;
       within = is.2;
     })
-leaf_of_edge s (suc d) n g shaped is =
+leaf_of_edge {T} {s} (suc d) {n} g shaped is =
     let low : turn g ≤ length (items_of (node_of s n)) =
     omega (arith, is.0, shaped.node.branches) in
-    let below =
-    leaf_of_edge s d _ (inside g)
-    (shaped_within_wider 1 MIN_LEN CAPACITY CAPACITY s d _ (omega arith) (omega arith)
-    (kid_shaped 1 CAPACITY s d n (turn g) shaped low)) is.1 in
+    let below = leaf_of_edge d (inside g)
+    (shaped_within_wider 1 CAPACITY (omega arith) (omega arith) (kid_shaped d (turn g) shaped low))
+    is.1 in
     record {
       present = below.present;
       some = below.some;

@@ -39,11 +39,10 @@ module _ {T : Type 0} where
         → IsEdge t d n h × (place t d n h ≡ length front + h.index)
 
 -- of a leaf itself
-module _ {T : Type 0} (s t : Heap T) (n : ℕ) (g : Edge) (items : List T)
-    (fits : length items ≤ CAPACITY)
-    (enough : (least : ℕ) → least ≤ MIN_LEN → least ≤ length (items_of (node_of s n))
-    → least ≤ length items) (shaped : ShapedBut 1 CAPACITY s zero n) (owned : Owned s 1 n)
-    (written : Writes s t n items (children_of (node_of s n))) where
+module _ {T : Type 0} {s t : Heap T} {n : ℕ} (g : Edge) {items : List T}
+    (fits : length items ≤ CAPACITY) (enough : (least : ℕ) → least ≤ MIN_LEN → least ≤ length
+    (items_of (node_of s n)) → least ≤ length items) (shaped : ShapedBut 1 CAPACITY s zero n)
+    (owned : Owned s 1 n) (written : Writes s t n items (children_of (node_of s n))) where
   content : IsContent s zero n items (children_of (node_of s n))
   content = record {
     present = shaped.node.present;
@@ -53,7 +52,7 @@ module _ {T : Type 0} (s t : Heap T) (n : ℕ) (g : Edge) (items : List T)
   }
 
   holds : Holds s t zero n items (children_of (node_of s n))
-  holds = written_holds s t zero n items (children_of (node_of s n)) content written
+  holds = written_holds t content written
 
   edited_here : g.leaf ≡ n → g.path ≡ 0 → IsLeafEdit s t zero n g items
   edited_here at first =
@@ -66,16 +65,13 @@ module _ {T : Type 0} (s t : Heap T) (n : ℕ) (g : Edge) (items : List T)
             ∙ sym (append-nil (items_of (node_of s n))));
         place_is = omega (arith, leaf_place s n g);
         rewritten = record {
-          listed =
-              held_items_below s t zero n _ _ holds
+          listed = held_items_below holds
               ∙ ap (λ zs. weave items (map (items_below s zero) zs)) childless
               ∙ sym (append-nil items);
-          moved =
-              rw (used_is s zero n, held_used s t zero n _ _ holds)
-              (Writes-moves s t n _ _ (flat_map (used s zero) (children_of (node_of s n))) written);
-          shape =
-              λ least small old. held_shape s t zero n _ _ holds least
-              (enough least small old.node.enough) fits shaped.node.branches shaped.children;
+          moved = rw (used_is s zero n, held_used holds)
+              (Writes-moves (flat_map (used s zero) (children_of (node_of s n))) written);
+          shape = λ least small old. held_shape holds least (enough least small old.node.enough)
+              fits shaped.node.branches shaped.children;
         };
         edges =
             λ h leaf path index. (
@@ -86,7 +82,7 @@ module _ {T : Type 0} (s t : Heap T) (n : ℕ) (g : Edge) (items : List T)
       }
 
 -- of a leaf below the child through which the path goes
-module _ {T : Type 0} (s t : Heap T) (d n : ℕ) (g : Edge) (items : List T)
+module _ {T : Type 0} {s t : Heap T} {d n : ℕ} (g : Edge) {items : List T}
     (shaped : ShapedBut 1 CAPACITY s (suc d) n) (owned : Owned s (suc (suc d)) n)
     (low : turn g ≤ length (items_of (node_of s n)))
     (within : turn g < length (children_of (node_of s n)))
@@ -106,74 +102,64 @@ module _ {T : Type 0} (s t : Heap T) (d n : ℕ) (g : Edge) (items : List T)
         (turn g)
 
     kept : node_of t n ≡ node_of s n
-    kept =
-        kid_kept s t (suc d) n (turn g) _ inner shaped owned low below.rewritten.listed
-        below.rewritten.moved
+    kept = kid_kept (turn g) _ inner shaped owned low below.rewritten.listed below.rewritten.moved
 
     kid_now : Shaped t (suc d) (get_or (children_of (node_of s n)) (turn g) 0)
-    kid_now =
-        Shaped-from_but t d _ (below.rewritten.shape MIN_LEN (omega arith)
-        (kid_shaped 1 CAPACITY s d n (turn g) shaped low))
+    kid_now = Shaped-from_but t d _
+        (below.rewritten.shape MIN_LEN (omega arith) (kid_shaped d (turn g) shaped low))
 
     edited_above : IsLeafEdit s t (suc d) n g items
     edited_above = record {
       front = fore ++ below.front;
       rest = below.rest ++ behind;
-      was =
-          items_below_at 1 CAPACITY s (suc d) n (omega arith) shaped (turn g) low
+      was = items_below_at (omega arith) shaped (turn g) low
           ∙ ap (λ zs. fore ++ (zs ++ behind)) below.was
           ∙ regroup fore below.front (items_of (node_of s g.leaf)) below.rest behind;
       place_is =
           omega (arith, place_inside s d n g, below.place_is, length-append fore below.front);
       rewritten = record {
-        listed =
-            kid_listed s t (suc d) n
-            (turn g) _ inner shaped owned low below.rewritten.listed below.rewritten.moved
+        listed = kid_listed (turn g) _ inner shaped owned low below.rewritten.listed
+            below.rewritten.moved
             ∙ regroup fore below.front items below.rest behind;
-        moved =
-            kid_moved s t (suc d) n (turn g) _ inner shaped owned low below.rewritten.listed
+        moved = kid_moved (turn g) _ inner shaped owned low below.rewritten.listed
             below.rewritten.moved;
         shape = λ least small old. record {
-          node = IsNode-same least CAPACITY s t (suc d) n kept old.node;
-          children =
-              kid_children s t (suc d) n
-              (turn g) _ inner shaped owned low below.rewritten.listed below.rewritten.moved
-              kid_now;
+          node = IsNode-same t kept old.node;
+          children = kid_children (turn g) _ inner shaped owned low below.rewritten.listed
+              below.rewritten.moved kid_now;
         };
       };
       edges = λ h leaf path index.
           let first : turn h ≡ turn g = ap (λ w. w % PATH_BASE) path in
           let further = below.edges (inside h) leaf (ap (λ w. w / PATH_BASE) path) index in
           let now = rw (kept, first) at (place_inside t d n h) in
-          let fronts =
-          rw kept at (kid_front s t (suc d) n
-          (turn g) _ inner shaped owned low below.rewritten.listed below.rewritten.moved) in (
+          let fronts = rw kept at
+          (kid_front (turn g) _ inner shaped owned low below.rewritten.listed below.rewritten.moved)
+          in (
             edge_above t d n (turn g) (inside h) h first refl (rw kept within) (rw kept further.0),
             omega (arith, now, fronts, further.1, length-append fore below.front),
           );
     }
 
-pub leaf_edit : {T : Type 0} (s t : Heap T) (d n : ℕ) (g : Edge) (items : List T)
-    → length items ≤ CAPACITY
-    → ((least : ℕ) → least ≤ MIN_LEN → least ≤ length (items_of (node_of s g.leaf))
-    → least ≤ length items) → ShapedBut 1 CAPACITY s d n → Owned s (suc d) n → IsEdge s d n g
-    → Writes s t g.leaf items (children_of (node_of s g.leaf)) → IsLeafEdit s t d n g items
+pub leaf_edit : {T : Type 0} {s t : Heap T} (d : ℕ) {n : ℕ} (g : Edge) {items : List T}
+    → length items ≤ CAPACITY → ((least : ℕ) → least ≤ MIN_LEN → least ≤ length
+    (items_of (node_of s g.leaf)) → least ≤ length items) → ShapedBut 1 CAPACITY s d n
+    → Owned s (suc d) n → IsEdge s d n g → Writes s t g.leaf items (children_of (node_of s g.leaf))
+    → IsLeafEdit s t d n g items
 unfolding IsEdge
-leaf_edit s t zero n g items fits enough shaped owned is written =
-    edited_here s t n g items fits (rw is.0 at enough) shaped owned (rw is.0 at written) is.0 is.1
-leaf_edit s t (suc d) n g items fits enough shaped owned is written =
+leaf_edit {T} {s} {t} zero {n} g {items} fits enough shaped owned is written = edited_here g fits
+    (rw is.0 at enough) shaped owned (rw is.0 at written) is.0 is.1
+leaf_edit {T} {s} {t} (suc d) {n} g {items} fits enough shaped owned is written =
     let low : turn g ≤ length (items_of (node_of s n)) =
     omega (arith, is.0, shaped.node.branches) in
     let kid = get_or (children_of (node_of s n)) (turn g) 0 in
-    let kid_whole =
-    shaped_within_wider 1 MIN_LEN CAPACITY CAPACITY s d kid (omega arith) (omega arith)
-    (kid_shaped 1 CAPACITY s d n (turn g) shaped low) in
-    edited_above s t d n g items shaped owned low is.0
-    (leaf_edit s t d kid (inside g) items fits enough kid_whole
+    let kid_whole = shaped_within_wider 1 CAPACITY (omega arith) (omega arith)
+    (kid_shaped d (turn g) shaped low) in
+    edited_above g shaped owned low is.0 (leaf_edit d (inside g) fits enough kid_whole
     (kid_owned s (suc d) n (turn g) owned is.0) is.1 written)
 
 -- an item more, before the edge
-module _ {T : Type 0} (s t : Heap T) (d n : ℕ) (item : T) (g : Edge)
+module _ {T : Type 0} {s t : Heap T} {d n : ℕ} (item : T) {g : Edge}
     (edit : IsLeafEdit s t d n g (insert (items_of (node_of s g.leaf)) g.index item))
     (within : g.index ≤ length (items_of (node_of s g.leaf))) where
   pub inserted_in_leaf : edit.front
@@ -186,7 +172,7 @@ module _ {T : Type 0} (s t : Heap T) (d n : ℕ) (item : T) (g : Edge)
       ∙ ap (λ zs. insert zs (place s d n g) item) (sym edit.was)
 
 -- an item less, from before the edge
-module _ {T : Type 0} (s t : Heap T) (d n : ℕ) (g : Edge)
+module _ {T : Type 0} {s t : Heap T} {d n : ℕ} {g : Edge}
     (edit : IsLeafEdit s t d n g (remove (items_of (node_of s g.leaf)) (g.index - 1)))
     (some : 0 < g.index) (within : g.index ≤ length (items_of (node_of s g.leaf))) where
   pub removed_in_leaf : edit.front
@@ -201,7 +187,7 @@ module _ {T : Type 0} (s t : Heap T) (d n : ℕ) (g : Edge)
       ∙ ap (λ zs. remove zs (place s d n g - 1)) (sym edit.was)
 
 -- the leaf of an edge of a whole tree, with an item more or less
-module _ {T : Type 0} (t : BoxStorage T) (new : Heap T) (g : Edge) (is : IsBoxEdge t g) where
+module _ {T : Type 0} {t : BoxStorage T} (new : Heap T) {g : Edge} (is : IsBoxEdge t g) where
   abbrev items : List T
   items = items_of (node_of t.nodes g.leaf)
 
@@ -209,13 +195,13 @@ module _ {T : Type 0} (t : BoxStorage T) (new : Heap T) (g : Edge) (is : IsBoxEd
   level = omega (arith, is.some)
 
   shaped : ShapedBut 1 CAPACITY t.nodes (t.levels - 1) t.root
-  shaped = root_shaped t.nodes t.levels t.root is.some t.whole.tree
+  shaped = root_shaped t.levels is.some t.whole.tree
 
   owned : Owned t.nodes (suc (t.levels - 1)) t.root
-  owned = rw level (tree_owned t.nodes t.levels t.root t.whole.tree)
+  owned = rw level (tree_owned t.whole.tree)
 
   leaf : IsLeafOf t.nodes g
-  leaf = leaf_of_edge t.nodes (t.levels - 1) t.root g shaped is.edge
+  leaf = leaf_of_edge (t.levels - 1) g shaped is.edge
 
   -- the tree then, and the edge there that has so many items of the leaf before it
   pub record IsLeafChange (list : List T) (h : Edge) (before : ℕ) : Type 0 where
@@ -225,13 +211,12 @@ module _ {T : Type 0} (t : BoxStorage T) (new : Heap T) (g : Edge) (is : IsBoxEd
     pub edge : IsEdge new (t.levels - 1) t.root h
     pub place_is : place new (t.levels - 1) t.root h + g.index ≡ box_place t g + before
 
-  leaf_change_lists : (now list : List T) (h : Edge)
+  leaf_change_lists : {now : List T} (list : List T) (h : Edge)
       (edit : IsLeafEdit t.nodes new (t.levels - 1) t.root g now)
       → edit.front ++ (now ++ edit.rest) ≡ list → h.leaf ≡ g.leaf → h.path ≡ g.path
       → h.index ≤ length now → IsLeafChange list h h.index
-  leaf_change_lists now list h edit same at path within =
-      let whole =
-      rewritten_tree t.nodes new t.levels t.root _ is.some t.whole.tree edit.rewritten in
+  leaf_change_lists list h edit same at path within =
+      let whole = rewritten_tree t.levels is.some t.whole.tree edit.rewritten in
       let edge = edit.edges h at path within in
       record {
         tree = whole.0;
@@ -248,13 +233,10 @@ module _ {T : Type 0} (t : BoxStorage T) (new : Heap T) (g : Edge) (is : IsBoxEd
   put_in_leaf item h room written at path next =
       let within = leaf.within in
       let more = length-insert items g.index item within in
-      let edit =
-      leaf_edit t.nodes new (t.levels - 1) t.root g (insert items g.index item)
-      (omega (arith, more, room))
+      let edit = leaf_edit (t.levels - 1) g (omega (arith, more, room))
       (λ least small old. omega (arith, more, old)) shaped owned is.edge written in
-      leaf_change_lists (insert items g.index item) _ h edit
-      (rw level at (inserted_in_leaf t.nodes new (t.levels - 1) t.root item g edit within)) at
-      path (omega (arith, more, next, within))
+      leaf_change_lists _ h edit (rw level at (inserted_in_leaf item edit within)) at path
+      (omega (arith, more, next, within))
 
   pub take_from_leaf : (h : Edge) → MIN_LEN < length items → 0 < g.index
       → Writes t.nodes new g.leaf (remove items (g.index - 1))
@@ -263,10 +245,7 @@ module _ {T : Type 0} (t : BoxStorage T) (new : Heap T) (g : Edge) (is : IsBoxEd
   take_from_leaf h spare some written at path back =
       let within = leaf.within in
       let less = length-remove items (g.index - 1) (omega (arith, within, some)) in
-      let edit =
-      leaf_edit t.nodes new (t.levels - 1) t.root g (remove items (g.index - 1))
-      (omega (arith, less, leaf.fits))
+      let edit = leaf_edit (t.levels - 1) g (omega (arith, less, leaf.fits))
       (λ least small old. omega (arith, less, spare, small)) shaped owned is.edge written in
-      leaf_change_lists (remove items (g.index - 1)) _ h edit
-      (rw level at (removed_in_leaf t.nodes new (t.levels - 1) t.root g edit some within)) at
-      path (omega (arith, less, back, within))
+      leaf_change_lists _ h edit (rw level at (removed_in_leaf edit some within)) at path
+      (omega (arith, less, back, within))

@@ -125,12 +125,12 @@ module _ {T : Type 0} (s : Heap T) (d l : ℕ) (x : T) (r : ℕ) (pair : IsPair 
   pair_length = omega (arith, length-append (items_of (node_of s l)) (x ∷ items_of (node_of s r)))
 
   -- all of it in the left node
-  module _ (t u : Heap T) (written : Writes s t l xs ks) (removed : Removes t u r)
+  module _ {t u : Heap T} (written : Writes s t l xs ks) (removed : Removes t u r)
       (few : length xs ≤ CAPACITY) where
     gone_apart : (k : ℕ) → 0 < occurrences k F → node_of u k ≡ node_of s k
     gone_apart k among =
         removed.others k (right_apart k among)
-        ∙ written.others k (content_apart s t d l xs ks pair_content k among)
+        ∙ written.others k (content_apart t pair_content k among)
 
     l_kept : node_of u l ≡ node_of t l
     l_kept = removed.others l pair_apart
@@ -148,28 +148,22 @@ module _ {T : Type 0} (s : Heap T) (d l : ℕ) (x : T) (r : ℕ) (pair : IsPair 
     united_agree = gone_apart
 
     united_used : used u (suc d) l ≡ l ∷ F
-    united_used = held_used s u d l xs ks united_holds
+    united_used = held_used united_holds
 
     pub united_rejoins : Rejoins s u d l x r None
     united_rejoins = record {
-      listed =
-          append-nil (items_below u (suc d) l) ∙ held_items_below s u d l xs ks united_holds
+      listed = append-nil (items_below u (suc d) l) ∙ held_items_below united_holds
           ∙ pair_listed;
-      moved =
-          Moves-like s u (r ∷ l ∷ F) (used s (suc d) l ++ used s (suc d) r) (l ∷ F)
-          (used u (suc d) l ++ [])
+      moved = Moves-like (used s (suc d) l ++ used s (suc d) r) (used u (suc d) l ++ [])
           (record { occur = λ k. sym (pair_nodes.occur k); len = sym pair_nodes.len })
           (rw (append-nil (used u (suc d) l), united_used)
           (record { occur = λ k. refl; len = refl }))
-          (Moves-then s t u (r ∷ l ∷ F) (r ∷ l ∷ F) (l ∷ F)
-          (Moves-like s t (l ∷ r ∷ F) (r ∷ l ∷ F) (l ∷ r ∷ F) (r ∷ l ∷ F) swapped swapped
-          (Writes-moves s t l xs ks (r ∷ F) written))
-          (Removes-moves t u r (l ∷ F) removed));
-      shaped =
-          All-cons (Shaped u (suc d)) l []
-          (Shaped-from_but u d l (held_shape s u d l xs ks united_holds MIN_LEN
-          (omega (arith, pair_length, pair.enough))
-          (omega (arith, few)) pair_content.branches pair_content.shaped)) (All-nil _);
+          (Moves-then
+          (Moves-like (r ∷ l ∷ F) (r ∷ l ∷ F) swapped swapped (Writes-moves (r ∷ F) written))
+          (Removes-moves (l ∷ F) removed));
+      shaped = All-cons (Shaped u (suc d)) l [] (Shaped-from_but u d l (held_shape united_holds
+          MIN_LEN (omega (arith, pair_length, pair.enough)) (omega (arith, few))
+          pair_content.branches pair_content.shaped)) (All-nil _);
     }
       where
         swapped : SameNodes (l ∷ r ∷ F) (r ∷ l ∷ F)
@@ -186,13 +180,13 @@ module _ {T : Type 0} (s : Heap T) (d l : ℕ) (x : T) (r : ℕ) (pair : IsPair 
             }
 
   -- the first half of it in the left node, the other in the right one
-  module _ (t u : Heap T) (half : ℕ) (low : half < length xs)
+  module _ {t u : Heap T} (half : ℕ) (low : half < length xs)
       (first : Writes s t l (take half xs) (take (half + 1) ks))
       (second : Writes t u r (drop (half + 1) xs) (drop (half + 1) ks)) where
     pub shared_agree : AgreeAt s u F
     shared_agree k among =
         second.others k (right_apart k among)
-        ∙ first.others k (content_apart s t d l xs ks pair_content k among)
+        ∙ first.others k (content_apart t pair_content k among)
 
     left_kept : node_of u l ≡ node_of t l
     left_kept = second.others l pair_apart
@@ -224,22 +218,17 @@ module _ {T : Type 0} (s : Heap T) (d l : ℕ) (x : T) (r : ℕ) (pair : IsPair 
         → half + 1 + MIN_LEN ≤ length xs → length xs ≤ half + 1 + CAPACITY
         → Rejoins s u d l x r (Some split)
     shared_rejoins split same middle least_left most_left least_right most_right = rw same (record {
-      listed =
-          halves_listed s u d l r half xs ks pair_content low shared_left shared_right split.middle
-          middle ∙ pair_listed;
-      moved =
-          Moves-like s u (r ∷ l ∷ F) (used s (suc d) l ++ used s (suc d) r) (r ∷ l ∷ F)
+      listed = halves_listed half pair_content low shared_left shared_right split.middle middle ∙
+          pair_listed;
+      moved = Moves-like (used s (suc d) l ++ used s (suc d) r)
           (used u (suc d) l ++ (used u (suc d) r ++ []))
           (record { occur = λ k. sym (pair_nodes.occur k); len = sym pair_nodes.len })
-          (halves_nodes s u d l r half xs ks pair_content low shared_left shared_right)
-          (Moves-then s t u (r ∷ l ∷ F) (r ∷ l ∷ F) (r ∷ l ∷ F)
-          (Moves-like s t (l ∷ r ∷ F) (r ∷ l ∷ F) (l ∷ r ∷ F) (r ∷ l ∷ F) swapped' swapped'
-          (Writes-moves s t l (take half xs) (take (half + 1) ks) (r ∷ F) first))
-          (Writes-moves t u r (drop (half + 1) xs) (drop (half + 1) ks) (l ∷ F) second));
+          (halves_nodes half pair_content low shared_left shared_right) (Moves-then
+          (Moves-like (r ∷ l ∷ F) (r ∷ l ∷ F) swapped' swapped' (Writes-moves (r ∷ F) first))
+          (Writes-moves (l ∷ F) second));
       shaped =
-          let but =
-          halves_shape s u d l r half xs ks pair_content low shared_left shared_right
-          least_left most_left least_right most_right MIN_LEN (omega arith) in
+          let but = halves_shape half pair_content low shared_left shared_right least_left most_left
+          least_right most_right MIN_LEN (omega arith) in
           All-weaker (ShapedBut MIN_LEN CAPACITY u d) (Shaped u (suc d))
           (λ k. Shaped-from_but u d k) (l ∷ r ∷ []) but;
     })
@@ -302,4 +291,4 @@ module _ {T : Type 0} (s : Heap T) (l : ℕ) (x : T) (r : ℕ) (g : Edge) where
       let items : (xs ++ x ∷ []) ++ (ys ++ []) ≡ xs ++ (x ∷ ys) =
       ap (λ zs. (xs ++ x ∷ []) ++ zs) (append-nil ys) ∙ append_assoc xs (x ∷ []) ys in
       let run' = rw (items, append-nil (children_of (node_of s r))) at run in
-      (run'.0, omega (arith, run'.1, items_below_size (MIN_LEN - 1) CAPACITY s (suc e) l pair.left))
+      (run'.0, omega (arith, run'.1, items_below_size pair.left))

@@ -13,7 +13,7 @@ use Rattle.range_store.specs.Occurrences.{occurrences}
 use Rattle.range_store.proofs.Below.{used_is, items_below_leaf}
 use Rattle.range_store.proofs.Moves.{Moves-none}
 
-module _ {T : Type 0} (s : Heap T) (n i : ℕ) (item : T) (shaped : ShapedBut 1 CAPACITY s 0 n) where
+module _ {T : Type 0} {s : Heap T} {n : ℕ} (i : ℕ) (item : T) (shaped : ShapedBut 1 CAPACITY s 0 n) where
   pub leaf_content : Owned s 1 n
       → IsContent s 0 n (insert (items_of (node_of s n)) i item) (children_of (node_of s n))
   leaf_content owned = record {

@@ -15,7 +15,7 @@ use Rattle.range_store.specs.declared.btree.path.Home.{Home}
 has_levels_prop : (many levels : ℕ) (first second : HasLevels many levels) → first ≡ second
 has_levels_prop many levels = hlevel (le_prop, ℕ_set)
 
-module _ {T : Type 0} (s : BoxStorage T) (edge : Edge) (good : IsGood s edge) where
+module _ {T : Type 0} {s : BoxStorage T} {edge : Edge} (good : IsGood s edge) where
   -- what a write to the home of the item before the edge leaves
   pub same_storage : (home : Home) (x : T) → home ≡ box_home s edge
       → (whole : IsRoomy (with_item s.nodes home.node home.index x) s.levels s.root)
@@ -107,20 +107,21 @@ module _ {T : Type 0} (s : BoxStorage T) (edge : Edge) (good : IsGood s edge) wh
       here
       ∙ ap (λ h. get_or (items_of (node_of s.nodes h.node)) h.index x) at
       ∙ sym (good_item s edge good x)
-      ∙ ap (λ i. get_or (box_items s) i x) (sym (rank_is s edge good))
+      ∙ ap (λ i. get_or (box_items s) i x) (sym (rank_is good))
 
 -- nodes of the same shape keep the positions
-pub good_same : {T : Type 0} (s t : BoxStorage T) → SameShape s.nodes t.nodes → t.levels ≡ s.levels
-    → t.root ≡ s.root → (q : Edge) → IsGood s q → IsGood t q × (box_rank t q ≡ box_rank s q)
-good_same s t shape levels root q good =
-    let place : box_place t q ≡ box_place s q =
-    rw (levels, root) (place_same s.nodes t.nodes shape (s.levels - 1) s.root q) in
-    let edge : IsEdge t.nodes (t.levels - 1) t.root q =
-    rw (levels, root) (edge_same s.nodes t.nodes shape (s.levels - 1) s.root q good.is.edge)
+pub good_same : {T : Type 0} {s : BoxStorage T} (t : BoxStorage T) → SameShape s.nodes t.nodes
+    → t.levels ≡ s.levels → t.root ≡ s.root → (q : Edge) → IsGood s q → IsGood t q ×
+    (box_rank t q ≡ box_rank s q)
+good_same {T} {s} t shape levels root q good =
+    let place : box_place t q ≡ box_place s q = rw (levels, root)
+    (place_same shape (s.levels - 1) s.root q) in
+    let edge : IsEdge t.nodes (t.levels - 1) t.root q = rw (levels, root)
+    (edge_same shape (s.levels - 1) s.root q good.is.edge)
     in
     let new : IsGood t q =
     record {
       is = record { some = omega (arith, levels, good.is.some); edge = edge };
       some = omega (arith, place, good.some);
     } in
-    (new, rank_is t q new ∙ ap (λ m. m - 1) place ∙ sym (rank_is s q good))
+    (new, rank_is new ∙ ap (λ m. m - 1) place ∙ sym (rank_is good))

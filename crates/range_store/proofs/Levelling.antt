@@ -86,7 +86,7 @@ module _ {T : Type 0} (s : Heap T) (low n j : ℕ) (x : T) (levelled : IsLevelle
         omega (
           arith,
           levelled.owned k,
-          ap (occurrences k) (used_old s s (suc low) n us (l ∷ r ∷ []) vs (l ∷ r ∷ []) same_run),
+          ap (occurrences k) (used_old same_run),
           occurrences-cons k n (flat_map (used s (suc low)) us
               ++ (flat_map (used s (suc low)) (l ∷ r ∷ []) ++ flat_map (used s (suc low)) vs)),
           occurrences-append k (flat_map (used s (suc low)) us)
@@ -101,17 +101,17 @@ module _ {T : Type 0} (s : Heap T) (low n j : ℕ) (x : T) (levelled : IsLevelle
     fits = levelled.fits;
   }
 
-  module _ (t : Heap T) (split : Option (Split T)) (rejoins : Rejoins s t low l x r split) where
+  module _ {t : Heap T} {split : Option (Split T)} (rejoins : Rejoins s t low l x r split) where
     pair_run : Runs s t (suc low) n us (l ∷ r ∷ []) vs (tops l split)
-    pair_run = record {
-      present = levelled.node.present;
-      owned = levelled.owned;
-      children = ks_parts;
-      moved =
-          subst (λ zs. Moves s t (used s (suc low) l ++ zs)
-          (flat_map (used t (suc low)) (tops l split)))
-          (sym (append-nil (used s (suc low) r))) rejoins.moved;
-    }
+    pair_run =
+        record {
+          present = levelled.node.present;
+          owned = levelled.owned;
+          children = ks_parts;
+          moved = subst (λ zs. Moves s t (used s (suc low) l ++ zs)
+              (flat_map (used t (suc low)) (tops l split))) (sym (append-nil (used s (suc low) r)))
+              rejoins.moved;
+        }
 
     abbrev new_xs : List T
     new_xs =
@@ -144,19 +144,17 @@ module _ {T : Type 0} (s : Heap T) (low n j : ℕ) (x : T) (levelled : IsLevelle
         )
 
     new_content : IsContent t (suc low) n new_xs new_ks
-    new_content =
-        run_content s t (suc low) n us (l ∷ r ∷ []) vs (tops l split) pair_run new_xs
-        (omega (
-          arith,
-          new_length,
-          length-append us (tops l split ++ vs),
-          length-append (tops l split) vs,
-          tops_many split,
-          us_many,
-          length-drop (j + 2) ks,
-          many,
-          levelled.within,
-        ))
+    new_content = run_content pair_run new_xs (omega (
+      arith,
+      new_length,
+      length-append us (tops l split ++ vs),
+      length-append (tops l split) vs,
+      tops_many split,
+      us_many,
+      length-drop (j + 2) ks,
+      many,
+      levelled.within,
+    ))
         levelled.before rejoins.shaped levelled.behind
 
     woven : (cut : Option (Split T))
@@ -185,8 +183,7 @@ module _ {T : Type 0} (s : Heap T) (low n j : ℕ) (x : T) (levelled : IsLevelle
         ∙ ap (λ zs. weave zs (map (items_below s (suc low)) ks)) xs_parts
         ∙ ap (λ zs. weave (take j xs ++ (x ∷ drop (j + 1) xs)) (map (items_below s (suc low)) zs))
         ks_parts
-        ∙ ap (weave (take j xs ++ (x ∷ drop (j + 1) xs)))
-        (run_lists s s (suc low) n us (l ∷ r ∷ []) vs (l ∷ r ∷ []) same_run)
+        ∙ ap (weave (take j xs ++ (x ∷ drop (j + 1) xs))) (run_lists same_run)
         ∙ weave_splice (take j xs) (x ∷ []) (drop (j + 1) xs) (map (items_below s (suc low)) us)
         (items_below s (suc low) l) (items_below s (suc low) r ∷ [])
         (map (items_below s (suc low)) vs)
@@ -198,8 +195,7 @@ module _ {T : Type 0} (s : Heap T) (low n j : ℕ) (x : T) (levelled : IsLevelle
 
     new_listed : weave new_xs (map (items_below t (suc low)) new_ks)
         ≡ items_below s (suc (suc low)) n
-    new_listed =
-        ap (weave new_xs) (run_lists s t (suc low) n us (l ∷ r ∷ []) vs (tops l split) pair_run)
+    new_listed = ap (weave new_xs) (run_lists pair_run)
         ∙ woven split ∙ rw rejoins.listed refl ∙ sym woven_old
 
     -- what is written to the node
@@ -212,22 +208,16 @@ module _ {T : Type 0} (s : Heap T) (low n j : ℕ) (x : T) (levelled : IsLevelle
         ap (λ zs. zs ++ (cut.right ∷ vs)) (take_more ks j 0 (omega (arith, many, levelled.within)))
         ∙ append_assoc us (l ∷ []) (cut.right ∷ vs)
 
-    module _ (u : Heap T) (written : Writes t u n new_xs new_ks) where
+    module _ {u : Heap T} (written : Writes t u n new_xs new_ks) where
       pub levelled_shrinks : Shrinks s u (suc low) n (items_below s (suc (suc low)) n)
       levelled_shrinks =
-          let holds = written_holds t u (suc low) n new_xs new_ks new_content written in
+          let holds = written_holds u new_content written in
           record {
-            listed = held_items_below t u (suc low) n new_xs new_ks holds ∙ new_listed;
-            moved =
-                subst (λ zs. Moves s u (used s (suc (suc low)) n) zs)
-                (sym (held_used t u (suc low) n new_xs new_ks holds))
-                (Moves-then s t u (used s (suc (suc low)) n)
-                (n ∷ flat_map (used t (suc low)) new_ks) (n ∷ flat_map (used t (suc low)) new_ks)
-                (run_moved s t (suc low) n us (l ∷ r ∷ []) vs (tops l split) pair_run)
-                (Writes-moves t u n new_xs new_ks (flat_map (used t (suc low)) new_ks) written));
-            shape =
-                λ least more. held_shape t u (suc low) n new_xs new_ks holds least
-                (omega (arith, new_length, more))
+            listed = held_items_below holds ∙ new_listed;
+            moved = subst (λ zs. Moves s u (used s (suc (suc low)) n) zs) (sym (held_used holds))
+                (Moves-then (run_moved pair_run)
+                (Writes-moves (flat_map (used t (suc low)) new_ks) written));
+            shape = λ least more. held_shape holds least (omega (arith, new_length, more))
                 (omega (arith, new_length, few split, levelled.node.fits)) new_content.branches
                 new_content.shaped;
           }
@@ -242,8 +232,8 @@ module _ {T : Type 0} (s : Heap T) (low n j : ℕ) (x : T) (levelled : IsLevelle
           let run =
           seat_run t low us (tops l split) vs (take j xs) (separators split)
           (drop (j + 1) xs) j side g us_many front_many (tops_many split) seat in
-          let holds = written_holds t u (suc low) n new_xs new_ks new_content written in
-          let agree = written_agree t u (suc low) n new_xs new_ks new_content written in
+          let holds = written_holds u new_content written in
+          let agree = written_agree u new_content written in
           let edge =
           seat_written t u n new_xs new_ks (j + side) g h (suc low) holds agree
           (λ none. absurd (omega (arith, none))) (λ some. at) (λ some. into) run.0 in
@@ -252,7 +242,6 @@ module _ {T : Type 0} (s : Heap T) (low n j : ℕ) (x : T) (levelled : IsLevelle
           (omega (arith, levelled.within))
           (omega (arith, many, levelled.within, length-map ks (items_below s (suc low)))) in
           let same : map (items_below t (suc low)) us ≡ take j (map (items_below s (suc low)) ks) =
-          (same_before s t (suc low) n us (l ∷ r ∷ []) vs
-          (tops l split) pair_run).items_below_same
+          (same_before pair_run).items_below_same
           ∙ sym (take-map (items_below s (suc low)) j ks) in
           (edge.0, omega (arith, edge.1, run.1, front, ap (sum_by length) same))

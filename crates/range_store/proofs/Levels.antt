@@ -39,72 +39,69 @@ children_upper {T} s d p below (n ∷ ns) shaped =
       sum_by-cons (length {A = T}) (items_below s d n) (map (items_below s d) ns),
     )
 
-lower_but : {T : Type 0} (least most : ℕ) (s : Heap T) (d n : ℕ)
+lower_but : {T : Type 0} {least most : ℕ} {s : Heap T} (d : ℕ) {n : ℕ}
     → ((k : ℕ) → Shaped s d k → (MIN_LEN + 1) ^ d ≤ length (items_below s d k) + 1)
     → ShapedBut least most s d n
     → (least + 1) * (MIN_LEN + 1) ^ d ≤ length (items_below s (suc d) n) + 1
-lower_but least most s zero n below shaped =
-    omega (
-      arith,
-      mul-one (least + 1),
-      items_below_size least most s zero n shaped,
-      shaped.node.enough,
-    )
-lower_but least most s (suc d) n below shaped =
+lower_but {T} {least} {most} {s} zero {n} below shaped = omega (
+  arith,
+  mul-one (least + 1),
+  items_below_size shaped,
+  shaped.node.enough,
+)
+lower_but {T} {least} {most} {s} (suc d) {n} below shaped =
     let ks = children_of (node_of s n) in
     let all = children_lower s (suc d) ((MIN_LEN + 1) ^ suc d) below ks shaped.children in
     let enough : least + 1 ≤ length ks = omega (arith, shaped.node.enough, shaped.node.branches) in
     let more : (least + 1) * (MIN_LEN + 1) ^ suc d ≤ length ks * (MIN_LEN + 1) ^ suc d =
     mul-le-mul_right ((MIN_LEN + 1) ^ suc d) enough in
-    let size = items_below_size least most s (suc d) n shaped in
+    let size = items_below_size shaped in
     le_trans more (omega (arith, all, size, shaped.node.branches))
 
-upper_but : {T : Type 0} (least most : ℕ) (s : Heap T) (d n : ℕ)
+upper_but : {T : Type 0} {least most : ℕ} {s : Heap T} (d : ℕ) {n : ℕ}
     → ((k : ℕ) → Shaped s d k → length (items_below s d k) + 1 ≤ (CAPACITY + 1) ^ d)
     → ShapedBut least most s d n
     → length (items_below s (suc d) n) + 1 ≤ (most + 1) * (CAPACITY + 1) ^ d
-upper_but least most s zero n below shaped =
-    omega (
-      arith,
-      mul-one (most + 1),
-      items_below_size least most s zero n shaped,
-      shaped.node.fits,
-      ap (λ zs. sizes s zero zs)
-          (nil_from_length (children_of (node_of s n)) shaped.node.branches),
-    )
-upper_but least most s (suc d) n below shaped =
+upper_but {T} {least} {most} {s} zero {n} below shaped = omega (
+  arith,
+  mul-one (most + 1),
+  items_below_size shaped,
+  shaped.node.fits,
+  ap (λ zs. sizes s zero zs)
+      (nil_from_length (children_of (node_of s n)) shaped.node.branches),
+)
+upper_but {T} {least} {most} {s} (suc d) {n} below shaped =
     let ks = children_of (node_of s n) in
     let all = children_upper s (suc d) ((CAPACITY + 1) ^ suc d) below ks shaped.children in
     let fits : length ks ≤ most + 1 = omega (arith, shaped.node.fits, shaped.node.branches) in
     let more : length ks * (CAPACITY + 1) ^ suc d ≤ (most + 1) * (CAPACITY + 1) ^ suc d =
     mul-le-mul_right ((CAPACITY + 1) ^ suc d) fits in
-    let size = items_below_size least most s (suc d) n shaped in
+    let size = items_below_size shaped in
     le_trans (omega (arith, all, size, shaped.node.branches)) more
 
 pub fewest_items_below : {T : Type 0} (s : Heap T) (d n : ℕ) → Shaped s d n
     → (MIN_LEN + 1) ^ d ≤ length (items_below s d n) + 1
 fewest_items_below s zero n shaped = omega arith
 fewest_items_below s (suc d) n shaped =
-    let least =
-    lower_but MIN_LEN CAPACITY s d n (fewest_items_below s d) (Shaped-but s d n shaped) in
+    let least = lower_but d (fewest_items_below s d) (Shaped-but s d n shaped) in
     omega (arith, pow-suc (MIN_LEN + 1) d, mul_comm (MIN_LEN + 1) ((MIN_LEN + 1) ^ d), least)
 
 pub most_items_below : {T : Type 0} (s : Heap T) (d n : ℕ) → Shaped s d n
     → length (items_below s d n) + 1 ≤ (CAPACITY + 1) ^ d
 most_items_below s zero n shaped = omega (arith, ap length (items_below_none s n))
 most_items_below s (suc d) n shaped =
-    let most = upper_but MIN_LEN CAPACITY s d n (most_items_below s d) (Shaped-but s d n shaped) in
+    let most = upper_but d (most_items_below s d) (Shaped-but s d n shaped) in
     omega (arith, pow-suc (CAPACITY + 1) d, mul_comm (CAPACITY + 1) ((CAPACITY + 1) ^ d), most)
 
 -- a tree that is not empty
-pub tree_lower : {T : Type 0} (s : Heap T) (d root : ℕ) → IsTree s (suc d) root
+pub tree_lower : {T : Type 0} {s : Heap T} (d : ℕ) {root : ℕ} → IsTree s (suc d) root
     → 2 * (MIN_LEN + 1) ^ d ≤ length (items_below s (suc d) root) + 1
-tree_lower s d root tree = lower_but 1 CAPACITY s d root (fewest_items_below s d) tree.shaped
+tree_lower {T} {s} d {root} tree = lower_but d (fewest_items_below s d) tree.shaped
 
-pub tree_upper : {T : Type 0} (s : Heap T) (d root : ℕ) → IsTree s (suc d) root
+pub tree_upper : {T : Type 0} {s : Heap T} (d : ℕ) {root : ℕ} → IsTree s (suc d) root
     → length (items_below s (suc d) root) + 1 ≤ (CAPACITY + 1) ^ suc d
-tree_upper s d root tree =
-    let most = upper_but 1 CAPACITY s d root (most_items_below s d) tree.shaped in
+tree_upper {T} {s} d {root} tree =
+    let most = upper_but d (most_items_below s d) tree.shaped in
     omega (arith, pow-suc (CAPACITY + 1) d, mul_comm (CAPACITY + 1) ((CAPACITY + 1) ^ d), most)
 
 -- a power outgrows its exponent
@@ -112,33 +109,33 @@ pub pow_more : (d : ℕ) → d + 1 ≤ (MIN_LEN + 1) ^ d
 pow_more zero = omega arith
 pow_more (suc d) = omega (arith, pow-suc (MIN_LEN + 1) d, pow_more d)
 
-pub levels_le : {T : Type 0} (s : Heap T) (levels root : ℕ) → IsTree s levels root
+pub levels_le : {T : Type 0} {s : Heap T} (levels : ℕ) {root : ℕ} → IsTree s levels root
     → levels ≤ length (items_below s levels root)
-levels_le s zero root tree = omega arith
-levels_le s (suc d) root tree = omega (arith, tree_lower s d root tree, pow_more d)
+levels_le {T} {s} zero {root} tree = omega arith
+levels_le {T} {s} (suc d) {root} tree = omega (arith, tree_lower d tree, pow_more d)
 
-pub empty_levels : {T : Type 0} (s : Heap T) (levels root : ℕ) → IsTree s levels root
+pub empty_levels : {T : Type 0} {s : Heap T} {levels root : ℕ} → IsTree s levels root
     → length (items_below s levels root) ≡ 0 → levels ≡ 0
-empty_levels s levels root tree none = omega (arith, levels_le s levels root tree)
+empty_levels {T} {s} {levels} {root} tree none = omega (arith, levels_le levels tree)
 
-pub levels_least : {T : Type 0} (s : Heap T) (levels root : ℕ) → IsTree s levels root
+pub levels_least : {T : Type 0} {s : Heap T} (levels : ℕ) {root : ℕ} → IsTree s levels root
     → 0 < length (items_below s levels root)
     → 2 * (MIN_LEN + 1) ^ (levels - 1) ≤ length (items_below s levels root) + 1
-levels_least s zero root tree some = absurd (omega (arith, ap length (items_below_none s root)))
-levels_least s (suc d) root tree some = let level : suc d - 1 ≡ d =
-    omega arith in rw level (tree_lower s d root tree)
+levels_least {T} {s} zero {root} tree some = absurd (omega (arith, ap length (items_below_none s root)))
+levels_least {T} {s} (suc d) {root} tree some = let level : suc d - 1 ≡ d = omega arith in rw level
+    (tree_lower d tree)
 
-pub levels_most : {T : Type 0} (s : Heap T) (levels root : ℕ) → IsTree s levels root
+pub levels_most : {T : Type 0} {s : Heap T} (levels : ℕ) {root : ℕ} → IsTree s levels root
     → 0 < length (items_below s levels root)
     → length (items_below s levels root) + 1 ≤ (CAPACITY + 1) ^ levels
-levels_most s zero root tree some = absurd (omega (arith, ap length (items_below_none s root)))
-levels_most s (suc d) root tree some = tree_upper s d root tree
+levels_most {T} {s} zero {root} tree some = absurd (omega (arith, ap length (items_below_none s root)))
+levels_most {T} {s} (suc d) {root} tree some = tree_upper d tree
 
-pub has_levels : {T : Type 0} (s : Heap T) (levels root : ℕ) → IsTree s levels root
+pub has_levels : {T : Type 0} {s : Heap T} {levels root : ℕ} → IsTree s levels root
     → HasLevels (length (items_below s levels root)) levels
-has_levels s levels root tree =
+has_levels {T} {s} {levels} {root} tree =
     record {
-      empty = empty_levels s levels root tree;
-      least = levels_least s levels root tree;
-      most = levels_most s levels root tree;
+      empty = empty_levels tree;
+      least = levels_least levels tree;
+      most = levels_most levels tree;
     }

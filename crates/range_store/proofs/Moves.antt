@@ -29,27 +29,27 @@ Moves-none s us =
     record { owned = λ k. refl; outside = λ k unused present. refl; len = refl; capacity = refl }
 
 -- what is under a number once the first step was made
-pub Moves-kept : {T : Type 0} (s t : Heap T) (us vs : List ℕ) → Moves s t us vs → (k : ℕ)
+pub Moves-kept : {T : Type 0} {s t : Heap T} {us vs : List ℕ} → Moves s t us vs → (k : ℕ)
     → occurrences k us ≡ 0 → IsSome (node_of s k) → (occurrences k vs ≡ 0) × IsSome (node_of t k)
-Moves-kept s t us vs m k unused present =
+Moves-kept {T} {s} {t} m k unused present =
     let same = m.outside k unused present in
     let now : IsSome (node_of t k) = rw same present in
     (omega (arith, m.owned k, unused, here_some s k present, here_le t k), now)
 
-pub Moves-then : {T : Type 0} (r s t : Heap T) (us vs ws : List ℕ) → Moves r s us vs
+pub Moves-then : {T : Type 0} {r s t : Heap T} {us vs ws : List ℕ} → Moves r s us vs
     → Moves s t vs ws → Moves r t us ws
-Moves-then r s t us vs ws first second = record {
+Moves-then {T} {r} {s} {t} {us} {vs} first second = record {
   owned = λ k. omega (arith, first.owned k, second.owned k);
-  outside = λ k unused present. let kept =
-      Moves-kept r s us vs first k unused present in second.outside k kept.0 kept.1
+  outside = λ k unused present. let kept = Moves-kept first k unused present in second.outside k
+      kept.0 kept.1
       ∙ first.outside k unused present;
   len = omega (arith, first.len, second.len);
   capacity = second.capacity ∙ first.capacity;
 }
 
-pub Moves-beside : {T : Type 0} (s t : Heap T) (us vs ws : List ℕ) → Moves s t us vs
+pub Moves-beside : {T : Type 0} {s t : Heap T} {us vs : List ℕ} (ws : List ℕ) → Moves s t us vs
     → Moves s t (us ++ ws) (vs ++ ws)
-Moves-beside s t us vs ws m = record {
+Moves-beside {T} {s} {t} {us} {vs} ws m = record {
   owned = λ k. omega (arith, m.owned k, occurrences-append k us ws, occurrences-append k vs ws);
   outside =
       λ k unused present. m.outside k (omega (arith, unused, occurrences-append k us ws)) present;
@@ -62,18 +62,18 @@ pub record SameNodes (us vs : List ℕ) : Type 0 where
   pub occur : (k : ℕ) → occurrences k us ≡ occurrences k vs
   pub len : length us ≡ length vs
 
-pub Moves-like : {T : Type 0} (s t : Heap T) (us us' vs vs' : List ℕ) → SameNodes us us'
-    → SameNodes vs vs' → Moves s t us vs → Moves s t us' vs'
-Moves-like s t us us' vs vs' before after m = record {
+pub Moves-like : {T : Type 0} {s t : Heap T} {us : List ℕ} (us' : List ℕ) {vs : List ℕ}
+    (vs' : List ℕ) → SameNodes us us' → SameNodes vs vs' → Moves s t us vs → Moves s t us' vs'
+Moves-like us' vs' before after m = record {
   owned = λ k. omega (arith, m.owned k, before.occur k, after.occur k);
   outside = λ k unused present. m.outside k (omega (arith, unused, before.occur k)) present;
   len = omega (arith, m.len, before.len, after.len);
   capacity = m.capacity;
 }
 
-pub Writes-moves : {T : Type 0} (s t : Heap T) (n : ℕ) (xs : List T) (ks us : List ℕ)
+pub Writes-moves : {T : Type 0} {s t : Heap T} {n : ℕ} {xs : List T} {ks : List ℕ} (us : List ℕ)
     → Writes s t n xs ks → Moves s t (n ∷ us) (n ∷ us)
-Writes-moves s t n xs ks us w = record {
+Writes-moves {T} {s} {t} {n} us w = record {
   owned = λ k.
       elim (cases_eq k n) [
         | inl same ↦ let one = here_some s n w.was in let two =
@@ -86,9 +86,9 @@ Writes-moves s t n xs ks us w = record {
   capacity = w.capacity;
 }
 
-pub Stores-moves : {T : Type 0} (s t : Heap T) (n : ℕ) (xs : List T) (ks us : List ℕ)
+pub Stores-moves : {T : Type 0} {s t : Heap T} {n : ℕ} {xs : List T} {ks : List ℕ} (us : List ℕ)
     → Stores s t n xs ks → Moves s t us (n ∷ us)
-Stores-moves s t n xs ks us w = record {
+Stores-moves {T} {s} {t} {n} us w = record {
   owned = λ k.
       elim (cases_eq k n) [
         | inl same ↦
@@ -107,9 +107,9 @@ Stores-moves s t n xs ks us w = record {
   capacity = w.capacity;
 }
 
-pub Removes-moves : {T : Type 0} (s t : Heap T) (n : ℕ) (us : List ℕ) → Removes s t n
+pub Removes-moves : {T : Type 0} {s t : Heap T} {n : ℕ} (us : List ℕ) → Removes s t n
     → Moves s t (n ∷ us) us
-Removes-moves s t n us w = record {
+Removes-moves {T} {s} {t} {n} us w = record {
   owned = λ k.
       elim (cases_eq k n) [
         | inl same ↦
@@ -126,8 +126,7 @@ Removes-moves s t n us w = record {
 }
 
 -- the nodes that are none of these stay
-pub Moves-agree : {T : Type 0} (s t : Heap T) (us vs ws : List ℕ)
+pub Moves-agree : {T : Type 0} {s t : Heap T} {us vs : List ℕ} (ws : List ℕ)
     → ((k : ℕ) → occurrences k us + occurrences k ws ≤ here s k) → Moves s t us vs → AgreeAt s t ws
-Moves-agree s t us vs ws once m k among =
-    m.outside k (omega (arith, once k, here_le s k, among))
+Moves-agree {T} {s} ws once m k among = m.outside k (omega (arith, once k, here_le s k, among))
     (some_from_here s k (omega (arith, once k, among)))

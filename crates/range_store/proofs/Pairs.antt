@@ -11,31 +11,30 @@ use Rattle.range_store.specs.Weave.{length-before_next}
 use Rattle.range_store.proofs.Joining.{seat_from_left, seat_from_right}
 use Rattle.range_store.proofs.Levelling.{pair_of}
 
-pub seat_low : {T : Type 0} (s : Heap T) (low k : ℕ) (g : Edge) (least : ℕ)
+pub seat_low : {T : Type 0} {s : Heap T} (low : ℕ) {k : ℕ} (g : Edge) {least : ℕ}
     → ShapedBut least CAPACITY s low k → IsEdge s low k g
     → seat_of low g ≤ length (items_of (node_of s k))
-seat_low s zero k g least shaped is = leaf_index s k g is
-seat_low s (suc d) k g least shaped is = omega (arith, turn_within s d k g is, shaped.node.branches)
+seat_low {T} {s} zero {k} g {least} shaped is = leaf_index s k g is
+seat_low {T} {s} (suc d) {k} g shaped is = omega (arith, turn_within s d k g is, shaped.node.branches)
 
 -- the seat of an edge below one of two neighbours, in either of them and among what both have
-pub near_seat : {T : Type 0} (s : Heap T) (low n j i : ℕ) (g : Edge) → IsLevelled s low n j
+pub near_seat : {T : Type 0} {s : Heap T} {low n j : ℕ} (i : ℕ) (g : Edge) → IsLevelled s low n j
     → (i ≡ j) ⊎ (i ≡ j + 1) → IsEdge s low (get_or (children_of (node_of s n)) i 0) g
-    → child_size s n j + 1 + child_size s n (j + 1) ≤ CAPACITY
-    → (seat_of low g ≤ CAPACITY)
-    × ((q : ℕ) → (i - j ≡ 0 → q ≡ seat_of low g)
-    → (0 < i - j → q ≡ child_size s n j + 1 + seat_of low g) → q ≤ CAPACITY)
-near_seat s low n j i g levelled (inl same) is few =
-    let low' = seat_low s low _ g (MIN_LEN - 1) levelled.left (rw same at is) in (
+    → child_size s n j + 1 + child_size s n (j + 1) ≤ CAPACITY → (seat_of low g ≤ CAPACITY) ×
+    ((q : ℕ) → (i - j ≡ 0 → q ≡ seat_of low g) →
+    (0 < i - j → q ≡ child_size s n j + 1 + seat_of low g) → q ≤ CAPACITY)
+near_seat {T} {s} {low} {n} {j} i g levelled (inl same) is few =
+    let low' = seat_low low g levelled.left (rw same at is) in (
       omega (arith, low', few),
       λ q first second. omega (arith, first (omega (arith, same)), low', few),
     )
-near_seat s low n j i g levelled (inr next) is few =
-    let low' = seat_low s low _ g (MIN_LEN - 1) levelled.right (rw next at is) in (
+near_seat {T} {s} {low} i g levelled (inr next) is few =
+    let low' = seat_low low g levelled.right (rw next at is) in (
       omega (arith, low', few),
       λ q first second. omega (arith, second (omega (arith, next)), low', few),
     )
 
-module _ {T : Type 0} (s : Heap T) (low n j : ℕ) (x : T) (levelled : IsLevelled s low n j)
+module _ {T : Type 0} {s : Heap T} {low n j : ℕ} (x : T) (levelled : IsLevelled s low n j)
     (here : x ≡ get_or (items_of (node_of s n)) j x) where
   abbrev xs : List T
   xs = items_of (node_of s n)

@@ -34,9 +34,9 @@ pub stands_first : {T : Type 0} (s : Heap T) (d n : ℕ) (g : Edge) → is_start
     → place s d n g ≡ 0
 stands_first s d n g start = place_of_start s d n g (start_parts g start).0 (start_parts g start).1
 
-pub not_start : {T : Type 0} (s : Heap T) (d n : ℕ) (g : Edge) → ShapedBut 1 CAPACITY s d n
+pub not_start : {T : Type 0} {s : Heap T} {d n : ℕ} (g : Edge) → ShapedBut 1 CAPACITY s d n
     → IsEdge s d n g → is_start g ≡ false → 0 < place s d n g
-not_start s d n g shaped is later =
+not_start {T} {s} {d} {n} g shaped is later =
     elim (cases_eq (place s d n g) 0) [
       | inr some ↦ omega (arith, some)
       | inl none ↦ let start =
@@ -44,7 +44,7 @@ not_start s d n g shaped is later =
           (both_ways _ later (and_from _ _ (eq-eqb _ _ start.0) (eq-eqb _ _ start.1)))
     ]
 
-module _ {T : Type 0} (s : Heap T) (b n : ℕ) (inner : b ≢ 0)
+module _ {T : Type 0} {s : Heap T} {b n : ℕ} (inner : b ≢ 0)
     (shaped : ShapedBut 1 CAPACITY s b n) where
   pub level_of_children : suc (b - 1) ≡ b
   level_of_children = omega arith
@@ -54,20 +54,19 @@ module _ {T : Type 0} (s : Heap T) (b n : ℕ) (inner : b ≢ 0)
 
   pub child_within : (i : ℕ) → i ≤ length (items_of (node_of s n))
       → i < length (children_of (node_of s n))
-  child_within i low = omega (arith, children_length 1 CAPACITY s b n (omega arith) shaped)
+  child_within i low = omega (arith, children_length (omega arith) shaped)
 
   pub below_kid : (i : ℕ) → i ≤ length (items_of (node_of s n))
       → ShapedBut 1 CAPACITY s (b - 1) (get_or (children_of (node_of s n)) i 0)
-  below_kid i low =
-      shaped_within_wider 1 MIN_LEN CAPACITY CAPACITY s (b - 1) _ (omega arith) (omega arith)
-      (kid_shaped 1 CAPACITY s (b - 1) n i deeper low)
+  below_kid i low = shaped_within_wider 1 CAPACITY (omega arith) (omega arith)
+      (kid_shaped (b - 1) i deeper low)
 
   pub below_turn : (g : Edge) → IsEdge s b n g → turn g ≤ length (items_of (node_of s n))
   below_turn g is =
       omega (
         arith,
         turn_within s (b - 1) n g (rw (← level_of_children) at is),
-        children_length 1 CAPACITY s b n (omega arith) shaped,
+        children_length (omega arith) shaped,
       )
 
   pub below_inside : (g : Edge) → IsEdge s b n g
@@ -96,8 +95,7 @@ module _ {T : Type 0} (s : Heap T) (b n : ℕ) (inner : b ≢ 0)
       → IsEdge s (b - 1) (get_or (children_of (node_of s n)) i 0) g
       → place s (b - 1) (get_or (children_of (node_of s n)) i 0) g
       ≤ length (items_below s b (get_or (children_of (node_of s n)) i 0))
-  below_most i g low is =
-      rw level_of_children at (place_within s (b - 1) _ g 1 CAPACITY (below_kid i low) is)
+  below_most i g low is = rw level_of_children at (place_within (b - 1) g (below_kid i low) is)
 
   -- after the last child stands nothing
   pub past_last : (i : ℕ) → i ≡ length (items_of (node_of s n))
@@ -108,9 +106,9 @@ module _ {T : Type 0} (s : Heap T) (b n : ℕ) (inner : b ≢ 0)
       let xs = items_of (node_of s n) in
       let lists = map (items_below s b) (children_of (node_of s n)) in
       let kid = get_or (children_of (node_of s n)) i 0 in
-      let whole = items_below_at 1 CAPACITY s b n (omega arith) shaped i (omega arith) in
-      let none : length (after xs lists i) ≡ 0 =
-      rw last (ap length (none_after_last 1 CAPACITY s b n (omega arith) shaped)) in
+      let whole = items_below_at (omega arith) shaped i (omega arith) in
+      let none : length (after xs lists i) ≡ 0 = rw last
+      (ap length (none_after_last (omega arith) shaped)) in
       omega (
         arith,
         ap length whole,
@@ -126,7 +124,7 @@ module _ {T : Type 0} (s : Heap T) (b n : ℕ) (inner : b ≢ 0)
       ≡ length (before (items_of (node_of s n))
       (map (items_below s b) (children_of (node_of s n))) i) + length
       (items_below s b (get_or (children_of (node_of s n)) i 0)) + 1
-  before_next i low = length-before_more 1 CAPACITY s b n (omega arith) shaped i low
+  before_next i low = length-before_more (omega arith) shaped i low
 
   -- where the item before an edge stands, which begins a child or goes further down
   pub home_above : (g : Edge) → is_start (inside g) ≡ true
@@ -173,5 +171,4 @@ module _ {T : Type 0} (s : Heap T) (b n : ℕ) (inner : b ≢ 0)
       → 0 < place s (b - 1) (get_or (children_of (node_of s n)) (turn g) 0) (inside g)
   inside_is_later g is later =
       let low = below_turn g is in
-      not_start s (b - 1) (get_or (children_of (node_of s n)) (turn g) 0) (inside g)
-      (below_kid (turn g) low) (below_inside g is) later
+      not_start (inside g) (below_kid (turn g) low) (below_inside g is) later

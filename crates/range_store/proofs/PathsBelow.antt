@@ -45,9 +45,9 @@ module _ {T : Type 0} (s : Heap T) where
     pub place_is : (e : Edge) → IsEdge s left at e
         → place s below number (from_above path weight e) ≡ ahead + place s left at e
 
-  pub lies_itself : (below number : ℕ) → ShapedBut 1 CAPACITY s below number
+  pub lies_itself : {below number : ℕ} → ShapedBut 1 CAPACITY s below number
       → LiesBelow below number below number 0 1 0
-  lies_itself below number shaped =
+  lies_itself {below} {number} shaped =
       let none : below - below ≡ 0 = omega arith in
       record {
         low = omega arith;
@@ -63,12 +63,12 @@ module _ {T : Type 0} (s : Heap T) where
             ap (λ w. place s below number (record e { path = w })) same ∙ none_ahead;
       }
 
-  pub lies_in_child : (below number left at path weight ahead : ℕ) → left ≢ 0
+  pub lies_in_child : {below number left : ℕ} (at path weight ahead : ℕ) → left ≢ 0
       → LiesBelow below number left at path weight ahead → (i : ℕ)
-      → i ≤ length (items_of (node_of s at))
-      → LiesBelow below number (left - 1) (get_or (children_of (node_of s at)) i 0)
-      (path + weight * i) (weight * PATH_BASE) (ahead + ahead_of left at i)
-  lies_in_child below number left at path weight ahead inner lies i low =
+      → i ≤ length (items_of (node_of s at)) → LiesBelow below number (left - 1) (get_or
+      (children_of (node_of s at)) i 0) (path + weight * i) (weight * PATH_BASE) (ahead + ahead_of
+      left at i)
+  lies_in_child {below} {number} {left} at path weight ahead inner lies i low =
       let kid = get_or (children_of (node_of s at)) i 0 in
       let few : i ≤ CAPACITY = omega (arith, low, lies.shaped.node.fits) in
       let deeper : below - (left - 1) ≡ suc (below - left) = omega (arith, inner, lies.low) in
@@ -86,18 +86,18 @@ module _ {T : Type 0} (s : Heap T) where
         ap (λ m. weight * m) (mul_comm PATH_BASE w),
       ) in
       let edge_above : (e : Edge) → IsEdge s (left - 1) kid e → IsEdge s left at (above e) = λ e is.
-      below_edge s left at inner lies.shaped i e (above e) (turned e) (within e) low is in
+      below_edge inner lies.shaped i e (above e) (turned e) (within e) low is in
       record {
         low = omega (arith, lies.low);
         weight_is =
             rw deeper
             (ap (λ w. w * PATH_BASE) lies.weight_is ∙ sym (pow-suc PATH_BASE (below - left)));
         small = heavier path weight i lies.small few;
-        shaped = below_kid s left at inner lies.shaped i low;
+        shaped = below_kid inner lies.shaped i low;
         edge = λ e is. rw (path_is e.path) (lies.edge (above e) (edge_above e is));
         place_is = λ e is.
             let found = lies.place_is (above e) (edge_above e is) in
-            let step = below_place s left at inner lies.shaped i e (above e) (turned e) (within e)
+            let step = below_place inner lies.shaped i e (above e) (turned e) (within e)
             in
             let sum : ahead + place s left at (above e)
             ≡ ahead + ahead_of left at i + place s (left - 1) kid e = omega (arith, step) in
@@ -105,12 +105,11 @@ module _ {T : Type 0} (s : Heap T) where
       }
 
   -- its first edge as it is seen from above
-  pub first_below : (below number left at path weight ahead : ℕ)
+  pub first_below : {below number left : ℕ} (at path weight ahead : ℕ)
       → LiesBelow below number left at path weight ahead → (e : Edge) → IsEdge s left at e
-      → place s left at e ≡ 0
-      → IsEdge s below number (record e { path = path })
-      × (place s below number (record e { path = path }) ≡ ahead)
-  first_below below number left at path weight ahead lies e is first =
+      → place s left at e ≡ 0 → IsEdge s below number (record e { path = path }) ×
+      (place s below number (record e { path = path }) ≡ ahead)
+  first_below {below} {number} {left} at path weight ahead lies e is first =
       let start = start_of_place s 1 CAPACITY left at e lies.shaped is first in
       let none : path + weight * e.path ≡ path = rw start.0 (omega arith) in
       let found = lies.place_is e is in

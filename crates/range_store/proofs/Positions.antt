@@ -35,17 +35,17 @@ module _ {X : Type 0} where
 
 module _ {T : Type 0} (s : BoxStorage T) where
   -- an edge after an item stands for that
-  pub good_from : (edge : Edge) → IsBoxEdge s edge → 0 < box_place s edge
-      → IsGood s edge × (box_rank s edge + 1 ≡ box_place s edge)
-  good_from edge is some =
+  pub good_from : {edge : Edge} → IsBoxEdge s edge → 0 < box_place s edge → IsGood s edge ×
+      (box_rank s edge + 1 ≡ box_place s edge)
+  good_from {edge} is some =
       let good : IsGood s edge = record { is = is; some = some } in
-      (good, omega (arith, rank_is s edge good, some))
+      (good, omega (arith, rank_is good, some))
 
   pub next_at : (rank : ℕ) (edge : Option Edge) → IsNextEdge s edge rank
       → IsAt (IsGood s) (box_rank s) (length (box_items s)) edge rank
   next_at rank None at = at
   next_at rank (Some edge) at =
-      let good = good_from edge at.0 (omega (arith, at.1)) in
+      let good = good_from at.0 (omega (arith, at.1)) in
       (good.0, omega (arith, good.1, at.1))
 
   -- the edge after an item, or none, from what is known below the root
@@ -73,12 +73,11 @@ module _ {T : Type 0} (s : BoxStorage T) where
   end_known (Some g) h = h.0
 
   -- the edge before the item that a good edge stands for
-  pub before_good : (p : Edge) → IsGood s p → (edge : Option Edge)
-      → MatchOption edge (box_place s p ≡ 0)
-      (λ h. IsBoxEdge s h × (box_place s h + 1 ≡ box_place s p))
+  pub before_good : {p : Edge} → IsGood s p → (edge : Option Edge) → MatchOption edge (box_place s p
+      ≡ 0) (λ h. IsBoxEdge s h × (box_place s h + 1 ≡ box_place s p))
       → MatchOption edge (box_items s ≡ []) (IsBoxEdge s) × (edge_or_end s edge ≡ box_rank s p)
-  before_good p good None none = absurd (omega (arith, none, good.some))
-  before_good p good (Some h) here = (here.0, omega (arith, here.1, rank_is s p good))
+  before_good {p} good None none = absurd (omega (arith, none, good.some))
+  before_good {p} good (Some h) here = (here.0, omega (arith, here.1, rank_is good))
 
   -- the edge after the items that pass, as a position of the last of them
   pub front_found : (test : T → Bool) → Falls test (box_items s) → (edge : Option Edge)
@@ -88,5 +87,5 @@ module _ {T : Type 0} (s : BoxStorage T) where
       (λ p. IsGood s p × IsFrontOf test (box_items s) (box_rank s p + 1))
   front_found test falls None none = rw none at (falling_front test (box_items s) falls)
   front_found test falls (Some g) found =
-      let good = good_from g found.0 found.1 in
+      let good = good_from found.0 found.1 in
       (good.0, rw (good.1, found.2) (falling_front test (box_items s) falls))

@@ -29,19 +29,20 @@ IsTree-none s root empty = record {
 }
 
 -- an empty tree has no node
-pub nothing_stored : {T : Type 0} (s : Heap T) (levels root : ℕ) → levels ≡ 0
+pub nothing_stored : {T : Type 0} {s : Heap T} (levels : ℕ) {root : ℕ} → levels ≡ 0
     → IsTree s levels root → node_count s ≡ 0
-nothing_stored s zero root none tree = omega (arith, tree.len, ap length (used_none s root))
-nothing_stored s (suc d) root none tree = absurd (omega arith)
+nothing_stored {T} {s} zero {root} none tree = omega (arith, tree.len, ap length (used_none s root))
+nothing_stored (suc d) none tree = absurd (omega arith)
 
 -- an empty tree leaves all capacity free
-pub first_room : {T : Type 0} (s : Heap T) (levels root : ℕ) → levels ≡ 0 → IsTree s levels root
-    → length (items_below s levels root) + 1 ≤ MIN_LEN * s.capacity → node_count s + 1 ≤ s.capacity
-first_room s zero root none tree room = omega (arith, tree.len, ap length (used_none s root), room)
-first_room s (suc d) root none tree room = absurd (omega arith)
+pub first_room : {T : Type 0} {s : Heap T} (levels : ℕ) {root : ℕ} → levels ≡ 0
+    → IsTree s levels root → length (items_below s levels root) + 1 ≤ MIN_LEN * s.capacity
+    → node_count s + 1 ≤ s.capacity
+first_room {T} {s} zero {root} none tree room = omega (arith, tree.len, ap length (used_none s root), room)
+first_room (suc d) none tree room = absurd (omega arith)
 
-pub kid_shaped : {T : Type 0} (least most : ℕ) (s : Heap T) (d n i : ℕ)
+pub kid_shaped : {T : Type 0} {least most : ℕ} {s : Heap T} (d : ℕ) {n : ℕ} (i : ℕ)
     → ShapedBut least most s (suc d) n → i ≤ length (items_of (node_of s n))
     → ShapedBut MIN_LEN CAPACITY s d (get_or (children_of (node_of s n)) i 0)
-kid_shaped least most s d n i shaped within =
-    Shaped-but s d _ (shaped.children i 0 (omega (arith, shaped.node.branches)))
+kid_shaped {T} {least} {most} {s} d i shaped within = Shaped-but s d _
+    (shaped.children i 0 (omega (arith, shaped.node.branches)))

@@ -22,12 +22,10 @@ sizes-append {T} s d us vs =
     ap (sum_by length) (map-append (items_below s d) us vs)
     ∙ sum_by-append (length {A = T}) (map (items_below s d) us) (map (items_below s d) vs)
 
-pub items_below_size : {T : Type 0} (least most : ℕ) (s : Heap T) (d n : ℕ)
-    → ShapedBut least most s d n
-    → length (items_below s (suc d) n)
-    ≡ length (items_of (node_of s n)) + sizes s d (children_of (node_of s n))
-items_below_size least most s d n shaped =
-    ap length (weave_items_below s d n)
+pub items_below_size : {T : Type 0} {least most : ℕ} {s : Heap T} {d n : ℕ}
+    → ShapedBut least most s d n → length (items_below s (suc d) n) ≡ length (items_of
+    (node_of s n)) + sizes s d (children_of (node_of s n))
+items_below_size {T} {least} {most} {s} {d} {n} shaped = ap length (weave_items_below s d n)
     ∙ length-weave (items_of (node_of s n)) (map (items_below s d) (children_of (node_of s n)))
     (child_count_cases d _ _
     (length-map (children_of (node_of s n)) (items_below s d) ∙ shaped.node.branches))
@@ -54,7 +52,7 @@ used_le s (suc d) n shaped =
     omega (
       arith,
       ap length (used_is s d n),
-      items_below_size MIN_LEN CAPACITY s d n but,
+      items_below_size but,
       children_le_from s d (used_le s d) (children_of (node_of s n)) but.children,
       but.node.enough,
     )
@@ -64,14 +62,13 @@ pub children_le : {T : Type 0} (s : Heap T) (d : ℕ) (ns : List ℕ) → All (S
 children_le s d ns shaped = children_le_from s d (used_le s d) ns shaped
 
 -- capacity below a node is capacity below each of its children
-pub HasTreeRoom-child : {T : Type 0} (most : ℕ) (s : Heap T) (d n i more : ℕ) → 0 < d
+pub HasTreeRoom-child : {T : Type 0} {most : ℕ} {s : Heap T} {d n : ℕ} (i : ℕ) {more : ℕ} → 0 < d
     → i ≤ length (items_of (node_of s n)) → ShapedBut 1 most s d n → HasTreeRoom s (suc d) n more
     → HasTreeRoom s d (get_or (children_of (node_of s n)) i 0) more
-HasTreeRoom-child {T} most s d n i more inner within shaped room =
+HasTreeRoom-child {T} {most} {s} {d} {n} i {more} inner within shaped room =
     let ks = children_of (node_of s n) in
     let kid = get_or ks i 0 in
-    let many : length ks ≡ length (items_of (node_of s n)) + 1 =
-    children_length 1 most s d n inner shaped in
+    let many : length ks ≡ length (items_of (node_of s n)) + 1 = children_length inner shaped in
     let three : ks ≡ take i ks ++ (kid ∷ drop (i + 1) ks) =
     list_splits_at ks i 0 (omega (arith, many)) in
     let sizes_all : sizes s d ks
@@ -98,7 +95,7 @@ HasTreeRoom-child {T} most s d n i more inner within shaped room =
       arith,
       room.few,
       ap length (used_is s d n),
-      items_below_size 1 most s d n shaped,
+      items_below_size shaped,
       sizes_all,
       used_all,
       lefts,

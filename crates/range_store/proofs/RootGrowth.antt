@@ -20,9 +20,9 @@ use Rattle.range_store.proofs.Room.{used_le}
 use Rattle.range_store.proofs.Seats.{seat_written}
 
 -- a stored node is the only new one
-Stores-here : {T : Type 0} (s t : Heap T) (n : ℕ) (xs : List T) (ks : List ℕ) → Stores s t n xs ks
+Stores-here : {T : Type 0} {s t : Heap T} {n : ℕ} {xs : List T} {ks : List ℕ} → Stores s t n xs ks
     → (k : ℕ) → here t k ≡ here s k + occurrences k (n ∷ [])
-Stores-here s t n xs ks stored k =
+Stores-here {T} {s} {t} {n} stored k =
     elim (cases_eq k n) [
       | inl same ↦
           let now : here t n ≡ 1 = here_some t n stored.present in
@@ -34,11 +34,11 @@ Stores-here s t n xs ks stored k =
           omega (arith, none, kept)
     ]
 
-pub first_tree : {T : Type 0} (s t : Heap T) (levels root n : ℕ) (item : T) → levels ≡ 0
-    → IsTree s levels root → Stores s t n (item ∷ []) []
-    → IsTree t 1 n × (items_below t 1 n ≡ item ∷ [])
-first_tree s t (suc d) root n item none tree stored = absurd (omega arith)
-first_tree s t zero root n item none tree stored =
+pub first_tree : {T : Type 0} {s t : Heap T} (levels : ℕ) {root n : ℕ} (item : T) → levels ≡ 0
+    → IsTree s levels root → Stores s t n (item ∷ []) [] → IsTree t 1 n ×
+    (items_below t 1 n ≡ item ∷ [])
+first_tree {T} {s} {t} (suc d) {root} {n} item none tree stored = absurd (omega arith)
+first_tree {T} {s} {t} zero {root} {n} item none tree stored =
     let childless : length (children_of (node_of t n)) ≡ 0 = ap length stored.children_are in
     let whole : IsTree t 1 n = record {
       shaped = record {
@@ -56,7 +56,7 @@ first_tree s t zero root n item none tree stored =
           omega (
             arith,
             ap (occurrences k) (used_leaf t n childless),
-            Stores-here s t n (item ∷ []) [] stored k,
+            Stores-here stored k,
             tree.once k,
             ap (occurrences k) (used_none s root),
             occurrences-nil k,
@@ -90,37 +90,37 @@ module _ {T : Type 0} where
     pub tree : IsTree s levels root
     pub items_are : items_below s levels root ≡ list
 
-pub grown_roomy : {T : Type 0} (s : Heap T) (levels root : ℕ) (list : List T)
+pub grown_roomy : {T : Type 0} {s : Heap T} {levels root : ℕ} {list : List T}
     → IsGrown s levels root list → length list ≤ MIN_LEN * s.capacity → length list ≤ MAX_LEN
     → IsRoomy s levels root
-grown_roomy s levels root list grown fits counted = record {
+grown_roomy grown fits counted = record {
   tree = grown.tree;
   fits = omega (arith, ap length grown.items_are, fits);
   counted = omega (arith, ap length grown.items_are, counted);
 }
 
-module _ {T : Type 0} (s t : Heap T) (d root : ℕ) (list : List T) (tree : IsTree s (suc d) root)
+module _ {T : Type 0} {s t : Heap T} {d root : ℕ} {list : List T} (tree : IsTree s (suc d) root)
     (step : Replaces s t d root None list) where
   whole : used t (suc d) root ++ [] ≡ used t (suc d) root
   whole = append-nil (used t (suc d) root)
 
   kept_tree : IsTree t (suc d) root
-  kept_tree = record {
-    shaped =
-        All-head (ShapedBut 1 CAPACITY t d) root []
-        (step.shape 1 (omega arith) tree.shaped.node.enough);
-    once = λ k. omega (arith, step.moved.owned k, tree.once k, ap (occurrences k) whole);
-    len = omega (arith, step.moved.len, tree.len, ap length whole);
-  }
+  kept_tree =
+      record {
+        shaped = All-head (ShapedBut 1 CAPACITY t d) root []
+            (step.shape 1 (omega arith) tree.shaped.node.enough);
+        once = λ k. omega (arith, step.moved.owned k, tree.once k, ap (occurrences k) whole);
+        len = omega (arith, step.moved.len, tree.len, ap length whole);
+      }
 
-pub kept_root : {T : Type 0} (s t : Heap T) (levels root : ℕ) (list : List T) → 0 < levels
+pub kept_root : {T : Type 0} {s t : Heap T} (levels : ℕ) {root : ℕ} {list : List T} → 0 < levels
     → IsTree s levels root → Replaces s t (levels - 1) root None list → IsGrown t levels root list
-kept_root s t zero root list some tree step = absurd (omega arith)
-kept_root s t (suc d) root list some tree step' =
+kept_root {T} {s} {t} zero {root} {list} some tree step = absurd (omega arith)
+kept_root {T} {s} {t} (suc d) {root} {list} some tree step' =
     let level : suc d - 1 ≡ d = omega arith in
     let step = rw level at step' in
     record {
-      tree = kept_tree s t d root list tree step;
+      tree = kept_tree tree step;
       items_are = sym (append-nil (items_below t (suc d) root)) ∙ step.listed;
     }
 
@@ -131,7 +131,7 @@ unfolding IsSeat seat_place
 kept_edge t d root side g seat = let first : side ≡ 0 =
     omega (arith, seat.0) in (rw first at seat.1, rw first (omega arith))
 
-module _ {T : Type 0} (s t u : Heap T) (d root n : ℕ) (split : Split T) (list : List T)
+module _ {T : Type 0} {s t u : Heap T} {d root n : ℕ} (split : Split T) {list : List T}
     (tree : IsTree s (suc d) root) (step : Replaces s t d root (Some split) list)
     (stored : Stores t u n (split.middle ∷ []) (root ∷ split.right ∷ [])) where
   abbrev ts : List ℕ
@@ -161,27 +161,24 @@ module _ {T : Type 0} (s t u : Heap T) (d root n : ℕ) (split : Split T) (list 
       (step.shape MIN_LEN (omega arith) tt)
 
   used_now : used u (suc (suc d)) n ≡ n ∷ flat_map (used t (suc d)) ts
-  used_now = held_used t u (suc d) n (split.middle ∷ []) ts holds
+  used_now = held_used holds
 
   taller_tree : IsTree u (suc (suc d)) n
-  taller_tree = record {
-    shaped =
-        held_shape t u (suc d) n (split.middle ∷ []) ts holds 1 (omega arith)
-        (omega arith) refl ts_shaped;
-    once =
-        λ k.
-        omega (
+  taller_tree =
+      record {
+        shaped = held_shape holds 1 (omega arith) (omega arith) refl ts_shaped;
+        once = λ k. omega (
           arith,
           ap (occurrences k) used_now,
           occurrences-cons k n (flat_map (used t (suc d)) ts),
           once_before k,
-          Stores-here t u n (split.middle ∷ []) ts stored k,
+          Stores-here stored k,
         );
-    len = omega (arith, ap length used_now, stored.len, step.moved.len, tree.len);
-  }
+        len = omega (arith, ap length used_now, stored.len, step.moved.len, tree.len);
+      }
 
   taller_items_below : items_below u (suc (suc d)) n ≡ list
-  taller_items_below = held_items_below t u (suc d) n (split.middle ∷ []) ts holds ∙ step.listed
+  taller_items_below = held_items_below holds ∙ step.listed
 
   taller_seat : (side : ℕ) (g h : Edge) → turn h ≡ side → inside h ≡ g
       → IsSeat t (suc d) (split.middle ∷ []) ts side g
@@ -191,46 +188,44 @@ module _ {T : Type 0} (s t u : Heap T) (d root n : ℕ) (split : Split T) (list 
       seat_written t u n (split.middle ∷ []) ts side g h (suc d) holds agree
       (λ no. absurd (omega (arith, no))) (λ some. at) (λ some. within) seat
 
-pub taller_root : {T : Type 0} (s t u : Heap T) (levels root n : ℕ) (split : Split T)
-    (list : List T) → 0 < levels → IsTree s levels root
+pub taller_root : {T : Type 0} {s t u : Heap T} (levels : ℕ) {root n : ℕ} (split : Split T)
+    {list : List T} → 0 < levels → IsTree s levels root
     → Replaces s t (levels - 1) root (Some split) list
     → Stores t u n (split.middle ∷ []) (root ∷ split.right ∷ []) → IsGrown u (levels + 1) n list
-taller_root s t u zero root n split list some tree step stored = absurd (omega arith)
-taller_root s t u (suc d) root n split list some tree step' stored =
+taller_root {T} {s} {t} {u} zero {root} {n} split {list} some tree step stored = absurd (omega arith)
+taller_root {T} {s} {t} {u} (suc d) {root} {n} split {list} some tree step' stored =
     let level : suc d - 1 ≡ d = omega arith in
     let more : suc d + 1 ≡ suc (suc d) = omega arith in
     let step = rw level at step' in
     rw more (record {
-      tree = taller_tree s t u d root n split list tree step stored;
-      items_are = taller_items_below s t u d root n split list tree step stored;
+      tree = taller_tree split tree step stored;
+      items_are = taller_items_below split tree step stored;
     })
 
-pub taller_edge : {T : Type 0} (s t u : Heap T) (levels root n side : ℕ) (split : Split T)
-    (list : List T) (g h : Edge) → 0 < levels → IsTree s levels root
+pub taller_edge : {T : Type 0} {s t u : Heap T} (levels : ℕ) {root n : ℕ} (side : ℕ)
+    (split : Split T) {list : List T} (g h : Edge) → 0 < levels → IsTree s levels root
     → Replaces s t (levels - 1) root (Some split) list
     → Stores t u n (split.middle ∷ []) (root ∷ split.right ∷ []) → turn h ≡ side → inside h ≡ g
     → IsSeat t (suc (levels - 1)) (split.middle ∷ []) (root ∷ split.right ∷ []) side g
-    → IsEdge u (levels + 1 - 1) n h
-    × (place u (levels + 1 - 1) n h
-    ≡ seat_place t (suc (levels - 1)) (split.middle ∷ []) (root ∷ split.right ∷ []) side g)
-taller_edge s t u zero root n side split list g h some tree step stored at within seat =
-    absurd (omega arith)
-taller_edge s t u (suc d) root n side split list g h some tree step' stored at within seat' =
+    → IsEdge u (levels + 1 - 1) n h × (place u (levels + 1 - 1) n h ≡ seat_place t
+    (suc (levels - 1)) (split.middle ∷ []) (root ∷ split.right ∷ []) side g)
+taller_edge {T} {s} {t} {u} zero {root} {n} side split {list} g h some tree step stored at within
+    seat = absurd (omega arith)
+taller_edge {T} {s} {t} {u} (suc d) {root} {n} side split {list} g h some tree step' stored at within seat' =
     let level : suc d - 1 ≡ d = omega arith in
     let lower : suc d + 1 - 1 ≡ suc d = omega arith in
     let step = rw level at step' in
     rw (
       level,
       lower,
-    ) (taller_seat s t u d root n split list tree step stored side g h at within
-    (rw level at seat'))
+    ) (taller_seat split tree step stored side g h at within (rw level at seat'))
 
 -- after a cut of the root there is capacity for a new one
-pub taller_room : {T : Type 0} (s t : Heap T) (levels root : ℕ) (split : Split T) (list : List T)
-    → 0 < levels → length list ≤ MIN_LEN * s.capacity → IsTree s levels root
+pub taller_room : {T : Type 0} {s t : Heap T} (levels : ℕ) {root : ℕ} (split : Split T)
+    {list : List T} → 0 < levels → length list ≤ MIN_LEN * s.capacity → IsTree s levels root
     → Replaces s t (levels - 1) root (Some split) list → HasRoomFor t 1
-taller_room s t zero root split list some room tree step = absurd (omega arith)
-taller_room s t (suc d) root split list some room tree step' =
+taller_room {T} {s} {t} zero {root} split {list} some room tree step = absurd (omega arith)
+taller_room {T} {s} {t} (suc d) {root} split some room tree step' =
     let level : suc d - 1 ≡ d = omega arith in
     let step = rw level at step' in
     let ts = root ∷ split.right ∷ [] in

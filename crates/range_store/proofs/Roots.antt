@@ -17,16 +17,16 @@ use Rattle.range_store.specs.Edges.{turn, inside, IsEdge, place}
 use Rattle.range_store.specs.Contents.{IsRewritten}
 
 -- the items after one went below the root
-pub loosened_items : {T : Type 0} (s t : Heap T) (levels root : ℕ) (list : List T) → 0 < levels
-    → Shrinks s t (levels - 1) root list → items_below t levels root ≡ list
-loosened_items s t levels root list some step = let level : suc (levels - 1) ≡ levels =
-    omega arith in rw level at step.listed
+pub loosened_items : {T : Type 0} {s t : Heap T} (levels : ℕ) {root : ℕ} {list : List T}
+    → 0 < levels → Shrinks s t (levels - 1) root list → items_below t levels root ≡ list
+loosened_items levels some step = let level : suc (levels - 1) ≡ levels = omega arith in rw level at
+    step.listed
 
 -- the tree after one went below the root, which may be short
-pub loosened_tree : {T : Type 0} (s t : Heap T) (levels root : ℕ) (list : List T) → 0 < levels
+pub loosened_tree : {T : Type 0} {s t : Heap T} (levels : ℕ) {root : ℕ} {list : List T} → 0 < levels
     → IsTree s levels root → Shrinks s t (levels - 1) root list → IsLooseTree t levels root
-loosened_tree s t zero root list some tree step = absurd (omega arith)
-loosened_tree s t (suc d) root list some tree step' =
+loosened_tree {T} {s} {t} zero {root} {list} some tree step = absurd (omega arith)
+loosened_tree (suc d) some tree step' =
     let level : suc d - 1 ≡ d = omega arith in
     let step = rw level at step' in
     record {
@@ -37,10 +37,10 @@ loosened_tree s t (suc d) root list some tree step' =
     }
 
 -- a root with an item stays
-pub stays_root : {T : Type 0} (s : Heap T) (levels root : ℕ) → IsLooseTree s levels root
+pub stays_root : {T : Type 0} {s : Heap T} (levels : ℕ) {root : ℕ} → IsLooseTree s levels root
     → 0 < length (items_of (node_of s root)) → IsTree s levels root
-stays_root s zero root loose full = absurd (omega (arith, loose.some))
-stays_root s (suc d) root loose full =
+stays_root {T} {s} zero {root} loose full = absurd (omega (arith, loose.some))
+stays_root (suc d) loose full =
     let level : suc d - 1 ≡ d = omega arith in
     let shaped = rw level at loose.shaped in
     record {
@@ -64,9 +64,9 @@ list_of_one (k ∷ []) one = refl
 list_of_one (k ∷ j ∷ ks) one = absurd (omega arith)
 
 -- what stands under each number once the root went
-here_without : {T : Type 0} (s t : Heap T) (root : ℕ) → here s root ≡ 1 → Removes s t root → (k : ℕ)
+here_without : {T : Type 0} {s t : Heap T} {root : ℕ} → here s root ≡ 1 → Removes s t root → (k : ℕ)
     → here t k + occurrences k (root ∷ []) ≡ here s k
-here_without s t root present gone k =
+here_without {T} {s} {t} {root} present gone k =
     elim (cases_eq k root) [
       | inl same ↦ let none : here t root ≡ 0 =
           rw gone.gone refl in rw same (omega (arith, none, present, occurrences_itself root))
@@ -78,12 +78,12 @@ here_without s t root present gone k =
     ]
 
 -- a tree of one level that lost its last item
-pub empty_root_leaves_nothing : {T : Type 0} (s t : Heap T) (levels root : ℕ) → levels ≡ 1
+pub empty_root_leaves_nothing : {T : Type 0} {s t : Heap T} (levels : ℕ) {root : ℕ} → levels ≡ 1
     → IsLooseTree s levels root → length (items_of (node_of s root)) ≡ 0 → Removes s t root
     → IsTree t 0 0 × (items_below t 0 0 ≡ items_below s levels root)
-empty_root_leaves_nothing s t zero root one loose empty gone = absurd (omega arith)
-empty_root_leaves_nothing s t (suc (suc d)) root one loose empty gone = absurd (omega arith)
-empty_root_leaves_nothing s t (suc zero) root one loose empty gone =
+empty_root_leaves_nothing {T} {s} {t} zero {root} one loose empty gone = absurd (omega arith)
+empty_root_leaves_nothing {T} {s} {t} (suc (suc d)) {root} one loose empty gone = absurd (omega arith)
+empty_root_leaves_nothing {T} {s} {t} (suc zero) {root} one loose empty gone =
     let level : suc zero - 1 ≡ zero = omega arith in
     let shaped = rw level at loose.shaped in
     let alone = used_leaf s root shaped.node.branches in
@@ -95,7 +95,7 @@ empty_root_leaves_nothing s t (suc zero) root one loose empty gone =
             arith,
             loose.once k,
             ap (occurrences k) alone,
-            here_without s t root (here_some s root shaped.node.present) gone k,
+            here_without (here_some s root shaped.node.present) gone k,
             ap (occurrences k) (used_none t 0),
             occurrences-nil k,
           );
@@ -107,14 +107,13 @@ empty_root_leaves_nothing s t (suc zero) root one loose empty gone =
     )
 
 -- a taller tree whose root has one child alone
-pub only_child_is_root : {T : Type 0} (s t : Heap T) (levels root : ℕ) → levels ≢ 1
+pub only_child_is_root : {T : Type 0} {s t : Heap T} (levels : ℕ) {root : ℕ} → levels ≢ 1
     → IsLooseTree s levels root → length (items_of (node_of s root)) ≡ 0 → Removes s t root
-    → IsTree t (levels - 1) (get_or (children_of (node_of s root)) 0 0)
-    × (items_below t (levels - 1) (get_or (children_of (node_of s root)) 0 0)
-    ≡ items_below s levels root)
-only_child_is_root s t zero root more loose empty gone = absurd (omega (arith, loose.some))
-only_child_is_root s t (suc zero) root more loose empty gone = absurd (more refl)
-only_child_is_root s t (suc (suc e)) root more loose empty gone =
+    → IsTree t (levels - 1) (get_or (children_of (node_of s root)) 0 0) × (items_below t
+    (levels - 1) (get_or (children_of (node_of s root)) 0 0) ≡ items_below s levels root)
+only_child_is_root {T} {s} {t} zero {root} more loose empty gone = absurd (omega (arith, loose.some))
+only_child_is_root {T} {s} {t} (suc zero) {root} more loose empty gone = absurd (more refl)
+only_child_is_root {T} {s} {t} (suc (suc e)) {root} more loose empty gone =
     let level : suc (suc e) - 1 ≡ suc e = omega arith in
     let shaped = rw level at loose.shaped in
     let ks = children_of (node_of s root) in
@@ -142,15 +141,14 @@ only_child_is_root s t (suc (suc e)) root more loose empty gone =
     rw at present in omega (arith, occurs k, itself, was))) in
     let kid_shaped : Shaped s (suc e) kid = shaped.children 0 0 (omega (arith, ap length one)) in
     let tree : IsTree t (suc e) kid = record {
-      shaped =
-          shaped_within_wider 1 MIN_LEN CAPACITY CAPACITY t e kid (omega arith) (omega arith)
+      shaped = shaped_within_wider 1 CAPACITY (omega arith) (omega arith)
           (Shaped-but t e kid (same.shaped_same kid_shaped));
       once =
           λ k.
           omega (
             arith,
             occurs k,
-            here_without s t root present gone k,
+            here_without present gone k,
             ap (occurrences k) same.used_same,
           );
       len = omega (arith, gone.len, loose.len, ap length used_all, ap length same.used_same);
@@ -165,15 +163,15 @@ only_child_is_root s t (suc (suc e)) root more loose empty gone =
     rw level (tree, list)
 
 -- an edge below the only child of the root
-pub lowered_edge : {T : Type 0} (s t : Heap T) (levels root : ℕ) (g : Edge) → levels ≢ 1
+pub lowered_edge : {T : Type 0} {s t : Heap T} (levels : ℕ) {root : ℕ} (g : Edge) → levels ≢ 1
     → IsLooseTree s levels root → length (items_of (node_of s root)) ≡ 0 → Removes s t root
     → IsEdge s (levels - 1) root g
-    → IsEdge t (levels - 1 - 1) (get_or (children_of (node_of s root)) 0 0) (inside g)
-    × (place t (levels - 1 - 1) (get_or (children_of (node_of s root)) 0 0) (inside g)
-    ≡ place s (levels - 1) root g)
-lowered_edge s t zero root g more loose empty gone is = absurd (omega (arith, loose.some))
-lowered_edge s t (suc zero) root g more loose empty gone is = absurd (more refl)
-lowered_edge s t (suc (suc e)) root g more loose empty gone is' =
+    → IsEdge t (levels - 1 - 1) (get_or (children_of (node_of s root)) 0 0) (inside g) × (place t
+    (levels - 1 - 1) (get_or (children_of (node_of s root)) 0 0) (inside g) ≡ place s (levels - 1)
+    root g)
+lowered_edge {T} {s} {t} zero {root} g more loose empty gone is = absurd (omega (arith, loose.some))
+lowered_edge {T} {s} {t} (suc zero) {root} g more loose empty gone is = absurd (more refl)
+lowered_edge {T} {s} {t} (suc (suc e)) {root} g more loose empty gone is' =
     let level : suc (suc e) - 1 ≡ suc e = omega arith in
     let lower : suc e - 1 ≡ e = omega arith in
     let shaped = rw level at loose.shaped in
@@ -208,16 +206,16 @@ lowered_edge s t (suc (suc e)) root g more loose empty gone is' =
     refl in
     rw (level, lower) (same.edge below, omega (arith, same.place, here', start))
 
-pub tree_owned : {T : Type 0} (s : Heap T) (levels root : ℕ) → IsTree s levels root → (k : ℕ)
+pub tree_owned : {T : Type 0} {s : Heap T} {levels root : ℕ} → IsTree s levels root → (k : ℕ)
     → occurrences k (used s levels root) ≤ here s k
-tree_owned s levels root tree k = omega (arith, tree.once k)
+tree_owned tree k = omega (arith, tree.once k)
 
 -- the tree after an item was put in the place of another
-pub rewritten_tree : {T : Type 0} (s t : Heap T) (levels root : ℕ) (list : List T) → 0 < levels
-    → IsTree s levels root → IsRewritten s t (levels - 1) root list
+pub rewritten_tree : {T : Type 0} {s t : Heap T} (levels : ℕ) {root : ℕ} {list : List T}
+    → 0 < levels → IsTree s levels root → IsRewritten s t (levels - 1) root list
     → IsTree t levels root × (items_below t levels root ≡ list)
-rewritten_tree s t zero root list some tree step = absurd (omega arith)
-rewritten_tree s t (suc d) root list some tree step' =
+rewritten_tree {T} {s} {t} zero {root} {list} some tree step = absurd (omega arith)
+rewritten_tree {T} {s} {t} (suc d) {root} some tree step' =
     let level : suc d - 1 ≡ d = omega arith in
     let step = rw level at step' in
     let whole : IsTree t (suc d) root = record {

@@ -59,7 +59,7 @@ moved_path (suc low) leaf index g e at into small =
     let same = ap (λ (x : Edge). x.path) (into (omega arith)) in
     omega (arith, same, small)
 
-module _ {T : Type 0} (s : Heap T) (low n j : ℕ) (levelled : IsLevelled s low n j) where
+module _ {T : Type 0} {s : Heap T} {low n j : ℕ} (levelled : IsLevelled s low n j) where
   abbrev l : ℕ
   l = get_or (children_of (node_of s n)) j 0
 
@@ -87,7 +87,7 @@ module _ {T : Type 0} (s : Heap T) (low n j : ℕ) (levelled : IsLevelled s low 
     pair = pair_of s low n j x levelled here
 
     -- an item went from one child to the other
-    module _ (o t u : Heap T) (y : T) (half : ℕ)
+    module _ {o t u : Heap T} (y : T) (half : ℕ)
         (first : Writes s o l (take half X) (take (half + 1) K))
         (second : Writes o t r (drop (half + 1) X) (drop (half + 1) K))
         (middle : y ≡ get_or X half y)
@@ -101,8 +101,7 @@ module _ {T : Type 0} (s : Heap T) (low n j : ℕ) (levelled : IsLevelled s low 
       cut = record { middle = y; right = get_or (children_of (node_of s n)) (j + 1) 0 }
 
       rejoined : Rejoins s t low l x r (Some cut)
-      rejoined =
-          shared_rejoins s low l x r pair o t half within first second cut refl middle least most
+      rejoined = shared_rejoins s low l x r pair half within first second cut refl middle least most
           rest few
 
       written : Writes t u n (take j xs ++ (y ∷ drop (j + 1) xs))
@@ -114,7 +113,7 @@ module _ {T : Type 0} (s : Heap T) (low n j : ℕ) (levelled : IsLevelled s low 
           ) parent
 
       shrunk : Shrinks s u (suc low) n (items_below s (suc (suc low)) n)
-      shrunk = levelled_shrinks s low n j x levelled here t (Some cut) rejoined u written
+      shrunk = levelled_shrinks s low n j x levelled here rejoined written
 
       still : length (items_of (node_of u n)) ≡ length (items_of (node_of s n))
       still = ap length parent.items_are ∙ length-set xs j y
@@ -129,17 +128,15 @@ module _ {T : Type 0} (s : Heap T) (low n j : ℕ) (levelled : IsLevelled s low 
           let left =
           seat_left s half X K q g within low
           (pair_content s low l x r pair).branches small seat in
-          let agree =
-          (part_agree s t low (half + 1) K
-          (shared_agree s low l x r pair o t half within first second)).0 in
-          let edge =
-          seat_written s t l (take half X) (take (half + 1) K) q g e low
-          (shared_left s low l x r pair o t half within first second) agree leaf at into
-          left.0 in
+          let agree = (part_agree s t low (half + 1) K
+          (shared_agree s low l x r pair half within first second)).0 in
+          let edge = seat_written s t l (take half X) (take (half + 1) K) q g e low
+          (shared_left s low l x r pair half within first second) agree leaf at into left.0 in
           let alone = seat_alone t low l e (Some cut) edge.0 in
-          let up =
-          levelled_edge s low n j x levelled here t (Some cut) rejoined u written 0 e h
-          (omega (arith, turned)) inner alone.0 in
+          let up = levelled_edge s low n j x levelled here rejoined written 0 e h (omega (
+            arith,
+            turned,
+          )) inner alone.0 in
           (up.0, omega (arith, up.1, alone.1, edge.1, left.1))
 
       moves_right : (q : ℕ) (g e h : Edge) → half < q → IsSeat s low X K q g
@@ -153,41 +150,35 @@ module _ {T : Type 0} (s : Heap T) (low n j : ℕ) (levelled : IsLevelled s low 
           let right =
           seat_right s half X K q g within low
           (pair_content s low l x r pair).branches large seat in
-          let agree =
-          (part_agree s t low (half + 1) K
-          (shared_agree s low l x r pair o t half within first second)).1 in
-          let edge =
-          seat_written s t r (drop (half + 1) X) (drop (half + 1) K) (q - half - 1) g e low
-          (shared_right s low l x r pair o t half within first second) agree leaf at into
-          right.0 in
+          let agree = (part_agree s t low (half + 1) K
+          (shared_agree s low l x r pair half within first second)).1 in
+          let edge = seat_written s t r (drop (half + 1) X) (drop (half + 1) K) (q - half - 1) g e
+          low (shared_right s low l x r pair half within first second) agree leaf at into right.0 in
           let beside = seat_beside t low l e cut edge.0 in
-          let up =
-          levelled_edge s low n j x levelled here t
-          (Some cut) rejoined u written 1 e h turned inner beside.0 in
-          let fore =
-          ap length (left_items_below s t low l r half X K
-          (pair_content s low l x r pair) within
-          (shared_left s low l x r pair o t half within first second)
-          (shared_right s low l x r pair o t half within first second)) in
+          let up = levelled_edge s low n j x levelled here rejoined written 1 e h turned inner
+          beside.0 in
+          let fore = ap length (left_items_below half (pair_content s low l x r pair) within
+          (shared_left s low l x r pair half within first second)
+          (shared_right s low l x r pair half within first second)) in
           (up.0, omega (arith, up.1, beside.1, edge.1, right.1, fore))
 
     -- the two became one
-    module _ (o t u : Heap T) (first : Writes s o l X K) (second : Removes o t r)
-        (parent : Writes t u n (remove (items_of (node_of s n)) j)
-        (remove (children_of (node_of s n)) (j + 1))) (few : length X ≤ CAPACITY) where
+    module _ {o t u : Heap T} (first : Writes s o l X K) (second : Removes o t r) (parent : Writes t
+        u n (remove (items_of (node_of s n)) j) (remove (children_of (node_of s n)) (j + 1)))
+        (few : length X ≤ CAPACITY) where
       joined : Rejoins s t low l x r None
-      joined = united_rejoins s low l x r pair o t first second few
+      joined = united_rejoins s low l x r pair first second few
 
       detached : Writes t u n (take j xs ++ drop (j + 1) xs) (take j ks ++ (l ∷ drop (j + 2) ks))
       detached =
           let far : j + 1 + 1 ≡ j + 2 = omega arith in
           let kids : remove ks (j + 1) ≡ take j ks ++ (l ∷ drop (j + 2) ks) =
           remove_parts ks (j + 1) ∙ ap (λ m. take (j + 1) ks ++ drop m ks) far
-          ∙ pair_children s low n j x levelled here t None joined None in
+          ∙ pair_children s low n j x levelled here joined None in
           rw (sym (remove_parts xs j), sym kids) parent
 
       merged_shrinks : Shrinks s u (suc low) n (items_below s (suc (suc low)) n)
-      merged_shrinks = levelled_shrinks s low n j x levelled here t None joined u detached
+      merged_shrinks = levelled_shrinks s low n j x levelled here joined detached
 
       merged_edge : (q : ℕ) (g e h : Edge) → IsSeat s low X K q g
           → (low ≡ 0 → e ≡ record { leaf = l; path = 0; index = q }) → (0 < low → turn e ≡ q)
@@ -196,14 +187,14 @@ module _ {T : Type 0} (s : Heap T) (low n j : ℕ) (levelled : IsLevelled s low 
           × (place u (suc low) n h
           ≡ length (before xs (map (items_below s (suc low)) ks) j) + seat_place s low X K q g)
       merged_edge q g e h seat leaf at into turned inner =
-          let edge =
-          seat_written s t l X K q g e low
-          (united_holds s low l x r pair o t first second few)
-          (united_agree s low l x r pair o t first second few) leaf at into seat in
+          let edge = seat_written s t l X K q g e low
+          (united_holds s low l x r pair first second few)
+          (united_agree s low l x r pair first second few) leaf at into seat in
           let alone = seat_alone t low l e None edge.0 in
-          let up =
-          levelled_edge s low n j x levelled here t None joined u detached 0 e h
-          (omega (arith, turned)) inner alone.0 in
+          let up = levelled_edge s low n j x levelled here joined detached 0 e h (omega (
+            arith,
+            turned,
+          )) inner alone.0 in
           (up.0, omega (arith, up.1, alone.1, edge.1))
 
   kid_apart : (i : ℕ) → i < length ks → get_or ks i 0 ≢ n
@@ -258,7 +249,7 @@ module _ {T : Type 0} (s : Heap T) (low n j : ℕ) (levelled : IsLevelled s low 
   edge_itself (suc d) k e is = ((λ none. absurd (omega arith)), (λ _. refl))
 
   -- the child at j lent an item to the one after it
-  module _ (u : Heap T) (rotates : RotatesRight s u n j) (spare : MIN_LEN < child_size s n j) where
+  module _ {u : Heap T} (rotates : RotatesRight s u n j) (spare : MIN_LEN < child_size s n j) where
     abbrev a : ℕ
     a = length (items_of (node_of s (get_or (children_of (node_of s n)) j 0)))
 
@@ -328,10 +319,9 @@ module _ {T : Type 0} (s : Heap T) (low n j : ℕ) (levelled : IsLevelled s low 
     few = omega (arith, long, spare, levelled.fits)
 
     pub next_shrinks : Shrinks s u (suc low) n (items_below s (suc (suc low)) n)
-    next_shrinks =
-        shrunk rotates.down rotates.down_is rotates.rotates.first rotates.rotates.second u
-        rotates.up (a - 1) first second middle rotates.rotates.parent (omega (arith, spare))
-        (omega (arith, levelled.left.node.fits)) least few
+    next_shrinks = shrunk rotates.down rotates.down_is rotates.up (a - 1) first second middle
+        rotates.rotates.parent (omega (arith, spare)) (omega (arith, levelled.left.node.fits)) least
+        few
 
     pub next_kept : length (items_of (node_of u n)) ≡ length (items_of (node_of s n))
     next_kept = ap length rotates.rotates.parent.items_are ∙ length-set xs j rotates.up
@@ -343,21 +333,17 @@ module _ {T : Type 0} (s : Heap T) (low n j : ℕ) (levelled : IsLevelled s low 
         → IsEdge u (suc low) n h × (place u (suc low) n h ≡ seat_place s (suc low) xs ks (j + 1) e)
     next_edge e g h is leaf at into turned inner =
         let q = a + 1 + seat_of low e in
-        let seat =
-        pair_seat s low n j rotates.down levelled rotates.down_is (j + 1) e q (inr refl) is
+        let seat = pair_seat rotates.down levelled rotates.down_is (j + 1) e q (inr refl) is
         (λ none. absurd (omega (arith, none))) (λ some. refl) in
         let moved : a + 1 + seat_of low e - (a - 1) - 1 ≡ seat_of low e + 1 =
         omega (arith, spare) in
-        let up =
-        moves_right rotates.down rotates.down_is rotates.rotates.first
-        rotates.rotates.second u rotates.up
-        (a - 1) first second middle rotates.rotates.parent (omega (arith, spare))
-        (omega (arith, levelled.left.node.fits)) least few q (inside e) g h
-        (omega arith) seat.0 (rw moved leaf) (rw moved at) into turned inner in
+        let up = moves_right rotates.down rotates.down_is rotates.up (a - 1) first second middle
+        rotates.rotates.parent (omega (arith, spare)) (omega (arith, levelled.left.node.fits)) least
+        few q (inside e) g h (omega arith) seat.0 (rw moved leaf) (rw moved at) into turned inner in
         (up.0, up.1 ∙ seat.1)
 
   -- the child after j lent an item to that at j
-  module _ (u : Heap T) (rotates : RotatesLeft s u n j)
+  module _ {u : Heap T} (rotates : RotatesLeft s u n j)
       (spare : MIN_LEN < child_size s n (j + 1)) where
     abbrev a' : ℕ
     a' = length (items_of (node_of s (get_or (children_of (node_of s n)) j 0)))
@@ -413,10 +399,12 @@ module _ {T : Type 0} (s : Heap T) (low n j : ℕ) (levelled : IsLevelled s low 
     few' = omega (arith, long', levelled.right.node.fits)
 
     pub previous_shrinks : Shrinks s u (suc low) n (items_below s (suc (suc low)) n)
-    previous_shrinks =
-        shrunk rotates.down rotates.down_is rotates.rotates.first rotates.rotates.second u
-        rotates.up (a' + 1) first' second' middle' rotates.rotates.parent
-        (omega (arith, levelled.left.node.enough)) (omega (arith, spare, levelled.fits)) least' few'
+    previous_shrinks = shrunk rotates.down rotates.down_is rotates.up (a' + 1) first' second'
+        middle' rotates.rotates.parent (omega (arith, levelled.left.node.enough)) (omega (
+          arith,
+          spare,
+          levelled.fits,
+        )) least' few'
 
     pub previous_kept : length (items_of (node_of u n)) ≡ length (items_of (node_of s n))
     previous_kept = ap length rotates.rotates.parent.items_are ∙ length-set xs j rotates.up
@@ -424,21 +412,22 @@ module _ {T : Type 0} (s : Heap T) (low n j : ℕ) (levelled : IsLevelled s low 
     pub previous_edge : (e h : Edge) → IsEdge s low l e → turn h ≡ j → inside h ≡ e
         → IsEdge u (suc low) n h × (place u (suc low) n h ≡ seat_place s (suc low) xs ks j e)
     previous_edge e h is turned inner =
-        let seat =
-        pair_seat s low n j rotates.down levelled rotates.down_is j e (seat_of low e)
-        (inl refl) is (λ none. refl) (λ some. absurd (omega (arith, some))) in
+        let seat = pair_seat rotates.down levelled rotates.down_is j e (seat_of low e) (inl refl) is
+        (λ none. refl) (λ some. absurd (omega (arith, some))) in
         let itself = edge_itself low l e is in
-        let up =
-        stays_left rotates.down rotates.down_is rotates.rotates.first rotates.rotates.second
-        u rotates.up (a' + 1) first' second' middle' rotates.rotates.parent
-        (omega (arith, levelled.left.node.enough))
-        (omega (arith, spare, levelled.fits)) least' few' (seat_of low e) (inside e) e h
-        (omega (arith, seat_low s low l e (MIN_LEN - 1) levelled.left is)) seat.0 itself.0
-        itself.1 (λ some. refl) turned inner in
+        let up = stays_left rotates.down rotates.down_is rotates.up (a' + 1) first' second' middle'
+        rotates.rotates.parent (omega (arith, levelled.left.node.enough)) (omega (
+          arith,
+          spare,
+          levelled.fits,
+        )) least' few' (seat_of low e) (inside e) e h (omega (
+          arith,
+          seat_low low e levelled.left is,
+        )) seat.0 itself.0 itself.1 (λ some. refl) turned inner in
         (up.0, up.1 ∙ seat.1)
 
   -- the two were joined
-  module _ (u : Heap T) (merges : Merges s u n j)
+  module _ {u : Heap T} (merges : Merges s u n j)
       (few : child_size s n j + 1 + child_size s n (j + 1) ≤ CAPACITY) where
     fits : length (items_of (node_of s l) ++ (merges.down ∷ items_of (node_of s r))) ≤ CAPACITY
     fits =
@@ -449,9 +438,8 @@ module _ {T : Type 0} (s : Heap T) (low n j : ℕ) (levelled : IsLevelled s low 
         )
 
     pub joined_shrinks : Shrinks s u (suc low) n (items_below s (suc (suc low)) n)
-    joined_shrinks =
-        merged_shrinks merges.down merges.down_is merges.first merges.second u merges.left
-        merges.right merges.parent fits
+    joined_shrinks = merged_shrinks merges.down merges.down_is merges.left merges.right
+        merges.parent fits
 
     pub joined_edge : (i : ℕ) (e g h : Edge) (q : ℕ) → (i ≡ j) ⊎ (i ≡ j + 1)
         → IsEdge s low (get_or ks i 0) e → (i - j ≡ 0 → q ≡ seat_of low e)
@@ -460,10 +448,8 @@ module _ {T : Type 0} (s : Heap T) (low n j : ℕ) (levelled : IsLevelled s low 
         → (0 < low → inside g ≡ inside e) → turn h ≡ j → inside h ≡ g
         → IsEdge u (suc low) n h × (place u (suc low) n h ≡ seat_place s (suc low) xs ks i e)
     joined_edge i e g h q near is first second leaf at into turned inner =
-        let seat =
-        pair_seat s low n j merges.down levelled merges.down_is i e q near is first second
+        let seat = pair_seat merges.down levelled merges.down_is i e q near is first second
         in
-        let up =
-        merged_edge merges.down merges.down_is merges.first merges.second u merges.left
-        merges.right merges.parent fits q (inside e) g h seat.0 leaf at into turned inner in
+        let up = merged_edge merges.down merges.down_is merges.left merges.right merges.parent fits
+        q (inside e) g h seat.0 leaf at into turned inner in
         (up.0, up.1 ∙ seat.1)

@@ -57,15 +57,15 @@ module _ {T : Type 0} where
       room = omega (arith, rows.cells_are, row_there)
 
   -- the cell of an item
-  pub cell_in : (many : ℕ) (cells : List (Option T)) → IsRows many cells → (n i : ℕ)
+  pub cell_in : {many : ℕ} {cells : List (Option T)} → IsRows many cells → (n i : ℕ)
       → n < length (rows_in many cells) → i < length (row_of (rows_in many cells) n)
       → (stands : Standing (row_of (rows_in many cells) n) i) → (d : Option T)
       → get_or cells (CAPACITY * n + i) d ≡ Some stands.item
-  cell_in many cells rows n i there within stands d =
+  cell_in {many} {cells} rows n i there within stands d =
       let held = row_held many cells rows n there (omega (arith, within)) in
       sym (get_or-take CAPACITY (drop (CAPACITY * n) cells) i d (omega (arith, held.fits))
       ∙ get_or-drop (CAPACITY * n) cells i d)
-      ∙ cell_read (cells_of cells n) (row_of (rows_in many cells) n) held i within stands d
+      ∙ cell_read held i within stands d
 
   -- the cells of one number are new, and hold these items
   pub record Rewrites (cells new : List (Option T)) (n : ℕ) (items : List T) : Type 0 where
@@ -73,13 +73,13 @@ module _ {T : Type 0} where
     pub others : (m : ℕ) → m ≢ n → cells_of new m ≡ cells_of cells m
     pub here : HoldsItems (cells_of new n) items
 
-  module _ (many : ℕ) (cells new : List (Option T)) (rows : IsRows many cells) (n : ℕ)
-      (items : List T) (rewrites : Rewrites cells new n items) where
+  module _ {many : ℕ} {cells new : List (Option T)} (rows : IsRows many cells) {n : ℕ}
+      {items : List T} (rewrites : Rewrites cells new n items) where
     held_anew : (m : ℕ) → m < rows.there → HoldsItems (cells_of new m) (items_in (cells_of new m))
     held_anew m within =
         elim (cases_eq m n) [
           | inl same ↦
-              rw same (rw (items_held (cells_of new n) items rewrites.here) rewrites.here)
+              rw same (rw (items_held rewrites.here) rewrites.here)
           | inr other ↦ rw (rewrites.others m other) (rows.held m within)
         ]
 
@@ -101,7 +101,7 @@ module _ {T : Type 0} where
         elim (cases_eq m n) [
           | inl same ↦
               rw same (rows_read many new n within
-              ∙ items_held (cells_of new n) items rewrites.here
+              ∙ items_held rewrites.here
               ∙ sym (get_or-set_same (rows_in many cells) n items [] (omega (arith, long))))
           | inr other ↦
               rows_read many new m less ∙ ap items_in (rewrites.others m other)
@@ -110,11 +110,11 @@ module _ {T : Type 0} where
         ])
 
   -- the cells of a number were written at once
-  all_written : (n : ℕ) (cells part : List (Option T)) (items : List T)
+  all_written : (n : ℕ) (cells : List (Option T)) {part : List (Option T)} {items : List T}
       → CAPACITY * n + CAPACITY ≤ length cells → HoldsItems part items
       → Rewrites cells (put_mid (CAPACITY * n) CAPACITY cells part) n items
-  all_written n cells part items within holds =
-      let long = row_length part items holds in
+  all_written n cells {part} {items} within holds =
+      let long = row_length holds in
       let front = take (CAPACITY * n) cells in
       let back = drop CAPACITY (drop (CAPACITY * n) cells) in
       let start : length front ≡ CAPACITY * n =
@@ -152,21 +152,18 @@ module _ {T : Type 0} where
   pub part_written : (n k : ℕ) → k ≡ CAPACITY → (cells part : List (Option T)) (items : List T)
       → CAPACITY * n + CAPACITY ≤ length cells → HoldsItems part items
       → Rewrites cells (put_mid (CAPACITY * n) k cells part) n items
-  part_written n k all cells part items within holds =
-      rw all (all_written n cells part items within holds)
+  part_written n k all cells part items within holds = rw all (all_written n cells within holds)
 
   -- the items that it had
   pub part_held : (n k : ℕ) → k ≡ CAPACITY → (cells part : List (Option T)) (items : List T)
       → part ≡ cells → HoldsItems (cells_of cells n) items
       → items_in (take k (drop (CAPACITY * n) part)) ≡ items
-  part_held n k all cells part items same held =
-      rw (all, same) (items_held (cells_of cells n) items held)
+  part_held n k all cells part items same held = rw (all, same) (items_held held)
 
   pub part_holds : (n k : ℕ) → k ≡ CAPACITY → (cells part : List (Option T)) (items : List T)
       → part ≡ cells → HoldsItems (cells_of cells n) items
       → HoldsItems (take k (drop (CAPACITY * n) part)) (items_in (take k (drop (CAPACITY * n) part)))
-  part_holds n k all cells part items same held =
-      rw (all, same) (rw (items_held (cells_of cells n) items held) held)
+  part_holds n k all cells part items same held = rw (all, same) (rw (items_held held) held)
 
   take_set : (n : ℕ) (xs : List (Option T)) (i : ℕ) (x : Option T)
       → take n (set xs i x) ≡ set (take n xs) i x
@@ -176,10 +173,10 @@ module _ {T : Type 0} where
   take_set (suc n) (y ∷ xs) (suc i) x = ap (λ ys. y ∷ ys) (take_set n xs i x)
 
   -- one cell of a number was written
-  pub cell_written : (n i : ℕ) (cells : List (Option T)) (items : List T) (item : T)
+  pub cell_written : (n i : ℕ) (cells : List (Option T)) {items : List T} (item : T)
       → i < length items → HoldsItems (cells_of cells n) items
       → Rewrites cells (set cells (CAPACITY * n + i) (Some item)) n (set items i item)
-  cell_written n i cells items item within holds =
+  cell_written n i cells {items} item within holds =
       let cell : Option T = Some item in
       let less : i < CAPACITY = omega (arith, holds.fits) in
       let here : cells_of (set cells (CAPACITY * n + i) cell) n ≡ set (cells_of cells n) i cell =
@@ -199,11 +196,11 @@ module _ {T : Type 0} where
                   ap (take CAPACITY)
                   (drop-set-lt (CAPACITY * m) cells (CAPACITY * n + i) cell (omega arith))
             ];
-        here = rw here (held_set (cells_of cells n) items i item holds within);
+        here = rw here (held_set i item holds within);
       }
 
   -- empty cells were added up to a row
-  module _ (many : ℕ) (cells : List (Option T)) (rows : IsRows many cells) (n : ℕ)
+  module _ {many : ℕ} {cells : List (Option T)} (rows : IsRows many cells) (n : ℕ)
       (within : n < many) where
     abbrev missing : ℕ
     missing = CAPACITY * n + CAPACITY - length cells
@@ -297,7 +294,7 @@ module _ {T : Type 0} where
         rw (← topped_same, rows_read many topped n within) (topped_rows.held n less)
 
   -- a row without cells was added
-  module _ (many : ℕ) (cells : List (Option T)) (rows : IsRows many cells) where
+  module _ {many : ℕ} {cells : List (Option T)} (rows : IsRows many cells) where
     pub added_rows : IsRows (suc many) cells
     added_rows = record {
       there = rows.there;

@@ -127,7 +127,7 @@ fits_weave s d n branches =
     child_count_cases d _ _ (length-map (children_of (node_of s n)) (items_below s d) ∙ branches)
 
 -- what a search may ask of a node
-module _ {T : Type 0} (p : T → Bool) (least most : ℕ) (s : Heap T) (d n : ℕ)
+module _ {T : Type 0} (p : T → Bool) {least most : ℕ} {s : Heap T} {d n : ℕ}
     (shaped : ShapedBut least most s d n) where
   pub node_falls : Falls p (items_below s (suc d) n) → Falls p (items_of (node_of s n))
   node_falls falls =
@@ -139,7 +139,7 @@ module _ {T : Type 0} (p : T → Bool) (least most : ℕ) (s : Heap T) (d n : �
         → Falls p (items_below s d (get_or (children_of (node_of s n)) i 0))
     kid_falls falls =
         let lists = map (items_below s d) (children_of (node_of s n)) in
-        let whole = items_below_at least most s d n inner shaped i within in
+        let whole = items_below_at inner shaped i within in
         let first =
         falls_parts p (before (items_of (node_of s n)) lists i)
         (items_below s d (get_or (children_of (node_of s n)) i 0)
@@ -156,9 +156,8 @@ module _ {T : Type 0} (p : T → Bool) (least most : ℕ) (s : Heap T) (d n : �
       let xs = items_of (node_of s n) in
       let ks = children_of (node_of s n) in
       let within = count_by-le-length p xs in
-      let many = children_length least most s d n inner shaped in
-      let main =
-      count-weave p xs (map (items_below s d) ks)
-      (lists_length least most s d n inner shaped) (rw weave_items_below at falls) in
+      let many = children_length inner shaped in
+      let main = count-weave p xs (map (items_below s d) ks) (lists_length inner shaped)
+      (rw weave_items_below at falls) in
       let kid = get_or-map (items_below s d) ks (count_by p xs) 0 [] (omega (arith, many)) in
       omega (arith, ap (count_by p) (weave_items_below s d n), main, ap (count_by p) kid)

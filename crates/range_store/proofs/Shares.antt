@@ -33,9 +33,9 @@ others_fit others share left high few all fits =
           omega (arith, ap (λ m. others * m) same, ap (λ m. (others + 1) * m) same, all)
     ]
 
-pub share_is : (rest others low high : ℕ) → CanBeShared rest (others + 1) low high
+pub share_is : {rest : ℕ} (others : ℕ) {low high : ℕ} → CanBeShared rest (others + 1) low high
     → IsShare rest others low high (rest / (others + 1))
-share_is rest others low high can =
+share_is {rest} others {low} {high} can =
     let q = rest / (others + 1) in
     let parts = quotient rest (others + 1) (omega arith) in
     let enough : low ≤ q =
@@ -174,23 +174,22 @@ branch_is width below count some is least most =
     }
 
 -- the share of the first child
-pub first_share : (width below count inner many : ℕ) → IsBranch width below count inner many
-    → IsShare (count - many) many (MIN_LEN * inner) ((CAPACITY + 1) * inner)
-    ((count - many) / (many + 1))
-first_share width below count inner many branch =
-    share_is (count - many) many (MIN_LEN * inner) ((CAPACITY + 1) * inner) branch.can
+pub first_share : {width below count inner many : ℕ} → IsBranch width below count inner many →
+    IsShare (count - many) many (MIN_LEN * inner) ((CAPACITY + 1) * inner) ((count - many) /
+    (many + 1))
+first_share {width} {below} {count} {inner} {many} branch = share_is many branch.can
 
 -- and of the one after the item at an index
-pub next_share : (rest many index low high : ℕ) → index < many
+pub next_share : {rest : ℕ} (many index : ℕ) {low high : ℕ} → index < many
     → CanBeShared rest (many - index) low high
     → IsShare rest (many - (index + 1)) low high (rest / (many - index))
-next_share rest many index low high more can =
+next_share {rest} many index {low} {high} more can =
     let level : many - index ≡ many - (index + 1) + 1 = omega arith in
-    rw level (share_is rest (many - (index + 1)) low high (rw level at can))
+    rw level (share_is (many - (index + 1)) (rw level at can))
 
 -- nothing is left
-pub all_shared : (rest many index low high : ℕ) → index ≡ many
+pub all_shared : {rest : ℕ} (many index : ℕ) {low high : ℕ} → index ≡ many
     → CanBeShared rest (many - index) low high → rest ≡ 0
-all_shared rest many index low high all can =
+all_shared many index all can =
     let none : many - index ≡ 0 = omega (arith, all) in
     omega (arith, (rw none at can).fits)

@@ -86,9 +86,8 @@ module _ {T : Type 0} (s : Heap T) (low n i : ℕ) (m : MayBeRebalanced s low n 
       }
 
   loose : (c : ℕ) → Shaped s (suc low) c → ShapedBut (MIN_LEN - 1) CAPACITY s low c
-  loose c shaped =
-      shaped_within_wider (MIN_LEN - 1) MIN_LEN CAPACITY CAPACITY s low c (omega arith)
-      (omega arith) (Shaped-but s low c shaped)
+  loose c shaped = shaped_within_wider (MIN_LEN - 1) CAPACITY (omega arith) (omega arith)
+      (Shaped-but s low c shaped)
 
   with_behind : i < length xs → length (items_of (node_of s kid)) < MIN_LEN → IsLevelled s low n i
   with_behind within short =

@@ -26,11 +26,11 @@ remove_middle f k r rest within =
     ∙ ap (λ zs. f ++ zs) (remove-append_left k r rest within)
 
 -- the subtree of the child at i has another list
-module _ {T : Type 0} (s t : Heap T) (b n i : ℕ) (list : List T) (inner : b ≢ 0)
+module _ {T : Type 0} {s t : Heap T} {b n : ℕ} (i : ℕ) (list : List T) (inner : b ≢ 0)
     (shaped : ShapedBut 1 CAPACITY s b n) (owned : Owned s (suc b) n)
     (low : i ≤ length (items_of (node_of s n)))
-    (listed : items_below t b (get_or (children_of (node_of s n)) i 0) ≡ list)
-    (moved : Moves s t (used s b (get_or (children_of (node_of s n)) i 0))
+    (listed : items_below t b (get_or (children_of (node_of s n)) i 0) ≡ list) (moved : Moves s t
+    (used s b (get_or (children_of (node_of s n)) i 0))
     (used t b (get_or (children_of (node_of s n)) i 0))) where
   abbrev xs : List T
   xs = items_of (node_of s n)
@@ -48,29 +48,29 @@ module _ {T : Type 0} (s t : Heap T) (b n i : ℕ) (list : List T) (inner : b �
   vs = drop (i + 1) (children_of (node_of s n))
 
   many : length ks ≡ length xs + 1
-  many = children_length 1 CAPACITY s b n (omega arith) shaped
+  many = children_length (omega arith) shaped
 
   ks_parts : ks ≡ us ++ (kid ∷ vs)
   ks_parts = list_splits_at ks i 0 (omega (arith, many))
 
   kid_run : Runs s t b n us (kid ∷ []) vs (kid ∷ [])
-  kid_run = record {
-    present = shaped.node.present;
-    owned = owned;
-    children = ks_parts;
-    moved = rw (append-nil (used s b kid), append-nil (used t b kid)) moved;
-  }
+  kid_run =
+      record {
+        present = shaped.node.present;
+        owned = owned;
+        children = ks_parts;
+        moved = rw (append-nil (used s b kid), append-nil (used t b kid)) moved;
+      }
 
   pub kid_kept : node_of t n ≡ node_of s n
-  kid_kept = run_kept s t b n us (kid ∷ []) vs (kid ∷ []) kid_run
+  kid_kept = run_kept kid_run
 
   pub kid_moved : Moves s t (used s (suc b) n) (used t (suc b) n)
   kid_moved =
       let now : used t (suc b) n ≡ n ∷ flat_map (used t b) (us ++ (kid ∷ vs)) =
       used_is t b n
       ∙ ap (λ zs. n ∷ flat_map (used t b) zs) (ap children_of kid_kept ∙ ks_parts) in
-      subst (λ zs. Moves s t (used s (suc b) n) zs) (sym now)
-      (run_moved s t b n us (kid ∷ []) vs (kid ∷ []) kid_run)
+      subst (λ zs. Moves s t (used s (suc b) n) zs) (sym now) (run_moved kid_run)
 
   pub kid_owned_after : Owned t (suc b) n
   kid_owned_after k = omega (arith, kid_moved.owned k, owned k)
@@ -103,15 +103,14 @@ module _ {T : Type 0} (s t : Heap T) (b n i : ℕ) (list : List T) (inner : b �
       (ap items_of kid_kept ∙ sym (take-append-drop i xs))
       ∙ ap (λ zs. weave (take i xs ++ drop i xs) (map (items_below t b) zs))
       (ap children_of kid_kept ∙ ks_parts)
-      ∙ ap (weave (take i xs ++ drop i xs)) (run_lists s t b n us (kid ∷ []) vs (kid ∷ []) kid_run)
+      ∙ ap (weave (take i xs ++ drop i xs)) (run_lists kid_run)
       ∙ woven ∙ middle ∙ sides
 
   -- what stands before the child
   pub kid_front : length (before (items_of (node_of t n))
       (map (items_below t b) (children_of (node_of t n))) i) ≡ length (before xs lists i)
   kid_front =
-      let same : map (items_below t b) us ≡ take i lists =
-      (same_before s t b n us (kid ∷ []) vs (kid ∷ []) kid_run).items_below_same
+      let same : map (items_below t b) us ≡ take i lists = (same_before kid_run).items_below_same
       ∙ sym (take-map (items_below s b) i ks) in
       let first =
       length-before xs (map (items_below t b) ks) i low
@@ -128,11 +127,8 @@ module _ {T : Type 0} (s t : Heap T) (b n i : ℕ) (list : List T) (inner : b �
 
   pub kid_children : Shaped t b kid → All (Shaped t b) (children_of (node_of t n))
   kid_children shape =
-      let before =
-      (same_before s t b n us (kid ∷ []) vs (kid ∷ []) kid_run).shaped_same
-      (All-take (Shaped s b) i ks shaped.children) in
-      let behind =
-      (same_after s t b n us (kid ∷ []) vs (kid ∷ []) kid_run).shaped_same
+      let before = (same_before kid_run).shaped_same (All-take (Shaped s b) i ks shaped.children) in
+      let behind = (same_after kid_run).shaped_same
       (All-drop (Shaped s b) (i + 1) ks shaped.children) in
       rw kid_kept (subst (All (Shaped t b)) (sym ks_parts)
       (All-append (Shaped t b) us (kid ∷ vs) before
@@ -144,12 +140,9 @@ module _ {T : Type 0} (s t : Heap T) (b n i : ℕ) (list : List T) (inner : b �
   pub kid_may_be_rebalanced : ShapedBut (MIN_LEN - 1) CAPACITY t (b - 1) kid
       → MayBeRebalanced t (b - 1) n i
   kid_may_be_rebalanced short =
-      let node = IsNode-same 1 CAPACITY s t b n kid_kept shaped.node in
-      let before =
-      (same_before s t b n us (kid ∷ []) vs (kid ∷ []) kid_run).shaped_same
-      (All-take (Shaped s b) i ks shaped.children) in
-      let behind =
-      (same_after s t b n us (kid ∷ []) vs (kid ∷ []) kid_run).shaped_same
+      let node = IsNode-same t kid_kept shaped.node in
+      let before = (same_before kid_run).shaped_same (All-take (Shaped s b) i ks shaped.children) in
+      let behind = (same_after kid_run).shaped_same
       (All-drop (Shaped s b) (i + 1) ks shaped.children) in
       record {
         node = rw (← level) at node;
@@ -161,11 +154,11 @@ module _ {T : Type 0} (s t : Heap T) (b n i : ℕ) (list : List T) (inner : b �
       }
 
 -- an item of a leaf goes
-pub leaf_shrinks : {T : Type 0} (s t : Heap T) (n q : ℕ) → ShapedBut 1 CAPACITY s 0 n → Owned s 1 n
-    → q < length (items_of (node_of s n))
+pub leaf_shrinks : {T : Type 0} {s t : Heap T} {n : ℕ} (q : ℕ) → ShapedBut 1 CAPACITY s 0 n
+    → Owned s 1 n → q < length (items_of (node_of s n))
     → Writes s t n (remove (items_of (node_of s n)) q) (children_of (node_of s n))
     → Shrinks s t 0 n (remove (items_below s 1 n) q)
-leaf_shrinks s t n q shaped owned within written =
+leaf_shrinks {T} {s} {t} {n} q shaped owned within written =
     let less = length-remove (items_of (node_of s n)) q within in
     let content : IsContent s 0 n (remove (items_of (node_of s n)) q) (children_of (node_of s n)) =
     record {
@@ -175,29 +168,27 @@ leaf_shrinks s t n q shaped owned within written =
       owned =
           λ k. omega (arith, owned k, ap (occurrences k) (used_is s 0 n));
     } in
-    let holds =
-    written_holds s t 0 n (remove (items_of (node_of s n)) q)
-    (children_of (node_of s n)) content written in
+    let holds = written_holds t content written in
     let none = nil_from_length (children_of (node_of s n)) shaped.node.branches in
     record {
-      listed =
-          held_items_below s t 0 n _ _ holds
+      listed = held_items_below holds
           ∙ ap (λ zs. weave (remove (items_of (node_of s n)) q) (map (items_below s 0) zs)) none
           ∙ ap (λ zs. remove zs q) (sym (items_below_leaf s n shaped.node.branches));
-      moved =
-          rw (used_is s 0 n, held_used s t 0 n _ _ holds)
-          (Writes-moves s t n _ _ (flat_map (used s 0) (children_of (node_of s n))) written);
-      shape =
-          λ least more. held_shape s t 0 n _ _ holds least (omega (arith, less, more))
-          (omega (arith, less, shaped.node.fits)) shaped.node.branches shaped.children;
+      moved = rw (used_is s 0 n, held_used holds)
+          (Writes-moves (flat_map (used s 0) (children_of (node_of s n))) written);
+      shape = λ least more. held_shape holds least (omega (arith, less, more)) (omega (
+        arith,
+        less,
+        shaped.node.fits,
+      )) shaped.node.branches shaped.children;
     }
 
 -- an item below a child went, and the child was rebalanced
-module _ {T : Type 0} (s t u : Heap T) (b n i q : ℕ) (inner : b ≢ 0)
+module _ {T : Type 0} {s t u : Heap T} {b n : ℕ} (i q : ℕ) (inner : b ≢ 0)
     (shaped : ShapedBut 1 CAPACITY s b n) (owned : Owned s (suc b) n)
     (low : i ≤ length (items_of (node_of s n)))
-    (within : q < length (items_below s b (get_or (children_of (node_of s n)) i 0)))
-    (child : Shrinks s t (b - 1) (get_or (children_of (node_of s n)) i 0)
+    (within : q < length (items_below s b (get_or (children_of (node_of s n)) i 0))) (child :
+    Shrinks s t (b - 1) (get_or (children_of (node_of s n)) i 0)
     (remove (items_below s (suc (b - 1)) (get_or (children_of (node_of s n)) i 0)) q))
     (rebalanced : Shrinks t u (suc (b - 1)) n (items_below t (suc (suc (b - 1))) n)) where
   back : suc (b - 1) ≡ b
@@ -216,25 +207,20 @@ module _ {T : Type 0} (s t u : Heap T) (b n i q : ℕ) (inner : b ≢ 0)
       (length (before (items_of (node_of s n))
       (map (items_below s b) (children_of (node_of s n))) i) + q))
   shorter_child_shrinks_node =
-      let kept = kid_kept s t b n i _ inner shaped owned low listed' moved' in
+      let kept = kid_kept i _ inner shaped owned low listed' moved' in
       record {
         listed =
             (rw back at rebalanced.listed)
-            ∙ kid_listed s t b n i _ inner shaped owned low listed' moved'
+            ∙ kid_listed i _ inner shaped owned low listed' moved'
             ∙ sym
             (remove_middle (before (items_of (node_of s n))
             (map (items_below s b) (children_of (node_of s n))) i)
             (items_below s b (get_or (children_of (node_of s n)) i 0))
             (after (items_of (node_of s n))
             (map (items_below s b) (children_of (node_of s n))) i) q within)
-            ∙ ap (λ zs.
-            remove zs
-            (length (before (items_of (node_of s n))
-            (map (items_below s b) (children_of (node_of s n))) i) + q))
-            (sym (items_below_at 1 CAPACITY s b n (omega arith) shaped i low));
-        moved =
-            Moves-then s t u (used s (suc b) n) (used t (suc b) n) (used u (suc b) n)
-            (kid_moved s t b n i _ inner shaped owned low listed' moved')
+            ∙ ap (λ zs. remove zs (length (before (items_of (node_of s n)) (map (items_below s b)
+            (children_of (node_of s n))) i) + q)) (sym (items_below_at (omega arith) shaped i low));
+        moved = Moves-then (kid_moved i _ inner shaped owned low listed' moved')
             (rw back at rebalanced.moved);
         shape = λ least more. rw back at (rebalanced.shape least (rw kept more));
       }

@@ -93,7 +93,7 @@ module _ {T : Type 0} (s t u : Heap T) (n i : ℕ) (pair : HasPair s n i) (up : 
       ∙ item_other t n i (right_child s n i) up pair.right_apart
       ∙ one.others (right_child s n i) (λ e. pair.apart (sym e))
 
-module _ {T : Type 0} (s t u v : Heap T) (n i : ℕ) (pair : HasPair s n i) (down up : T) where
+module _ {T : Type 0} {s : Heap T} (t u v : Heap T) {n i : ℕ} (pair : HasPair s n i) (down up : T) where
   abbrev l : ℕ
   l = left_child s n i
 
@@ -125,12 +125,9 @@ module _ {T : Type 0} (s t u v : Heap T) (n i : ℕ) (pair : HasPair s n i) (dow
       ∙ end_child pair.below (left_items s n i) (left_children s n i) (right_items s n i)
       (right_children s n i) pair.left_branches pair.right_branches in
       let swapped = write_first t u v n l (set (items_of (node_of s n)) i up)
-      (children_of (node_of s n)) pair.left_apart (left_items s n i ++ down ∷ [])
-      (left_children s n i ++ take 1 (right_children s n i)) here
-      (rw (items, children) at three) in
+      (children_of (node_of s n)) pair.left_apart here (rw (items, children) at three) in
       let moved = write_first s t swapped.between r l (drop 1 (right_items s n i))
-      (drop 1 (right_children s n i)) pair.apart (left_items s n i ++ down ∷ [])
-      (left_children s n i ++ take 1 (right_children s n i)) one swapped.first in
+      (drop 1 (right_children s n i)) pair.apart one swapped.first in
       record {
         down = down;
         down_is = down_is ∙ ap (λ node. get_or (items_of node) i down) parent;
@@ -174,8 +171,7 @@ module _ {T : Type 0} (s t u v : Heap T) (n i : ℕ) (pair : HasPair s n i) (dow
       ap (λ node. with_child (children_of node) 0 (slice_get ks (length xs))) right
       ∙ front_child pair.below (right_children s n i) xs ks pair.left_branches in
       let swapped = write_first t u v n r (set (items_of (node_of s n)) i up)
-      (children_of (node_of s n)) pair.right_apart (down ∷ right_items s n i)
-      (drop (length xs) ks ++ right_children s n i) here (rw (items, children) at three) in
+      (children_of (node_of s n)) pair.right_apart here (rw (items, children) at three) in
       record {
         down = down;
         down_is = down_is ∙ ap (λ node. get_or (items_of node) i down) parent;
@@ -206,7 +202,7 @@ module _ {T : Type 0} (s t u : Heap T) (n i : ℕ) (pair : HasPair s n i) (down 
       let last = remove_last t two.between u l r xs ks (λ e. pair.apart (sym e)) two.right
       written in
       let lower = write_first s t last.between n l (remove (items_of (node_of s n)) i)
-      (remove (children_of (node_of s n)) (i + 1)) pair.left_apart xs ks one last.first in
+      (remove (children_of (node_of s n)) (i + 1)) pair.left_apart one last.first in
       let upper = remove_first lower.between last.between u n r (remove (items_of (node_of s n)) i)
       (remove (children_of (node_of s n)) (i + 1)) pair.right_apart lower.second last.second in
       record {
@@ -220,7 +216,7 @@ module _ {T : Type 0} (s t u : Heap T) (n i : ℕ) (pair : HasPair s n i) (down 
       }
 
 -- what the joining of two children asks of them
-module _ {T : Type 0} (s : Heap T) (n i : ℕ) (pair : HasPair s n i) where
+module _ {T : Type 0} {s : Heap T} {n i : ℕ} (pair : HasPair s n i) where
   by_levels : (below k m lefts rights : ℕ) → lefts ≡ child_count below k
       → rights ≡ child_count below m → (rights ≡ 0) ⊎ (0 < lefts)
   by_levels zero k m lefts rights many others = inl others

@@ -479,10 +479,10 @@ module _ {T : Type 0} (old new : Slab Node) (was now : List (List T)) (spares : 
     }
 
 -- rows that grew, but have what they had
-pub grown_whole : {T : Type 0} (slab : Slab Node) (was now : List (List T)) (spares : List ℕ)
-    → IsWhole slab was spares → length was ≤ length now
+pub grown_whole : {T : Type 0} {slab : Slab Node} {was : List (List T)} (now : List (List T))
+    {spares : List ℕ} → IsWhole slab was spares → length was ≤ length now
     → ((k : ℕ) → row_of now k ≡ row_of was k) → IsWhole slab now spares
-grown_whole slab was now spares whole long kept = record {
+grown_whole {T} {slab} now whole long kept = record {
   there = λ k some. omega (arith, long, whole.there k some);
   lens = λ k. ap length (kept k) ∙ whole.lens k;
   empty = λ k among.
@@ -508,7 +508,7 @@ grown slab was now spares whole long kept = record {
   len = omega (
     arith,
     counted slab was spares whole,
-    counted slab now spares (grown_whole slab was now spares whole long kept),
+    counted slab now spares (grown_whole now whole long kept),
   );
 }
 
@@ -521,14 +521,15 @@ module _ {T : Type 0} (slab : Slab Node) (rows : List (List T)) (spares : List �
   there = rw at refl
 
   edit : Changes slab (with_value slab n node) rows (set rows n items) n node items
-  edit = record {
-    updates = value_updates slab n there node;
-    here = get_or-set_same rows n items [] (whole.there n there);
-    others = λ k differs. get_or-set_other rows n k items [] differs;
-    long = omega (arith, length-set rows n items);
-    there = omega (arith, length-set rows n items, whole.there n there);
-    len_is = len_is;
-  }
+  edit =
+      record {
+        updates = value_updates slab n there node;
+        here = get_or-set_same rows n items [] (whole.there n there);
+        others = λ k differs. get_or-set_other rows n k items [] differs;
+        long = omega (arith, length-set rows n items);
+        there = omega (arith, length-set rows n items, whole.there n there);
+        len_is = len_is;
+      }
 
   pub edited_len : slab_len (with_value slab n node) ≡ slab_len slab
   edited_len = value_len slab n there node
@@ -573,7 +574,7 @@ module _ {T : Type 0} (slab : Slab Node) (rows : List (List T)) (spares : List �
         items edit edited_len present no_items no_children
 
 -- a spare has nothing
-module _ {T : Type 0} (slab : Slab Node) (rows : List (List T)) (spares left : List ℕ)
+module _ {T : Type 0} {slab : Slab Node} {rows : List (List T)} {spares : List ℕ} (left : List ℕ)
     (whole : IsWhole slab rows spares) (n : ℕ) (parts : spares ≡ n ∷ left) where
   among : 0 < occurrences n spares
   among = omega (
@@ -612,7 +613,7 @@ none_whole slab rows spares no_slots no_rows no_spares =
     }
 
 -- another item was written in the place of one
-module _ {T : Type 0} (slab : Slab Node) (rows : List (List T)) (spares : List ℕ)
+module _ {T : Type 0} {slab : Slab Node} {rows : List (List T)} {spares : List ℕ}
     (whole : IsWhole slab rows spares) (n i : ℕ) (x : T)
     (present : HasNode (heap_of slab rows spares) n) where
   pub item_whole : IsWhole slab (set rows n (set (row_of rows n) i x)) spares
@@ -692,7 +693,7 @@ module _ {T : Type 0} where
   none_left (x ∷ xs) none = absurd (omega arith)
 
   -- a number with no node has no items
-  pub vacant_row : (slab : Slab Node) (rows : List (List T)) (spares : List ℕ)
+  pub vacant_row : {slab : Slab Node} {rows : List (List T)} {spares : List ℕ}
       → IsWhole slab rows spares → (n : ℕ) → get slab n ≡ None → row_of rows n ≡ []
-  vacant_row slab rows spares whole n vacant =
-      none_left (row_of rows n) (whole.lens n ∙ ap len_of vacant)
+  vacant_row {slab} {rows} whole n vacant = none_left (row_of rows n)
+      (whole.lens n ∙ ap len_of vacant)

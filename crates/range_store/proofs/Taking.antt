@@ -85,7 +85,7 @@ module _ {T : Type 0} (s t : BoxStorage T) (g behind left : Edge) (some : 0 < bo
       let items =
       written_items t left good_left next ∙ ap (λ i. set (box_items t) i next) here
       ∙ ap (λ xs. set xs (box_place s g - 1) next) listed ∙ down in
-      let kept = good_then t left good_left next left good_left in
+      let kept = good_then t left good_left next good_left in
       let whole = with_good_item t left good_left next in
       rw same (record {
         roomy = whole.whole;

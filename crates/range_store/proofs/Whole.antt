@@ -15,37 +15,36 @@ use Rattle.range_store.proofs.Levels.{tree_lower}
 use Rattle.range_store.specs.Written.{root_shaped}
 
 -- so many levels as a path has digits are enough for all items that a tree may have
-pub tree_is_not_too_deep : {T : Type 0} (s : Heap T) (levels root : ℕ) → IsRoomy s levels root
+pub tree_is_not_too_deep : {T : Type 0} {s : Heap T} (levels : ℕ) {root : ℕ} → IsRoomy s levels root
     → levels - 1 < MAX_LEVELS
-tree_is_not_too_deep s zero root roomy = omega arith
-tree_is_not_too_deep s (suc d) root roomy =
+tree_is_not_too_deep {T} {s} zero {root} roomy = omega arith
+tree_is_not_too_deep {T} {s} (suc d) {root} roomy =
     elim (cases_lt d MAX_LEVELS) [
       | inl low ↦ omega (arith, low)
       | inr high ↦
           let some : 0 < MIN_LEN + 1 = omega arith in
           let more : (MIN_LEN + 1) ^ MAX_LEVELS ≤ (MIN_LEN + 1) ^ d = pow-le-pow_right some high in
           let limit : MAX_LEN + 1 < 2 * (MIN_LEN + 1) ^ MAX_LEVELS = omega arith in
-          absurd (omega (arith, tree_lower s d root roomy.tree, more, limit, roomy.counted))
+          absurd (omega (arith, tree_lower d roomy.tree, more, limit, roomy.counted))
     ]
 
 -- no edge lies past the end
-pub edge_within : {T : Type 0} (t : BoxStorage T) (g : Edge) → IsBoxEdge t g
+pub edge_within : {T : Type 0} {t : BoxStorage T} {g : Edge} → IsBoxEdge t g
     → box_place t g ≤ length (box_items t)
-edge_within t g is =
+edge_within {T} {t} {g} is =
     let level : suc (t.levels - 1) ≡ t.levels = omega (arith, is.some) in
-    rw level at (place_within t.nodes (t.levels - 1) t.root g 1 CAPACITY
-    (root_shaped t.nodes t.levels t.root is.some t.whole.tree) is.edge)
+    rw level at (place_within (t.levels - 1) g (root_shaped t.levels is.some t.whole.tree) is.edge)
 
 -- an edge in the leaf of another, and the item there
-module _ {T : Type 0} (t : BoxStorage T) (g : Edge) (is : IsBoxEdge t g) where
+module _ {T : Type 0} {t : BoxStorage T} {g : Edge} (is : IsBoxEdge t g) where
   level : suc (t.levels - 1) ≡ t.levels
   level = omega (arith, is.some)
 
   shaped : ShapedBut 1 CAPACITY t.nodes (t.levels - 1) t.root
-  shaped = root_shaped t.nodes t.levels t.root is.some t.whole.tree
+  shaped = root_shaped t.levels is.some t.whole.tree
 
   pub tree_leaf : IsLeafOf t.nodes g
-  tree_leaf = leaf_of_edge t.nodes (t.levels - 1) t.root g shaped is.edge
+  tree_leaf = leaf_of_edge (t.levels - 1) g shaped is.edge
 
   pub tree_beside : (h : Edge) → h.leaf ≡ g.leaf → h.path ≡ g.path
       → h.index ≤ length (items_of (node_of t.nodes g.leaf))

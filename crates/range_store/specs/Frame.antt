@@ -50,9 +50,9 @@ same_children_from s t d below (n ∷ ns) agree =
           (later.shaped_same (All-tail (Shaped s d) n ns h));
     }
 
-pub IsNode-same : {T : Type 0} (least most : ℕ) (s t : Heap T) (d n : ℕ) → node_of t n ≡ node_of s n
-    → IsNode least most s d n → IsNode least most t d n
-IsNode-same least most s t d n here node =
+pub IsNode-same : {T : Type 0} {least most : ℕ} {s : Heap T} (t : Heap T) {d n : ℕ}
+    → node_of t n ≡ node_of s n → IsNode least most s d n → IsNode least most t d n
+IsNode-same t here node =
     record {
       present = rw here node.present;
       enough = rw here node.enough;
@@ -74,8 +74,7 @@ same_below s t (suc d) n agree =
     record {
       items_below_same = rw (here, children.items_below_same);
       used_same = rw (here, children.used_same);
-      shaped_same =
-          λ h. (IsNode-same MIN_LEN CAPACITY s t d n here h.0, rw here (children.shaped_same h.1));
+      shaped_same = λ h. (IsNode-same t here h.0, rw here (children.shaped_same h.1));
     }
 
 pub same_children : {T : Type 0} (s t : Heap T) (d : ℕ) (ns : List ℕ)

@@ -119,14 +119,14 @@ module _ {T : Type 0} where
   abbrev pub box_place_before : BoxStorage T → Option Edge → ℕ
   box_place_before s before = place_before (box_rank s) (length (box_items s)) before
 
-  rank_when : (s : BoxStorage T) (edge : Edge) (decided : Decided s edge) → IsGood s edge
+  rank_when : {s : BoxStorage T} {edge : Edge} (decided : Decided s edge) → IsGood s edge
       → rank_as s edge decided ≡ box_place s edge - 1
-  rank_when s edge (inl _) good = refl
-  rank_when s edge (inr bad) good = absurd (bad good)
+  rank_when {s} {edge} (inl _) good = refl
+  rank_when (inr bad) good = absurd (bad good)
 
-  pub rank_is : (s : BoxStorage T) (edge : Edge) → IsGood s edge
+  pub rank_is : {s : BoxStorage T} {edge : Edge} → IsGood s edge
       → box_rank s edge ≡ box_place s edge - 1
-  rank_is s edge good = rank_when s edge (good_or_not s edge) good
+  rank_is {s} {edge} good = rank_when (good_or_not s edge) good
 
   -- the edge after the item of a rank is a position of that rank
   pub next_at : (s : BoxStorage T) (edge : Option Edge) (rank : ℕ) → IsNextEdge s edge rank
@@ -134,54 +134,49 @@ module _ {T : Type 0} where
   next_at s None rank is = is
   next_at s (Some edge) rank is =
       let good : IsGood s edge = record { is = is.0; some = omega (arith, is.1) } in
-      (good, omega (arith, rank_is s edge good, is.1))
+      (good, omega (arith, rank_is good, is.1))
 
   -- the item before a good edge has a home
-  pub good_home : (s : BoxStorage T) (edge : Edge) → IsGood s edge
-      → IsHome s.nodes (s.levels - 1) s.root (box_home s edge).node (box_home s edge).index
-      (box_place s edge - 1)
-  good_home s edge good =
-      home_is s.nodes 1 CAPACITY (s.levels - 1) s.root edge
-      (root_shaped s.nodes s.levels s.root good.is.some s.whole.tree)
-      (tree_once s.nodes s.levels s.root good.is.some s.whole.tree) good.is.edge good.some
+  pub good_home : {s : BoxStorage T} {edge : Edge} → IsGood s edge → IsHome s.nodes (s.levels - 1)
+      s.root (box_home s edge).node (box_home s edge).index (box_place s edge - 1)
+  good_home {s} {edge} good = home_is s.nodes 1 CAPACITY (s.levels - 1) s.root edge
+      (root_shaped s.levels good.is.some s.whole.tree) (tree_once good.is.some s.whole.tree)
+      good.is.edge good.some
 
 module _ {T : Type 0} (s : BoxStorage T) (edge : Edge) (good : IsGood s edge) where
   level : suc (s.levels - 1) ≡ s.levels
   level = omega (arith, good.is.some)
 
   pub good_within : box_place s edge - 1 < length (box_items s)
-  good_within =
-      rw level at (home_within s.nodes (s.levels - 1) s.root _ _ _ (good_home s edge good))
+  good_within = rw level at (home_within s.nodes (good_home good))
 
   abbrev now : T → Heap T
   now x = with_item s.nodes (box_home s edge).node (box_home s edge).index x
 
   pub written_nodes : (x : T) → SameShape s.nodes (now x)
   written_nodes x =
-      let home = good_home s edge good in
-      written_shape s.nodes (now x) (box_home s edge).node _
-      (length-set _ (box_home s edge).index x)
+      let home = good_home good in
+      written_shape s.nodes (length-set _ (box_home s edge).index x)
       (item_written s.nodes (box_home s edge).node (box_home s edge).index x home.present)
 
   pub written_items : (x : T)
       → items_below (now x) s.levels s.root ≡ set (box_items s) (box_place s edge - 1) x
   written_items x =
-      let home = good_home s edge good in
-      rw level at (home_set s.nodes (s.levels - 1) s.root _ _ _ home (now x) x
+      let home = good_home good in
+      rw level at (home_set s.nodes home x
       (item_written s.nodes (box_home s edge).node (box_home s edge).index x home.present))
 
   -- the item before the edge
   pub good_item : (e : T)
       → get_or (box_items s) (box_place s edge - 1) e
       ≡ get_or (items_of (node_of s.nodes (box_home s edge).node)) (box_home s edge).index e
-  good_item e =
-      rw level at (home_item s.nodes (s.levels - 1) s.root _ _ _ (good_home s edge good) e)
+  good_item e = rw level at (home_item s.nodes (good_home good) e)
 
   pub written_roomy : (x : T) → IsRoomy (now x) s.levels s.root
   written_roomy x =
-      let many = length_same s.nodes (now x) (written_nodes x) s.levels s.root in
+      let many = length_same (written_nodes x) s.levels s.root in
       record {
-        tree = tree_same s.nodes (now x) (written_nodes x) s.levels s.root s.whole.tree;
+        tree = tree_same (written_nodes x) s.whole.tree;
         fits = omega (arith, many, s.whole.fits);
         counted = omega (arith, many, s.whole.counted);
       }
@@ -192,44 +187,42 @@ module _ {T : Type 0} (s : BoxStorage T) (edge : Edge) (good : IsGood s edge) wh
       record s {
         nodes = with_item s.nodes (box_home s edge).node (box_home s edge).index x;
         whole = written_roomy x;
-        counted =
-            s.counted ∙ sym (length_same s.nodes (now x) (written_nodes x) s.levels s.root);
+        counted = s.counted ∙ sym (length_same (written_nodes x) s.levels s.root);
       }
 
-  pub good_then : (x : T) (other : Edge) → IsGood s other
-      → IsGood (with_good_item x) other × (box_place (with_good_item x) other ≡ box_place s other)
-  good_then x other is =
-      let same = place_same s.nodes (now x) (written_nodes x) (s.levels - 1) s.root other in (
+  pub good_then : (x : T) {other : Edge} → IsGood s other → IsGood (with_good_item x) other ×
+      (box_place (with_good_item x) other ≡ box_place s other)
+  good_then x {other} is =
+      let same = place_same (written_nodes x) (s.levels - 1) s.root other in (
         record {
           is = record {
             some = is.is.some;
-            edge =
-                edge_same s.nodes (now x) (written_nodes x) (s.levels - 1) s.root other is.is.edge;
+            edge = edge_same (written_nodes x) (s.levels - 1) s.root other is.is.edge;
           };
           some = omega (arith, same, is.some);
         },
         same,
       )
 
-  good_before : (x : T) (other : Edge) → IsGood (with_good_item x) other → IsGood s other
-  good_before x other is =
+  good_before : (x : T) {other : Edge} → IsGood (with_good_item x) other → IsGood s other
+  good_before x {other} is =
       let back = turned s.nodes (now x) (written_nodes x) in
-      let same = place_same (now x) s.nodes back (s.levels - 1) s.root other in
+      let same = place_same back (s.levels - 1) s.root other in
       record {
         is = record {
           some = is.is.some;
-          edge = edge_same (now x) s.nodes back (s.levels - 1) s.root other is.is.edge;
+          edge = edge_same back (s.levels - 1) s.root other is.is.edge;
         };
         some = omega (arith, same, is.some);
       }
 
   rank_kept : (x : T) (other : Edge) (new : Decided (with_good_item x) other)
       (old : Decided s other) → rank_as (with_good_item x) other new ≡ rank_as s other old
-  rank_kept x other (inl _) (inl _) =
-      ap (λ m. m - 1) (place_same s.nodes (now x) (written_nodes x) (s.levels - 1) s.root other)
-  rank_kept x other (inl is) (inr bad) = absurd (bad (good_before x other is))
-  rank_kept x other (inr bad) (inl is) = absurd (bad (good_then x other is).0)
-  rank_kept x other (inr _) (inr _) = length_same s.nodes (now x) (written_nodes x) s.levels s.root
+  rank_kept x other (inl _) (inl _) = ap (λ m. m - 1)
+      (place_same (written_nodes x) (s.levels - 1) s.root other)
+  rank_kept x other (inl is) (inr bad) = absurd (bad (good_before x is))
+  rank_kept x other (inr bad) (inl is) = absurd (bad (good_then x is).0)
+  rank_kept x other (inr _) (inr _) = length_same (written_nodes x) s.levels s.root
 
 module _ {T : Type 0} where
   -- the storage with another item before an edge, if it is a good one
@@ -252,23 +245,22 @@ module _ {T : Type 0} where
 
   room_as : (s : BoxStorage T) (edge : Edge) (decided : Decided s edge) (x : T)
       → box_room (with_item_as s edge decided x) ≡ box_room s
-  room_as s edge (inl good) x =
-      ap (λ m. min (MIN_LEN * s.nodes.capacity) MAX_LEN - m)
-      (length_same s.nodes (now s edge good x) (written_nodes s edge good x) s.levels s.root)
+  room_as s edge (inl good) x = ap (λ m. min (MIN_LEN * s.nodes.capacity) MAX_LEN - m)
+      (length_same (written_nodes s edge good x) s.levels s.root)
   room_as s edge (inr bad) x = refl
 
   pub room_with_box_item : (s : BoxStorage T) (edge : Edge) (x : T)
       → box_room (with_box_item s edge x) ≡ box_room s
   room_with_box_item s edge x = room_as s edge (good_or_not s edge) x
 
-  good_as : (s : BoxStorage T) (edge : Edge) (decided : Decided s edge) (x : T) (other : Edge)
+  good_as : {s : BoxStorage T} (edge : Edge) (decided : Decided s edge) (x : T) {other : Edge}
       → IsGood s other → IsGood (with_item_as s edge decided x) other
-  good_as s edge (inl good) x other is = (good_then s edge good x other is).0
-  good_as s edge (inr bad) x other is = is
+  good_as {s} edge (inl good) x {other} is = (good_then s edge good x is).0
+  good_as edge (inr bad) x is = is
 
   pub good_with_box_item : (s : BoxStorage T) (edge : Edge) (x : T) (other : Edge) → IsGood s other
       → IsGood (with_box_item s edge x) other
-  good_with_box_item s edge x other is = good_as s edge (good_or_not s edge) x other is
+  good_with_box_item s edge x other is = good_as edge (good_or_not s edge) x is
 
   rank_of : (s : BoxStorage T) (edge : Edge) (decided : Decided s edge) (x : T) (other : Edge)
       → box_rank (with_item_as s edge decided x) other ≡ box_rank s other
@@ -283,7 +275,7 @@ module _ {T : Type 0} where
 
   pub good_in_range : (s : BoxStorage T) (edge : Edge) → IsGood s edge
       → box_rank s edge < length (box_items s)
-  good_in_range s edge good = rw (rank_is s edge good) (good_within s edge good)
+  good_in_range s edge good = rw (rank_is good) (good_within s edge good)
 
   pub items_fit : (s : BoxStorage T) → length (box_items s) < 2 ^ 64
   items_fit s = omega (arith, s.whole.counted)

@@ -101,7 +101,7 @@ module _ {T : Type 0} where
     len = sym same.len;
   }
 
-module _ {T : Type 0} (s t : Heap T) (same : SameShape s t) where
+module _ {T : Type 0} {s t : Heap T} (same : SameShape s t) where
   used_same : (d n : ℕ) → used t d n ≡ used s d n
   unfolding used
   used_same zero n = refl
@@ -123,34 +123,35 @@ module _ {T : Type 0} (s t : Heap T) (same : SameShape s t) where
       (map (items_below s d) (children_of (node_of s n))) (same.sizes n)
       (lists_length_from d (length_same d) (children_of (node_of s n))))
 
-  node_same : (least most d n : ℕ) → IsNode least most s d n → IsNode least most t d n
-  node_same least most d n node = record {
-    present = same.present n ∙ node.present;
-    enough = omega (arith, same.sizes n, node.enough);
-    fits = omega (arith, same.sizes n, node.fits);
-    branches = rw (same.children n, same.sizes n) node.branches;
-  }
+  node_same : {least most d n : ℕ} → IsNode least most s d n → IsNode least most t d n
+  node_same {least} {most} {d} {n} node =
+      record {
+        present = same.present n ∙ node.present;
+        enough = omega (arith, same.sizes n, node.enough);
+        fits = omega (arith, same.sizes n, node.fits);
+        branches = rw (same.children n, same.sizes n) node.branches;
+      }
 
   Shaped_same : (d n : ℕ) → Shaped s d n → Shaped t d n
   unfolding Shaped
   Shaped_same zero n shaped = tt
   Shaped_same (suc d) n shaped = (
-    node_same MIN_LEN CAPACITY d n shaped.0,
+    node_same shaped.0,
     rw (same.children n) (λ i k within. Shaped_same d _ (shaped.1 i k within)),
   )
 
-  pub but_same : (least most d n : ℕ) → ShapedBut least most s d n → ShapedBut least most t d n
-  but_same least most d n shaped = record {
-    node = node_same least most d n shaped.node;
+  pub but_same : {least most d n : ℕ} → ShapedBut least most s d n → ShapedBut least most t d n
+  but_same {least} {most} {d} {n} shaped = record {
+    node = node_same shaped.node;
     children = rw (same.children n) (λ i k within. Shaped_same d _ (shaped.children i k within));
   }
 
   root_same : (levels root : ℕ) → IsRoot s levels root → IsRoot t levels root
   root_same zero root shaped = tt
-  root_same (suc d) root shaped = but_same 1 CAPACITY d root shaped
+  root_same (suc d) root shaped = but_same shaped
 
-  pub tree_same : (levels root : ℕ) → IsTree s levels root → IsTree t levels root
-  tree_same levels root tree = record {
+  pub tree_same : {levels root : ℕ} → IsTree s levels root → IsTree t levels root
+  tree_same {levels} {root} tree = record {
     shaped = root_same levels root tree.shaped;
     once = λ k. rw (used_same levels root, same.present k) (tree.once k);
     len = same.len ∙ tree.len ∙ ap length (sym (used_same levels root));
@@ -226,11 +227,11 @@ not_start zero some = absurd (some refl)
 not_start (suc n) some = omega arith
 
 module _ {T : Type 0} (s : Heap T) where
-  pub shaped_kid : (least most d n i : ℕ) → ShapedBut least most s (suc d) n
+  pub shaped_kid : {least most : ℕ} (d : ℕ) {n : ℕ} (i : ℕ) → ShapedBut least most s (suc d) n
       → i < length (children_of (node_of s n))
       → ShapedBut MIN_LEN CAPACITY s d (get_or (children_of (node_of s n)) i 0)
   unfolding Shaped
-  shaped_kid least most d n i shaped within =
+  shaped_kid d i shaped within =
       let kid = shaped.children i 0 within in
       record { node = kid.0; children = kid.1 }
 
@@ -256,9 +257,8 @@ module _ {T : Type 0} (s : Heap T) where
       length-before xs lists (turn g) (omega (arith, is.0, shaped.node.branches))
       (omega (arith, is.0, length-map (children_of (node_of s n)) (items_below s (suc d))))
       in
-      let below =
-      start_of_place MIN_LEN CAPACITY d _ (inside g)
-      (shaped_kid least most d n (turn g) shaped is.0) is.1 (omega (arith, none)) in
+      let below = start_of_place MIN_LEN CAPACITY d _ (inside g) (shaped_kid d (turn g) shaped is.0)
+      is.1 (omega (arith, none)) in
       (omega (arith, below.0, front, none), below.1)
 
   module _ (d n : ℕ) (g : Edge) (once : (k : ℕ) → occurrences k (used s (suc (suc d)) n) ≤ 1)
@@ -284,8 +284,9 @@ module _ {T : Type 0} (s : Heap T) where
     used_once k = omega (arith, once k, occurrences-cons k n (flat_map (used s (suc d)) ks))
 
     below_differs : (k : ℕ) → 0 < occurrences k (flat_map (used s (suc d)) ks) → k ≢ n
-    below_differs k among at = let itself : occurrences k (n ∷ []) ≡ 1 =
-        rw (← at) (occurrences_itself k) in omega (arith, used_once k, itself, among)
+    below_differs k among at =
+        let itself : occurrences k (n ∷ []) ≡ 1 = rw (← at) (occurrences_itself k) in omega
+        (arith, used_once k, itself, among)
 
     lists_many : length lists ≡ length xs + 1
     lists_many = length-map ks (items_below s (suc d)) ∙ branches
@@ -342,11 +343,11 @@ module _ {T : Type 0} (s : Heap T) where
         above_start (suc t) at = omega arith
 
     -- or below the child through which the path goes
-    home_below : (m q : ℕ) → 0 < place s d kid (inside g)
+    home_below : {m q : ℕ} → 0 < place s d kid (inside g)
         → IsHome s d kid m q (place s d kid (inside g) - 1)
         → IsHome s (suc d) n m q (place s (suc d) n g - 1)
     unfolding items_below used
-    home_below m q more home =
+    home_below {m} more home =
         let among = used_kid s (suc d) i ks m home.among low in
         let apart : flat_map (used s (suc d)) ks ≡ flat_map (used s (suc d)) (take i ks)
         ++ (used s (suc d) kid ++ flat_map (used s (suc d)) (drop (i + 1) ks)) =
@@ -428,7 +429,7 @@ module _ {T : Type 0} (s : Heap T) where
       (home_of s (suc d) n g) refl
     where
       kid_shaped : ShapedBut MIN_LEN CAPACITY s d (get_or (children_of (node_of s n)) (turn g) 0)
-      kid_shaped = shaped_kid least most d n (turn g) shaped is.0
+      kid_shaped = shaped_kid d (turn g) shaped is.0
 
       kid_once : (k : ℕ)
           → occurrences k (used s (suc d) (get_or (children_of (node_of s n)) (turn g) 0)) ≤ 1
@@ -461,9 +462,9 @@ module _ {T : Type 0} (s : Heap T) where
           not_start (place s d below (inside g)) (λ none.
           let start = start_of_place MIN_LEN CAPACITY d below (inside g) kid_shaped is.1 none in
           both_ways _ later (and_from _ _ (eq-eqb _ _ start.0) (eq-eqb _ _ start.1))) in
-          rw at (home_below d n g once shaped.node.branches is.0 some _ _ more (further more))
+          rw at (home_below d n g once shaped.node.branches is.0 some more (further more))
 
-  module _ (d n m i rank : ℕ) (home : IsHome s d n m i rank) where
+  module _ {d n m i rank : ℕ} (home : IsHome s d n m i rank) where
     itself : (e : T) → Aside s s m i (get_or (items_of (node_of s m)) i e)
     itself e =
         record {
@@ -479,10 +480,10 @@ module _ {T : Type 0} (s : Heap T) where
         ∙ rw (← home.many) (item_behind home.front
         (get_or (items_of (node_of s m)) i e) home.back e)
 
-    pub home_set : (t : Heap T) (x : T)
+    pub home_set : {t : Heap T} (x : T)
         → Writes s t m (set (items_of (node_of s m)) i x) (children_of (node_of s m))
         → items_below t (suc d) n ≡ set (items_below s (suc d) n) rank x
-    home_set t x written =
+    home_set {t} x written =
         home.parts t x (record {
           others = written.others;
           items_are = written.items_are ∙ set_parts (items_of (node_of s m)) i x home.within;
@@ -503,10 +504,10 @@ module _ {T : Type 0} (s : Heap T) where
         )
 
   -- a heap in which a node was written with as many items
-  pub written_shape : (t : Heap T) (m : ℕ) (xs : List T)
+  pub written_shape : {t : Heap T} {m : ℕ} {xs : List T}
       → length xs ≡ length (items_of (node_of s m)) → Writes s t m xs (children_of (node_of s m))
       → SameShape s t
-  written_shape t m xs many written = record {
+  written_shape {t} {m} many written = record {
     present =
         λ k.
         elim (cases_eq k m) [
@@ -566,15 +567,14 @@ module _ {T : Type 0} (s : Heap T) where
         }
 
 module _ {T : Type 0} where
-  pub root_shaped : (s : Heap T) (levels root : ℕ) → 0 < levels → IsTree s levels root
+  pub root_shaped : {s : Heap T} (levels : ℕ) {root : ℕ} → 0 < levels → IsTree s levels root
       → ShapedBut 1 CAPACITY s (levels - 1) root
-  root_shaped s zero root some tree = absurd (omega arith)
-  root_shaped s (suc d) root some tree = let same : suc d - 1 ≡ d =
-      omega arith in rw same tree.shaped
+  root_shaped {s} zero {root} some tree = absurd (omega arith)
+  root_shaped (suc d) some tree = let same : suc d - 1 ≡ d = omega arith in rw same tree.shaped
 
-  pub tree_once : (s : Heap T) (levels root : ℕ) → 0 < levels → IsTree s levels root → (k : ℕ)
+  pub tree_once : {s : Heap T} {levels root : ℕ} → 0 < levels → IsTree s levels root → (k : ℕ)
       → occurrences k (used s (suc (levels - 1)) root) ≤ 1
-  tree_once s levels root some tree k =
+  tree_once {s} {levels} some tree k =
       let level : suc (levels - 1) ≡ levels = omega arith in
       let most : here s k ≤ 1 = grind arith in
       rw level (omega (arith, tree.once k, most))

@@ -53,6 +53,10 @@ module _ {K V W X E : Type 0} (order : KeyOrder K) (same_left : V → V → Bool
     right = fails.right;
     is_piece = fails.is_piece;
     says = keeps fails.left fails.right (Err e) fails.says;
+    before =
+        λ other left right piece below.
+        let earlier = fails.before other left right piece below in
+        (earlier.0, keeps left right (Ok earlier.0) earlier.1);
   }
 
 module _ {K V : Type 0} (order : KeyOrder K) (r : AnyRange K) where

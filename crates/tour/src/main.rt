@@ -1,26 +1,14 @@
-//! The first program of the README, and as tests what the pages show of the calls.
+//! The first program of the README, and as tests what a caller proves by the calls' contracts.
 #![tactic(auto)]
 
 #[cfg(test)]
 mod complement;
 #[cfg(test)]
-mod json_values;
-#[cfg(test)]
-mod maps;
-#[cfg(test)]
-mod multimaps;
-#[cfg(test)]
 mod own_values;
-#[cfg(test)]
-mod ranges;
 #[cfg(test)]
 mod round_trip;
 #[cfg(test)]
 mod set_values;
-#[cfg(test)]
-mod sets;
-#[cfg(test)]
-mod together;
 #[cfg(test)]
 mod unions;
 

@@ -2,7 +2,7 @@
 ghost use Rattle.std.specs.Prelude.{◌≡◌, [], IfOk, All};
 ghost use Rattle.range_algebra.specs.Range.{ClonesAreEqual, IsKnownRange};
 ghost use Rattle.range_change.specs.Stored.{IsStored};
-ghost use Rattle.range_map.specs.ListOrder.{IsCopyOf};
+ghost use Rattle.range_reads.specs.ListOrder.{IsCopyOf};
 
 use crate::map::RangeMap;
 use range_algebra::any::AnyRange;

@@ -1,77 +1,14 @@
-//! The stored ranges with their values, moved out of a map from both ends.
-ghost use Rattle.std.specs.Prelude.{◌≡◌, length, IfSome, Some};
-ghost use Rattle.std.specs.Iterator.{UpTo, YieldsFirstBy, YieldsLastBy, at_most, item_count};
-ghost use Rattle.std.specs.Iterator.SizeHint.{IsWithinCount};
+//! A map taken apart: its ranges with their values, moved out from both ends.
+ghost use Rattle.std.specs.Prelude.{◌≡◌};
 ghost use Rattle.range_keys.specs.Order.{IsComplete};
 ghost use Rattle.range_change.specs.Bindings.{IsCoarse, IsOnlyCoarse};
-ghost use Rattle.range_map.specs.Iteration.{pair_item};
 ghost use Rattle.range_change.specs.Stored.{IsStored};
 
-use crate::map::RangeMap;
-use crate::map::iter::Iter;
+use crate::map::{Iter, RangeMap};
 use range_algebra::any::AnyRange;
 use range_keys::traits::PartialEnum;
+pub use range_reads::into_iter::IntoIter;
 use range_store::storage::{Item, Storage};
-use std::marker::{Model, PhantomData};
-
-/// The ranges that are left of a map that was taken apart, each with its value, in order. A
-/// contract sees their list.
-#[derive(Drop)]
-pub struct IntoIter<K, V, C: Storage<Item<AnyRange<K>, V>>> {
-    stored: C,
-    item: PhantomData<(K, V)>,
-}
-
-impl<K, V, C: Storage<Item<AnyRange<K>, V>>> Model for IntoIter<K, V, C> {
-    ghost use Rattle.std.specs.Prelude.{List};
-    ghost use Rattle.range_algebra.specs.declared.any.AnyRange.{AnyRange};
-    ghost use Rattle.range_store.specs.declared.storage.Item.{Item};
-
-    ghost Value = { List (Item (AnyRange K) V) };
-
-    ghost view = { λ i. C.items i.stored };
-}
-
-impl<K: Drop, V: Drop, C: Storage<Item<AnyRange<K>, V>>> Iterator for IntoIter<K, V, C> {
-    type Item = (AnyRange<K>, V);
-
-    ghost next_gives = { YieldsFirstBy pair_item (λ rest. rest) };
-
-    ghost remaining = { item_count (λ rest. rest) };
-
-    fn next(&mut self) -> Option<(AnyRange<K>, V)> {
-        match self.stored.pop_first() {
-            Some(item) => Some(item.into_pair()),
-            None => None,
-        }
-    }
-
-    fn size_hint(&self) -> (usize, Option<usize>)
-        ensures lower { IsWithinCount result.0 (at_most (length self.now)) }
-        ensures upper { IfSome result.1 (UpTo (at_most (length self.now))) }
-        ensures exact { result ≡ (length self.now, Some (length self.now)) }
-    {
-        let left = self.stored.len();
-        (left, Some(left))
-    }
-}
-
-impl<K: Drop, V: Drop, C: Storage<Item<AnyRange<K>, V>>> DoubleEndedIterator for IntoIter<K, V, C> {
-    ghost next_back_gives = { YieldsLastBy pair_item (λ rest. rest) };
-
-    fn next_back(&mut self) -> Option<(AnyRange<K>, V)> {
-        match self.stored.pop_last() {
-            Some(item) => Some(item.into_pair()),
-            None => None,
-        }
-    }
-}
-
-impl<K: Drop, V: Drop, C: Storage<Item<AnyRange<K>, V>>> ExactSizeIterator for IntoIter<K, V, C> {
-    fn len(&self) -> usize {
-        self.stored.len()
-    }
-}
 
 /// `for (range, value) in map`: the pairs are moved out, one at each step. Allocates nothing.
 impl<K: PartialEnum, V: Eq + Drop, C: Storage<Item<AnyRange<K>, V>>> IntoIterator
@@ -85,10 +22,7 @@ impl<K: PartialEnum, V: Eq + Drop, C: Storage<Item<AnyRange<K>, V>>> IntoIterato
 
     fn into_iter(self) -> IntoIter<K, V, C> {
         self.in_form();
-        IntoIter {
-            stored: self.stored,
-            item: PhantomData,
-        }
+        IntoIter::new(self.stored)
     }
 }
 

@@ -5,10 +5,9 @@ ghost use Rattle.range_algebra.specs.Intervals.{Any};
 ghost use Rattle.range_algebra.specs.Measures.{list_measure, AreInOrder, HasUntoldEnd};
 ghost use Rattle.range_algebra.specs.Numbers.{IsNumberOfKeys};
 ghost use Rattle.range_change.specs.Bindings.{IsBound};
-ghost use Rattle.range_map.specs.FreeRanges.{item_ranges};
+ghost use Rattle.range_reads.specs.FreeRanges.{item_ranges};
 
-use crate::map::RangeMap;
-use crate::map::iter::Iter;
+use crate::map::{Iter, RangeMap};
 use range_algebra::any::AnyRange;
 use range_keys::traits::{Bounded, Measure};
 use range_store::storage::{Item, Storage};

@@ -8,11 +8,9 @@ ghost use Rattle.range_change.specs.Lookups.{MeetsSome, BindsKeyOf};
 
 use crate::map::RangeMap;
 use range_algebra::any::AnyRange;
-use range_algebra::inner;
 use range_algebra::range::AsRange;
-use range_change::window::{ends_before, find_last_started};
-use range_keys::bound::Directed;
 use range_keys::traits::{Measure, PartialEnum};
+use range_reads::lookup::meets_some;
 use range_store::storage::{Item, Steps, Storage};
 
 impl<K: PartialEnum, V: Eq + Drop, C: Storage<Item<AnyRange<K>, V>>> RangeMap<K, V, C> {
@@ -106,18 +104,6 @@ impl<K: Measure, V: Eq + Drop, C: Storage<Item<AnyRange<K>, V>>> RangeMap<K, V, 
         ensures empty_uncounted { IsEmptyRange K.order (R.range range) → steps.new ≡ steps.old }
     {
         self.in_form();
-        inner::known_range(&range);
-        if range.is_empty() {
-            return false;
-        }
-        let end = Directed::End(range.end());
-        let last = find_last_started::<K, V, C>(&self.stored, &end, steps);
-        match last {
-            None => false,
-            Some(p) => {
-                let start = Directed::Start(range.start());
-                !ends_before::<K, V>(self.stored.get(p), &start, steps)
-            }
-        }
+        meets_some::<K, V, C, R>(&self.stored, &range, steps)
     }
 }

@@ -7,7 +7,7 @@ ghost use Rattle.range_algebra.specs.Intervals.{Any};
 ghost use Rattle.range_algebra.specs.Range.{ClonesAreEqual, IsKnownRange};
 ghost use Rattle.range_change.specs.Bindings.{IsCoarse, IsOnlyCoarse};
 ghost use Rattle.range_change.specs.Stored.{IsStored};
-ghost use Rattle.range_map.specs.MappedValues.{AreMapped, IsAnsweredEach, MayBeAskedOfValues};
+ghost use Rattle.range_map.specs.MappedValues.{AreFirstAnswered, AreMapped, IsAnsweredEach, MayBeAskedOfValues};
 ghost use Rattle.range_merge.specs.Merged.{part_item};
 ghost use Rattle.range_change.specs.declared.error.UpdateError.TheVariants.{Closure as ClosureError, Memory as MemoryError};
 
@@ -66,7 +66,7 @@ fn answers_to<
     ensures closure { (e : E) → result ≡ Err (ClosureError e)
         → Any (λ i. FnReturnsAt F.Fn f.now i.value (Err e)) (C.items map.now) }
     ensures memory { result ≡ Err MemoryError
-        → Any (λ i. (answer : W) × FnReturnsAt F.Fn f.now i.value (Ok answer)) (C.items map.now) }
+        → AreFirstAnswered F.Fn f.now (C.items map.now) }
 {
     map.in_form();
     let mut answers = Vec::new(map.alloc);
@@ -88,7 +88,8 @@ impl<K: PartialEnum + Clone, V: Eq + Drop, C: Storage<Item<AnyRange<K>, V>>> Ran
     ///
     /// Allocates a list of as many ranges as this map has and capacity for those that come of it,
     /// each at once, and a clone of each bound. Fails with `Memory` where an allocation does, and
-    /// only once the closure returned no error. Costs a step for each stored range, and no search.
+    /// only once the closure returned no error for the first value. Costs a step for each stored
+    /// range, and no search.
     ///
     /// ```
     /// // of a map that binds 0..=5 to 1, and 6..=8 to 2
@@ -116,7 +117,7 @@ impl<K: PartialEnum + Clone, V: Eq + Drop, C: Storage<Item<AnyRange<K>, V>>> Ran
         ensures closure { (e : E) → result ≡ Err (ClosureError e)
             → Any (λ i. FnReturnsAt F.Fn f i.value (Err e)) (C.items self.now) }
         ensures memory { result ≡ Err MemoryError
-            → Any (λ i. (answer : W) × FnReturnsAt F.Fn f i.value (Ok answer)) (C.items self.now) }
+            → AreFirstAnswered F.Fn f (C.items self.now) }
     {
         self.in_form();
         let new = answers_to(self, &f)?;

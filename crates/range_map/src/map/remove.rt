@@ -12,10 +12,9 @@ ghost use Rattle.range_change.specs.Bindings.{IsUnboundAfter, IsCoarse, IsOnlyCo
 
 use crate::map::RangeMap;
 use range_algebra::any::AnyRange;
-use range_algebra::inner;
 use range_algebra::range::AsRange;
 use range_change::error::MapError;
-use range_change::unbind::unbind;
+use range_change::unbind::unbind_any;
 use range_keys::traits::Measure;
 use range_store::storage::{Item, Steps, Storage};
 
@@ -47,7 +46,6 @@ impl<K: Measure + Clone, V: Eq + Clone, C: Storage<Item<AnyRange<K>, V>>> RangeM
             (¬ IsEmptyRange K.order (R.range range)
             → IsRemovalFrame K.order V.eq (C.items self.old) (C.items self.new) (R.range range)) }
         ensures few { length (C.items self.new) ≤ length (C.items self.old) + 1 }
-
         ensures refused { OnErr result (C.items self.new ≡ C.items self.old) }
         ensures space { C.room self.old + length (C.items self.old)
             ≤ C.room self.new + length (C.items self.new) }
@@ -94,7 +92,6 @@ impl<K: Measure + Clone, V: Eq + Clone, C: Storage<Item<AnyRange<K>, V>>> RangeM
             (¬ IsEmptyRange K.order (R.range range)
             → IsRemovalFrame K.order V.eq (C.items self.old) (C.items self.new) (R.range range)) }
         ensures few { length (C.items self.new) ≤ length (C.items self.old) + 1 }
-
         ensures refused { OnErr result (C.items self.new ≡ C.items self.old) }
         ensures space { C.room self.old + length (C.items self.old)
             ≤ C.room self.new + length (C.items self.new) }
@@ -115,11 +112,7 @@ impl<K: Measure + Clone, V: Eq + Clone, C: Storage<Item<AnyRange<K>, V>>> RangeM
         ensures empty_uncounted { IsEmptyRange K.order (R.range range) → steps.new ≡ steps.old }
     {
         self.in_form();
-        inner::known_range(&range);
-        if range.is_empty() {
-            return Ok(());
-        }
-        unbind::<K, V, C, R>(&mut self.stored, &range, steps)?;
+        unbind_any::<K, V, C, R>(&mut self.stored, &range, steps)?;
         Ok(())
     }
 }

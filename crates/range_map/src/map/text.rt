@@ -2,8 +2,7 @@
 ghost use Rattle.std.specs.Fmt.{DisplaysOnOk};
 ghost use Rattle.range_map.specs.Texts.{item_text, items_text, list_text};
 
-use crate::map::RangeMap;
-use crate::map::iter::Iter;
+use crate::map::{Iter, RangeMap};
 use range_algebra::any::AnyRange;
 use range_keys::traits::PartialEnum;
 use range_store::storage::{Item, Storage};

@@ -1,15 +1,13 @@
 //! Changing what the keys of a range are bound to by a closure.
 ghost use Rattle.std.specs.Prelude.{◌≡◌, ◌+◌, IfOk, OnOk, OnErr, IsOk, Some, None, Ok, Err};
 ghost use Rattle.range_keys.specs.Order.{IsComplete};
-ghost use Rattle.range_algebra.specs.Intervals.{Every};
 ghost use Rattle.range_algebra.specs.Clones.{IsBoundClone};
 ghost use Rattle.range_algebra.specs.Range.{ClonesAreEqual, IsEmptyRange};
-ghost use Rattle.range_change.specs.Answers.{MayAnswer, MayBeAsked, FailsAt, SucceedsAt, IsUpdated};
+ghost use Rattle.range_change.specs.Answers.{MayAnswer, MayBeAsked, FailsAt, SucceedsAtFirst, IsUpdated};
 ghost use Rattle.range_map.specs.Askable.{MayBeAskedOfEach};
 ghost use Rattle.range_change.specs.Clones.{ClonesNeverFail};
 ghost use Rattle.range_change.specs.Bindings.{IsCoarse, IsOnlyCoarse};
 ghost use Rattle.range_change.specs.Frames.{IsUpdateFrame};
-ghost use Rattle.range_change.specs.Reach.{IsSurroundedOf};
 ghost use Rattle.range_map.specs.Rebinding.{AreRebound};
 ghost use Rattle.range_change.specs.Spelling.{KeepsSpelling};
 ghost use Rattle.range_change.specs.Stored.{IsStored};
@@ -19,99 +17,11 @@ use crate::map::RangeMap;
 use range_algebra::any::AnyRange;
 use range_algebra::inner::{self, clone_of};
 use range_algebra::range::AsRange;
-use range_change::answers::gather;
-use range_change::bind::bind_inside;
 use range_change::error::UpdateError;
-use range_change::reach::{reaching, surrounding};
-use range_change::replace::replace;
-use range_change::unbind::unbind_inside;
-use range_change::window::{Window, find_window};
+use range_change::update::update_pieces;
 use range_keys::traits::Measure;
-use range_store::storage::{Item, Steps, Storage};
-use std::alloc::{AllocError, Global};
-
-/// Asks the closure for a range that one stored range surrounds, and does what it returns.
-fn update_within<
-    K: Measure + Clone,
-    V: Eq + Clone,
-    E: Drop,
-    F: Fn(Option<&V>) -> Result<Option<V>, E>,
-    C: Storage<Item<AnyRange<K>, V>>,
->(
-    stored: &mut C,
-    window: &Window<C::Position>,
-    p: C::Position,
-    range: AnyRange<K>,
-    f: &F,
-) -> Result<(), UpdateError<E>>
-    requires keys { ClonesAreEqual K.is_clone K.eq }
-    requires values { ClonesAreEqual V.is_clone V.eq }
-    requires within { IsSurroundedOf K.order V.eq C.is_good C.rank C.items stored.old range
-        window.now p }
-    requires bound { Every (λ i. MayBeAsked F.Fn f.now (Some i.value)) (C.items stored.old) }
-    ensures ok { OnOk result
-        (IsUpdated K.order V.eq F.Fn f.now (C.items stored.old) (C.items stored.new) range) }
-    ensures spelled { OnOk result
-        (KeepsSpelling K.order (C.items stored.old) (C.items stored.new)) }
-    ensures form { IsStored K.order V.eq (C.items stored.new) }
-    ensures closure { (e : E) → result ≡ Err (ClosureError e)
-        → FailsAt K.order V.eq F.Fn f.now (C.items stored.old) range e }
-    ensures memory { result ≡ Err MemoryError
-        → SucceedsAt K.order V.eq F.Fn f.now (C.items stored.old) range }
-    ensures refused { OnErr result (C.items stored.new ≡ C.items stored.old) }
-{
-    match f(Some(&stored.get(p).value)) {
-        Ok(Some(value)) => {
-            bind_inside::<K, V, C>(stored, window, p, range, value)?;
-            Ok(())
-        }
-        Ok(None) => {
-            unbind_inside::<K, V, C, AnyRange<K>>(stored, window, p, &range)?;
-            drop(range);
-            Ok(())
-        }
-        Err(e) => {
-            drop(range);
-            Err(UpdateError::Closure(e))
-        }
-    }
-}
-
-/// Asks the closure for each piece of a nonempty range, and then does what it returned.
-fn update_pieces<
-    K: Measure + Clone,
-    V: Eq + Clone,
-    E: Drop,
-    F: Fn(Option<&V>) -> Result<Option<V>, E>,
-    C: Storage<Item<AnyRange<K>, V>>,
->(alloc: Global, stored: &mut C, range: AnyRange<K>, f: &F) -> Result<(), UpdateError<E>>
-    requires keys { ClonesAreEqual K.is_clone K.eq }
-    requires values { ClonesAreEqual V.is_clone V.eq }
-    requires stored { IsStored K.order V.eq (C.items stored.old) }
-    requires nonempty { ¬ IsEmptyRange K.order range }
-    requires free { MayBeAsked F.Fn f.now None }
-    requires bound { Every (λ i. MayBeAsked F.Fn f.now (Some i.value)) (C.items stored.old) }
-    ensures ok { OnOk result
-        (IsUpdated K.order V.eq F.Fn f.now (C.items stored.old) (C.items stored.new) range) }
-    ensures spelled { OnOk result
-        (KeepsSpelling K.order (C.items stored.old) (C.items stored.new)) }
-    ensures form { IsStored K.order V.eq (C.items stored.new) }
-    ensures closure { (e : E) → result ≡ Err (ClosureError e)
-        → FailsAt K.order V.eq F.Fn f.now (C.items stored.old) range e }
-    ensures memory { result ≡ Err MemoryError
-        → SucceedsAt K.order V.eq F.Fn f.now (C.items stored.old) range }
-    ensures refused { OnErr result (C.items stored.new ≡ C.items stored.old) }
-{
-    let mut steps = Steps::new();
-    let window = find_window::<K, V, C, AnyRange<K>>(stored, &range, &mut steps);
-    let reach = reaching::<K, V, C, AnyRange<K>>(stored, window, &range, &mut steps);
-    if let Some(p) = surrounding(&reach) {
-        return update_within(stored, &reach.window, p, range, f);
-    }
-    let middle = gather(alloc, stored, &reach.window, &range, f)?;
-    replace::<K, V, C>(stored, &reach, range, middle)?;
-    Ok(())
-}
+use range_store::storage::{Item, Storage};
+use std::alloc::AllocError;
 
 /// The range over clones of its keys.
 fn clone_range<K: Clone, R: AsRange<Item = K>>(range: &R) -> Result<AnyRange<K>, AllocError>
@@ -141,8 +51,8 @@ impl<K: Measure + Clone, V: Eq + Clone, C: Storage<Item<AnyRange<K>, V>>> RangeM
     /// Allocates a list of what the closure returns, and clones of the bounds of its pieces and of
     /// the stored ranges that are cut. It also allocates where more ranges are stored than the
     /// container has capacity for. Fails with `Memory` where an allocation does: over keys whose
-    /// clones never fail, only once the closure returned no error. Costs one search, and a step for
-    /// each stored range that the range meets or touches.
+    /// clones never fail, only once the closure returned no error for the first piece. Costs one
+    /// search, and a step for each stored range that the range meets or touches.
     ///
     /// ```
     /// // of a map that binds 0..=5 to 1
@@ -177,7 +87,7 @@ impl<K: Measure + Clone, V: Eq + Clone, C: Storage<Item<AnyRange<K>, V>>> RangeM
         ensures closure { (e : E) → result ≡ Err (ClosureError e)
             → FailsAt K.order V.eq F.Fn f (C.items self.old) (R.range range) e }
         ensures memory { ClonesNeverFail K.is_infallible → result ≡ Err MemoryError
-            → SucceedsAt K.order V.eq F.Fn f (C.items self.old) (R.range range) }
+            → SucceedsAtFirst K.order V.eq F.Fn f (C.items self.old) (R.range range) }
         ensures refused { OnErr result (C.items self.new ≡ C.items self.old) }
         ensures empty { IsEmptyRange K.order (R.range range) → IsOk result }
         ensures empty_unchanged { IsEmptyRange K.order (R.range range)

@@ -1,7 +1,7 @@
 //! Copies of a multimap.
 ghost use Rattle.std.specs.Prelude.{IfOk};
 ghost use Rattle.range_algebra.specs.Range.{ClonesAreEqual};
-ghost use Rattle.range_map.specs.ListOrder.{IsCopyOf};
+ghost use Rattle.range_reads.specs.ListOrder.{IsCopyOf};
 ghost use Rattle.range_change.specs.Stored.{IsStored};
 ghost use Rattle.range_sets.specs.Pairs.{HasNoEmptySet};
 

@@ -4,7 +4,7 @@ ghost use Rattle.std.specs.Iterator.{UpTo, YieldsFirstBy, YieldsLastBy, at_most,
 ghost use Rattle.std.specs.Iterator.SizeHint.{IsWithinCount};
 ghost use Rattle.range_keys.specs.Order.{IsComplete};
 ghost use Rattle.range_change.specs.Bindings.{IsOnlyCoarse};
-ghost use Rattle.range_map.specs.Iteration.{pair_item};
+ghost use Rattle.range_reads.specs.Iteration.{pair_item};
 ghost use Rattle.range_change.specs.Stored.{IsStored};
 ghost use Rattle.range_sets.specs.Pairs.{HasNoEmptySet};
 

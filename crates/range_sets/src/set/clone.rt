@@ -1,7 +1,7 @@
 //! Copies of a set.
 ghost use Rattle.std.specs.Prelude.{IfOk, true};
 ghost use Rattle.range_algebra.specs.Range.{ClonesAreEqual};
-ghost use Rattle.range_map.specs.ListOrder.{IsCopyOf};
+ghost use Rattle.range_reads.specs.ListOrder.{IsCopyOf};
 ghost use Rattle.range_sets.specs.KeySets.{IsStoredSet};
 
 use super::RangeSet;

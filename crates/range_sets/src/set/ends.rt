@@ -3,7 +3,7 @@ ghost use Rattle.std.specs.Prelude.{◌≡◌, ◌+◌, ◌≤◌, List, [], ◌
 ghost use Rattle.range_algebra.specs.Intervals.{Any};
 ghost use Rattle.range_algebra.specs.Range.{Holds};
 ghost use Rattle.range_algebra.specs.declared.any.AnyRange.{AnyRange};
-ghost use Rattle.range_map.specs.FreeRanges.{item_ranges};
+ghost use Rattle.range_reads.specs.FreeRanges.{item_ranges};
 ghost use Rattle.range_sets.specs.KeySets.{HoldsKey, IsStoredSet};
 
 use super::RangeSet;

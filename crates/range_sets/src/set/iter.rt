@@ -2,7 +2,7 @@
 ghost use Rattle.std.specs.Prelude.{◌≡◌, List, length, IfSome, Some};
 ghost use Rattle.std.specs.Iterator.{UpTo, YieldsFirstRef, YieldsLastRef, at_most, item_count};
 ghost use Rattle.std.specs.Iterator.SizeHint.{IsWithinCount};
-ghost use Rattle.range_map.specs.FreeRanges.{item_ranges};
+ghost use Rattle.range_reads.specs.FreeRanges.{item_ranges};
 ghost use Rattle.range_sets.specs.KeySets.{IsStoredSet};
 
 use super::RangeSet;
@@ -21,7 +21,7 @@ pub struct Iter<'a, T: 'a, C: Storage<Item<AnyRange<T>, ()>> + 'a> {
 impl<'a, T: 'a, C: Storage<Item<AnyRange<T>, ()>> + 'a> Model for Iter<'a, T, C> {
     ghost use Rattle.std.specs.Prelude.{List};
     ghost use Rattle.range_algebra.specs.declared.any.AnyRange.{AnyRange};
-    ghost use Rattle.range_map.specs.FreeRanges.{item_ranges};
+    ghost use Rattle.range_reads.specs.FreeRanges.{item_ranges};
 
     ghost Value = { List (AnyRange T) };
 

@@ -6,10 +6,10 @@ ghost use Rattle.range_keys.specs.Order.{IsComplete};
 ghost use Rattle.range_algebra.specs.Range.{IsEmptyRange, with_bounds};
 ghost use Rattle.range_algebra.specs.References.{range_of};
 ghost use Rattle.range_algebra.specs.declared.any.AnyRange.{AnyRange};
-ghost use Rattle.range_map.specs.FreeRanges.{item_ranges};
+ghost use Rattle.range_reads.specs.FreeRanges.{item_ranges};
 ghost use Rattle.range_change.specs.Lookups.{BindsAllOf, BindsKeyOf};
 ghost use Rattle.range_map.specs.Overlapping.{IsSpan};
-ghost use Rattle.range_map.specs.PieceLists.{AreGapsWithin};
+ghost use Rattle.range_reads.specs.PieceLists.{AreGapsWithin};
 ghost use Rattle.range_change.specs.Pieces.{IsFreePart};
 ghost use Rattle.range_sets.specs.Reads.{AreRangesThatMeet};
 
@@ -36,7 +36,7 @@ impl<'a, T: PartialEnum + 'a, C: Storage<Item<AnyRange<T>, ()>> + 'a> Model
     for Overlapping<'a, T, C> {
     ghost use Rattle.std.specs.Prelude.{List};
     ghost use Rattle.range_algebra.specs.declared.any.AnyRange.{AnyRange};
-    ghost use Rattle.range_map.specs.FreeRanges.{item_ranges};
+    ghost use Rattle.range_reads.specs.FreeRanges.{item_ranges};
 
     ghost Value = { List (AnyRange T) };
 

@@ -1,6 +1,6 @@
 //! How a set is shown.
 ghost use Rattle.std.specs.Fmt.{DisplaysOnOk};
-ghost use Rattle.range_map.specs.FreeRanges.{item_ranges};
+ghost use Rattle.range_reads.specs.FreeRanges.{item_ranges};
 ghost use Rattle.range_sets.specs.SetTexts.{ranges_text, set_text};
 
 use super::RangeSet;

@@ -10,7 +10,8 @@ use Rattle.range_algebra.specs.declared.any.AnyRange.{AnyRange}
 use Rattle.range_store.specs.declared.storage.Item.{Item}
 use Rattle.range_change.specs.Stored.{item_lower}
 use Rattle.range_change.proofs.Forms.{places}
-use Rattle.range_change.proofs.JoinedMiddle.{got_only, got_none, left_cut_out}
+use Rattle.range_change.proofs.InsertionPlans.{left_cut_out}
+use Rattle.range_change.proofs.JoinedMiddle.{got_only, got_none}
 use Rattle.range_change.proofs.replace.joined_left.Goals as goal
 
 pub returns-in_default : goal.returns-in_default

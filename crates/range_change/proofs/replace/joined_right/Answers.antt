@@ -10,14 +10,15 @@ use Rattle.range_algebra.specs.declared.any.AnyRange.{AnyRange}
 use Rattle.range_store.specs.declared.storage.Item.{Item}
 use Rattle.range_change.specs.Stored.{item_upper}
 use Rattle.range_change.proofs.Forms.{places}
-use Rattle.range_change.proofs.JoinedMiddle.{got_only, got_none, within_end, right_cut_any}
+use Rattle.range_change.proofs.InsertionPlans.{right_cut_out}
+use Rattle.range_change.proofs.JoinedMiddle.{got_only, got_none, within_end}
 use Rattle.range_change.proofs.replace.joined_right.Goals as goal
 
 pub returns-in_default : goal.returns-in_default
 returns-in_default g c = λ lawful equal b known_b same_b.
     inr (
       got_none _ c.args.previous c.in_default.is,
-      right_cut_any lawful equal c.requires.reach.window c.args.reach.now.last b
+      right_cut_out lawful equal c.requires.reach.window c.args.reach.now.last b
           c.requires.reach.last known_b same_b,
     )
 
@@ -30,7 +31,7 @@ returns-then-ends_after g c = λ lawful equal b known_b same_b.
     inr (
       got_only Earlier c.args.previous c.in-Some.item c.in-Some.is
           (c.if-ends_after.ensures.0 refl),
-      right_cut_any lawful equal c.requires.reach.window c.args.reach.now.last b
+      right_cut_out lawful equal c.requires.reach.window c.args.reach.now.last b
           c.requires.reach.last known_b same_b,
     )
 

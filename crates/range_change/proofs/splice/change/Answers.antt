@@ -10,28 +10,16 @@ use Rattle.range_change.proofs.splice.change.Goals as goal
 
 pub replace_run-requires-clause-in_range : goal.replace_run-requires-clause-in_range
 replace_run-requires-clause-in_range g c =
-    let storage = g.C.Storage in
-    let stored = c.args.stored.now in
-    let ready = c.open_sides-start.new.stored in
     let kept = c.open_sides-start.ensures in
     let here =
-    kept_place (storage.is_good stored) (storage.is_good ready) (storage.rank stored)
-    (storage.rank ready) (length (storage.items stored))
-    (length (storage.items ready)) c.args.sides.run.at kept.positions kept.size
-    c.requires.good in
+    kept_place kept.positions kept.size c.args.sides.run.at c.requires.good in
     rw (here, kept.size) c.requires.in_range
 
 pub remove_rest-requires-clause-in_range : goal.remove_rest-requires-clause-in_range
 remove_rest-requires-clause-in_range g c =
-    let storage = g.C.Storage in
-    let stored = c.args.stored.now in
-    let ready = c.open_sides-start.new.stored in
     let kept = c.open_sides-start.ensures in
     let here =
-    kept_place (storage.is_good stored) (storage.is_good ready) (storage.rank stored)
-    (storage.rank ready) (length (storage.items stored))
-    (length (storage.items ready)) c.args.sides.run.at kept.positions kept.size
-    c.requires.good in
+    kept_place kept.positions kept.size c.args.sides.run.at c.requires.good in
     rw (here, kept.size) c.requires.in_range
 
 pub returns-in-Some-clause-list : goal.returns-in-Some-clause-list
@@ -44,10 +32,7 @@ returns-in-Some-clause-list g c = λ at end before behind start finish left_shap
     let from = place_before (storage.rank stored) (length items) c.args.sides.run.at in
     let upto = from + c.args.sides.run.left in
     let here =
-    kept_place (storage.is_good stored) (storage.is_good ready) (storage.rank stored)
-    (storage.rank ready) (length items)
-    (length (storage.items ready)) c.args.sides.run.at kept.positions kept.size
-    c.requires.good in
+    kept_place kept.positions kept.size c.args.sides.run.at c.requires.good in
     let opened =
     kept.opened at from upto end before behind start finish left_shape right_shape
     (omega (arith, le)) in
@@ -83,10 +68,7 @@ returns-in-None-clause-list g c = λ at end before behind start finish left_shap
     let from = place_before (storage.rank stored) (length items) c.args.sides.run.at in
     let upto = from + c.args.sides.run.left in
     let here =
-    kept_place (storage.is_good stored) (storage.is_good ready) (storage.rank stored)
-    (storage.rank ready) (length items)
-    (length (storage.items ready)) c.args.sides.run.at kept.positions kept.size
-    c.requires.good in
+    kept_place kept.positions kept.size c.args.sides.run.at c.requires.good in
     let opened =
     kept.opened at from upto end before behind start finish left_shape right_shape
     (omega (arith, le)) in
@@ -105,10 +87,7 @@ returns-in-Some-clause-space g c =
     let kept = c.open_sides-start.ensures in
     let from = place_before (storage.rank ready) (length (storage.items ready)) c.args.sides.run.at in
     let here =
-    kept_place (storage.is_good stored) (storage.is_good ready) (storage.rank stored)
-    (storage.rank ready) (length (storage.items stored))
-    (length (storage.items ready)) c.args.sides.run.at kept.positions kept.size
-    c.requires.good in
+    kept_place kept.positions kept.size c.args.sides.run.at c.requires.good in
     let within : from + c.args.sides.run.left ≤ length (storage.items ready) =
     rw (here, kept.size) c.requires.in_range in
     omega (
@@ -128,10 +107,7 @@ returns-in-None-clause-space g c =
     let kept = c.open_sides-start.ensures in
     let from = place_before (storage.rank ready) (length (storage.items ready)) c.args.sides.run.at in
     let here =
-    kept_place (storage.is_good stored) (storage.is_good ready) (storage.rank stored)
-    (storage.rank ready) (length (storage.items stored))
-    (length (storage.items ready)) c.args.sides.run.at kept.positions kept.size
-    c.requires.good in
+    kept_place kept.positions kept.size c.args.sides.run.at c.requires.good in
     let within : from + c.args.sides.run.left ≤ length (storage.items ready) =
     rw (here, kept.size) c.requires.in_range in
     omega (

@@ -31,10 +31,7 @@ returns g c = λ at end before behind start finish left_shape right_shape le.
     let from = place_before (storage.rank stored) (length items) c.args.sides.run.at in
     let upto = from + c.args.sides.run.left in
     let here =
-    kept_place (storage.is_good stored) (storage.is_good ready) (storage.rank stored)
-    (storage.rank ready) (length items)
-    (length (storage.items ready)) c.args.sides.run.at kept.positions kept.size
-    c.requires.good in
+    kept_place kept.positions kept.size c.args.sides.run.at c.requires.good in
     let opened =
     kept.opened at from upto end before behind start finish left_shape right_shape
     (omega (arith, le)) in

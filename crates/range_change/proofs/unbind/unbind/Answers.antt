@@ -1,7 +1,7 @@
 use Rattle.std.proofs.lemmas.Grind.{common_steps}
 use Rattle.std.proofs.Common.{rules, refl, arith}
-use Rattle.range_change.proofs.CutOut.{unmet_is_unbound}
-use Rattle.range_change.proofs.InsertionFrames.{none_meets, some_meets, not_cut}
+use Rattle.range_change.proofs.RangeSides.{unmet_is_unbound}
+use Rattle.range_change.proofs.InsertionFrames.{some_meets}
 use Rattle.range_change.proofs.unbind.unbind.Goals as goal
 
 pub returns-then-window-eq0 : goal.returns-then-window-eq0
@@ -16,14 +16,7 @@ returns-then-window-eq0 g c =
           let lawful = g.met.K.PartialEnum.lawful in
           let equal = g.met.V.Eq.laws in
           let window = c.find_window-window.ensures.window in
-          record {
-            stored = c.requires.stored;
-            apart = none_meets lawful equal window c.if-window-eq0.true;
-            frame = not_cut lawful equal window;
-            unbound =
-                unmet_is_unbound g.K.MaybeBounded.order lawful g.V.PartialEq.eq equal window
-                c.if-window-eq0.true;
-          };
+          unmet_is_unbound lawful equal window c.if-window-eq0.true;
       most =
           grind (arith, common_steps);
       least =

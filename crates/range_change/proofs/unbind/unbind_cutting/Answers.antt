@@ -3,11 +3,10 @@ use Rattle.std.proofs.lemmas.Bool.{false≢true}
 use Rattle.range_store.specs.ListPlaces.{place_before}
 use Rattle.range_change.specs.Borders.{joined_count, seam_border}
 use Rattle.range_change.specs.Window.{option_items}
-use Rattle.range_change.proofs.InsertionFrames.{cut_way}
 use Rattle.range_change.proofs.Lengths.{one_item, changed_length}
 use Rattle.range_change.proofs.RangeSides.{borders_remove}
 use Rattle.range_change.proofs.Planned.{plan_fits}
-use Rattle.range_change.proofs.InsertionPlans.{left_cut_plan, right_cut_plan}
+use Rattle.range_change.proofs.InsertionPlans.{left_cut_out, right_cut_out}
 use Rattle.range_change.proofs.Results.{error_has_no_value, on_error}
 use Rattle.range_change.proofs.JoinedMiddle.{seam_count}
 use Rattle.range_change.proofs.Surrounded.{run_can_start}
@@ -50,22 +49,21 @@ change-requires g c =
     let before = c.in_ok-left.ensures.seam in
     let behind = c.in_ok-right.ensures.seam in
     let begin = place + length (option_items reach.first) in
-    let upto : begin + c.run_length.result + length (option_items reach.last) ≡ end =
-    omega (arith, c.requires.apart, c.run_length.ensures) in
     let left =
-    left_cut_plan lawful equal window reach.first before.cut c.requires.reach.first
-    before.known (rw c.start.ensures at before.flipped) in
+    left_cut_out lawful equal window reach.first before.cut c.run_start.result
+    c.requires.reach.first before.known (rw c.start.ensures at before.flipped) c.run_start.ensures in
     let right =
-    right_cut_plan lawful equal window reach.last behind.cut
-    (begin + c.run_length.result) upto c.requires.reach.last behind.known
+    right_cut_out lawful equal window reach.last behind.cut c.requires.reach.last behind.known
     (rw c.end.ensures at behind.flipped) in
+    let sum : begin + c.run_length.result ≡ right.upto =
+    omega (arith, c.requires.apart, c.run_length.ensures, right.ends) in
     let fit =
     plan_fits {is_good = storage.is_good stored} {is_good' = storage.is_good stored}
     {rank = storage.rank stored} {rank' = storage.rank stored} {items = items}
     {items' = items} (λ p h. (h, refl)) refl (seam_border None reach.first before.cut)
     (seam_border None reach.last behind.cut) c.run_start.result c.run_length.result place
-    begin (begin + c.run_length.result) end left.rest right.rest None None left.shape
-    right.shape c.run_start.ensures refl window.in_range in
+    begin right.upto end left.rest right.rest None None left.shape right.shape left.run sum
+    window.in_range in
     record {
       left = rw before.at fit.left_good;
       right = rw behind.at fit.right_good;
@@ -88,38 +86,34 @@ returns g c =
     let before = c.in_ok-left.ensures.seam in
     let behind = c.in_ok-right.ensures.seam in
     let begin = place + length (option_items reach.first) in
-    let upto : begin + c.run_length.result + length (option_items reach.last) ≡ end =
-    omega (arith, c.requires.apart, c.run_length.ensures) in
     let left =
-    left_cut_plan lawful equal window reach.first before.cut c.requires.reach.first
-    before.known (rw c.start.ensures at before.flipped) in
+    left_cut_out lawful equal window reach.first before.cut c.run_start.result
+    c.requires.reach.first before.known (rw c.start.ensures at before.flipped) c.run_start.ensures in
     let right =
-    right_cut_plan lawful equal window reach.last behind.cut
-    (begin + c.run_length.result) upto c.requires.reach.last behind.known
+    right_cut_out lawful equal window reach.last behind.cut c.requires.reach.last behind.known
     (rw c.end.ensures at behind.flipped) in
+    let sum : begin + c.run_length.result ≡ right.upto =
+    omega (arith, c.requires.apart, c.run_length.ensures, right.ends) in
     let fit =
     plan_fits {is_good = storage.is_good stored} {is_good' = storage.is_good stored}
     {rank = storage.rank stored} {rank' = storage.rank stored} {items = items}
     {items' = items} (λ p h. (h, refl)) refl (seam_border None reach.first before.cut)
     (seam_border None reach.last behind.cut) c.run_start.result c.run_length.result place
-    begin (begin + c.run_length.result) end left.rest right.rest None None left.shape
-    right.shape c.run_start.ensures refl window.in_range in
+    begin right.upto end left.rest right.rest None None left.shape right.shape left.run sum
+    window.in_range in
     let none = ap joined_count before.at ∙ seam_count None reach.first before.cut in
     let none_behind = ap joined_count behind.at ∙ seam_count None reach.last behind.cut in
     let done =
     c.change.ensures.list place end left.rest right.rest None None (rw before.at fit.on_left)
     (rw behind.at fit.on_right) (omega (arith, none, none_behind)) in
     let new = storage.items c.change.new.stored in
-    let frame =
-    cut_way lawful equal window new left.rest right.rest c.requires.some left.made
-    right.made left.few right.few done in
     let size =
     changed_length items new (option_items left.rest) [] (option_items right.rest) place end
     (omega (arith, window.in_range)) window.in_range done in
     record {
       ok =
-          borders_remove lawful equal window new place end left.rest right.rest left.side right.side
-          frame done;
+          borders_remove lawful equal window new left.rest right.rest c.requires.some left.side
+          right.side left.made right.made done;
       few = omega (arith, size, one_item left.rest, one_item right.rest, c.requires.some);
       refused = tt;
       space = c.change.ensures.space;

@@ -2,7 +2,6 @@ use Rattle.std.proofs.Common.{◌≡◌, [], ◌+◌, ◌++◌, length, take, dr
 use Rattle.std.proofs.lemmas.List.{append-nil}
 use Rattle.range_store.specs.ListPlaces.{place_before}
 use Rattle.range_change.proofs.RangeSides.{borders_remove, left_rest_whole, right_rest_whole}
-use Rattle.range_change.proofs.InsertionFrames.{cut_way}
 use Rattle.range_change.proofs.Lengths.{changed_length}
 use Rattle.range_change.proofs.unbind.unbind_whole.Goals as goal
 
@@ -24,9 +23,6 @@ returns g c =
       append-nil (take place items),
       append-nil (take place items),
     ) c.remove_rest.ensures.list in
-    let frame =
-    cut_way lawful equal window new None None c.requires.some tt tt (omega arith)
-    (omega arith) done in
     let left =
     left_rest_whole lawful equal window (rw c.requires.first at c.requires.reach.first) in
     let right =
@@ -35,8 +31,8 @@ returns g c =
     changed_length items new [] [] [] place end
     (omega (arith, window.in_range)) window.in_range done in
     record {
-      removed = borders_remove lawful equal window new place end None None left right frame
-          done;
+      removed =
+          borders_remove lawful equal window new None None c.requires.some left right tt tt done;
       few = omega (arith, size);
       space = omega (arith, size, c.remove_rest.ensures.space);
     }

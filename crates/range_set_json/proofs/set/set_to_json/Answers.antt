@@ -2,7 +2,7 @@ use Rattle.std.proofs.Common.{refl, ap, ◌∙◌}
 use Rattle.serde_json.specs.Data.{array}
 use Rattle.serde_json.specs.View.{items_of}
 use Rattle.serde_json.proofs.Views.{view-Array}
-use Rattle.range_map.specs.FreeRanges.{item_ranges}
+use Rattle.range_reads.specs.FreeRanges.{item_ranges}
 use Rattle.range_json.specs.Shapes.{range_shape}
 use Rattle.range_json.specs.Values.{IsRangeValue}
 use Rattle.range_json.proofs.Writing.{by_ranges, written_more, values_more, all_written, all_values, shorter}

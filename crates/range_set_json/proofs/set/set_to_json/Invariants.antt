@@ -2,7 +2,7 @@ use Rattle.std.proofs.Common.{length}
 use Rattle.range_json.proofs.Writing.{HasWritten, AreValuesSoFar}
 use Rattle.range_json.specs.Shapes.{range_shape}
 use Rattle.range_json.specs.Values.{IsRangeValue}
-use Rattle.range_map.specs.FreeRanges.{item_ranges}
+use Rattle.range_reads.specs.FreeRanges.{item_ranges}
 use Rattle.range_set_json.proofs.set.set_to_json.Given as goal
 
 abbrev pub invariant-loop-range : goal.invariant-loop-range

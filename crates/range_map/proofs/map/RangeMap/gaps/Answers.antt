@@ -5,9 +5,9 @@ use Rattle.range_map.proofs.map.RangeMap.gaps.Goals as goal
 pub returns : goal.returns
 returns g c =
     let lawful = g.met.K.PartialEnum.lawful in
-    let items = g.C.Storage.items c.args.self.now in
-    let stored = rw c.iter.ensures.items at c.iter.ensures.form in
-    rw c.iter.ensures.items (record {
+    let items = g.C.Storage.items c.self.inside.stored in
+    let stored = c.self.invariant in
+    rw (c.new.ensures, ← c.self.view_is) (record {
       gaps = gaps_are lawful g.met.V.Eq.laws items stored;
       once = held_once lawful g.met.V.Eq.laws items stored;
       few = few_free g.K.MaybeBounded.order (Some Unbounded) items;

@@ -2,4 +2,5 @@ use Rattle.range_map.proofs.map.RangeMap.get_key_value.Goals as goal
 
 pub returns-in-Some-clause-stored : goal.returns-in-Some-clause-stored
 returns-in-Some-clause-stored g c =
-    rw (c.as_pair.ensures.key, c.as_pair.ensures.value) c.in-Some.ensures.stored
+    rw (← c.self.view_is, c.as_pair.ensures.key, c.as_pair.ensures.value)
+    c.in-Some.ensures.stored

@@ -1,5 +1,5 @@
-use Rattle.range_map.proofs.Chunks.{last_given}
-use Rattle.range_map.specs.Iteration.{shown_item}
+use Rattle.range_reads.proofs.Chunks.{last_given}
+use Rattle.range_reads.specs.Iteration.{shown_item}
 use Rattle.range_map.proofs.map.RangeMap.last_range_value.Goals as goal
 
 pub returns : goal.returns

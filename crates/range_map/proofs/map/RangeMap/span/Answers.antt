@@ -1,4 +1,4 @@
-use Rattle.range_map.specs.Iteration.{shown_item}
+use Rattle.range_reads.specs.Iteration.{shown_item}
 use Rattle.range_map.proofs.map.RangeMap.span.Goals as goal
 
 pub returns-in-Some-Some : goal.returns-in-Some-Some

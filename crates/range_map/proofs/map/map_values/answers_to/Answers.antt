@@ -1,16 +1,10 @@
 use Rattle.std.proofs.lemmas.Bool.{cases_lt}
-use Rattle.range_map.proofs.Common.{◌≡◌, sym, ap, arith, inl, inr, length, [], rules, false≢true, Ok, Err, AnyRange, Item, FnReturnsAt, lower, full_range}
+use Rattle.range_map.proofs.Common.{◌≡◌, sym, ap, arith, inl, inr, length, [], rules, false≢true, Err, FnReturnsAt, lower, full_range}
 use Rattle.range_merge.specs.Merged.{part_item}
 use Rattle.range_map.proofs.JoinedItems.{built_none, stored_rises}
-use Rattle.range_map.proofs.MappedValues.{first_left, mapped_more}
+use Rattle.range_map.proofs.MappedValues.{first_left, mapped_more, next_succeeds}
 use Rattle.range_map.proofs.CloneLists.{clones_tied}
-use Rattle.range_map.proofs.map.map_values.answers_to.Given.{Over}
 use Rattle.range_map.proofs.map.map_values.answers_to.Goals as goal
-
--- the closure may answer to the item's value without an error
-abbrev Succeeds : (g : Over) → g.row.F.Denot
-    → Item (AnyRange g.row.K.Denot) g.row.V.Denot → Type 0
-Succeeds g f i = (answer : g.row.W.Denot) × FnReturnsAt g.F.Fn f i.value (Ok answer)
 
 pub loop-part-init : goal.loop-part-init
 loop-part-init g c =
@@ -59,9 +53,9 @@ loop-part-preserved g c =
           c.in_ok-item.ensures.known c.in_ok-item.ensures.value
           (rw (← c.in-Some.ensures.items) at c.loop-part.invariant.mapped));
       some = λ some. let was = c.loop-part.invariant.mapped in
-          first_left (Succeeds g c.args.f.now) was.done c.next_part.new.items _
-          (part_item c.in-Some.part) (rw (← c.in-Some.ensures.items) at was.parted)
-          (c.in_ok-item.item.value, c.in_ok-item.ensures.value);
+          next_succeeds order g.F.Fn c.args.f.now g.W.PartialEq.eq _ (part_item c.in-Some.part)
+          c.next_part.new.items _ c.in_ok-item.item.value
+          (rw (← c.in-Some.ensures.items) at was) c.in_ok-item.ensures.value;
     }
 
 pub map_of-requires : goal.map_of-requires
@@ -70,22 +64,24 @@ map_of-requires g c = c.loop-part.invariant.mapped.form.stored
 pub returns-in_err-item-clause-memory : goal.returns-in_err-item-clause-memory
 returns-in_err-item-clause-memory g c = λ failed.
     let was = c.loop-part.invariant.mapped in
-    first_left (Succeeds g c.args.f.now) was.done c.next_part.new.items _ (part_item c.in-Some.part)
-    (rw (← c.in-Some.ensures.items) at was.parted) (c.answered.ensures.memory (search rules))
+    let said = c.answered.ensures.memory (search rules) in
+    next_succeeds g.K.MaybeBounded.order g.F.Fn c.args.f.now g.W.PartialEq.eq _
+    (part_item c.in-Some.part) c.next_part.new.items _ said.0
+    (rw (← c.in-Some.ensures.items) at was) said.1
 
 pub returns-in_err-reserve-clause-memory : goal.returns-in_err-reserve-clause-memory
 returns-in_err-reserve-clause-memory g c = λ failed.
     let was = c.loop-part.invariant.mapped in
-    first_left (Succeeds g c.args.f.now) was.done c.next_part.new.items _ (part_item c.in-Some.part)
-    (rw (← c.in-Some.ensures.items) at was.parted)
-    (c.in_ok-item.item.value, c.in_ok-item.ensures.value)
+    next_succeeds g.K.MaybeBounded.order g.F.Fn c.args.f.now g.W.PartialEq.eq _
+    (part_item c.in-Some.part) c.next_part.new.items _ c.in_ok-item.item.value
+    (rw (← c.in-Some.ensures.items) at was) c.in_ok-item.ensures.value
 
 pub returns-in_err-push-clause-memory : goal.returns-in_err-push-clause-memory
 returns-in_err-push-clause-memory g c = λ failed.
     let was = c.loop-part.invariant.mapped in
-    first_left (Succeeds g c.args.f.now) was.done c.next_part.new.items _ (part_item c.in-Some.part)
-    (rw (← c.in-Some.ensures.items) at was.parted)
-    (c.in_ok-item.item.value, c.in_ok-item.ensures.value)
+    next_succeeds g.K.MaybeBounded.order g.F.Fn c.args.f.now g.W.PartialEq.eq _
+    (part_item c.in-Some.part) c.next_part.new.items _ c.in_ok-item.item.value
+    (rw (← c.in-Some.ensures.items) at was) c.in_ok-item.ensures.value
 
 pub returns-in_err-map_of-clause-memory : goal.returns-in_err-map_of-clause-memory
 returns-in_err-map_of-clause-memory g c = λ failed.

@@ -1,4 +1,5 @@
-use Rattle.range_map.proofs.Common.{◌<◌, length, Ok, Any, FnReturnsAt}
+use Rattle.range_map.proofs.Common.{◌<◌, length}
+use Rattle.range_map.specs.MappedValues.{AreFirstAnswered}
 use Rattle.range_map.proofs.MappedValues.{IsMappedUpTo}
 use Rattle.range_map.proofs.map.map_values.answers_to.Given as goal
 
@@ -7,8 +8,7 @@ invariant-loop-part g l = record {
   mapped : IsMappedUpTo g.K.MaybeBounded.order g.F.Fn l.f g.W.PartialEq.eq
       (g.C.Storage.items l.map) l.items l.answers.items;
   some : 0 < length l.answers.items
-      → Any (λ i. (answer : g.row.W.Denot) × FnReturnsAt g.F.Fn l.f i.value (Ok answer))
-      (g.C.Storage.items l.map);
+      → AreFirstAnswered g.F.Fn l.f (g.C.Storage.items l.map);
 }
 
 abbrev pub decreases-loop-part : goal.decreases-loop-part

@@ -1,5 +1,5 @@
 use Rattle.std.proofs.Common.{ap}
-use Rattle.range_map.specs.FreeRanges.{item_ranges}
+use Rattle.range_reads.specs.FreeRanges.{item_ranges}
 use Rattle.range_sets.proofs.set.RangeSet.first.Goals as goal
 
 pub returns-in-Some : goal.returns-in-Some

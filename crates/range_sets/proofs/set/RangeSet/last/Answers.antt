@@ -1,6 +1,6 @@
 use Rattle.std.proofs.Common.{[], ◌∷◌, ap, ◌∙◌}
-use Rattle.range_map.specs.FreeRanges.{item_ranges}
-use Rattle.range_map.specs.Iteration.{shown_item}
+use Rattle.range_reads.specs.FreeRanges.{item_ranges}
+use Rattle.range_reads.specs.Iteration.{shown_item}
 use Rattle.range_sets.proofs.EndRanges.{item_ranges_append}
 use Rattle.range_sets.proofs.set.RangeSet.last.Goals as goal
 

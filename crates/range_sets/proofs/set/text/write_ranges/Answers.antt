@@ -1,6 +1,6 @@
 use Rattle.std.proofs.Common.{subst, rules, ◌≡◌, ◌∷◌}
 use Rattle.std.specs.Prelude.{IsOk}
-use Rattle.range_map.specs.FreeRanges.{item_ranges}
+use Rattle.range_reads.specs.FreeRanges.{item_ranges}
 use Rattle.range_sets.proofs.Showing.{HasShown, shown_none, shown_more}
 use Rattle.range_sets.proofs.set.text.write_ranges.Goals as goal
 

@@ -1,5 +1,5 @@
 use Rattle.std.proofs.Common.{length}
-use Rattle.range_map.specs.FreeRanges.{item_ranges}
+use Rattle.range_reads.specs.FreeRanges.{item_ranges}
 use Rattle.range_sets.proofs.Showing.{HasShown}
 use Rattle.range_sets.proofs.set.text.write_ranges.Given as goal
 

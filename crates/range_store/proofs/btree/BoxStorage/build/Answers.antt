@@ -22,9 +22,7 @@ build-self-requires g c =
     layout.least layout.most in
     let count = ap length c.into_iter-items.ensures.rest in
     let none = ap length c.requires.empty in
-    let empty =
-    nothing_stored s.nodes s.levels s.root
-    (empty_levels s.nodes s.levels s.root s.whole.tree none) s.whole.tree in
+    let empty = nothing_stored s.levels (empty_levels s.whole.tree none) s.whole.tree in
     record {
       width = layout.width;
       least = layout.least;
@@ -54,10 +52,8 @@ tree g c =
     let cut =
     cut_is c.layout_of-layout.result.width c.len-count.result (omega (arith, layout.deep))
     layout.least layout.most in
-    built_tree s.nodes c.build-self.new.nodes s.levels s.root c.layout_of-layout.result.below
-    c.build-self.result (c.len-count.result / c.layout_of-layout.result.width)
-    (empty_levels s.nodes s.levels s.root s.whole.tree (ap length c.requires.empty))
-    s.whole.tree c.build-self.ensures.built cut.some
+    built_tree s.levels (empty_levels s.whole.tree (ap length c.requires.empty)) s.whole.tree
+    c.build-self.ensures.built cut.some
 
 listed : (g : Over) (c : After-build-self g)
     → items_below c.build-self.new.nodes (c.layout_of-layout.result.below + 1)
@@ -91,9 +87,7 @@ invariant_of-self g c =
             counted = omega (arith, many, count);
           };
       counted = sym (many ∙ count);
-      levelled =
-          rw (many ∙ count) at (has_levels c.build-self.new.nodes
-          (c.layout_of-layout.result.below + 1) c.build-self.result (tree g a));
+      levelled = rw (many ∙ count) at (has_levels (tree g a));
     }
 
 pub returns-clause-list : goal.returns-clause-list

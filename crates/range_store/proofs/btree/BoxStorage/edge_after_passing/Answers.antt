@@ -15,9 +15,8 @@ search_below-edge-requires g c =
     let s = c.args.self.now in
     let level : suc (s.levels - 1) ≡ s.levels = omega (arith, c.if-self-eq0.false) in
     record {
-      shaped =
-          root_shaped s.nodes s.levels s.root (omega (arith, c.if-self-eq0.false)) s.whole.tree;
-      deep = tree_is_not_too_deep s.nodes s.levels s.root s.whole;
+      shaped = root_shaped s.levels (omega (arith, c.if-self-eq0.false)) s.whole.tree;
+      deep = tree_is_not_too_deep s.levels s.whole;
       falls = rw level c.requires;
     }
 
@@ -35,10 +34,8 @@ returns-clause-found g c =
     let s = c.args.self.now in
     let some : 0 < s.levels = omega (arith, c.if-self-eq0.false) in
     let level : suc (s.levels - 1) ≡ s.levels = omega (arith, some) in
-    let shaped = root_shaped s.nodes s.levels s.root some s.whole.tree in
-    let later =
-    not_start s.nodes (s.levels - 1) s.root c.search_below-edge.result shaped
-    c.search_below-edge.ensures.edge
+    let shaped = root_shaped s.levels some s.whole.tree in
+    let later = not_start c.search_below-edge.result shaped c.search_below-edge.ensures.edge
     (sym c.stands_first.ensures ∙ c.if-stands_first.false) in (
       record { some = some; edge = c.search_below-edge.ensures.edge },
       later,

@@ -9,22 +9,20 @@ use Rattle.range_store.proofs.btree.BoxStorage.edge_before.Goals as goal
 
 pub returns-then-edge-gt0 : goal.returns-then-edge-gt0
 returns-then-edge-gt0 g c =
-    let back =
-    tree_beside c.args.self.now c.args.edge c.requires
+    let back = tree_beside c.requires
     (record {
       leaf = c.args.edge.leaf;
       path = c.args.edge.path;
       index = c.args.edge.index - 1;
-    }) refl refl
-    (omega (arith, (tree_leaf c.args.self.now c.args.edge c.requires).within)) in
+    }) refl refl (omega (arith, (tree_leaf c.requires).within)) in
     (back.0, omega (arith, back.1, c.if-edge-gt0.true))
 
 pub edge_before-requires : goal.edge_before-requires
 edge_before-requires g c =
     let s = c.args.self.now in
     record {
-      shaped = root_shaped s.nodes s.levels s.root c.requires.some s.whole.tree;
-      deep = tree_is_not_too_deep s.nodes s.levels s.root s.whole;
+      shaped = root_shaped s.levels c.requires.some s.whole.tree;
+      deep = tree_is_not_too_deep s.levels s.whole;
       edge = c.requires.edge;
     }
 

@@ -13,9 +13,8 @@ pub end_edge-requires : goal.end_edge-requires
 end_edge-requires g c =
     let s = c.args.self.now in
     record {
-      shaped =
-          root_shaped s.nodes s.levels s.root (omega (arith, c.if-self-eq0.false)) s.whole.tree;
-      deep = tree_is_not_too_deep s.nodes s.levels s.root s.whole;
+      shaped = root_shaped s.levels (omega (arith, c.if-self-eq0.false)) s.whole.tree;
+      deep = tree_is_not_too_deep s.levels s.whole;
     }
 
 pub returns : goal.returns

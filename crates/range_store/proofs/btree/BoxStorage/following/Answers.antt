@@ -8,8 +8,8 @@ pub following-requires : goal.following-requires
 following-requires g c =
     let s = c.args.self.now in
     record {
-      shaped = root_shaped s.nodes s.levels s.root c.requires.some s.whole.tree;
-      deep = tree_is_not_too_deep s.nodes s.levels s.root s.whole;
+      shaped = root_shaped s.levels c.requires.some s.whole.tree;
+      deep = tree_is_not_too_deep s.levels s.whole;
       edge = c.requires.edge;
     }
 

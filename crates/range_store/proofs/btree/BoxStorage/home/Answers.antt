@@ -13,7 +13,7 @@ pub find_home-requires : goal.find_home-requires
 find_home-requires g c =
     let s = c.args.self.now in
     record {
-      shaped = root_shaped s.nodes s.levels s.root c.requires.edge.some s.whole.tree;
+      shaped = root_shaped s.levels c.requires.edge.some s.whole.tree;
       edge = c.requires.edge.edge;
       some = c.requires.some;
     }

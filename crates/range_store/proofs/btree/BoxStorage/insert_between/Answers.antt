@@ -21,12 +21,11 @@ overflow_add-self g c = omega (arith, c.args.self.now.counted, c.requires.room)
 
 -- of a leaf with capacity to spare
 pub item_count-requires : goal.item_count-requires
-item_count-requires g c =
-    (tree_leaf c.args.self.now c.args.edge c.requires.edge).present
+item_count-requires g c = (tree_leaf c.requires.edge).present
 
 pub put-requires : goal.put-requires
 put-requires g c =
-    let leaf = tree_leaf c.args.self.now c.args.edge c.requires.edge in
+    let leaf = tree_leaf c.requires.edge in
     record {
       present = leaf.present;
       within = leaf.within;
@@ -35,20 +34,21 @@ put-requires g c =
     }
 
 put_here : (g : Over) (c : After-put g)
-    → IsLeafChange c.args.self.now c.put.new.self c.args.edge c.requires.edge
+    → IsLeafChange c.put.new.self c.requires.edge
     (insert (box_items c.args.self.now) (box_place c.args.self.now c.args.edge) c.args.item)
     (record { leaf = c.args.edge.leaf; path = c.args.edge.path; index = c.args.edge.index + 1 })
     (c.args.edge.index + 1)
-put_here g c =
-    put_in_leaf c.args.self.now c.put.new.self c.args.edge c.requires.edge c.args.item _
-    (omega (arith, c.if-item_count-lt-CAPACITY.true, c.item_count.ensures)) c.put.ensures refl
-    refl refl
+put_here g c = put_in_leaf c.put.new.self c.requires.edge c.args.item _ (omega (
+  arith,
+  c.if-item_count-lt-CAPACITY.true,
+  c.item_count.ensures,
+)) c.put.ensures refl refl refl
 
 pub overflow_add-result : goal.overflow_add-result
 overflow_add-result g c =
     omega (
       arith,
-      (tree_leaf c.args.self.now c.args.edge c.requires.edge).within,
+      (tree_leaf c.requires.edge).within,
       c.if-item_count-lt-CAPACITY.true,
       c.item_count.ensures,
     )
@@ -60,7 +60,7 @@ invariant_of-self g c =
     let more =
     ap length put.items_are
     ∙ length-insert (box_items s) (box_place s c.args.edge) c.args.item
-    (edge_within s c.args.edge c.requires.edge) in
+    (edge_within c.requires.edge) in
     record {
       whole =
           record {
@@ -69,9 +69,7 @@ invariant_of-self g c =
             counted = omega (arith, more, c.requires.room);
           };
       counted = omega (arith, more, s.counted);
-      levelled =
-          rw (more ∙ ap (λ m. m + 1) (sym s.counted)) at
-          (has_levels c.put.new.self s.levels s.root put.tree);
+      levelled = rw (more ∙ ap (λ m. m + 1) (sym s.counted)) at (has_levels put.tree);
     }
 
 pub returns-then-item_count-lt-CAPACITY-clause-list :
@@ -88,7 +86,7 @@ returns-then-item_count-lt-CAPACITY-clause-room g c =
       arith,
       ap length put.items_are,
       length-insert (box_items s) (box_place s c.args.edge) c.args.item
-          (edge_within s c.args.edge c.requires.edge),
+          (edge_within c.requires.edge),
       c.requires.room,
       put.capacity,
     )
@@ -133,7 +131,7 @@ longer : (g : Over) (c : After-insert_below-inserted g)
 longer g c =
     ap length (listed g c)
     ∙ length-insert (box_items c.args.self.now) (box_place c.args.self.now c.args.edge) c.args.item
-    (edge_within c.args.self.now c.args.edge c.requires.edge)
+    (edge_within c.requires.edge)
 
 pub overflow_sub-self : goal.overflow_sub-self
 overflow_sub-self g c = omega (arith, c.requires.edge.some)
@@ -144,10 +142,10 @@ insert_below-inserted-requires g c =
     let some = c.requires.edge.some in
     let level : suc (s.levels - 1) ≡ s.levels = omega (arith, some) in
     record {
-      shaped = root_shaped s.nodes s.levels s.root some s.whole.tree;
-      owned = rw level (tree_owned s.nodes s.levels s.root s.whole.tree);
+      shaped = root_shaped s.levels some s.whole.tree;
+      owned = rw level (tree_owned s.whole.tree);
       edge = c.requires.edge.edge;
-      deep = tree_is_not_too_deep s.nodes s.levels s.root s.whole;
+      deep = tree_is_not_too_deep s.levels s.whole;
       room = one_more s.nodes s.levels s.root some s.whole.tree (omega (arith, c.requires.room));
     }
 
@@ -157,9 +155,7 @@ kept : (g : Over) (c : In-None g)
     (insert (items_below c.args.self.now.nodes
     (suc (c.args.self.now.levels - 1)) c.args.self.now.root)
     (box_place c.args.self.now c.args.edge) c.args.item)
-kept g c =
-    kept_root c.args.self.now.nodes c.insert_below-inserted.new.nodes c.args.self.now.levels
-    c.args.self.now.root _ c.requires.edge.some c.args.self.now.whole.tree
+kept g c = kept_root c.args.self.now.levels c.requires.edge.some c.args.self.now.whole.tree
     (rw c.in-None.is at c.insert_below-inserted.ensures.replaces)
 
 pub invariant_of-self-in-None : goal.invariant_of-self-in-None
@@ -170,13 +166,14 @@ invariant_of-self-in-None g c =
     let capacity = c.insert_below-inserted.ensures.replaces.moved.capacity in
     let tree = kept g at.In-None in
     record {
-      whole =
-          grown_roomy c.insert_below-inserted.new.nodes s.levels s.root _ tree
-          (omega (arith, more, c.requires.room, capacity)) (omega (arith, more, c.requires.room));
+      whole = grown_roomy tree (omega (arith, more, c.requires.room, capacity)) (omega (
+        arith,
+        more,
+        c.requires.room,
+      ));
       counted = omega (arith, ap length tree.items_are, more, s.counted);
-      levelled =
-          rw (ap length tree.items_are ∙ more ∙ ap (λ m. m + 1) (sym s.counted)) at
-          (has_levels c.insert_below-inserted.new.nodes s.levels s.root tree.tree);
+      levelled = rw (ap length tree.items_are ∙ more ∙ ap (λ m. m + 1) (sym s.counted)) at
+          (has_levels tree.tree);
     }
 
 pub returns-in-None-clause-list : goal.returns-in-None-clause-list
@@ -218,8 +215,7 @@ returns-in-None-clause-place g c =
 pub store_branch-self-requires : goal.store_branch-self-requires
 store_branch-self-requires g c =
     let a = goal.at.store_branch-self-requires g c in
-    taller_room c.args.self.now.nodes c.insert_below-inserted.new.nodes c.args.self.now.levels
-    c.args.self.now.root c.in-Some.split _ c.requires.edge.some
+    taller_room c.args.self.now.levels c.in-Some.split c.requires.edge.some
     (omega (arith, longer g a.After-insert_below-inserted, c.requires.room))
     c.args.self.now.whole.tree (rw c.in-Some.is at c.insert_below-inserted.ensures.replaces)
 
@@ -227,8 +223,7 @@ pub overflow_add-self-in-Some : goal.overflow_add-self-in-Some
 overflow_add-self-in-Some g c =
     omega (
       arith,
-      levels_le c.args.self.now.nodes c.args.self.now.levels c.args.self.now.root
-          c.args.self.now.whole.tree,
+      levels_le c.args.self.now.levels c.args.self.now.whole.tree,
       c.requires.room,
     )
 
@@ -237,11 +232,9 @@ taller : (g : Over) (c : After-store_branch-self g)
     (insert (items_below c.args.self.now.nodes
     (suc (c.args.self.now.levels - 1)) c.args.self.now.root)
     (box_place c.args.self.now c.args.edge) c.args.item)
-taller g c =
-    taller_root c.args.self.now.nodes c.insert_below-inserted.new.nodes c.store_branch-self.new.self
-    c.args.self.now.levels c.args.self.now.root c.store_branch-self.result c.in-Some.split _
-    c.requires.edge.some c.args.self.now.whole.tree
-    (rw c.in-Some.is at c.insert_below-inserted.ensures.replaces) c.store_branch-self.ensures
+taller g c = taller_root c.args.self.now.levels c.in-Some.split c.requires.edge.some
+    c.args.self.now.whole.tree (rw c.in-Some.is at c.insert_below-inserted.ensures.replaces)
+    c.store_branch-self.ensures
 
 pub invariant_of-self-in-Some : goal.invariant_of-self-in-Some
 invariant_of-self-in-Some g c =
@@ -253,15 +246,14 @@ invariant_of-self-in-Some g c =
     ∙ c.insert_below-inserted.ensures.replaces.moved.capacity in
     let tree = taller g at.After-store_branch-self in
     record {
-      whole =
-          grown_roomy c.store_branch-self.new.self
-          (s.levels + 1) c.store_branch-self.result _ tree
-          (omega (arith, more, c.requires.room, capacity)) (omega (arith, more, c.requires.room));
+      whole = grown_roomy tree (omega (arith, more, c.requires.room, capacity)) (omega (
+        arith,
+        more,
+        c.requires.room,
+      ));
       counted = omega (arith, ap length tree.items_are, more, s.counted);
-      levelled =
-          rw (ap length tree.items_are ∙ more ∙ ap (λ m. m + 1) (sym s.counted)) at
-          (has_levels c.store_branch-self.new.self
-          (s.levels + 1) c.store_branch-self.result tree.tree);
+      levelled = rw (ap length tree.items_are ∙ more ∙ ap (λ m. m + 1) (sym s.counted)) at
+          (has_levels tree.tree);
     }
 
 pub seen_above-requires-clause-index : goal.seen_above-requires-clause-index
@@ -281,10 +273,9 @@ seen_above-requires-clause-path g c =
     (c.args.self.now.levels - 1) _ _ c.insert_below-inserted.result.side
     c.insert_below-inserted.result.edge
     (rw c.in-Some.is at c.insert_below-inserted.ensures.edge) in
-    path_small c.insert_below-inserted.new.nodes
-    (c.args.self.now.levels - 1) _ c.insert_below-inserted.result.edge
-    (tree_is_not_too_deep c.args.self.now.nodes c.args.self.now.levels c.args.self.now.root
-    c.args.self.now.whole) below
+    path_small c.insert_below-inserted.new.nodes (c.args.self.now.levels - 1) _
+    c.insert_below-inserted.result.edge
+    (tree_is_not_too_deep c.args.self.now.levels c.args.self.now.whole) below
 
 pub returns-in-Some-clause-list : goal.returns-in-Some-clause-list
 returns-in-Some-clause-list g c =
@@ -312,13 +303,10 @@ higher : (g : Over) (c : After-seen_above g)
     (c.in-Some.split.middle ∷ [])
     (c.args.self.now.root ∷ c.in-Some.split.right ∷ []) c.insert_below-inserted.result.side
     c.insert_below-inserted.result.edge)
-higher g c =
-    taller_edge c.args.self.now.nodes c.insert_below-inserted.new.nodes c.store_branch-self.new.self
-    c.args.self.now.levels c.args.self.now.root c.store_branch-self.result
-    c.insert_below-inserted.result.side c.in-Some.split _ c.insert_below-inserted.result.edge
-    c.seen_above.result c.requires.edge.some c.args.self.now.whole.tree
-    (rw c.in-Some.is at c.insert_below-inserted.ensures.replaces) c.store_branch-self.ensures
-    c.seen_above.ensures.turn c.seen_above.ensures.inside
+higher g c = taller_edge c.args.self.now.levels c.insert_below-inserted.result.side c.in-Some.split
+    c.insert_below-inserted.result.edge c.seen_above.result c.requires.edge.some
+    c.args.self.now.whole.tree (rw c.in-Some.is at c.insert_below-inserted.ensures.replaces)
+    c.store_branch-self.ensures c.seen_above.ensures.turn c.seen_above.ensures.inside
     (rw c.in-Some.is at c.insert_below-inserted.ensures.edge)
 
 pub returns-in-Some-clause-edge : goal.returns-in-Some-clause-edge

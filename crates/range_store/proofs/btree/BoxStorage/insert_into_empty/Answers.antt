@@ -11,17 +11,15 @@ use Rattle.range_store.proofs.btree.BoxStorage.insert_into_empty.Goals.{After-st
 pub store_leaf-self-requires : goal.store_leaf-self-requires
 store_leaf-self-requires g c =
     let s = c.args.self.now in
-    let none = ap length c.requires.empty in first_room s.nodes s.levels s.root
-    (empty_levels s.nodes s.levels s.root s.whole.tree none) s.whole.tree
-    (omega (arith, none, c.requires.room))
+    let none = ap length c.requires.empty in first_room s.levels
+    (empty_levels s.whole.tree none) s.whole.tree (omega (arith, none, c.requires.room))
 
 first : (g : Over) (c : After-store_leaf-self g)
     → IsTree c.store_leaf-self.new.self 1 c.store_leaf-self.result
     × (items_below c.store_leaf-self.new.self 1 c.store_leaf-self.result ≡ c.args.item ∷ [])
 first g c =
     let s = c.args.self.now in
-    first_tree s.nodes c.store_leaf-self.new.self s.levels s.root c.store_leaf-self.result
-    c.args.item (empty_levels s.nodes s.levels s.root s.whole.tree (ap length c.requires.empty))
+    first_tree s.levels c.args.item (empty_levels s.whole.tree (ap length c.requires.empty))
     s.whole.tree c.store_leaf-self.ensures
 
 pub invariant_of-self : goal.invariant_of-self
@@ -36,9 +34,7 @@ invariant_of-self g c =
                 omega (arith, many);
           };
       counted = sym many;
-      levelled =
-          rw many at (has_levels c.store_leaf-self.new.self 1 c.store_leaf-self.result
-          (first g c).0);
+      levelled = rw many at (has_levels (first g c).0);
     }
 
 pub returns-clause-list : goal.returns-clause-list

@@ -12,7 +12,6 @@ pub first_edge-requires : goal.first_edge-requires
 first_edge-requires g c =
     let s = c.args.self.now in
     record {
-      shaped =
-          root_shaped s.nodes s.levels s.root (omega (arith, c.if-self-eq0.false)) s.whole.tree;
-      deep = tree_is_not_too_deep s.nodes s.levels s.root s.whole;
+      shaped = root_shaped s.levels (omega (arith, c.if-self-eq0.false)) s.whole.tree;
+      deep = tree_is_not_too_deep s.levels s.whole;
     }

@@ -8,7 +8,7 @@ use Rattle.range_store.proofs.btree.BoxStorage.take.Goals.{Start, After-replace_
 
 within : (g : Over) (c : Start g)
     → box_place c.args.self.now c.args.edge ≤ length (box_items c.args.self.now)
-within g c = edge_within c.args.self.now c.args.edge c.requires.edge
+within g c = edge_within c.requires.edge
 
 -- out of a leaf
 pub returns-in-None-clause-space : goal.returns-in-None-clause-space
@@ -61,18 +61,15 @@ returns-in-Some-clause-following g c =
 pub take_in_leaf-next-requires : goal.take_in_leaf-next-requires
 take_in_leaf-next-requires g c =
     record {
-      edge = (tree_behind c.args.self.now c.args.edge c.requires.edge
-          (omega (arith, c.if-edge-gt0.false))).0;
+      edge = (tree_behind c.requires.edge (omega (arith, c.if-edge-gt0.false))).0;
       in_leaf = omega arith;
     }
 
 pub unreachable-requires : goal.unreachable-requires
 unreachable-requires g c =
     let s = c.args.self.now in
-    let behind =
-    tree_behind c.args.self.now c.args.edge c.requires.edge
-    (omega (arith, c.if-edge-gt0.false)) in
-    let inside = edge_within s _ behind.0 in
+    let behind = tree_behind c.requires.edge (omega (arith, c.if-edge-gt0.false)) in
+    let inside = edge_within behind.0 in
     let none : box_items c.take_in_leaf-next.new.self ≡ [] =
     rw c.in_default.is at c.take_in_leaf-next.ensures.edge in
     omega (
@@ -87,9 +84,7 @@ unreachable-requires g c =
 
 pub home-home-requires : goal.home-home-requires
 home-home-requires g c =
-    let behind =
-    tree_behind c.args.self.now c.args.edge c.requires.edge
-    (omega (arith, c.if-edge-gt0.false)) in
+    let behind = tree_behind c.requires.edge (omega (arith, c.if-edge-gt0.false)) in
     let left : IsBoxEdge c.take_in_leaf-next.new.self c.in-Some-left.left
     × (box_place c.take_in_leaf-next.new.self c.in-Some-left.left + 1
     ≡ box_place c.args.self.now
@@ -101,9 +96,7 @@ pub replace_item-item-requires : goal.replace_item-item-requires
 replace_item-item-requires g c =
     let s = c.args.self.now in
     let t = c.take_in_leaf-next.new.self in
-    let behind =
-    tree_behind c.args.self.now c.args.edge c.requires.edge
-    (omega (arith, c.if-edge-gt0.false)) in
+    let behind = tree_behind c.requires.edge (omega (arith, c.if-edge-gt0.false)) in
     let left : IsBoxEdge c.take_in_leaf-next.new.self c.in-Some-left.left
     × (box_place c.take_in_leaf-next.new.self c.in-Some-left.left + 1
     ≡ box_place c.args.self.now
@@ -111,16 +104,14 @@ replace_item-item-requires g c =
     rw c.in-Some-left.is at c.take_in_leaf-next.ensures.edge in
     let good : IsGood t c.in-Some-left.left =
     record { is = left.0; some = omega (arith, left.1, behind.1, c.requires.some) } in
-    let home = good_home t c.in-Some-left.left good in
+    let home = good_home good in
     rw c.home-home.ensures (record { present = home.present; within = home.within })
 
 replaced_so : (g : Over) (c : After-replace_item-item g)
     → IsReplaced c.args.self.now c.take_in_leaf-next.new.self c.args.edge
     c.replace_item-item.new.self c.in-Some-left.left
 replaced_so g c =
-    let behind =
-    tree_behind c.args.self.now c.args.edge c.requires.edge
-    (omega (arith, c.if-edge-gt0.false)) in
+    let behind = tree_behind c.requires.edge (omega (arith, c.if-edge-gt0.false)) in
     let left : IsBoxEdge c.take_in_leaf-next.new.self c.in-Some-left.left
     × (box_place c.take_in_leaf-next.new.self c.in-Some-left.left + 1
     ≡ box_place c.args.self.now
@@ -128,9 +119,8 @@ replaced_so g c =
     rw c.in-Some-left.is at c.take_in_leaf-next.ensures.edge in
     replaced c.args.self.now c.take_in_leaf-next.new.self c.args.edge
     (record { leaf = c.args.edge.leaf; path = c.args.edge.path; index = 1 }) c.in-Some-left.left
-    c.requires.some (edge_within c.args.self.now _ behind.0) behind.1
-    c.take_in_leaf-next.ensures.list left.0 left.1 c.take_in_leaf-next.result.0
-    c.replace_item-item.new.self c.home-home.result c.home-home.ensures
+    c.requires.some (edge_within behind.0) behind.1 c.take_in_leaf-next.ensures.list left.0 left.1
+    c.take_in_leaf-next.result.0 c.replace_item-item.new.self c.home-home.result c.home-home.ensures
     c.replace_item-item.ensures.after c.take_in_leaf-next.ensures.capacity
     c.take_in_leaf-next.ensures.removed
 
@@ -141,9 +131,7 @@ invariant_of-self g c =
 
 pub returns-clause-removed : goal.returns-clause-removed
 returns-clause-removed g c =
-    let behind =
-    tree_behind c.args.self.now c.args.edge c.requires.edge
-    (omega (arith, c.if-edge-gt0.false)) in
+    let behind = tree_behind c.requires.edge (omega (arith, c.if-edge-gt0.false)) in
     let left : IsBoxEdge c.take_in_leaf-next.new.self c.in-Some-left.left
     × (box_place c.take_in_leaf-next.new.self c.in-Some-left.left + 1
     ≡ box_place c.args.self.now
@@ -151,9 +139,9 @@ returns-clause-removed g c =
     rw c.in-Some-left.is at c.take_in_leaf-next.ensures.edge in
     replaced_item c.args.self.now c.take_in_leaf-next.new.self c.args.edge
     (record { leaf = c.args.edge.leaf; path = c.args.edge.path; index = 1 }) c.in-Some-left.left
-    c.requires.some (edge_within c.args.self.now _ behind.0) behind.1
-    c.take_in_leaf-next.ensures.list left.0 left.1 c.replace_item-item.result c.home-home.result
-    c.home-home.ensures c.replace_item-item.ensures.before
+    c.requires.some (edge_within behind.0) behind.1 c.take_in_leaf-next.ensures.list left.0 left.1
+    c.replace_item-item.result c.home-home.result c.home-home.ensures
+    c.replace_item-item.ensures.before
 
 pub returns-clause-list : goal.returns-clause-list
 returns-clause-list g c =

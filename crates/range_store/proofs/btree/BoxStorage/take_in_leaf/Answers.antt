@@ -24,7 +24,7 @@ fewer : (g : Over) (c : Start g)
     → length (remove (box_items c.args.self.now) (box_place c.args.self.now c.args.edge - 1)) + 1
     ≡ length (box_items c.args.self.now)
 fewer g c =
-    let within = edge_within c.args.self.now c.args.edge c.requires.edge in
+    let within = edge_within c.requires.edge in
     omega (
       arith,
       length-remove (box_items c.args.self.now) (box_place c.args.self.now c.args.edge - 1)
@@ -41,28 +41,28 @@ overflow_sub-self g c =
       s.counted,
       place_index s.nodes (s.levels - 1) s.root c.args.edge,
       c.requires.in_leaf,
-      edge_within s c.args.edge c.requires.edge,
+      edge_within c.requires.edge,
     )
 
 pub item_count-requires : goal.item_count-requires
-item_count-requires g c =
-    (tree_leaf c.args.self.now c.args.edge c.requires.edge).present
+item_count-requires g c = (tree_leaf c.requires.edge).present
 
 -- from a leaf with an item to spare
 pub take_item-item-requires : goal.take_item-item-requires
 take_item-item-requires g c =
-    let leaf = tree_leaf c.args.self.now c.args.edge c.requires.edge in
+    let leaf = tree_leaf c.requires.edge in
     record { present = leaf.present; within = omega (arith, leaf.within, c.requires.in_leaf) }
 
 taken : (g : Over) (c : After-take_item-item g)
-    → IsLeafChange c.args.self.now c.take_item-item.new.self c.args.edge c.requires.edge
+    → IsLeafChange c.take_item-item.new.self c.requires.edge
     (remove (box_items c.args.self.now) (box_place c.args.self.now c.args.edge - 1))
     (record { leaf = c.args.edge.leaf; path = c.args.edge.path; index = c.args.edge.index - 1 })
     (c.args.edge.index - 1)
-taken g c =
-    take_from_leaf c.args.self.now c.take_item-item.new.self c.args.edge c.requires.edge _
-    (omega (arith, c.if-item_count-gt-MIN_LEN.true, c.item_count.ensures)) c.requires.in_leaf
-    c.take_item-item.ensures.rest refl refl refl
+taken g c = take_from_leaf c.take_item-item.new.self c.requires.edge _ (omega (
+  arith,
+  c.if-item_count-gt-MIN_LEN.true,
+  c.item_count.ensures,
+)) c.requires.in_leaf c.take_item-item.ensures.rest refl refl refl
 
 pub invariant_of-self : goal.invariant_of-self
 invariant_of-self g c =
@@ -83,15 +83,14 @@ invariant_of-self g c =
                 omega (arith, less, back, s.whole.counted);
           };
       counted = many;
-      levelled = rw (← many) at (has_levels c.take_item-item.new.self s.levels s.root taken.tree);
+      levelled = rw (← many) at (has_levels taken.tree);
     }
 
 pub returns-then-item_count-gt-MIN_LEN-clause-removed :
     goal.returns-then-item_count-gt-MIN_LEN-clause-removed
 returns-then-item_count-gt-MIN_LEN-clause-removed g c =
     c.take_item-item.ensures.value
-    ∙ sym (leaf_item c.args.self.now c.args.edge c.requires.edge c.take_item-item.result
-    c.requires.in_leaf)
+    ∙ sym (leaf_item c.requires.edge c.take_item-item.result c.requires.in_leaf)
 
 pub returns-then-item_count-gt-MIN_LEN-clause-list :
     goal.returns-then-item_count-gt-MIN_LEN-clause-list
@@ -122,9 +121,9 @@ remove_below-taken-requires g c =
     let some = c.requires.edge.some in
     let level : suc (s.levels - 1) ≡ s.levels = omega (arith, some) in
     record {
-      shaped = root_shaped s.nodes s.levels s.root some s.whole.tree;
-      owned = rw level (tree_owned s.nodes s.levels s.root s.whole.tree);
-      deep = tree_is_not_too_deep s.nodes s.levels s.root s.whole;
+      shaped = root_shaped s.levels some s.whole.tree;
+      owned = rw level (tree_owned s.whole.tree);
+      deep = tree_is_not_too_deep s.levels s.whole;
       edge = c.requires.edge.edge;
       in_leaf = c.requires.in_leaf;
     }
@@ -133,8 +132,8 @@ pub shrink_root-requires : goal.shrink_root-requires
 shrink_root-requires g c =
     let s = c.args.self.now in
     record {
-      tree = loosened_tree s.nodes c.remove_below-taken.new.nodes s.levels s.root _
-          c.requires.edge.some s.whole.tree c.remove_below-taken.ensures.shrinks;
+      tree = loosened_tree s.levels c.requires.edge.some s.whole.tree
+          c.remove_below-taken.ensures.shrinks;
       edge = c.remove_below-taken.ensures.edge;
     }
 
@@ -147,8 +146,7 @@ shrunk g c =
     let some = c.requires.edge.some in
     let level : suc (s.levels - 1) ≡ s.levels = omega (arith, some) in
     c.shrink_root.ensures.items
-    ∙ loosened_items s.nodes c.remove_below-taken.new.nodes s.levels s.root _ some
-    c.remove_below-taken.ensures.shrinks
+    ∙ loosened_items s.levels some c.remove_below-taken.ensures.shrinks
     ∙ ap (λ m. remove (items_below s.nodes m s.root) (box_place s c.args.edge - 1)) level
 
 pub invariant_of-self-2 : goal.invariant_of-self-2
@@ -171,16 +169,13 @@ invariant_of-self-2 g c =
                 omega (arith, less, back, s.whole.counted);
           };
       counted = many;
-      levelled =
-          rw (← many) at (has_levels c.shrink_root.new.nodes c.shrink_root.result.root.levels
-          c.shrink_root.result.root.number c.shrink_root.ensures.tree);
+      levelled = rw (← many) at (has_levels c.shrink_root.ensures.tree);
     }
 
 pub returns-then-self-eq0-clause-removed : goal.returns-then-self-eq0-clause-removed
 returns-then-self-eq0-clause-removed g c =
     c.remove_below-taken.ensures.item
-    ∙ sym (leaf_item c.args.self.now c.args.edge c.requires.edge
-    c.remove_below-taken.result.item c.requires.in_leaf)
+    ∙ sym (leaf_item c.requires.edge c.remove_below-taken.result.item c.requires.in_leaf)
 
 pub returns-then-self-eq0-clause-list : goal.returns-then-self-eq0-clause-list
 returns-then-self-eq0-clause-list g c =
@@ -198,8 +193,7 @@ returns-then-self-eq0-clause-edge g c =
 pub returns-clause-removed : goal.returns-clause-removed
 returns-clause-removed g c =
     c.remove_below-taken.ensures.item
-    ∙ sym (leaf_item c.args.self.now c.args.edge c.requires.edge
-    c.remove_below-taken.result.item c.requires.in_leaf)
+    ∙ sym (leaf_item c.requires.edge c.remove_below-taken.result.item c.requires.in_leaf)
 
 pub returns-clause-list : goal.returns-clause-list
 returns-clause-list g c = shrunk g (goal.at.returns-clause-list g c).After-shrink_root

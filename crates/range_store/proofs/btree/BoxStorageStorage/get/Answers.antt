@@ -4,10 +4,9 @@ use Rattle.range_store.proofs.btree.BoxStorageStorage.get.Goals as goal
 
 pub item_at-requires : goal.item_at-requires
 item_at-requires g c =
-    let home = good_home c.args.self.now c.args.p c.requires in
+    let home = good_home c.requires in
     rw c.home-home.ensures (record { present = home.present; within = home.within })
 
 pub returns : goal.returns
-returns g c =
-    item_home c.args.self.now c.args.p c.requires c.home-home.result c.home-home.ensures
-    c.item_at.result.now c.item_at.ensures
+returns g c = item_home c.requires c.home-home.result c.home-home.ensures c.item_at.result.now
+    c.item_at.ensures

@@ -5,30 +5,26 @@ use Rattle.range_store.proofs.btree.BoxStorageStorage.get_mut.Goals as goal
 
 pub item_mut-requires : goal.item_mut-requires
 item_mut-requires g c =
-    let home = good_home c.args.self.now c.args.p c.requires in
+    let home = good_home c.requires in
     rw c.home-home.ensures (record { present = home.present; within = home.within })
 
 pub invariant_of-self-lent : goal.invariant_of-self-lent
 invariant_of-self-lent g c w =
     let s = c.args.self.now in
-    let same = written_at s c.args.p c.requires c.home-home.result w _ c.home-home.ensures refl in (
-      roomy_at s c.args.p c.requires w _ same,
-      (counted_at s c.args.p c.requires w _ same, (s.levelled, tt)),
+    let same = written_at c.requires c.home-home.result w _ c.home-home.ensures refl in (
+      roomy_at c.requires w _ same,
+      (counted_at c.requires w _ same, (s.levelled, tt)),
     )
 
 pub returns : goal.returns
 returns g c = (
   (
     refl,
-    λ w.
-        same_storage c.args.self.now c.args.p c.requires c.home-home.result w c.home-home.ensures _
-        _
-        _,
+    λ w. same_storage c.requires c.home-home.result w c.home-home.ensures _ _ _,
   ),
   record {
     writes_back = tt;
-    value =
-        item_home c.args.self.now c.args.p c.requires c.home-home.result c.home-home.ensures
-        c.item_mut.result.now c.item_mut.ensures.value;
+    value = item_home c.requires c.home-home.result c.home-home.ensures c.item_mut.result.now
+        c.item_mut.ensures.value;
   },
 )

@@ -11,7 +11,8 @@ returns-clause-list g c =
 
 pub returns-clause-position : goal.returns-clause-position
 returns-clause-position g c =
-    let good =
-    good_from c.insert.new.self c.insert.result c.insert.ensures.edge
-    (omega (arith, c.insert.ensures.place)) in
+    let good = good_from c.insert.new.self c.insert.ensures.edge (omega (
+      arith,
+      c.insert.ensures.place,
+    )) in
     (good.0, omega (arith, good.1, c.insert.ensures.place, c.edge_at-edge.ensures.place))

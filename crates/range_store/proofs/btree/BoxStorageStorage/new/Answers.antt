@@ -14,5 +14,5 @@ invariant_of-result g c =
         counted = omega (arith, none);
       };
       counted = sym none;
-      levelled = rw none at (has_levels c.new.result 0 0 tree);
+      levelled = rw none at (has_levels tree);
     }

@@ -6,7 +6,7 @@ pub returns : goal.returns
 returns g c =
     let s = c.args.self.now in
     let edge = c.args.p in
-    let after : box_place s edge ≡ box_rank s edge + 1 =
-    omega (arith, rank_is s edge c.requires, c.requires.some) in
+    let after : box_place s edge ≡ box_rank s edge + 1 = omega
+    (arith, rank_is c.requires, c.requires.some) in
     next_at s c.following.result (box_rank s edge + 1)
     (subst (λ rank. IsNextEdge s c.following.result rank) after c.following.ensures)

@@ -9,5 +9,5 @@ returns-clause-list g c =
     let first = c.in_ok-first.first in
     let good = c.in_ok-first.ensures.0 in
     popped_first _ _ c.take.result.0 (box_place s first - 1)
-    (sym (rank_is s first good) ∙ c.in_ok-first.ensures.1)
-    (good_within s first good) c.take.ensures.removed c.take.ensures.list
+    (sym (rank_is good) ∙ c.in_ok-first.ensures.1) (good_within s first good) c.take.ensures.removed
+    c.take.ensures.list

@@ -8,5 +8,5 @@ returns-clause-list g c =
     let s = c.args.self.now in
     let last = c.in_ok-last.last in
     popped_last _ _ c.take.result.0 (box_place s last - 1)
-    (ap (λ m. m + 1) (sym (rank_is s last c.in_ok-last.ensures.0)) ∙ c.in_ok-last.ensures.1)
+    (ap (λ m. m + 1) (sym (rank_is c.in_ok-last.ensures.0)) ∙ c.in_ok-last.ensures.1)
     c.take.ensures.removed c.take.ensures.list

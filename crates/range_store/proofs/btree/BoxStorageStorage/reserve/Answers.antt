@@ -9,14 +9,10 @@ use Rattle.range_store.proofs.btree.BoxStorageStorage.reserve.Goals as goal
 pub invariant_of-self : goal.invariant_of-self
 invariant_of-self g c =
     let s = c.args.self.now in
-    let kept =
-    ap length (kept_items s.nodes c.reserve.new.self c.reserve.ensures.kept s.levels
-    s.root) in
+    let kept = ap length (kept_items c.reserve.ensures.kept s.levels s.root) in
     record {
       whole = record {
-        tree =
-            kept_tree s.nodes c.reserve.new.self c.reserve.ensures.kept s.levels s.root
-            s.whole.tree;
+        tree = kept_tree c.reserve.ensures.kept s.whole.tree;
         fits = omega (arith, kept, s.whole.fits, c.reserve.ensures.no_less);
         counted = omega (arith, kept, s.whole.counted);
       };
@@ -27,14 +23,12 @@ invariant_of-self g c =
 pub returns-clause-list : goal.returns-clause-list
 returns-clause-list g c =
     let s = c.args.self.now in
-    kept_items s.nodes c.reserve.new.self c.reserve.ensures.kept s.levels s.root
+    kept_items c.reserve.ensures.kept s.levels s.root
 
 pub returns-clause-ok : goal.returns-clause-ok
 returns-clause-ok g c =
     let s = c.args.self.now in
-    let kept =
-    ap length (kept_items s.nodes c.reserve.new.self c.reserve.ensures.kept s.levels
-    s.root) in
+    let kept = ap length (kept_items c.reserve.ensures.kept s.levels s.root) in
     let ceiling = div_ceil_times (s.len + c.args.n) MIN_LEN (omega arith) in
     on_ok_weaker c.reserve.result
     (λ room.
@@ -54,10 +48,9 @@ returns-clause-ok g c =
 pub returns-clause-positions : goal.returns-clause-positions
 returns-clause-positions g c q good =
     let s = c.args.self.now in
-    good_same s (record s {
+    good_same (record s {
       nodes = c.reserve.new.self;
       whole = c.self-1.given.0;
       counted = c.self-1.given.1.0;
       levelled = c.self-1.given.1.1.0;
-    })
-    (kept_shape s.nodes c.reserve.new.self c.reserve.ensures.kept) refl refl q good
+    }) (kept_shape c.reserve.ensures.kept) refl refl q good

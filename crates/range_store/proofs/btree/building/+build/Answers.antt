@@ -37,8 +37,7 @@ build-first-requires g t c κs inside =
     let branch =
     branch_is c.args.width c.args.below c.args.count some c.requires.width c.requires.least
     c.requires.most in
-    let share = first_share _ _ c.args.count (c.args.width / (CAPACITY + 1))
-    (c.args.count / c.args.width) branch in
+    let share = first_share branch in
     let enough = cut_enough _ _ branch.some share.enough in (
       omega (arith, some),
       (
@@ -65,11 +64,9 @@ store_above-number-requires g t c =
     let branch =
     branch_is c.args.width c.args.below c.args.count some c.requires.width c.requires.least
     c.requires.most in
-    let share = first_share _ _ _ _ _ branch in
-    let child =
-    built_child c.args.nodes.now c.build-first.new.nodes c.args.below c.build-first.result _ _ some
-    c.build-first.ensures.built (cut_enough _ _ branch.some share.enough)
-    c.build-first.ensures.size in
+    let share = first_share branch in
+    let child = built_child c.args.below _ some c.build-first.ensures.built
+    (cut_enough _ _ branch.some share.enough) c.build-first.ensures.size in
     omega (
       arith,
       child.few,
@@ -85,22 +82,18 @@ loop-index-init g t c =
     let branch =
     branch_is c.args.width c.args.below c.args.count some c.requires.width c.requires.least
     c.requires.most in
-    let share = first_share _ _ _ _ _ branch in
+    let share = first_share branch in
     let old = c.args.nodes.now in
     let first = c.build-first.new.nodes in
     let new = c.store_above-number.new.self in
-    let child =
-    built_child old first c.args.below c.build-first.result _ _ some
-    c.build-first.ensures.built (cut_enough _ _ branch.some share.enough)
-    c.build-first.ensures.size in
-    let listed =
-    listed_above old first new c.args.below c.store_above-number.result c.build-first.result some
-    child.moved child.shaped c.store_above-number.ensures in
+    let child = built_child c.args.below _ some c.build-first.ensures.built
+    (cut_enough _ _ branch.some share.enough) c.build-first.ensures.size in
+    let listed = listed_above c.args.below c.build-first.result some child.moved child.shaped
+    c.store_above-number.ensures in
     let none : c.args.count / c.args.width - 0 ≡ c.args.count / c.args.width = omega arith in
     record {
-      built =
-          begun_above old first new c.args.below c.store_above-number.result c.build-first.result
-          some child.moved child.shaped c.store_above-number.ensures;
+      built = begun_above c.args.below c.build-first.result some child.moved child.shaped
+          c.store_above-number.ensures;
       listed =
           c.build-first.ensures.list
           ∙ ap (λ zs. zs ++ into_iter_items c.build-first.new.items)
@@ -141,8 +134,7 @@ build-child-requires g t c κs inside =
     let branch =
     branch_is c.args.width c.args.below c.args.count some c.requires.width c.requires.least
     c.requires.most in
-    let share =
-    next_share c.loop-index.rest _ c.loop-index.index _ _ c.loop-index-test.true was.shares in (
+    let share = next_share _ c.loop-index.index c.loop-index-test.true was.shares in (
       omega (arith, some),
       (
         inside,
@@ -184,27 +176,19 @@ put-requires g t c =
     let branch =
     branch_is c.args.width c.args.below c.args.count some c.requires.width c.requires.least
     c.requires.most in
-    let share =
-    next_share c.loop-index.rest _ c.loop-index.index _ _ c.loop-index-test.true was.shares in
+    let share = next_share _ c.loop-index.index c.loop-index-test.true was.shares in
     let old = c.args.nodes.now in
     let now = c.loop-index.nodes in
     let new = c.build-child.new.nodes in
-    let child =
-    built_child now new c.args.below c.build-child.result _ _ some c.build-child.ensures.built
+    let child = built_child c.args.below _ some c.build-child.ensures.built
     (cut_enough _ _ branch.some share.enough) c.build-child.ensures.size in
     let number = c.store_above-number.result in
-    let items =
-    node_items old now new c.args.below number c.build-child.result c.loop-index.index some
-    was.built child.moved in
+    let items = node_items c.build-child.result some was.built child.moved in
     record {
-      present =
-          node_there old now new c.args.below number c.build-child.result c.loop-index.index some
-          was.built child.moved;
+      present = node_there c.build-child.result some was.built child.moved;
       within = omega (arith, items);
       room = omega (arith, items, branch.cut.few, c.loop-index-test.true);
-      child =
-          node_fits old now new c.args.below number c.build-child.result c.loop-index.index some
-          was.built child.moved;
+      child = node_fits c.build-child.result some was.built child.moved;
     }
 
 pub overflow_sub-rest : goal.overflow_sub-rest
@@ -219,28 +203,23 @@ loop-index-preserved g t c =
     let branch =
     branch_is c.args.width c.args.below c.args.count some c.requires.width c.requires.least
     c.requires.most in
-    let share =
-    next_share c.loop-index.rest _ c.loop-index.index _ _ c.loop-index-test.true was.shares in
+    let share = next_share _ c.loop-index.index c.loop-index-test.true was.shares in
     let old = c.args.nodes.now in
     let now = c.loop-index.nodes in
     let new = c.build-child.new.nodes in
-    let child =
-    built_child now new c.args.below c.build-child.result _ _ some c.build-child.ensures.built
+    let child = built_child c.args.below _ some c.build-child.ensures.built
     (cut_enough _ _ branch.some share.enough) c.build-child.ensures.size in
     let number = c.store_above-number.result in
     let room : c.loop-index.index < CAPACITY =
     omega (arith, branch.cut.few, c.loop-index-test.true) in
     let front = items_below now (suc c.args.below) number in
     let middle = items_below new c.args.below c.build-child.result in
-    let listed =
-    child_listed old now new c.args.below number c.build-child.result c.loop-index.index some
-    was.built child.moved c.put.new.self c.next_item-item.result room child.shaped c.put.ensures
+    let listed = child_listed c.build-child.result some was.built child.moved
+    c.next_item-item.result room child.shaped c.put.ensures
     in
     record {
-      built =
-          child_more old now new c.args.below number c.build-child.result c.loop-index.index some
-          was.built child.moved c.put.new.self c.next_item-item.result room child.shaped
-          c.put.ensures;
+      built = child_more c.build-child.result some was.built child.moved c.next_item-item.result
+          room child.shaped c.put.ensures;
       listed =
           taken_more (into_iter_items c.args.items.now) front (into_iter_items c.loop-index.items)
           (into_iter_items c.next_item-item.new.items) (into_iter_items c.build-child.new.items)
@@ -277,7 +256,7 @@ returns g t c =
     let was = c.loop-index.invariant in
     let all : c.loop-index.index ≡ c.args.count / c.args.width =
     omega (arith, c.loop-index-test.false) in
-    let nothing = all_shared c.loop-index.rest _ c.loop-index.index _ _ all was.shares in
+    let nothing = all_shared _ c.loop-index.index all was.shares in
     record {
       built =
           subst (IsBuilt c.args.nodes.now c.loop-index.nodes c.args.below

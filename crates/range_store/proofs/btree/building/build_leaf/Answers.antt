@@ -9,9 +9,7 @@ returns g c =
     let all = into_iter_items c.args.items.now in
     let items = take c.args.count all in
     let many : length items ≡ c.args.count = length-take-le c.args.count all c.requires.enough in
-    let leaf =
-    built_leaf c.args.nodes.now c.store_items.new.self c.store_items.result items
-    c.store_items.ensures.stored (omega (arith, many, c.requires.most)) in
+    let leaf = built_leaf c.store_items.ensures.stored (omega (arith, many, c.requires.most)) in
     record {
       built =
           subst (IsBuilt c.args.nodes.now c.store_items.new.self 0 c.store_items.result) many

@@ -1,4 +1,4 @@
-use Rattle.std.proofs.Common.{◌+◌, ◌-◌, get_or, ◌∙◌, arith, Some, None}
+use Rattle.std.proofs.Common.{◌≡◌, ℕ, ◌<◌, ◌≤◌, ◌+◌, ◌-◌, length, get_or, refl, ap, ◌∙◌, arith, Some, None}
 use Rattle.std.specs.List.{insert}
 use Rattle.std.proofs.lemmas.List.Edits.{length-insert}
 use Rattle.range_store.specs.Heap.{node_of, items_of, children_of}
@@ -30,7 +30,7 @@ put_or_cut-requires g t c =
     let low = leaf_index s c.args.number c.args.edge (rw c.if-below-eq0.true at c.requires.edge) in
     let long =
     length-insert (items_of (node_of s c.args.number)) c.args.edge.index c.args.item low in
-    let content = leaf_content s c.args.number c.args.edge.index c.args.item shaped owned in
+    let content = leaf_content c.args.edge.index c.args.item shaped owned in
     let seat = leaf_seat s _ _ (c.args.edge.index + 1) c.args.edge (omega (arith, low, long)) in
     record {
       present = c.requires.shaped.node.present;
@@ -38,11 +38,8 @@ put_or_cut-requires g t c =
       fits = c.requires.shaped.node.fits;
       child = shaped.node.branches;
       content = rw c.if-below-eq0.true content;
-      room = (λ full. content_room s s 0 c.args.number
-          (insert (items_of (node_of s c.args.number)) c.args.edge.index c.args.item)
-          (children_of (node_of s c.args.number))
-          (leaf_moved s c.args.number c.args.edge.index c.args.item shaped) content
-          (leaf_longer s c.args.number c.args.edge.index c.args.item shaped low)
+      room = (λ full. content_room (leaf_moved c.args.edge.index c.args.item shaped) content
+          (leaf_longer c.args.edge.index c.args.item shaped low)
           (rw c.if-below-eq0.true at c.requires.room) (omega (arith, long, full)));
       deep = c.requires.deep;
       seat = rw c.if-below-eq0.true seat;
@@ -58,11 +55,9 @@ returns-then-below-eq0-clause-replaces g t c =
     length-insert (items_of (node_of c.args.nodes.now c.args.number)) c.args.edge.index
     c.args.item low in
     rw (c.if-below-eq0.true, leaf_place c.args.nodes.now c.args.number c.args.edge)
-    (settled_replaces c.args.nodes.now c.args.nodes.now c.put_or_cut.new.nodes 0 c.args.number _
-    _ _ c.put_or_cut.result.split
-    (leaf_moved c.args.nodes.now c.args.number c.args.edge.index c.args.item shaped)
-    (leaf_listed c.args.nodes.now c.args.number c.args.edge.index c.args.item shaped)
-    (omega (arith, long)) (rw c.if-below-eq0.true at c.put_or_cut.ensures.settles))
+    (settled_replaces _ (leaf_moved c.args.edge.index c.args.item shaped)
+    (leaf_listed c.args.edge.index c.args.item shaped) (omega (arith, long))
+    (rw c.if-below-eq0.true at c.put_or_cut.ensures.settles))
 
 pub returns-then-below-eq0-clause-place : goal.returns-then-below-eq0-clause-place
 returns-then-below-eq0-clause-place g t c =
@@ -74,34 +69,20 @@ pub child_at-child-requires : goal.child_at-child-requires
 child_at-child-requires g t c =
     record {
       present = c.requires.shaped.node.present;
-      within = rw c.first_turn-index.ensures
-          (child_within c.args.nodes.now c.args.below c.args.number c.if-below-eq0.false
-          c.requires.shaped _ (below_turn c.args.nodes.now c.args.below c.args.number
-          c.if-below-eq0.false c.requires.shaped c.args.edge c.requires.edge));
+      within = rw c.first_turn-index.ensures (child_within c.if-below-eq0.false c.requires.shaped _
+          (below_turn c.if-below-eq0.false c.requires.shaped c.args.edge c.requires.edge));
     }
 
 pub insert_below-inserted-requires : goal.insert_below-inserted-requires
 insert_below-inserted-requires g t c κs inside =
-    let low =
-    below_turn c.args.nodes.now c.args.below c.args.number c.if-below-eq0.false
-    c.requires.shaped c.args.edge c.requires.edge in
-    let kid =
-    below_kid c.args.nodes.now c.args.below c.args.number c.if-below-eq0.false
-    c.requires.shaped (turn c.args.edge) low in
-    let is =
-    below_inside c.args.nodes.now c.args.below c.args.number c.if-below-eq0.false
-    c.requires.shaped c.args.edge c.requires.edge in
-    let back =
-    level_of_children c.args.nodes.now c.args.below c.args.number c.if-below-eq0.false
-    c.requires.shaped in
-    let owned =
-    kid_owned c.args.nodes.now c.args.below c.args.number
-    (turn c.args.edge) c.requires.owned
-    (child_within c.args.nodes.now c.args.below c.args.number c.if-below-eq0.false
-    c.requires.shaped _ low) in
-    let room =
-    HasTreeRoom-child CAPACITY c.args.nodes.now c.args.below c.args.number
-    (turn c.args.edge) 1 (omega arith) low c.requires.shaped c.requires.room in (
+    let low = below_turn c.if-below-eq0.false c.requires.shaped c.args.edge c.requires.edge in
+    let kid = below_kid c.if-below-eq0.false c.requires.shaped (turn c.args.edge) low in
+    let is = below_inside c.if-below-eq0.false c.requires.shaped c.args.edge c.requires.edge in
+    let back = level_of_children c.if-below-eq0.false c.requires.shaped in
+    let owned = kid_owned c.args.nodes.now c.args.below c.args.number (turn c.args.edge)
+    c.requires.owned (child_within c.if-below-eq0.false c.requires.shaped _ low) in
+    let room = HasTreeRoom-child (turn c.args.edge) (omega arith) low c.requires.shaped
+    c.requires.room in (
       omega (arith, c.if-below-eq0.false),
       (
         inside,
@@ -117,81 +98,20 @@ seen_above-requires-clause-index g t c =
     omega (
       arith,
       c.first_turn-index.ensures,
-      below_turn c.args.nodes.now c.args.below c.args.number c.if-below-eq0.false
-          c.requires.shaped c.args.edge c.requires.edge,
+      below_turn c.if-below-eq0.false c.requires.shaped c.args.edge c.requires.edge,
       c.requires.shaped.node.fits,
     )
 
-pub returns-in-None-clause-replaces : goal.returns-in-None-clause-replaces
-returns-in-None-clause-replaces g t c =
+pub returns-in-None : goal.returns-in-None
+returns-in-None g t c =
     let i = turn c.args.edge in
-    let low =
-    below_turn c.args.nodes.now c.args.below c.args.number c.if-below-eq0.false
-    c.requires.shaped c.args.edge c.requires.edge in
+    let low = below_turn c.if-below-eq0.false c.requires.shaped c.args.edge c.requires.edge in
     let rest =
     place c.args.nodes.now (c.args.below - 1)
     (get_or (children_of (node_of c.args.nodes.now c.args.number)) (turn c.args.edge) 0)
     (inside c.args.edge) in
-    let within =
-    below_most c.args.nodes.now c.args.below c.args.number c.if-below-eq0.false
-    c.requires.shaped i (inside c.args.edge) low
-    (below_inside c.args.nodes.now c.args.below c.args.number c.if-below-eq0.false
-    c.requires.shaped c.args.edge c.requires.edge) in
-    let child =
-    rw c.in-None.is at
-    (rw (c.child_at-child.ensures, c.first_turn-index.ensures, c.seen_inside.ensures) at
-    c.insert_below-inserted.ensures.replaces) in
-    rw (below_here c.args.nodes.now c.args.below c.args.number c.if-below-eq0.false
-    c.requires.shaped c.args.edge)
-    (none_replaces c.args.nodes.now c.insert_below-inserted.new.nodes c.args.below c.args.number
-    i rest c.args.item c.if-below-eq0.false c.requires.shaped c.requires.owned low within child)
-
-pub returns-in-None-clause-edge : goal.returns-in-None-clause-edge
-returns-in-None-clause-edge g t c =
-    let i = turn c.args.edge in
-    let low =
-    below_turn c.args.nodes.now c.args.below c.args.number c.if-below-eq0.false
-    c.requires.shaped c.args.edge c.requires.edge in
-    let rest =
-    place c.args.nodes.now (c.args.below - 1)
-    (get_or (children_of (node_of c.args.nodes.now c.args.number)) (turn c.args.edge) 0)
-    (inside c.args.edge) in
-    let within =
-    below_most c.args.nodes.now c.args.below c.args.number c.if-below-eq0.false
-    c.requires.shaped i (inside c.args.edge) low
-    (below_inside c.args.nodes.now c.args.below c.args.number c.if-below-eq0.false
-    c.requires.shaped c.args.edge c.requires.edge) in
-    let child =
-    rw c.in-None.is at
-    (rw (c.child_at-child.ensures, c.first_turn-index.ensures, c.seen_inside.ensures) at
-    c.insert_below-inserted.ensures.replaces) in
-    let seat =
-    rw c.in-None.is at (rw (c.child_at-child.ensures, c.first_turn-index.ensures) at
-    c.insert_below-inserted.ensures.edge) in
-    let edge =
-    none_edge c.args.nodes.now c.insert_below-inserted.new.nodes c.args.below c.args.number
-    i rest c.args.item c.if-below-eq0.false c.requires.shaped c.requires.owned low within
-    child c.insert_below-inserted.result.side c.insert_below-inserted.result.edge
-    c.seen_above.result (c.seen_above.ensures.turn ∙ c.first_turn-index.ensures)
-    c.seen_above.ensures.inside seat in
-    (seat_alone c.insert_below-inserted.new.nodes c.args.below c.args.number c.seen_above.result
-    None edge.0).0
-
-pub returns-in-None-clause-place : goal.returns-in-None-clause-place
-returns-in-None-clause-place g t c =
-    let i = turn c.args.edge in
-    let low =
-    below_turn c.args.nodes.now c.args.below c.args.number c.if-below-eq0.false
-    c.requires.shaped c.args.edge c.requires.edge in
-    let rest =
-    place c.args.nodes.now (c.args.below - 1)
-    (get_or (children_of (node_of c.args.nodes.now c.args.number)) (turn c.args.edge) 0)
-    (inside c.args.edge) in
-    let within =
-    below_most c.args.nodes.now c.args.below c.args.number c.if-below-eq0.false
-    c.requires.shaped i (inside c.args.edge) low
-    (below_inside c.args.nodes.now c.args.below c.args.number c.if-below-eq0.false
-    c.requires.shaped c.args.edge c.requires.edge) in
+    let within = below_most c.if-below-eq0.false c.requires.shaped i (inside c.args.edge) low
+    (below_inside c.if-below-eq0.false c.requires.shaped c.args.edge c.requires.edge) in
     let child =
     rw c.in-None.is at
     (rw (c.child_at-child.ensures, c.first_turn-index.ensures, c.seen_inside.ensures) at
@@ -203,21 +123,25 @@ returns-in-None-clause-place g t c =
     rw c.in-None.is at
     (rw (c.child_at-child.ensures, c.first_turn-index.ensures, c.seen_inside.ensures) at
     c.insert_below-inserted.ensures.place) in
-    let edge =
-    none_edge c.args.nodes.now c.insert_below-inserted.new.nodes c.args.below c.args.number
-    i rest c.args.item c.if-below-eq0.false c.requires.shaped c.requires.owned low within
-    child c.insert_below-inserted.result.side c.insert_below-inserted.result.edge
+    let edge = none_edge i rest c.args.item c.if-below-eq0.false c.requires.shaped c.requires.owned
+    low within child c.insert_below-inserted.result.side c.insert_below-inserted.result.edge
     c.seen_above.result (c.seen_above.ensures.turn ∙ c.first_turn-index.ensures)
     c.seen_above.ensures.inside seat in
-    omega (
-      arith,
-      (seat_alone c.insert_below-inserted.new.nodes c.args.below c.args.number c.seen_above.result
-          None edge.0).1,
-      edge.1,
-      at,
-      below_here c.args.nodes.now c.args.below c.args.number c.if-below-eq0.false
-          c.requires.shaped c.args.edge,
-    )
+    let alone = seat_alone c.insert_below-inserted.new.nodes c.args.below c.args.number
+    c.seen_above.result None edge.0 in
+    record {
+      replaces = rw (below_here c.if-below-eq0.false c.requires.shaped c.args.edge) (none_replaces i rest
+          c.args.item c.if-below-eq0.false c.requires.shaped c.requires.owned low within child);
+      left_whole = λ few. refl;
+      edge = alone.0;
+      place = omega (
+        arith,
+        alone.1,
+        edge.1,
+        at,
+        below_here c.if-below-eq0.false c.requires.shaped c.args.edge,
+      );
+    }
 
 pub seen_above-requires-clause-path : goal.seen_above-requires-clause-path
 seen_above-requires-clause-path g t c =
@@ -233,74 +157,59 @@ overflow_add-seat g t c =
     omega (
       arith,
       c.first_turn-index.ensures,
-      below_turn c.args.nodes.now c.args.below c.args.number c.if-below-eq0.false
-          c.requires.shaped c.args.edge c.requires.edge,
+      below_turn c.if-below-eq0.false c.requires.shaped c.args.edge c.requires.edge,
       c.requires.shaped.node.fits,
       seat_side c.insert_below-inserted.new.nodes (c.args.below - 1) _ _ _ _ seat,
     )
 
+-- a full node has more items than fit once it has another one
+over : (now was more : ℕ) → CAPACITY ≤ now → more ≡ was + 1 → now ≡ was → CAPACITY < more
+over now was more full longer same = omega arith
+
 pub put_or_cut-requires-in-Some : goal.put_or_cut-requires-in-Some
 put_or_cut-requires-in-Some g t c =
+    let inner : 0 < c.args.below = omega (arith, c.if-below-eq0.false) in
     let s = c.args.nodes.now in
     let u = c.insert_below-inserted.new.nodes in
     let i = turn c.args.edge in
-    let low =
-    below_turn s c.args.below c.args.number c.if-below-eq0.false c.requires.shaped
-    c.args.edge c.requires.edge in
+    let low = below_turn c.if-below-eq0.false c.requires.shaped c.args.edge c.requires.edge in
     let rest =
     place s (c.args.below - 1)
     (get_or (children_of (node_of s c.args.number)) (turn c.args.edge) 0)
     (inside c.args.edge) in
-    let within =
-    below_most s c.args.below c.args.number c.if-below-eq0.false c.requires.shaped i
-    (inside c.args.edge) low
-    (below_inside s c.args.below c.args.number c.if-below-eq0.false c.requires.shaped
-    c.args.edge c.requires.edge) in
+    let within = below_most c.if-below-eq0.false c.requires.shaped i (inside c.args.edge) low
+    (below_inside c.if-below-eq0.false c.requires.shaped c.args.edge c.requires.edge) in
     let child =
     rw c.in-Some.is at
     (rw (c.child_at-child.ensures, c.first_turn-index.ensures, c.seen_inside.ensures) at
     c.insert_below-inserted.ensures.replaces) in
-    let kept =
-    grown_kept s u c.args.below c.args.number i rest c.args.item
-    (Some c.in-Some.cut) c.if-below-eq0.false c.requires.shaped c.requires.owned low within
-    child in
-    let items =
-    some_items s u c.args.below c.args.number i rest c.args.item c.in-Some.cut
-    c.if-below-eq0.false c.requires.shaped c.requires.owned low within child in
-    let children =
-    some_children s u c.args.below c.args.number i rest c.args.item c.in-Some.cut
-    c.if-below-eq0.false c.requires.shaped c.requires.owned low within child in
-    let content =
-    grown_content s u c.args.below c.args.number i rest c.args.item
-    (Some c.in-Some.cut) c.if-below-eq0.false c.requires.shaped c.requires.owned low within
-    child in
+    let kept = grown_kept i rest c.args.item c.if-below-eq0.false c.requires.shaped c.requires.owned
+    low within child in
+    let items = some_items i rest c.args.item c.in-Some.cut c.if-below-eq0.false c.requires.shaped
+    c.requires.owned low within child in
+    let children = some_children i rest c.args.item c.in-Some.cut c.if-below-eq0.false
+    c.requires.shaped c.requires.owned low within child in
+    let content = grown_content i rest c.args.item c.if-below-eq0.false c.requires.shaped
+    c.requires.owned low within child in
     let long = length-insert (items_of (node_of s c.args.number)) i c.in-Some.cut.middle low in
-    let moved =
-    grown_moved s u c.args.below c.args.number i rest c.args.item
-    (Some c.in-Some.cut) c.if-below-eq0.false c.requires.shaped c.requires.owned low within
-    child in
-    let longer =
-    grown_longer s u c.args.below c.args.number i rest c.args.item
-    (Some c.in-Some.cut) c.if-below-eq0.false c.requires.shaped c.requires.owned low within
-    child in
+    let moved = grown_moved i rest c.args.item c.if-below-eq0.false c.requires.shaped
+    c.requires.owned low within child in
+    let longer = grown_longer i rest c.args.item c.if-below-eq0.false c.requires.shaped
+    c.requires.owned low within child in
     let seat =
     rw c.in-Some.is at (rw (c.child_at-child.ensures, c.first_turn-index.ensures) at
     c.insert_below-inserted.ensures.edge) in
-    let up =
-    (grown_seat s u c.args.below c.args.number i rest c.args.item
-    (Some c.in-Some.cut) c.if-below-eq0.false c.requires.shaped c.requires.owned low within
-    child c.insert_below-inserted.result.side c.insert_below-inserted.result.edge seat).0 in
+    let up = (grown_seat i rest c.args.item c.if-below-eq0.false c.requires.shaped c.requires.owned
+    low within child c.insert_below-inserted.result.side c.insert_below-inserted.result.edge seat).0
+    in
     record {
       present = rw kept c.requires.shaped.node.present;
       within = rw kept (omega (arith, low, c.first_turn-index.ensures));
       fits = rw kept c.requires.shaped.node.fits;
-      child = rw kept (children_length 1 CAPACITY s c.args.below c.args.number
-          (omega (arith, c.if-below-eq0.false)) c.requires.shaped);
+      child = rw kept (children_length inner c.requires.shaped);
       content = rw (c.first_turn-index.ensures, ← items, ← children) content;
-      room = (λ full.
-          content_room s u c.args.below c.args.number _ _ moved content longer
-          c.requires.room
-          (omega (arith, long, rw kept at full)));
+      room = (λ full. content_room moved content longer c.requires.room
+          (over _ _ _ full long (ap (λ node. length (items_of node)) kept)));
       deep = c.requires.deep;
       seat = rw (c.first_turn-index.ensures, ← items, ← children) up;
     }
@@ -308,100 +217,67 @@ put_or_cut-requires-in-Some g t c =
 pub returns-in-Some-clause-replaces : goal.returns-in-Some-clause-replaces
 returns-in-Some-clause-replaces g t c =
     let i = turn c.args.edge in
-    let low =
-    below_turn c.args.nodes.now c.args.below c.args.number c.if-below-eq0.false
-    c.requires.shaped c.args.edge c.requires.edge in
+    let low = below_turn c.if-below-eq0.false c.requires.shaped c.args.edge c.requires.edge in
     let rest =
     place c.args.nodes.now (c.args.below - 1)
     (get_or (children_of (node_of c.args.nodes.now c.args.number)) (turn c.args.edge) 0)
     (inside c.args.edge) in
-    let within =
-    below_most c.args.nodes.now c.args.below c.args.number c.if-below-eq0.false
-    c.requires.shaped i (inside c.args.edge) low
-    (below_inside c.args.nodes.now c.args.below c.args.number c.if-below-eq0.false
-    c.requires.shaped c.args.edge c.requires.edge) in
+    let within = below_most c.if-below-eq0.false c.requires.shaped i (inside c.args.edge) low
+    (below_inside c.if-below-eq0.false c.requires.shaped c.args.edge c.requires.edge) in
     let child =
     rw c.in-Some.is at
     (rw (c.child_at-child.ensures, c.first_turn-index.ensures, c.seen_inside.ensures) at
     c.insert_below-inserted.ensures.replaces) in
-    let items =
-    some_items c.args.nodes.now c.insert_below-inserted.new.nodes c.args.below c.args.number
-    i rest c.args.item c.in-Some.cut c.if-below-eq0.false c.requires.shaped c.requires.owned
-    low within child in
-    let children =
-    some_children c.args.nodes.now c.insert_below-inserted.new.nodes c.args.below
-    c.args.number i rest c.args.item c.in-Some.cut c.if-below-eq0.false c.requires.shaped
+    let items = some_items i rest c.args.item c.in-Some.cut c.if-below-eq0.false c.requires.shaped
     c.requires.owned low within child in
+    let children = some_children i rest c.args.item c.in-Some.cut c.if-below-eq0.false
+    c.requires.shaped c.requires.owned low within child in
     let long =
     length-insert (items_of (node_of c.args.nodes.now c.args.number)) i c.in-Some.cut.middle
     low in
     let settles =
     rw (c.first_turn-index.ensures, ← items, ← children) at
     c.put_or_cut-in-Some.ensures.settles in
-    rw (below_here c.args.nodes.now c.args.below c.args.number c.if-below-eq0.false
-    c.requires.shaped c.args.edge)
-    (settled_replaces c.args.nodes.now c.insert_below-inserted.new.nodes
-    c.put_or_cut-in-Some.new.nodes c.args.below c.args.number _ _ _
-    c.put_or_cut-in-Some.result.split
-    (grown_moved c.args.nodes.now c.insert_below-inserted.new.nodes c.args.below c.args.number i
-    rest c.args.item (Some c.in-Some.cut) c.if-below-eq0.false c.requires.shaped
-    c.requires.owned low within child)
-    (grown_listed c.args.nodes.now c.insert_below-inserted.new.nodes c.args.below c.args.number
-    i rest c.args.item (Some c.in-Some.cut) c.if-below-eq0.false c.requires.shaped
+    rw (below_here c.if-below-eq0.false c.requires.shaped c.args.edge) (settled_replaces _
+    (grown_moved i rest c.args.item c.if-below-eq0.false c.requires.shaped c.requires.owned low
+    within child) (grown_listed i rest c.args.item c.if-below-eq0.false c.requires.shaped
     c.requires.owned low within child) (omega (arith, long)) settles)
 
 pub returns-in-Some-clause-left_whole : goal.returns-in-Some-clause-left_whole
 returns-in-Some-clause-left_whole g t c =
     let i = turn c.args.edge in
-    let low =
-    below_turn c.args.nodes.now c.args.below c.args.number c.if-below-eq0.false
-    c.requires.shaped c.args.edge c.requires.edge in
+    let low = below_turn c.if-below-eq0.false c.requires.shaped c.args.edge c.requires.edge in
     let rest =
     place c.args.nodes.now (c.args.below - 1)
     (get_or (children_of (node_of c.args.nodes.now c.args.number)) (turn c.args.edge) 0)
     (inside c.args.edge) in
-    let within =
-    below_most c.args.nodes.now c.args.below c.args.number c.if-below-eq0.false
-    c.requires.shaped i (inside c.args.edge) low
-    (below_inside c.args.nodes.now c.args.below c.args.number c.if-below-eq0.false
-    c.requires.shaped c.args.edge c.requires.edge) in
+    let within = below_most c.if-below-eq0.false c.requires.shaped i (inside c.args.edge) low
+    (below_inside c.if-below-eq0.false c.requires.shaped c.args.edge c.requires.edge) in
     let child =
     rw c.in-Some.is at
     (rw (c.child_at-child.ensures, c.first_turn-index.ensures, c.seen_inside.ensures) at
     c.insert_below-inserted.ensures.replaces) in
-    λ few. c.put_or_cut-in-Some.ensures.left_whole
-    (rw (grown_kept c.args.nodes.now c.insert_below-inserted.new.nodes c.args.below
-    c.args.number i rest c.args.item
-    (Some c.in-Some.cut) c.if-below-eq0.false c.requires.shaped c.requires.owned low within
-    child) few)
+    λ few. c.put_or_cut-in-Some.ensures.left_whole (rw (grown_kept i rest c.args.item
+    c.if-below-eq0.false c.requires.shaped c.requires.owned low within child) few)
 
 pub returns-in-Some-clause-place : goal.returns-in-Some-clause-place
 returns-in-Some-clause-place g t c =
     let i = turn c.args.edge in
-    let low =
-    below_turn c.args.nodes.now c.args.below c.args.number c.if-below-eq0.false
-    c.requires.shaped c.args.edge c.requires.edge in
+    let low = below_turn c.if-below-eq0.false c.requires.shaped c.args.edge c.requires.edge in
     let rest =
     place c.args.nodes.now (c.args.below - 1)
     (get_or (children_of (node_of c.args.nodes.now c.args.number)) (turn c.args.edge) 0)
     (inside c.args.edge) in
-    let within =
-    below_most c.args.nodes.now c.args.below c.args.number c.if-below-eq0.false
-    c.requires.shaped i (inside c.args.edge) low
-    (below_inside c.args.nodes.now c.args.below c.args.number c.if-below-eq0.false
-    c.requires.shaped c.args.edge c.requires.edge) in
+    let within = below_most c.if-below-eq0.false c.requires.shaped i (inside c.args.edge) low
+    (below_inside c.if-below-eq0.false c.requires.shaped c.args.edge c.requires.edge) in
     let child =
     rw c.in-Some.is at
     (rw (c.child_at-child.ensures, c.first_turn-index.ensures, c.seen_inside.ensures) at
     c.insert_below-inserted.ensures.replaces) in
-    let items =
-    some_items c.args.nodes.now c.insert_below-inserted.new.nodes c.args.below c.args.number
-    i rest c.args.item c.in-Some.cut c.if-below-eq0.false c.requires.shaped c.requires.owned
-    low within child in
-    let children =
-    some_children c.args.nodes.now c.insert_below-inserted.new.nodes c.args.below
-    c.args.number i rest c.args.item c.in-Some.cut c.if-below-eq0.false c.requires.shaped
+    let items = some_items i rest c.args.item c.in-Some.cut c.if-below-eq0.false c.requires.shaped
     c.requires.owned low within child in
+    let children = some_children i rest c.args.item c.in-Some.cut c.if-below-eq0.false
+    c.requires.shaped c.requires.owned low within child in
     let seat =
     rw c.in-Some.is at (rw (c.child_at-child.ensures, c.first_turn-index.ensures) at
     c.insert_below-inserted.ensures.edge) in
@@ -409,11 +285,9 @@ returns-in-Some-clause-place g t c =
     rw c.in-Some.is at
     (rw (c.child_at-child.ensures, c.first_turn-index.ensures, c.seen_inside.ensures) at
     c.insert_below-inserted.ensures.place) in
-    let up =
-    (grown_seat c.args.nodes.now c.insert_below-inserted.new.nodes c.args.below
-    c.args.number i rest c.args.item
-    (Some c.in-Some.cut) c.if-below-eq0.false c.requires.shaped c.requires.owned low within
-    child c.insert_below-inserted.result.side c.insert_below-inserted.result.edge seat).1 in
+    let up = (grown_seat i rest c.args.item c.if-below-eq0.false c.requires.shaped c.requires.owned
+    low within child c.insert_below-inserted.result.side c.insert_below-inserted.result.edge seat).1
+    in
     let here =
     rw (c.first_turn-index.ensures, ← items, ← children) at
     c.put_or_cut-in-Some.ensures.place in
@@ -422,6 +296,5 @@ returns-in-Some-clause-place g t c =
       arith,
       up,
       at,
-      below_here c.args.nodes.now c.args.below c.args.number c.if-below-eq0.false
-          c.requires.shaped c.args.edge,
+      below_here c.if-below-eq0.false c.requires.shaped c.args.edge,
     )

@@ -1,4 +1,4 @@
-use Rattle.std.proofs.Common.{◌≡◌, ◌+◌, ◌-◌, ◌<◌, length, take, drop, ap, ◌∙◌, arith, Some, None}
+use Rattle.std.proofs.Common.{◌≡◌, ◌+◌, ◌-◌, ◌<◌, length, take, drop, refl, ap, ◌∙◌, arith, Some, None}
 use Rattle.std.specs.List.{insert}
 use Rattle.std.proofs.lemmas.List.Edits.{length-insert}
 use Rattle.range_store.specs.Heap.{node_of, items_of, children_of, with_child}
@@ -29,36 +29,12 @@ edge_at-requires-clause-path g c =
     (with_child (children_of (node_of c.args.nodes.now c.args.number))
     (c.args.index + 1) c.args.child) c.args.seat c.args.inner c.requires.deep some c.requires.seat
 
-pub returns-then-item_count-lt-CAPACITY-clause-settles :
-    goal.returns-then-item_count-lt-CAPACITY-clause-settles
-returns-then-item_count-lt-CAPACITY-clause-settles g c =
-    written_settles c.args.nodes.now c.put.new.self c.args.below c.args.number
-    (insert (items_of (node_of c.args.nodes.now c.args.number)) c.args.index c.args.item)
-    (with_child (children_of (node_of c.args.nodes.now c.args.number))
-    (c.args.index + 1) c.args.child) c.requires.content c.put.ensures
-    (omega (
-      arith,
-      length-insert (items_of (node_of c.args.nodes.now c.args.number)) c.args.index c.args.item
-          c.requires.within,
-      c.item_count.ensures,
-      c.if-item_count-lt-CAPACITY.true,
-    ))
-
-pub returns-then-item_count-lt-CAPACITY-clause-edge :
-    goal.returns-then-item_count-lt-CAPACITY-clause-edge
-returns-then-item_count-lt-CAPACITY-clause-edge g c =
+pub returns-then-item_count-lt-CAPACITY : goal.returns-then-item_count-lt-CAPACITY
+returns-then-item_count-lt-CAPACITY g c =
     let s = c.args.nodes.now in
     let t = c.put.new.self in
-    let holds =
-    written_holds s t c.args.below c.args.number
-    (insert (items_of (node_of c.args.nodes.now c.args.number)) c.args.index c.args.item)
-    (with_child (children_of (node_of c.args.nodes.now c.args.number))
-    (c.args.index + 1) c.args.child) c.requires.content c.put.ensures in
-    let agree =
-    written_agree s t c.args.below c.args.number
-    (insert (items_of (node_of c.args.nodes.now c.args.number)) c.args.index c.args.item)
-    (with_child (children_of (node_of c.args.nodes.now c.args.number))
-    (c.args.index + 1) c.args.child) c.requires.content c.put.ensures in
+    let holds = written_holds t c.requires.content c.put.ensures in
+    let agree = written_agree t c.requires.content c.put.ensures in
     let edge =
     seat_written s t c.args.number
     (insert (items_of (node_of c.args.nodes.now c.args.number)) c.args.index c.args.item)
@@ -67,32 +43,18 @@ returns-then-item_count-lt-CAPACITY-clause-edge g c =
     holds agree c.edge_at.ensures.leaf c.edge_at.ensures.turn c.edge_at.ensures.inside
     c.requires.seat in
     let alone = seat_alone t c.args.below c.args.number c.edge_at.result None edge.0 in
-    alone.0
-
-pub returns-then-item_count-lt-CAPACITY-clause-place :
-    goal.returns-then-item_count-lt-CAPACITY-clause-place
-returns-then-item_count-lt-CAPACITY-clause-place g c =
-    let s = c.args.nodes.now in
-    let t = c.put.new.self in
-    let holds =
-    written_holds s t c.args.below c.args.number
-    (insert (items_of (node_of c.args.nodes.now c.args.number)) c.args.index c.args.item)
-    (with_child (children_of (node_of c.args.nodes.now c.args.number))
-    (c.args.index + 1) c.args.child) c.requires.content c.put.ensures in
-    let agree =
-    written_agree s t c.args.below c.args.number
-    (insert (items_of (node_of c.args.nodes.now c.args.number)) c.args.index c.args.item)
-    (with_child (children_of (node_of c.args.nodes.now c.args.number))
-    (c.args.index + 1) c.args.child) c.requires.content c.put.ensures in
-    let edge =
-    seat_written s t c.args.number
-    (insert (items_of (node_of c.args.nodes.now c.args.number)) c.args.index c.args.item)
-    (with_child (children_of (node_of c.args.nodes.now c.args.number))
-    (c.args.index + 1) c.args.child) c.args.seat c.args.inner c.edge_at.result c.args.below
-    holds agree c.edge_at.ensures.leaf c.edge_at.ensures.turn c.edge_at.ensures.inside
-    c.requires.seat in
-    let alone = seat_alone t c.args.below c.args.number c.edge_at.result None edge.0 in
-    alone.1 ∙ edge.1
+    record {
+      settles = written_settles c.put.new.self c.requires.content c.put.ensures (omega (
+        arith,
+        length-insert (items_of (node_of c.args.nodes.now c.args.number)) c.args.index
+            c.args.item c.requires.within,
+        c.item_count.ensures,
+        c.if-item_count-lt-CAPACITY.true,
+      ));
+      left_whole = λ few. refl;
+      edge = alone.0;
+      place = alone.1 ∙ edge.1;
+    }
 
 pub edge_at-requires-then-seat-le-HALF-clause-path :
     goal.edge_at-requires-then-seat-le-HALF-clause-path
@@ -102,43 +64,24 @@ edge_at-requires-then-seat-le-HALF-clause-path g c =
     (with_child (children_of (node_of c.args.nodes.now c.args.number))
     (c.args.index + 1) c.args.child) c.args.seat c.args.inner c.requires.deep some c.requires.seat
 
-pub returns-then-seat-le-HALF-clause-settles : goal.returns-then-seat-le-HALF-clause-settles
-returns-then-seat-le-HALF-clause-settles g c =
-    let long =
-    length-insert (items_of (node_of c.args.nodes.now c.args.number)) c.args.index
-    c.args.item c.requires.within in
+pub returns-then-seat-le-HALF : goal.returns-then-seat-le-HALF
+returns-then-seat-le-HALF g c =
+    let s = c.args.nodes.now in
+    let t = c.split-split.new.self in
     let full : length (insert
     (items_of (node_of c.args.nodes.now c.args.number)) c.args.index c.args.item)
     ≡ CAPACITY + 1 =
     omega (
       arith,
-      long,
+      length-insert (items_of (node_of c.args.nodes.now c.args.number)) c.args.index c.args.item
+          c.requires.within,
       c.item_count.ensures,
       c.if-item_count-lt-CAPACITY.false,
       c.requires.fits,
     ) in
-    cut_settles c.args.nodes.now c.split-split.new.self c.args.below c.args.number HALF
-    (insert (items_of (node_of c.args.nodes.now c.args.number)) c.args.index c.args.item)
-    (with_child (children_of (node_of c.args.nodes.now c.args.number))
-    (c.args.index + 1) c.args.child) c.split-split.result c.requires.content
-    c.split-split.ensures (omega (arith, full)) (omega arith) (omega arith)
-    (omega (arith, full)) (omega (arith, full))
-
-pub returns-then-seat-le-HALF-clause-edge : goal.returns-then-seat-le-HALF-clause-edge
-returns-then-seat-le-HALF-clause-edge g c =
-    let s = c.args.nodes.now in
-    let t = c.split-split.new.self in
-    let long =
-    length-insert (items_of (node_of s c.args.number)) c.args.index c.args.item
-    c.requires.within in
-    let low : HALF
-    < length (insert (items_of (node_of c.args.nodes.now c.args.number)) c.args.index
-    c.args.item) = omega (
-      arith,
-      long,
-      c.item_count.ensures,
-      c.if-item_count-lt-CAPACITY.false,
-    ) in
+    let low : HALF < length
+    (insert (items_of (node_of c.args.nodes.now c.args.number)) c.args.index c.args.item) = omega
+    (arith, full) in
     let cut = c.split-split.ensures in
     let left =
     seat_left s HALF (insert
@@ -146,19 +89,10 @@ returns-then-seat-le-HALF-clause-edge g c =
     (with_child (children_of (node_of c.args.nodes.now c.args.number))
     (c.args.index + 1) c.args.child) c.args.seat c.args.inner low c.args.below
     c.requires.content.branches c.if-seat-le-HALF.true c.requires.seat in
-    let holds =
-    left_holds c.args.nodes.now c.split-split.new.self c.args.below c.args.number HALF
-    (insert (items_of (node_of c.args.nodes.now c.args.number)) c.args.index c.args.item)
-    (with_child (children_of (node_of c.args.nodes.now c.args.number))
-    (c.args.index + 1) c.args.child) c.split-split.result c.requires.content cut low in
-    let agree =
-    (part_agree c.args.nodes.now c.split-split.new.self c.args.below (HALF + 1)
-    (with_child (children_of (node_of c.args.nodes.now c.args.number))
-    (c.args.index + 1) c.args.child)
-    (cut_agree c.args.nodes.now c.split-split.new.self c.args.below c.args.number HALF
-    (insert (items_of (node_of c.args.nodes.now c.args.number)) c.args.index c.args.item)
-    (with_child (children_of (node_of c.args.nodes.now c.args.number))
-    (c.args.index + 1) c.args.child) c.split-split.result c.requires.content cut low)).0 in
+    let holds = left_holds c.split-split.result c.requires.content cut low in
+    let agree = (part_agree c.args.nodes.now c.split-split.new.self c.args.below (HALF + 1)
+    (with_child (children_of (node_of c.args.nodes.now c.args.number)) (c.args.index + 1)
+    c.args.child) (cut_agree c.split-split.result c.requires.content cut low)).0 in
     let edge =
     seat_written s t c.args.number
     (take HALF (insert (items_of (node_of c.args.nodes.now c.args.number)) c.args.index
@@ -171,56 +105,18 @@ returns-then-seat-le-HALF-clause-edge g c =
     let alone =
     seat_alone t c.args.below c.args.number c.edge_at-then-seat-le-HALF.result
     (Some c.split-split.result) edge.0 in
-    alone.0
-
-pub returns-then-seat-le-HALF-clause-place : goal.returns-then-seat-le-HALF-clause-place
-returns-then-seat-le-HALF-clause-place g c =
-    let s = c.args.nodes.now in
-    let t = c.split-split.new.self in
-    let long =
-    length-insert (items_of (node_of s c.args.number)) c.args.index c.args.item
-    c.requires.within in
-    let low : HALF
-    < length (insert (items_of (node_of c.args.nodes.now c.args.number)) c.args.index
-    c.args.item) = omega (
-      arith,
-      long,
-      c.item_count.ensures,
-      c.if-item_count-lt-CAPACITY.false,
-    ) in
-    let cut = c.split-split.ensures in
-    let left =
-    seat_left s HALF (insert
-    (items_of (node_of c.args.nodes.now c.args.number)) c.args.index c.args.item)
-    (with_child (children_of (node_of c.args.nodes.now c.args.number))
-    (c.args.index + 1) c.args.child) c.args.seat c.args.inner low c.args.below
-    c.requires.content.branches c.if-seat-le-HALF.true c.requires.seat in
-    let holds =
-    left_holds c.args.nodes.now c.split-split.new.self c.args.below c.args.number HALF
-    (insert (items_of (node_of c.args.nodes.now c.args.number)) c.args.index c.args.item)
-    (with_child (children_of (node_of c.args.nodes.now c.args.number))
-    (c.args.index + 1) c.args.child) c.split-split.result c.requires.content cut low in
-    let agree =
-    (part_agree c.args.nodes.now c.split-split.new.self c.args.below (HALF + 1)
-    (with_child (children_of (node_of c.args.nodes.now c.args.number))
-    (c.args.index + 1) c.args.child)
-    (cut_agree c.args.nodes.now c.split-split.new.self c.args.below c.args.number HALF
-    (insert (items_of (node_of c.args.nodes.now c.args.number)) c.args.index c.args.item)
-    (with_child (children_of (node_of c.args.nodes.now c.args.number))
-    (c.args.index + 1) c.args.child) c.split-split.result c.requires.content cut low)).0 in
-    let edge =
-    seat_written s t c.args.number
-    (take HALF (insert (items_of (node_of c.args.nodes.now c.args.number)) c.args.index
-    c.args.item)) (take (HALF + 1)
-    (with_child (children_of (node_of c.args.nodes.now c.args.number))
-    (c.args.index + 1) c.args.child)) c.args.seat c.args.inner
-    c.edge_at-then-seat-le-HALF.result c.args.below holds agree
-    c.edge_at-then-seat-le-HALF.ensures.leaf c.edge_at-then-seat-le-HALF.ensures.turn
-    c.edge_at-then-seat-le-HALF.ensures.inside left.0 in
-    let alone =
-    seat_alone t c.args.below c.args.number c.edge_at-then-seat-le-HALF.result
-    (Some c.split-split.result) edge.0 in
-    alone.1 ∙ edge.1 ∙ left.1
+    record {
+      settles = cut_settles c.split-split.result c.requires.content cut (omega (arith, full))
+          (omega arith) (omega arith) (omega (arith, full)) (omega (arith, full));
+      left_whole = λ few. absurd (omega (
+        arith,
+        few,
+        c.item_count.ensures,
+        c.if-item_count-lt-CAPACITY.false,
+      ));
+      edge = alone.0;
+      place = alone.1 ∙ edge.1 ∙ left.1;
+    }
 
 pub edge_at-edge-requires-clause-seat : goal.edge_at-edge-requires-clause-seat
 edge_at-edge-requires-clause-seat g c =
@@ -243,43 +139,24 @@ edge_at-edge-requires-clause-path g c =
     (with_child (children_of (node_of c.args.nodes.now c.args.number))
     (c.args.index + 1) c.args.child) c.args.seat c.args.inner c.requires.deep some c.requires.seat
 
-pub returns-clause-settles : goal.returns-clause-settles
-returns-clause-settles g c =
-    let long =
-    length-insert (items_of (node_of c.args.nodes.now c.args.number)) c.args.index
-    c.args.item c.requires.within in
+pub returns : goal.returns
+returns g c =
+    let s = c.args.nodes.now in
+    let t = c.split-split.new.self in
     let full : length (insert
     (items_of (node_of c.args.nodes.now c.args.number)) c.args.index c.args.item)
     ≡ CAPACITY + 1 =
     omega (
       arith,
-      long,
+      length-insert (items_of (node_of c.args.nodes.now c.args.number)) c.args.index c.args.item
+          c.requires.within,
       c.item_count.ensures,
       c.if-item_count-lt-CAPACITY.false,
       c.requires.fits,
     ) in
-    cut_settles c.args.nodes.now c.split-split.new.self c.args.below c.args.number HALF
-    (insert (items_of (node_of c.args.nodes.now c.args.number)) c.args.index c.args.item)
-    (with_child (children_of (node_of c.args.nodes.now c.args.number))
-    (c.args.index + 1) c.args.child) c.split-split.result c.requires.content
-    c.split-split.ensures (omega (arith, full)) (omega arith) (omega arith)
-    (omega (arith, full)) (omega (arith, full))
-
-pub returns-clause-edge : goal.returns-clause-edge
-returns-clause-edge g c =
-    let s = c.args.nodes.now in
-    let t = c.split-split.new.self in
-    let long =
-    length-insert (items_of (node_of s c.args.number)) c.args.index c.args.item
-    c.requires.within in
-    let low : HALF
-    < length (insert (items_of (node_of c.args.nodes.now c.args.number)) c.args.index
-    c.args.item) = omega (
-      arith,
-      long,
-      c.item_count.ensures,
-      c.if-item_count-lt-CAPACITY.false,
-    ) in
+    let low : HALF < length
+    (insert (items_of (node_of c.args.nodes.now c.args.number)) c.args.index c.args.item) = omega
+    (arith, full) in
     let cut = c.split-split.ensures in
     let right =
     seat_right s HALF (insert
@@ -287,19 +164,10 @@ returns-clause-edge g c =
     (with_child (children_of (node_of c.args.nodes.now c.args.number))
     (c.args.index + 1) c.args.child) c.args.seat c.args.inner low c.args.below
     c.requires.content.branches (omega (arith, c.if-seat-le-HALF.false)) c.requires.seat in
-    let holds =
-    right_holds c.args.nodes.now c.split-split.new.self c.args.below c.args.number HALF
-    (insert (items_of (node_of c.args.nodes.now c.args.number)) c.args.index c.args.item)
-    (with_child (children_of (node_of c.args.nodes.now c.args.number))
-    (c.args.index + 1) c.args.child) c.split-split.result c.requires.content cut low in
-    let agree =
-    (part_agree c.args.nodes.now c.split-split.new.self c.args.below (HALF + 1)
-    (with_child (children_of (node_of c.args.nodes.now c.args.number))
-    (c.args.index + 1) c.args.child)
-    (cut_agree c.args.nodes.now c.split-split.new.self c.args.below c.args.number HALF
-    (insert (items_of (node_of c.args.nodes.now c.args.number)) c.args.index c.args.item)
-    (with_child (children_of (node_of c.args.nodes.now c.args.number))
-    (c.args.index + 1) c.args.child) c.split-split.result c.requires.content cut low)).1 in
+    let holds = right_holds c.split-split.result c.requires.content cut low in
+    let agree = (part_agree c.args.nodes.now c.split-split.new.self c.args.below (HALF + 1)
+    (with_child (children_of (node_of c.args.nodes.now c.args.number)) (c.args.index + 1)
+    c.args.child) (cut_agree c.split-split.result c.requires.content cut low)).1 in
     let edge =
     seat_written s t c.split-split.result.right
     (drop (HALF + 1) (insert
@@ -312,67 +180,22 @@ returns-clause-edge g c =
     let beside =
     seat_beside t c.args.below c.args.number c.edge_at-edge.result c.split-split.result
     edge.0 in
-    beside.0
-
-pub returns-clause-place : goal.returns-clause-place
-returns-clause-place g c =
-    let s = c.args.nodes.now in
-    let t = c.split-split.new.self in
-    let long =
-    length-insert (items_of (node_of s c.args.number)) c.args.index c.args.item
-    c.requires.within in
-    let low : HALF
-    < length (insert (items_of (node_of c.args.nodes.now c.args.number)) c.args.index
-    c.args.item) = omega (
-      arith,
-      long,
-      c.item_count.ensures,
-      c.if-item_count-lt-CAPACITY.false,
-    ) in
-    let cut = c.split-split.ensures in
-    let right =
-    seat_right s HALF (insert
-    (items_of (node_of c.args.nodes.now c.args.number)) c.args.index c.args.item)
-    (with_child (children_of (node_of c.args.nodes.now c.args.number))
-    (c.args.index + 1) c.args.child) c.args.seat c.args.inner low c.args.below
-    c.requires.content.branches (omega (arith, c.if-seat-le-HALF.false)) c.requires.seat in
-    let holds =
-    right_holds c.args.nodes.now c.split-split.new.self c.args.below c.args.number HALF
-    (insert (items_of (node_of c.args.nodes.now c.args.number)) c.args.index c.args.item)
-    (with_child (children_of (node_of c.args.nodes.now c.args.number))
-    (c.args.index + 1) c.args.child) c.split-split.result c.requires.content cut low in
-    let agree =
-    (part_agree c.args.nodes.now c.split-split.new.self c.args.below (HALF + 1)
-    (with_child (children_of (node_of c.args.nodes.now c.args.number))
-    (c.args.index + 1) c.args.child)
-    (cut_agree c.args.nodes.now c.split-split.new.self c.args.below c.args.number HALF
-    (insert (items_of (node_of c.args.nodes.now c.args.number)) c.args.index c.args.item)
-    (with_child (children_of (node_of c.args.nodes.now c.args.number))
-    (c.args.index + 1) c.args.child) c.split-split.result c.requires.content cut low)).1 in
-    let edge =
-    seat_written s t c.split-split.result.right
-    (drop (HALF + 1) (insert
-    (items_of (node_of c.args.nodes.now c.args.number)) c.args.index c.args.item))
-    (drop (HALF + 1) (with_child (children_of (node_of c.args.nodes.now c.args.number))
-    (c.args.index + 1) c.args.child))
-    (c.args.seat - HALF - 1) c.args.inner c.edge_at-edge.result c.args.below holds agree
-    c.edge_at-edge.ensures.leaf c.edge_at-edge.ensures.turn c.edge_at-edge.ensures.inside
-    right.0 in
-    let beside =
-    seat_beside t c.args.below c.args.number c.edge_at-edge.result c.split-split.result
-    edge.0 in
-    omega (
-      arith,
-      beside.1,
-      edge.1,
-      right.1,
-      ap length (left_items_below c.args.nodes.now c.split-split.new.self c.args.below
-          c.args.number c.split-split.result.right HALF
-          (insert (items_of (node_of c.args.nodes.now c.args.number)) c.args.index c.args.item)
-          (with_child (children_of (node_of c.args.nodes.now c.args.number))
-          (c.args.index + 1) c.args.child) c.requires.content low
-          (left_holds c.args.nodes.now c.split-split.new.self c.args.below c.args.number HALF
-          (insert (items_of (node_of c.args.nodes.now c.args.number)) c.args.index c.args.item)
-          (with_child (children_of (node_of c.args.nodes.now c.args.number))
-          (c.args.index + 1) c.args.child) c.split-split.result c.requires.content cut low) holds),
-    )
+    record {
+      settles = cut_settles c.split-split.result c.requires.content cut (omega (arith, full))
+          (omega arith) (omega arith) (omega (arith, full)) (omega (arith, full));
+      left_whole = λ few. absurd (omega (
+        arith,
+        few,
+        c.item_count.ensures,
+        c.if-item_count-lt-CAPACITY.false,
+      ));
+      edge = beside.0;
+      place = omega (
+        arith,
+        beside.1,
+        edge.1,
+        right.1,
+        ap length (left_items_below HALF c.requires.content low
+            (left_holds c.split-split.result c.requires.content cut low) holds),
+      );
+    }

@@ -10,23 +10,15 @@ pub child_at-child-requires : goal.child_at-child-requires
 child_at-child-requires g t c =
     record {
       present = c.requires.shaped.node.present;
-      within = rw c.first_turn-index.ensures
-          (child_within c.args.nodes.now c.args.below c.args.number c.if-below-eq0.false
-          c.requires.shaped _ (below_turn c.args.nodes.now c.args.below c.args.number
-          c.if-below-eq0.false c.requires.shaped c.args.edge c.requires.edge));
+      within = rw c.first_turn-index.ensures (child_within c.if-below-eq0.false c.requires.shaped _
+          (below_turn c.if-below-eq0.false c.requires.shaped c.args.edge c.requires.edge));
     }
 
 pub edge_before-requires : goal.edge_before-requires
 edge_before-requires g t c κs within =
-    let low =
-    below_turn c.args.nodes.now c.args.below c.args.number c.if-below-eq0.false
-    c.requires.shaped c.args.edge c.requires.edge in
-    let kid =
-    below_kid c.args.nodes.now c.args.below c.args.number c.if-below-eq0.false
-    c.requires.shaped (turn c.args.edge) low in
-    let is =
-    below_inside c.args.nodes.now c.args.below c.args.number c.if-below-eq0.false
-    c.requires.shaped c.args.edge c.requires.edge in (
+    let low = below_turn c.if-below-eq0.false c.requires.shaped c.args.edge c.requires.edge in
+    let kid = below_kid c.if-below-eq0.false c.requires.shaped (turn c.args.edge) low in
+    let is = below_inside c.if-below-eq0.false c.requires.shaped c.args.edge c.requires.edge in (
       omega (arith, c.if-below-eq0.false),
       (
         within,
@@ -40,8 +32,7 @@ seen_above-requires-clause-index g t c =
     omega (
       arith,
       c.first_turn-index.ensures,
-      below_turn c.args.nodes.now c.args.below c.args.number c.if-below-eq0.false
-          c.requires.shaped c.args.edge c.requires.edge,
+      below_turn c.if-below-eq0.false c.requires.shaped c.args.edge c.requires.edge,
       c.requires.shaped.node.fits,
     )
 
@@ -59,21 +50,17 @@ returns-in-Some g t c =
       c.first_turn-index.ensures,
       c.seen_inside.ensures,
     ) at c.edge_before.ensures in
-    let low =
-    below_turn c.args.nodes.now c.args.below c.args.number c.if-below-eq0.false
-    c.requires.shaped c.args.edge c.requires.edge in
+    let low = below_turn c.if-below-eq0.false c.requires.shaped c.args.edge c.requires.edge in
     let at = c.seen_above.ensures.turn ∙ c.first_turn-index.ensures in
-    let place =
-    below_place c.args.nodes.now c.args.below c.args.number c.if-below-eq0.false
-    c.requires.shaped (turn c.args.edge) c.in-Some.earlier _ at c.seen_above.ensures.inside
+    let place = below_place c.if-below-eq0.false c.requires.shaped (turn c.args.edge)
+    c.in-Some.earlier _ at c.seen_above.ensures.inside
     in (
-      below_edge c.args.nodes.now c.args.below c.args.number c.if-below-eq0.false c.requires.shaped
-          (turn c.args.edge) c.in-Some.earlier _ at c.seen_above.ensures.inside low found.0,
+      below_edge c.if-below-eq0.false c.requires.shaped (turn c.args.edge) c.in-Some.earlier _ at
+          c.seen_above.ensures.inside low found.0,
       omega (
         arith,
         place,
-        below_here c.args.nodes.now c.args.below c.args.number c.if-below-eq0.false
-            c.requires.shaped c.args.edge,
+        below_here c.if-below-eq0.false c.requires.shaped c.args.edge,
         found.1,
       ),
     )
@@ -116,8 +103,7 @@ returns-then-index-eq0 g t c =
     ≡ 0 = rw first refl in
     omega (
       arith,
-      below_here c.args.nodes.now c.args.below c.args.number c.if-below-eq0.false
-          c.requires.shaped c.args.edge,
+      below_here c.if-below-eq0.false c.requires.shaped c.args.edge,
       none,
       start,
     )
@@ -126,26 +112,21 @@ pub child_at-last-requires : goal.child_at-last-requires
 child_at-last-requires g t c =
     record {
       present = c.requires.shaped.node.present;
-      within = child_within c.args.nodes.now c.args.below c.args.number c.if-below-eq0.false
-          c.requires.shaped _ (omega (
-            arith,
-            c.first_turn-index.ensures,
-            below_turn c.args.nodes.now c.args.below c.args.number c.if-below-eq0.false
-                c.requires.shaped c.args.edge c.requires.edge,
-          ));
+      within = child_within c.if-below-eq0.false c.requires.shaped _ (omega (
+        arith,
+        c.first_turn-index.ensures,
+        below_turn c.if-below-eq0.false c.requires.shaped c.args.edge c.requires.edge,
+      ));
     }
 
 pub end_edge-requires : goal.end_edge-requires
 end_edge-requires g t c =
     record {
       shaped = rw c.child_at-last.ensures
-          (below_kid c.args.nodes.now c.args.below c.args.number c.if-below-eq0.false
-          c.requires.shaped (c.first_turn-index.result - 1)
-          (omega (
+          (below_kid c.if-below-eq0.false c.requires.shaped (c.first_turn-index.result - 1) (omega (
             arith,
             c.first_turn-index.ensures,
-            below_turn c.args.nodes.now c.args.below c.args.number c.if-below-eq0.false
-                c.requires.shaped c.args.edge c.requires.edge,
+            below_turn c.if-below-eq0.false c.requires.shaped c.args.edge c.requires.edge,
           )));
       deep = omega (arith, c.requires.deep);
     }
@@ -155,8 +136,7 @@ seen_above-requires-2-clause-index g t c =
     omega (
       arith,
       c.first_turn-index.ensures,
-      below_turn c.args.nodes.now c.args.below c.args.number c.if-below-eq0.false
-          c.requires.shaped c.args.edge c.requires.edge,
+      below_turn c.if-below-eq0.false c.requires.shaped c.args.edge c.requires.edge,
       c.requires.shaped.node.fits,
     )
 
@@ -172,8 +152,7 @@ returns g t c =
     omega (
       arith,
       c.first_turn-index.ensures,
-      below_turn c.args.nodes.now c.args.below c.args.number c.if-below-eq0.false
-          c.requires.shaped c.args.edge c.requires.edge,
+      below_turn c.if-below-eq0.false c.requires.shaped c.args.edge c.requires.edge,
       c.if-index-eq0.false,
     ) in
     let next : i + 1 ≡ turn c.args.edge =
@@ -186,27 +165,19 @@ returns g t c =
       c.seen_inside.ensures,
     ) at c.edge_before.ensures in
     let is = rw c.child_at-last.ensures at c.end_edge.ensures.edge in
-    let end =
-    rw (level_of_children c.args.nodes.now c.args.below c.args.number c.if-below-eq0.false
-    c.requires.shaped) at (rw c.child_at-last.ensures at c.end_edge.ensures.place) in
-    let place =
-    below_place c.args.nodes.now c.args.below c.args.number c.if-below-eq0.false
-    c.requires.shaped i c.end_edge.result _ c.seen_above-2.ensures.turn
-    c.seen_above-2.ensures.inside in
-    let more =
-    rw next at (before_next c.args.nodes.now c.args.below c.args.number c.if-below-eq0.false
-    c.requires.shaped i low) in (
-      below_edge c.args.nodes.now c.args.below c.args.number c.if-below-eq0.false c.requires.shaped
-          i
-          c.end_edge.result _ c.seen_above-2.ensures.turn c.seen_above-2.ensures.inside
-          (omega arith) is,
+    let end = rw (level_of_children c.if-below-eq0.false c.requires.shaped) at
+    (rw c.child_at-last.ensures at c.end_edge.ensures.place) in
+    let place = below_place c.if-below-eq0.false c.requires.shaped i c.end_edge.result _
+    c.seen_above-2.ensures.turn c.seen_above-2.ensures.inside in
+    let more = rw next at (before_next c.if-below-eq0.false c.requires.shaped i low) in (
+      below_edge c.if-below-eq0.false c.requires.shaped i c.end_edge.result _
+          c.seen_above-2.ensures.turn c.seen_above-2.ensures.inside (omega arith) is,
       omega (
         arith,
         place,
         end,
         more,
-        below_here c.args.nodes.now c.args.below c.args.number c.if-below-eq0.false
-            c.requires.shaped c.args.edge,
+        below_here c.if-below-eq0.false c.requires.shaped c.args.edge,
         none,
       ),
     )

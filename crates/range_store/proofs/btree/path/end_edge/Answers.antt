@@ -48,22 +48,19 @@ overflow_mul-weight g c =
     )
 
 pub down-preserved : goal.down-preserved
-down-preserved g c =
-    rw c.child_at-leaf.ensures (descends (λ _. true) c.args.nodes.now c.args.below c.args.number
-    c.down.left c.down.leaf c.down.path c.down.weight (omega (arith, c.down-test.true))
-    c.down.invariant c.item_count-last.result
+down-preserved g c = rw c.child_at-leaf.ensures (descends (λ _. true) c.args.nodes.now c.down.leaf
+    c.down.path c.down.weight (omega (arith, c.down-test.true)) c.down.invariant
+    c.item_count-last.result
     (c.item_count-last.ensures ∙ sym (count_all (items_of (node_of c.args.nodes.now c.down.leaf)))))
 
 pub returns-clause-edge : goal.returns-clause-edge
-returns-clause-edge g c =
-    (descent_ends (λ _. true) c.args.nodes.now c.args.below c.args.number c.down.left c.down.leaf
+returns-clause-edge g c = (descent_ends (λ _. true) c.args.nodes.now c.down.left c.down.leaf
     c.down.path c.down.weight (omega (arith, c.down-test.false)) c.down.invariant
     c.item_count.result (c.item_count.ensures
     ∙ sym (count_all (items_of (node_of c.args.nodes.now c.down.leaf))))).edge
 
 pub returns-clause-place : goal.returns-clause-place
-returns-clause-place g c =
-    (descent_ends (λ _. true) c.args.nodes.now c.args.below c.args.number c.down.left c.down.leaf
+returns-clause-place g c = (descent_ends (λ _. true) c.args.nodes.now c.down.left c.down.leaf
     c.down.path c.down.weight (omega (arith, c.down-test.false)) c.down.invariant
     c.item_count.result (c.item_count.ensures
     ∙ sym (count_all (items_of (node_of c.args.nodes.now c.down.leaf))))).count

@@ -23,7 +23,7 @@ overflow_sub-result g c =
     omega (
       arith,
       c.first_turn-index.ensures,
-      turn_is_later c.args.nodes.now c.down.left c.down.at above d.shaped c.down.inner start d.some,
+      turn_is_later above d.shaped c.down.inner start d.some,
     )
 
 pub returns-then-stands_first : goal.returns-then-stands_first
@@ -33,8 +33,7 @@ returns-then-stands_first g c =
     let start : is_start (inside c.down.inner) ≡ true =
     sym (rw c.seen_inside-inner.ensures at c.stands_first.ensures)
     ∙ c.if-stands_first.true in
-    rw c.first_turn-index.ensures
-    (sym (home_above c.args.nodes.now c.down.left c.down.at above d.shaped c.down.inner start)
+    rw c.first_turn-index.ensures (sym (home_above above d.shaped c.down.inner start)
     ∙ d.same)
 
 pub child_at-at-requires : goal.child_at-at-requires
@@ -45,8 +44,7 @@ child_at-at-requires g c =
     record {
       present = d.shaped.node.present;
       within = rw c.first_turn-index.ensures
-          (child_within s c.down.left c.down.at above d.shaped _
-          (below_turn s c.down.left c.down.at above d.shaped c.down.inner d.edge));
+          (child_within above d.shaped _ (below_turn above d.shaped c.down.inner d.edge));
     }
 
 pub down-preserved : goal.down-preserved
@@ -54,16 +52,15 @@ down-preserved g c =
     let s = c.args.nodes.now in
     let d = c.down.invariant in
     let above : c.down.left ≢ 0 = omega (arith, c.down-test.true) in
-    let low = below_turn s c.down.left c.down.at above d.shaped c.down.inner d.edge in
+    let low = below_turn above d.shaped c.down.inner d.edge in
     let start : is_start (inside c.down.inner) ≡ false =
     sym (rw c.seen_inside-inner.ensures at c.stands_first.ensures)
     ∙ c.if-stands_first.false in
     rw (c.child_at-at.ensures, c.first_turn-index.ensures, c.seen_inside-inner.ensures) (record {
-      shaped = below_kid s c.down.left c.down.at above d.shaped (turn c.down.inner) low;
-      edge = below_inside s c.down.left c.down.at above d.shaped c.down.inner d.edge;
-      some = inside_is_later s c.down.left c.down.at above d.shaped c.down.inner d.edge start;
-      same =
-          sym (home_inside s c.down.left c.down.at above d.shaped c.down.inner start)
+      shaped = below_kid above d.shaped (turn c.down.inner) low;
+      edge = below_inside above d.shaped c.down.inner d.edge;
+      some = inside_is_later above d.shaped c.down.inner d.edge start;
+      same = sym (home_inside above d.shaped c.down.inner start)
           ∙ d.same;
     })
 

@@ -4,8 +4,7 @@ use Rattle.range_store.proofs.btree.path.following.Goals as goal
 
 pub item_count-requires : goal.item_count-requires
 item_count-requires g c =
-    (leaf_of_edge c.args.nodes.now c.args.below c.args.number c.args.edge c.requires.shaped
-    c.requires.edge).present
+    (leaf_of_edge c.args.below c.args.edge c.requires.shaped c.requires.edge).present
 
 pub returns-then-edge-item_count : goal.returns-then-edge-item_count
 returns-then-edge-item_count g c =

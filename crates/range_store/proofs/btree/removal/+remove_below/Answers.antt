@@ -1,4 +1,4 @@
-use Rattle.std.proofs.Common.{◌≡◌, ◌+◌, ◌-◌, length, get_or, map, refl, ap, ◌∙◌, arith}
+use Rattle.std.proofs.Common.{◌≡◌, ◌+◌, ◌-◌, length, get_or, map, refl, ap, ◌∙◌, arith, rules}
 use Rattle.std.proofs.lemmas.List.Edits.{length-remove}
 use Rattle.range_store.specs.Heap.{node_of, items_of, children_of}
 use Rattle.range_store.specs.declared.btree.nodes.TheConstants.{CAPACITY, MIN_LEN}
@@ -32,12 +32,11 @@ returns-then-below-eq0-clause-item g t c =
     rw leaf c.take_item-item.ensures.value
 
 pub returns-then-below-eq0-clause-shrinks : goal.returns-then-below-eq0-clause-shrinks
-returns-then-below-eq0-clause-shrinks g t c =
-    rw (c.if-below-eq0.true, leaf_place c.args.nodes.now c.args.number c.args.edge)
-    (leaf_shrinks c.args.nodes.now c.take_item-item.new.self c.args.number
-    (c.args.edge.index - 1) (rw c.if-below-eq0.true at c.requires.shaped)
-    (rw c.if-below-eq0.true at c.requires.owned)
-    (omega (
+returns-then-below-eq0-clause-shrinks g t c = rw (
+  c.if-below-eq0.true,
+  leaf_place c.args.nodes.now c.args.number c.args.edge,
+) (leaf_shrinks (c.args.edge.index - 1) (rw c.if-below-eq0.true at c.requires.shaped)
+    (rw c.if-below-eq0.true at c.requires.owned) (omega (
       arith,
       leaf_index c.args.nodes.now c.args.number c.args.edge
           (rw c.if-below-eq0.true at c.requires.edge),
@@ -74,31 +73,18 @@ pub child_at-child-requires : goal.child_at-child-requires
 child_at-child-requires g t c =
     record {
       present = c.requires.shaped.node.present;
-      within = rw c.first_turn-index.ensures
-          (child_within c.args.nodes.now c.args.below c.args.number c.if-below-eq0.false
-          c.requires.shaped _ (below_turn c.args.nodes.now c.args.below c.args.number
-          c.if-below-eq0.false c.requires.shaped c.args.edge c.requires.edge));
+      within = rw c.first_turn-index.ensures (child_within c.if-below-eq0.false c.requires.shaped _
+          (below_turn c.if-below-eq0.false c.requires.shaped c.args.edge c.requires.edge));
     }
 
 pub remove_below-taken-requires : goal.remove_below-taken-requires
 remove_below-taken-requires g t c κs inside =
-    let low =
-    below_turn c.args.nodes.now c.args.below c.args.number c.if-below-eq0.false
-    c.requires.shaped c.args.edge c.requires.edge in
-    let kid =
-    below_kid c.args.nodes.now c.args.below c.args.number c.if-below-eq0.false
-    c.requires.shaped (turn c.args.edge) low in
-    let is =
-    below_inside c.args.nodes.now c.args.below c.args.number c.if-below-eq0.false
-    c.requires.shaped c.args.edge c.requires.edge in
-    let back =
-    level_of_children c.args.nodes.now c.args.below c.args.number c.if-below-eq0.false
-    c.requires.shaped in
-    let owned =
-    kid_owned c.args.nodes.now c.args.below c.args.number
-    (turn c.args.edge) c.requires.owned
-    (child_within c.args.nodes.now c.args.below c.args.number c.if-below-eq0.false
-    c.requires.shaped _ low) in (
+    let low = below_turn c.if-below-eq0.false c.requires.shaped c.args.edge c.requires.edge in
+    let kid = below_kid c.if-below-eq0.false c.requires.shaped (turn c.args.edge) low in
+    let is = below_inside c.if-below-eq0.false c.requires.shaped c.args.edge c.requires.edge in
+    let back = level_of_children c.if-below-eq0.false c.requires.shaped in
+    let owned = kid_owned c.args.nodes.now c.args.below c.args.number (turn c.args.edge)
+    c.requires.owned (child_within c.if-below-eq0.false c.requires.shaped _ low) in (
       omega (arith, c.if-below-eq0.false),
       (
         inside,
@@ -116,23 +102,17 @@ pub rebalance-edge-requires : goal.rebalance-edge-requires
 rebalance-edge-requires g t c =
     let s = c.args.nodes.now in
     let i = turn c.args.edge in
-    let low =
-    below_turn s c.args.below c.args.number c.if-below-eq0.false c.requires.shaped
-    c.args.edge c.requires.edge in
-    let back =
-    level_of_children s c.args.below c.args.number c.if-below-eq0.false c.requires.shaped in
+    let low = below_turn c.if-below-eq0.false c.requires.shaped c.args.edge c.requires.edge in
+    let back = level_of_children c.if-below-eq0.false c.requires.shaped in
     let child =
     rw (c.child_at-child.ensures, c.first_turn-index.ensures, c.seen_inside.ensures) at
     c.remove_below-taken.ensures.shrinks in
     let listed = rw back at child.listed in
     let moved = rw back at child.moved in
     let enough =
-    (kid_shaped 1 CAPACITY s (c.args.below - 1) c.args.number i
-    (rw (← back) at c.requires.shaped) low).node.enough in
-    let short =
-    kid_may_be_rebalanced s c.remove_below-taken.new.nodes c.args.below c.args.number i _
-    c.if-below-eq0.false c.requires.shaped c.requires.owned low listed moved
-    (child.shape (MIN_LEN - 1) (omega (arith, enough))) in
+    (kid_shaped (c.args.below - 1) i (rw (← back) at c.requires.shaped) low).node.enough in
+    let short = kid_may_be_rebalanced i _ c.if-below-eq0.false c.requires.shaped c.requires.owned
+    low listed moved (child.shape (MIN_LEN - 1) (omega (arith, enough))) in
     let edge =
     rw (c.child_at-child.ensures, c.first_turn-index.ensures) at
     c.remove_below-taken.ensures.edge in
@@ -141,20 +121,15 @@ rebalance-edge-requires g t c =
       deep = omega (arith, c.requires.deep, c.if-below-eq0.false);
       edge = rw (
         c.first_turn-index.ensures,
-        kid_kept s c.remove_below-taken.new.nodes c.args.below c.args.number i _
-            c.if-below-eq0.false c.requires.shaped c.requires.owned low listed moved,
+        kid_kept i _ c.if-below-eq0.false c.requires.shaped c.requires.owned low listed moved,
       ) edge;
     }
 
-pub returns-clause-shrinks : goal.returns-clause-shrinks
-returns-clause-shrinks g t c =
+pub returns : goal.returns
+returns g t c =
     let i = turn c.args.edge in
-    let low =
-    below_turn c.args.nodes.now c.args.below c.args.number c.if-below-eq0.false
-    c.requires.shaped c.args.edge c.requires.edge in
-    let back =
-    level_of_children c.args.nodes.now c.args.below c.args.number c.if-below-eq0.false
-    c.requires.shaped in
+    let low = below_turn c.if-below-eq0.false c.requires.shaped c.args.edge c.requires.edge in
+    let back = level_of_children c.if-below-eq0.false c.requires.shaped in
     let child =
     rw (c.child_at-child.ensures, c.first_turn-index.ensures, c.seen_inside.ensures) at
     c.remove_below-taken.ensures.shrinks in
@@ -167,77 +142,40 @@ returns-clause-shrinks g t c =
     place c.args.nodes.now (c.args.below - 1)
     (get_or (children_of (node_of c.args.nodes.now c.args.number)) (turn c.args.edge) 0)
     (inside c.args.edge) in
-    let within =
-    below_most c.args.nodes.now c.args.below c.args.number c.if-below-eq0.false
-    c.requires.shaped i (inside c.args.edge) low
-    (below_inside c.args.nodes.now c.args.below c.args.number c.if-below-eq0.false
-    c.requires.shaped c.args.edge c.requires.edge) in
+    let within = below_most c.if-below-eq0.false c.requires.shaped i (inside c.args.edge) low
+    (below_inside c.if-below-eq0.false c.requires.shaped c.args.edge c.requires.edge) in
+    let place' = rw c.first_turn-index.ensures at c.rebalance-edge.ensures.place in
+    let seat =
+    rw back at (place'
+    ∙ seat_place_inner c.remove_below-taken.new.nodes
+    (c.args.below - 1) _ _ i c.remove_below-taken.result.edge) in
+    let front = kid_front i _ c.if-below-eq0.false c.requires.shaped c.requires.owned low listed
+    moved in
+    let kid = rw
+    (kid_kept i _ c.if-below-eq0.false c.requires.shaped c.requires.owned low listed moved) at seat
+    in
+    let front' = rw
+    (kid_kept i _ c.if-below-eq0.false c.requires.shaped c.requires.owned low listed moved) at front
+    in
     let same : length (before (items_of (node_of c.args.nodes.now c.args.number))
     (map (items_below c.args.nodes.now c.args.below)
     (children_of (node_of c.args.nodes.now c.args.number))) i) + (q - 1)
     ≡ place c.args.nodes.now c.args.below c.args.number c.args.edge - 1 =
     omega (
       arith,
-      below_here c.args.nodes.now c.args.below c.args.number c.if-below-eq0.false
-          c.requires.shaped c.args.edge,
+      below_here c.if-below-eq0.false c.requires.shaped c.args.edge,
       at,
     ) in
-    rw (← same) (shorter_child_shrinks_node c.args.nodes.now c.remove_below-taken.new.nodes
-    c.rebalance-edge.new.nodes c.args.below c.args.number i
-    (q - 1) c.if-below-eq0.false c.requires.shaped c.requires.owned low
-    (omega (arith, within, at)) child c.rebalance-edge.ensures.shrinks)
-
-pub returns-clause-edge : goal.returns-clause-edge
-returns-clause-edge g t c =
-    rw (level_of_children c.args.nodes.now c.args.below c.args.number c.if-below-eq0.false
-    c.requires.shaped) at c.rebalance-edge.ensures.edge
-
-pub returns-clause-place : goal.returns-clause-place
-returns-clause-place g t c =
-    let i = turn c.args.edge in
-    let low =
-    below_turn c.args.nodes.now c.args.below c.args.number c.if-below-eq0.false
-    c.requires.shaped c.args.edge c.requires.edge in
-    let back =
-    level_of_children c.args.nodes.now c.args.below c.args.number c.if-below-eq0.false
-    c.requires.shaped in
-    let child =
-    rw (c.child_at-child.ensures, c.first_turn-index.ensures, c.seen_inside.ensures) at
-    c.remove_below-taken.ensures.shrinks in
-    let listed = rw back at child.listed in
-    let moved = rw back at child.moved in
-    let at =
-    rw (c.child_at-child.ensures, c.first_turn-index.ensures, c.seen_inside.ensures) at
-    c.remove_below-taken.ensures.place in
-    let q =
-    place c.args.nodes.now (c.args.below - 1)
-    (get_or (children_of (node_of c.args.nodes.now c.args.number)) (turn c.args.edge) 0)
-    (inside c.args.edge) in
-    let within =
-    below_most c.args.nodes.now c.args.below c.args.number c.if-below-eq0.false
-    c.requires.shaped i (inside c.args.edge) low
-    (below_inside c.args.nodes.now c.args.below c.args.number c.if-below-eq0.false
-    c.requires.shaped c.args.edge c.requires.edge) in
-    let place' = rw c.first_turn-index.ensures at c.rebalance-edge.ensures.place in
-    let seat =
-    rw back at (place'
-    ∙ seat_place_inner c.remove_below-taken.new.nodes
-    (c.args.below - 1) _ _ i c.remove_below-taken.result.edge) in
-    let front =
-    kid_front c.args.nodes.now c.remove_below-taken.new.nodes c.args.below c.args.number i _
-    c.if-below-eq0.false c.requires.shaped c.requires.owned low listed moved in
-    let kid =
-    rw (kid_kept c.args.nodes.now c.remove_below-taken.new.nodes c.args.below c.args.number
-    i _ c.if-below-eq0.false c.requires.shaped c.requires.owned low listed moved) at seat in
-    let front' =
-    rw (kid_kept c.args.nodes.now c.remove_below-taken.new.nodes c.args.below c.args.number
-    i _ c.if-below-eq0.false c.requires.shaped c.requires.owned low listed moved) at front
-    in
-    omega (
-      arith,
-      kid,
-      front',
-      at,
-      below_here c.args.nodes.now c.args.below c.args.number c.if-below-eq0.false
-          c.requires.shaped c.args.edge,
-    )
+    record {
+      item = search rules;
+      shrinks = rw (← same) (shorter_child_shrinks_node i (q - 1) c.if-below-eq0.false c.requires.shaped
+          c.requires.owned low (omega (arith, within, at)) child c.rebalance-edge.ensures.shrinks);
+      edge = rw back at c.rebalance-edge.ensures.edge;
+      place = omega (
+        arith,
+        kid,
+        front',
+        at,
+        below_here c.if-below-eq0.false c.requires.shaped c.args.edge,
+      );
+    }

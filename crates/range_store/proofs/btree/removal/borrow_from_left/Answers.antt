@@ -15,7 +15,7 @@ child_at-right-requires g c =
 pub rotate_right-requires : goal.rotate_right-requires
 rotate_right-requires g c =
     record {
-      pair = has_pair c.args.nodes.now c.args.low c.args.number c.args.index c.requires.levelled;
+      pair = has_pair c.requires.levelled;
       some = omega (arith, c.requires.spare);
       room = omega (arith, c.requires.levelled.fits, c.requires.spare);
     }
@@ -28,8 +28,7 @@ overflow_add-seat g c =
     omega (
       arith,
       c.seat.ensures,
-      seat_low c.args.nodes.now c.args.low _ c.args.edge
-          (MIN_LEN - 1) c.requires.levelled.right c.requires.edge,
+      seat_low c.args.low c.args.edge c.requires.levelled.right c.requires.edge,
       c.requires.levelled.right.node.fits,
     )
 
@@ -38,8 +37,7 @@ edge_at-inner-requires-clause-seat g c =
     omega (
       arith,
       c.seat.ensures,
-      seat_low c.args.nodes.now c.args.low _ c.args.edge
-          (MIN_LEN - 1) c.requires.levelled.right c.requires.edge,
+      seat_low c.args.low c.args.edge c.requires.levelled.right c.requires.edge,
       c.requires.levelled.fits,
       c.requires.spare,
     )
@@ -63,30 +61,23 @@ seen_above-requires-clause-path g c =
     (path_low c.args.nodes.now c.args.low _ c.args.edge c.requires.deep c.requires.edge)
 
 pub returns-clause-shrinks : goal.returns-clause-shrinks
-returns-clause-shrinks g c =
-    next_shrinks c.args.nodes.now c.args.low c.args.number c.args.index c.requires.levelled
-    c.rotate_right.new.self c.rotate_right.ensures c.requires.spare
+returns-clause-shrinks g c = next_shrinks c.requires.levelled c.rotate_right.ensures
+    c.requires.spare
 
 pub returns-clause-kept : goal.returns-clause-kept
-returns-clause-kept g c =
-    next_kept c.args.nodes.now c.args.low c.args.number c.args.index c.requires.levelled
-    c.rotate_right.new.self c.rotate_right.ensures c.requires.spare
+returns-clause-kept g c = next_kept c.requires.levelled c.rotate_right.ensures c.requires.spare
 
 pub returns-clause-edge : goal.returns-clause-edge
-returns-clause-edge g c =
-    (next_edge c.args.nodes.now c.args.low c.args.number c.args.index c.requires.levelled
-    c.rotate_right.new.self c.rotate_right.ensures c.requires.spare c.args.edge
-    c.edge_at-inner.result c.seen_above.result c.requires.edge
+returns-clause-edge g c = (next_edge c.requires.levelled c.rotate_right.ensures c.requires.spare
+    c.args.edge c.edge_at-inner.result c.seen_above.result c.requires.edge
     (rw (c.child_at-right.ensures, c.seat.ensures) at c.edge_at-inner.ensures.leaf)
     (rw c.seat.ensures at c.edge_at-inner.ensures.turn)
     (rw c.seen_inside.ensures at c.edge_at-inner.ensures.inside) c.seen_above.ensures.turn
     c.seen_above.ensures.inside).0
 
 pub returns-clause-place : goal.returns-clause-place
-returns-clause-place g c =
-    (next_edge c.args.nodes.now c.args.low c.args.number c.args.index c.requires.levelled
-    c.rotate_right.new.self c.rotate_right.ensures c.requires.spare c.args.edge
-    c.edge_at-inner.result c.seen_above.result c.requires.edge
+returns-clause-place g c = (next_edge c.requires.levelled c.rotate_right.ensures c.requires.spare
+    c.args.edge c.edge_at-inner.result c.seen_above.result c.requires.edge
     (rw (c.child_at-right.ensures, c.seat.ensures) at c.edge_at-inner.ensures.leaf)
     (rw c.seat.ensures at c.edge_at-inner.ensures.turn)
     (rw c.seen_inside.ensures at c.edge_at-inner.ensures.inside) c.seen_above.ensures.turn

@@ -6,7 +6,7 @@ use Rattle.range_store.proofs.btree.removal.borrow_from_right.Goals as goal
 pub rotate_left-requires : goal.rotate_left-requires
 rotate_left-requires g c =
     record {
-      pair = has_pair c.args.nodes.now c.args.low c.args.number c.args.index c.requires.levelled;
+      pair = has_pair c.requires.levelled;
       some = omega (arith, c.requires.spare);
       room = omega (arith, c.requires.levelled.fits, c.requires.spare);
     }
@@ -21,23 +21,18 @@ seen_above-requires-clause-path g c =
     (omega (arith, c.requires.deep)) c.requires.edge
 
 pub returns-clause-shrinks : goal.returns-clause-shrinks
-returns-clause-shrinks g c =
-    previous_shrinks c.args.nodes.now c.args.low c.args.number c.args.index c.requires.levelled
-    c.rotate_left.new.self c.rotate_left.ensures c.requires.spare
+returns-clause-shrinks g c = previous_shrinks c.requires.levelled c.rotate_left.ensures
+    c.requires.spare
 
 pub returns-clause-kept : goal.returns-clause-kept
-returns-clause-kept g c =
-    previous_kept c.args.nodes.now c.args.low c.args.number c.args.index c.requires.levelled
-    c.rotate_left.new.self c.rotate_left.ensures c.requires.spare
+returns-clause-kept g c = previous_kept c.requires.levelled c.rotate_left.ensures c.requires.spare
 
 pub returns-clause-edge : goal.returns-clause-edge
-returns-clause-edge g c =
-    (previous_edge c.args.nodes.now c.args.low c.args.number c.args.index c.requires.levelled
-    c.rotate_left.new.self c.rotate_left.ensures c.requires.spare c.args.edge
-    c.seen_above.result c.requires.edge c.seen_above.ensures.turn c.seen_above.ensures.inside).0
+returns-clause-edge g c = (previous_edge c.requires.levelled c.rotate_left.ensures c.requires.spare
+    c.args.edge c.seen_above.result c.requires.edge c.seen_above.ensures.turn
+    c.seen_above.ensures.inside).0
 
 pub returns-clause-place : goal.returns-clause-place
-returns-clause-place g c =
-    (previous_edge c.args.nodes.now c.args.low c.args.number c.args.index c.requires.levelled
-    c.rotate_left.new.self c.rotate_left.ensures c.requires.spare c.args.edge
-    c.seen_above.result c.requires.edge c.seen_above.ensures.turn c.seen_above.ensures.inside).1
+returns-clause-place g c = (previous_edge c.requires.levelled c.rotate_left.ensures c.requires.spare
+    c.args.edge c.seen_above.result c.requires.edge c.seen_above.ensures.turn
+    c.seen_above.ensures.inside).1

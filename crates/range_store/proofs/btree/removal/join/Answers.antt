@@ -18,7 +18,7 @@ item_count-many-requires g c =
 pub merge-requires : goal.merge-requires
 merge-requires g c =
     record {
-      pair = has_pair c.args.nodes.now c.args.low c.args.number c.args.index c.requires.levelled;
+      pair = has_pair c.requires.levelled;
       room = c.requires.few;
     }
 
@@ -27,17 +27,14 @@ joined_seat-seat-requires-clause-many g c =
     rw (c.item_count-many.ensures, c.child_at-left.ensures) c.requires.levelled.left.node.fits
 
 pub joined_seat-seat-requires-clause-small : goal.joined_seat-seat-requires-clause-small
-joined_seat-seat-requires-clause-small g c =
-    (near_seat c.args.nodes.now c.args.low c.args.number c.args.index c.args.turn c.args.edge
-    c.requires.levelled c.requires.near c.requires.edge c.requires.few).0
+joined_seat-seat-requires-clause-small g c = (near_seat c.args.turn c.args.edge c.requires.levelled
+    c.requires.near c.requires.edge c.requires.few).0
 
 pub edge_at-inner-requires-clause-seat : goal.edge_at-inner-requires-clause-seat
-edge_at-inner-requires-clause-seat g c =
-    (near_seat c.args.nodes.now c.args.low c.args.number c.args.index c.args.turn c.args.edge
-    c.requires.levelled c.requires.near c.requires.edge c.requires.few).1
-    c.joined_seat-seat.result c.joined_seat-seat.ensures.first
-    (rw (c.item_count-many.ensures, c.child_at-left.ensures) at
-    c.joined_seat-seat.ensures.second)
+edge_at-inner-requires-clause-seat g c = (near_seat c.args.turn c.args.edge c.requires.levelled
+    c.requires.near c.requires.edge c.requires.few).1 c.joined_seat-seat.result
+    c.joined_seat-seat.ensures.first
+    (rw (c.item_count-many.ensures, c.child_at-left.ensures) at c.joined_seat-seat.ensures.second)
 
 pub edge_at-inner-requires-clause-path : goal.edge_at-inner-requires-clause-path
 edge_at-inner-requires-clause-path g c =
@@ -58,30 +55,26 @@ seen_above-requires-clause-path g c =
     (path_low c.args.nodes.now c.args.low _ c.args.edge c.requires.deep c.requires.edge)
 
 pub returns-clause-shrinks : goal.returns-clause-shrinks
-returns-clause-shrinks g c =
-    joined_shrinks c.args.nodes.now c.args.low c.args.number c.args.index c.requires.levelled
-    c.merge.new.self c.merge.ensures c.requires.few
+returns-clause-shrinks g c = joined_shrinks c.requires.levelled c.merge.ensures c.requires.few
 
 pub returns-clause-edge : goal.returns-clause-edge
-returns-clause-edge g c =
-    (joined_edge c.args.nodes.now c.args.low c.args.number c.args.index c.requires.levelled
-    c.merge.new.self c.merge.ensures c.requires.few c.args.turn c.args.edge
-    c.edge_at-inner.result c.seen_above.result c.joined_seat-seat.result c.requires.near
-    c.requires.edge c.joined_seat-seat.ensures.first
-    (rw (c.item_count-many.ensures, c.child_at-left.ensures) at
-    c.joined_seat-seat.ensures.second)
+returns-clause-edge g c = (joined_edge c.requires.levelled c.merge.ensures c.requires.few
+    c.args.turn c.args.edge c.edge_at-inner.result c.seen_above.result c.joined_seat-seat.result
+    c.requires.near c.requires.edge c.joined_seat-seat.ensures.first (rw (
+      c.item_count-many.ensures,
+      c.child_at-left.ensures,
+    ) at c.joined_seat-seat.ensures.second)
     (rw c.child_at-left.ensures at c.edge_at-inner.ensures.leaf) c.edge_at-inner.ensures.turn
     (rw c.seen_inside.ensures at c.edge_at-inner.ensures.inside) c.seen_above.ensures.turn
     c.seen_above.ensures.inside).0
 
 pub returns-clause-place : goal.returns-clause-place
-returns-clause-place g c =
-    (joined_edge c.args.nodes.now c.args.low c.args.number c.args.index c.requires.levelled
-    c.merge.new.self c.merge.ensures c.requires.few c.args.turn c.args.edge
-    c.edge_at-inner.result c.seen_above.result c.joined_seat-seat.result c.requires.near
-    c.requires.edge c.joined_seat-seat.ensures.first
-    (rw (c.item_count-many.ensures, c.child_at-left.ensures) at
-    c.joined_seat-seat.ensures.second)
+returns-clause-place g c = (joined_edge c.requires.levelled c.merge.ensures c.requires.few
+    c.args.turn c.args.edge c.edge_at-inner.result c.seen_above.result c.joined_seat-seat.result
+    c.requires.near c.requires.edge c.joined_seat-seat.ensures.first (rw (
+      c.item_count-many.ensures,
+      c.child_at-left.ensures,
+    ) at c.joined_seat-seat.ensures.second)
     (rw c.child_at-left.ensures at c.edge_at-inner.ensures.leaf) c.edge_at-inner.ensures.turn
     (rw c.seen_inside.ensures at c.edge_at-inner.ensures.inside) c.seen_above.ensures.turn
     c.seen_above.ensures.inside).1

@@ -3,46 +3,39 @@ use Rattle.range_store.proofs.Roots.{stays_root, empty_root_leaves_nothing, only
 use Rattle.range_store.proofs.btree.removal.shrink_root.Goals as goal
 
 pub returns-then-item_count-gt0-clause-tree : goal.returns-then-item_count-gt0-clause-tree
-returns-then-item_count-gt0-clause-tree g c =
-    stays_root c.args.nodes.now c.args.levels c.args.root c.requires.tree
+returns-then-item_count-gt0-clause-tree g c = stays_root c.args.levels c.requires.tree
     (omega (arith, c.item_count.ensures))
 
 pub returns-then-levels-eq1-clause-tree : goal.returns-then-levels-eq1-clause-tree
-returns-then-levels-eq1-clause-tree g c =
-    (empty_root_leaves_nothing c.args.nodes.now c.remove_node.new.self c.args.levels c.args.root
-    c.if-levels-eq1.true c.requires.tree
-    (omega (arith, c.item_count.ensures)) c.remove_node.ensures).0
+returns-then-levels-eq1-clause-tree g c = (empty_root_leaves_nothing c.args.levels
+    c.if-levels-eq1.true c.requires.tree (omega (arith, c.item_count.ensures))
+    c.remove_node.ensures).0
 
 pub returns-then-levels-eq1-clause-items : goal.returns-then-levels-eq1-clause-items
-returns-then-levels-eq1-clause-items g c =
-    (empty_root_leaves_nothing c.args.nodes.now c.remove_node.new.self c.args.levels c.args.root
-    c.if-levels-eq1.true c.requires.tree
-    (omega (arith, c.item_count.ensures)) c.remove_node.ensures).1
+returns-then-levels-eq1-clause-items g c = (empty_root_leaves_nothing c.args.levels
+    c.if-levels-eq1.true c.requires.tree (omega (arith, c.item_count.ensures))
+    c.remove_node.ensures).1
 
 pub returns-clause-tree : goal.returns-clause-tree
-returns-clause-tree g c =
-    rw c.child_at-child.ensures
-    (only_child_is_root c.args.nodes.now c.remove_node-2.new.self c.args.levels c.args.root
-    c.if-levels-eq1.false c.requires.tree
-    (omega (arith, c.item_count.ensures)) c.remove_node-2.ensures).0
+returns-clause-tree g c = rw c.child_at-child.ensures (only_child_is_root c.args.levels
+    c.if-levels-eq1.false c.requires.tree (omega (arith, c.item_count.ensures))
+    c.remove_node-2.ensures).0
 
 pub returns-clause-items : goal.returns-clause-items
-returns-clause-items g c =
-    rw c.child_at-child.ensures
-    (only_child_is_root c.args.nodes.now c.remove_node-2.new.self c.args.levels c.args.root
-    c.if-levels-eq1.false c.requires.tree
-    (omega (arith, c.item_count.ensures)) c.remove_node-2.ensures).1
+returns-clause-items g c = rw c.child_at-child.ensures (only_child_is_root c.args.levels
+    c.if-levels-eq1.false c.requires.tree (omega (arith, c.item_count.ensures))
+    c.remove_node-2.ensures).1
 
 pub returns-clause-edge : goal.returns-clause-edge
-returns-clause-edge g c =
-    λ some. rw (c.child_at-child.ensures, c.seen_inside.ensures)
-    (lowered_edge c.args.nodes.now c.remove_node-2.new.self c.args.levels c.args.root c.args.edge
-    c.if-levels-eq1.false c.requires.tree
-    (omega (arith, c.item_count.ensures)) c.remove_node-2.ensures c.requires.edge).0
+returns-clause-edge g c = λ some. rw (c.child_at-child.ensures, c.seen_inside.ensures)
+    (lowered_edge c.args.levels c.args.edge c.if-levels-eq1.false c.requires.tree (omega (
+      arith,
+      c.item_count.ensures,
+    )) c.remove_node-2.ensures c.requires.edge).0
 
 pub returns-clause-place : goal.returns-clause-place
-returns-clause-place g c =
-    λ some. rw (c.child_at-child.ensures, c.seen_inside.ensures)
-    (lowered_edge c.args.nodes.now c.remove_node-2.new.self c.args.levels c.args.root c.args.edge
-    c.if-levels-eq1.false c.requires.tree
-    (omega (arith, c.item_count.ensures)) c.remove_node-2.ensures c.requires.edge).1
+returns-clause-place g c = λ some. rw (c.child_at-child.ensures, c.seen_inside.ensures)
+    (lowered_edge c.args.levels c.args.edge c.if-levels-eq1.false c.requires.tree (omega (
+      arith,
+      c.item_count.ensures,
+    )) c.remove_node-2.ensures c.requires.edge).1

@@ -14,7 +14,7 @@ loop-at-preserved g c =
       c.loop-at-test.true,
       c.requires.room,
       c.loop-at.auto.row,
-      row_length c.args.row.now (items_in c.args.row.now) c.requires.held,
+      row_length c.requires.held,
     ) in
     record {
       same = rw (c.swap.ensures.x_after, c.swap.ensures.y_after, next) (carried_on c.loop-at.row
@@ -25,7 +25,6 @@ loop-at-preserved g c =
 pub returns-clause-held : goal.returns-clause-held
 returns-clause-held g c =
     let at : c.args.len + 1 ≡ c.loop-at.at = omega arith in
-    held_with c.args.row.now c.loop-at.row (items_in c.args.row.now) c.args.len c.args.index
-    c.args.item c.loop-at.carried c.requires.held c.requires.len c.requires.within c.requires.room
-    c.loop-at.invariant.long
+    held_with c.loop-at.row c.args.len c.args.index c.args.item c.loop-at.carried c.requires.held
+    c.requires.len c.requires.within c.requires.room c.loop-at.invariant.long
     (ap (λ k. insert c.loop-at.row k c.loop-at.carried) at ∙ c.loop-at.invariant.same)

@@ -17,7 +17,7 @@ loop-at-preserved g c =
       c.requires.len,
       c.requires.held.fits,
       c.loop-at.auto.row,
-      row_length c.args.row.now (items_in c.args.row.now) c.requires.held,
+      row_length c.requires.held,
     ) in
     record {
       same = rw (c.swap.ensures.x_after, c.swap.ensures.y_after) (carried_back c.loop-at.row
@@ -31,9 +31,8 @@ loop-at-preserved g c =
 pub unreachable-requires : goal.unreachable-requires
 unreachable-requires g c =
     let at : c.args.index ≡ c.loop-at.at = omega arith in
-    let taken = held_without c.args.row.now c.loop-at.row (items_in c.args.row.now) c.args.len
-    c.args.index c.loop-at.carried c.requires.held c.requires.len c.requires.within
-    c.loop-at.invariant.long
+    let taken = held_without c.loop-at.row c.args.len c.args.index c.loop-at.carried c.requires.held
+    c.requires.len c.requires.within c.loop-at.invariant.long
     (ap (λ k. insert c.loop-at.row k c.loop-at.carried) at ∙ c.loop-at.invariant.same) in
     let stands = standing (items_in c.args.row.now) c.args.index
     (omega (arith, c.requires.len, c.requires.within)) in
@@ -42,9 +41,8 @@ unreachable-requires g c =
 pub returns-clause-item : goal.returns-clause-item
 returns-clause-item g c =
     let at : c.args.index ≡ c.loop-at.at = omega arith in
-    let taken = held_without c.args.row.now c.loop-at.row (items_in c.args.row.now) c.args.len
-    c.args.index c.loop-at.carried c.requires.held c.requires.len c.requires.within
-    c.loop-at.invariant.long
+    let taken = held_without c.loop-at.row c.args.len c.args.index c.loop-at.carried c.requires.held
+    c.requires.len c.requires.within c.loop-at.invariant.long
     (ap (λ k. insert c.loop-at.row k c.loop-at.carried) at ∙ c.loop-at.invariant.same) in
     let stands = standing (items_in c.args.row.now) c.args.index
     (omega (arith, c.requires.len, c.requires.within)) in
@@ -54,8 +52,7 @@ returns-clause-item g c =
 pub returns-clause-held : goal.returns-clause-held
 returns-clause-held g c =
     let at : c.args.index ≡ c.loop-at.at = omega arith in
-    let taken = held_without c.args.row.now c.loop-at.row (items_in c.args.row.now) c.args.len
-    c.args.index c.loop-at.carried c.requires.held c.requires.len c.requires.within
-    c.loop-at.invariant.long
+    let taken = held_without c.loop-at.row c.args.len c.args.index c.loop-at.carried c.requires.held
+    c.requires.len c.requires.within c.loop-at.invariant.long
     (ap (λ k. insert c.loop-at.row k c.loop-at.carried) at ∙ c.loop-at.invariant.same) in
     taken.0

@@ -13,7 +13,7 @@ unreachable-requires g c =
     omega (arith, c.requires.some, c.requires.within) in
     let stands = standing xs (c.args.end - 1) within in
     let read = c.index-cells-end.is
-    ∙ cell_read c.args.cells.now xs c.requires.held (c.args.end - 1) within stands _ in
+    ∙ cell_read c.requires.held (c.args.end - 1) within stands _ in
     none-some stands.item (sym c.in-None.is ∙ read)
 
 pub returns-clause-passes : goal.returns-clause-passes
@@ -24,7 +24,7 @@ returns-clause-passes g c more =
     omega (arith, c.requires.some, c.requires.within) in
     let stands = standing xs (c.args.end - 1) within in
     let read = c.index-cells-end.is
-    ∙ cell_read c.args.cells.now xs c.requires.held (c.args.end - 1) within stands _ in
+    ∙ cell_read c.requires.held (c.args.end - 1) within stands _ in
     let same = same_Some c.in-Some.item stands.item (sym c.in-Some.is ∙ read)
     ∙ sym (stands.item_is c.in-Some.item) in
     let tells = told p xs (c.args.end - 1) c.in-Some.item c.requires.falls within c.ask.result
@@ -39,7 +39,7 @@ returns-clause-fails g c less =
     omega (arith, c.requires.some, c.requires.within) in
     let stands = standing xs (c.args.end - 1) within in
     let read = c.index-cells-end.is
-    ∙ cell_read c.args.cells.now xs c.requires.held (c.args.end - 1) within stands _ in
+    ∙ cell_read c.requires.held (c.args.end - 1) within stands _ in
     let same = same_Some c.in-Some.item stands.item (sym c.in-Some.is ∙ read)
     ∙ sym (stands.item_is c.in-Some.item) in
     let tells = told p xs (c.args.end - 1) c.in-Some.item c.requires.falls within c.ask.result

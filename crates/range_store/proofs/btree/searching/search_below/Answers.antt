@@ -24,20 +24,17 @@ count_passing-index-requires-clause-falls g c =
     let d = c.down.invariant.0 in
     rw (
       c.down.invariant.1,
-      items_held c.cells.result.now (items_of (node_of c.args.nodes.now
-          c.down.at)) c.cells.ensures,
-    )
-    (node_falls p 1 CAPACITY c.args.nodes.now c.down.left c.down.at d.lies.shaped d.falls)
+      items_held c.cells.ensures,
+    ) (node_falls p d.lies.shaped d.falls)
 
 pub count_passing-index-requires-clause-held : goal.count_passing-index-requires-clause-held
-count_passing-index-requires-clause-held g c =
-    rw (items_held c.cells.result.now (items_of (node_of c.args.nodes.now c.down.at))
-    c.cells.ensures) c.cells.ensures
+count_passing-index-requires-clause-held g c = rw (items_held c.cells.ensures) c.cells.ensures
 
 pub count_passing-index-requires-clause-some : goal.count_passing-index-requires-clause-some
-count_passing-index-requires-clause-some g c =
-    rw (items_held c.cells.result.now (items_of (node_of c.args.nodes.now c.down.at))
-    c.cells.ensures) (omega (arith, c.down.invariant.0.lies.shaped.node.enough))
+count_passing-index-requires-clause-some g c = rw (items_held c.cells.ensures) (omega (
+  arith,
+  c.down.invariant.0.lies.shaped.node.enough,
+))
 
 -- how many of the node's items pass
 counted : (g : Over) (c : After-count_passing-index g)
@@ -45,8 +42,7 @@ counted : (g : Over) (c : After-count_passing-index g)
     (items_of (node_of c.args.nodes.now c.down.at))
 counted g c = rw (
   c.down.invariant.1,
-  items_held c.cells.result.now
-      (items_of (node_of c.args.nodes.now c.down.at)) c.cells.ensures,
+  items_held c.cells.ensures,
 )
     at c.count_passing-index.ensures.count
 
@@ -64,16 +60,16 @@ few g c =
 pub returns-then-left-eq0-clause-edge : goal.returns-then-left-eq0-clause-edge
 returns-then-left-eq0-clause-edge g c =
     let a = (goal.at.returns-then-left-eq0-clause-edge g c).After-count_passing-index in
-    (descent_ends (g.P.Probe.test c.args.probe.now) c.args.nodes.now c.args.below c.args.number
-    c.down.left c.down.at c.down.path c.down.weight c.if-left-eq0.true c.down.invariant.0
-    c.count_passing-index.result (counted g a)).edge
+    (descent_ends (g.P.Probe.test c.args.probe.now) c.args.nodes.now c.down.left c.down.at
+    c.down.path c.down.weight c.if-left-eq0.true c.down.invariant.0 c.count_passing-index.result
+    (counted g a)).edge
 
 pub returns-then-left-eq0-clause-count : goal.returns-then-left-eq0-clause-count
 returns-then-left-eq0-clause-count g c =
     let a = (goal.at.returns-then-left-eq0-clause-count g c).After-count_passing-index in
-    (descent_ends (g.P.Probe.test c.args.probe.now) c.args.nodes.now c.args.below c.args.number
-    c.down.left c.down.at c.down.path c.down.weight c.if-left-eq0.true c.down.invariant.0
-    c.count_passing-index.result (counted g a)).count
+    (descent_ends (g.P.Probe.test c.args.probe.now) c.args.nodes.now c.down.left c.down.at
+    c.down.path c.down.weight c.if-left-eq0.true c.down.invariant.0 c.count_passing-index.result
+    (counted g a)).count
 
 pub overflow_mul-path : goal.overflow_mul-path
 overflow_mul-path g c =
@@ -112,13 +108,11 @@ pub down-preserved : goal.down-preserved
 down-preserved g c =
     let a = (goal.at.down-preserved g c).After-count_passing-index in
     let d = c.down.invariant.0 in
-    let down =
-    descends (g.P.Probe.test c.args.probe.now) c.args.nodes.now c.args.below c.args.number
-    c.down.left c.down.at c.down.path c.down.weight c.if-left-eq0.false d
-    c.count_passing-index.result (counted g a) in (
+    let down = descends (g.P.Probe.test c.args.probe.now) c.args.nodes.now c.down.at c.down.path
+    c.down.weight c.if-left-eq0.false d c.count_passing-index.result (counted g a) in (
       rw c.child_at-at.ensures down,
       c.count_passing-index.ensures.kept ∙ c.down.invariant.1,
-      adds_more _ _ _ c.args.below c.down.left c.if-left-eq0.false d.lies.low c.down.invariant.2
+      adds_more c.args.below c.down.left c.if-left-eq0.false d.lies.low c.down.invariant.2
           c.count_passing-index.ensures.asked,
     )
 
@@ -140,5 +134,5 @@ child_at-at-requires-clause-within g c =
       counted g a,
       count_by-le-length (g.P.Probe.test c.args.probe.now) (items_of (node_of s c.down.at)),
     ) in
-    child_within s c.down.left c.down.at (omega (arith, c.if-left-eq0.false))
-    c.down.invariant.0.lies.shaped c.count_passing-index.result low
+    child_within (omega (arith, c.if-left-eq0.false)) c.down.invariant.0.lies.shaped
+    c.count_passing-index.result low

@@ -6,7 +6,7 @@ pub returns : goal.returns
 returns g c =
     let lawful = g.met.K.PartialEnum.lawful in
     record {
-      into_iter_gives = (
+      into_iter_gives = rw c.new.ensures (
         ap g.C.Storage.items c.self.view_is,
         c.self.invariant,
         λ complete. (

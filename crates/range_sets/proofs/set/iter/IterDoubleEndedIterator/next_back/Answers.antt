@@ -1,6 +1,6 @@
 use Rattle.std.proofs.Common.{◌∷◌, [], ap, sym, ◌∙◌}
-use Rattle.range_map.specs.FreeRanges.{item_ranges}
-use Rattle.range_map.specs.Iteration.{shown_item}
+use Rattle.range_reads.specs.FreeRanges.{item_ranges}
+use Rattle.range_reads.specs.Iteration.{shown_item}
 use Rattle.range_change.proofs.PieceSteps.{last_is_less}
 use Rattle.range_sets.proofs.EndRanges.{item_ranges_append}
 use Rattle.range_sets.proofs.set.iter.IterDoubleEndedIterator.next_back.Goals as goal

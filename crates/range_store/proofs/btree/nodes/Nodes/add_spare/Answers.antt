@@ -40,7 +40,7 @@ invariant_of-self-in-Ok g c =
     record {
       updates = c.in-Ok.ensures.updates;
       here = c.add_to.ensures.kept c.in-Ok.number
-          ∙ vacant_row s.slab s.rows s.spares.items c.self.invariant.0 c.in-Ok.number c.in-Ok.ensures.was_vacant;
+          ∙ vacant_row c.self.invariant.0 c.in-Ok.number c.in-Ok.ensures.was_vacant;
       others = λ k differs. c.add_to.ensures.kept k;
       long = c.add_to.ensures.no_less;
       there = there;
@@ -77,7 +77,7 @@ returns-clause-kept g c =
     record {
       updates = c.in-Ok.ensures.updates;
       here = c.add_to.ensures.kept c.in-Ok.number
-          ∙ vacant_row s.slab s.rows s.spares.items c.self.invariant.0 c.in-Ok.number c.in-Ok.ensures.was_vacant;
+          ∙ vacant_row c.self.invariant.0 c.in-Ok.number c.in-Ok.ensures.was_vacant;
       others = λ k differs. c.add_to.ensures.kept k;
       long = c.add_to.ensures.no_less;
       there = there;

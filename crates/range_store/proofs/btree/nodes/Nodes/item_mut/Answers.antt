@@ -19,7 +19,7 @@ pub invariant_of-self-lent : goal.invariant_of-self-lent
 invariant_of-self-lent g c w =
     let s = c.self.inside in
     let present = rw (← c.self.view_is) at c.requires.present in
-    (item_whole s.slab s.rows s.spares.items c.self.invariant.0 c.args.number c.args.index w present, c.self.invariant.1)
+    (item_whole c.self.invariant.0 c.args.number c.args.index w present, c.self.invariant.1)
 
 pub returns : goal.returns
 returns g c =
@@ -28,8 +28,8 @@ returns g c =
     let items = items_seen s.slab s.rows s.spares.items c.args.number present in (
       (
         refl,
-        λ w. rw (← c.self.view_is) (item_written s.slab s.rows s.spares.items c.self.invariant.0 c.args.number c.args.index w
-            present),
+        λ w. rw (← c.self.view_is)
+            (item_written c.self.invariant.0 c.args.number c.args.index w present),
       ),
       record {
         writes_back = tt;

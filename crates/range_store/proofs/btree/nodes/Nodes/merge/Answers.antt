@@ -22,9 +22,8 @@ append-requires g c =
       right = pair.right;
       apart = pair.apart;
       room = c.requires.room;
-      children = merged_children s n i pair;
-      places = merged_places s n i pair
-          c.requires.room;
+      children = merged_children pair;
+      places = merged_places pair c.requires.room;
     })
 
 pub returns : goal.returns

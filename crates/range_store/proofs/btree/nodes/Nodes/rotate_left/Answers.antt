@@ -36,8 +36,8 @@ returns g c =
       c.child_at-right.ensures,
     ) at c.put_beside.ensures in
     let up_is = rw (c.child_at-right.ensures) at c.take_beside-up.ensures.item in
-    rotated_left s t u c.put_beside.new.self n i pair c.replace_item-down.result up up_is
-    c.requires.some c.replace_item-down.ensures.before one two three
+    rotated_left t u c.put_beside.new.self pair c.replace_item-down.result up up_is c.requires.some
+    c.replace_item-down.ensures.before one two three
 
 pub item_count-end-requires : goal.item_count-end-requires
 item_count-end-requires g c =

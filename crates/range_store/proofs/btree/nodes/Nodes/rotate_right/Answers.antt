@@ -38,8 +38,8 @@ returns g c =
     ) at c.put_beside.ensures in
     let up_is = rw (c.item_count-end.ensures, c.child_at-left.ensures) at
     c.take_beside-up.ensures.item in
-    rotated_right s t u c.put_beside.new.self n i pair c.replace_item-down.result up up_is
-    c.requires.some c.replace_item-down.ensures.before one two three
+    rotated_right t u c.put_beside.new.self pair c.replace_item-down.result up up_is c.requires.some
+    c.replace_item-down.ensures.before one two three
 
 pub put_beside-requires : goal.put_beside-requires
 put_beside-requires g c =

@@ -58,7 +58,7 @@ index_mut-requires-2 g c =
     let rows = set s.rows c.args.number (take 6 all) in
     let whole = edited_whole s.slab s.rows s.spares.items c.self.invariant.0 c.args.number c.index_mut.result.now c.divide-upper.new.self
     c.index_mut.ensures.value (take 6 all) first_len _ c.divide-upper.ensures.left present in
-    spare_found slab rows s.spares.items c.next_spare-right.new.spares.items whole c.next_spare-right.result parts
+    spare_found c.next_spare-right.new.spares.items whole c.next_spare-right.result parts
 
 pub divide-middle-requires-clause-apart : goal.divide-middle-requires-clause-apart
 divide-middle-requires-clause-apart g c =
@@ -77,7 +77,7 @@ divide-middle-requires-clause-full g c =
 pub divide-middle-requires-clause-empty : goal.divide-middle-requires-clause-empty
 divide-middle-requires-clause-empty g c =
     let s = c.self.inside in
-    bare_row s.slab s.rows s.spares.items c.next_spare-right.new.spares.items c.self.invariant.0 c.next_spare-right.result c.next_spare-right.ensures.items
+    bare_row c.next_spare-right.new.spares.items c.self.invariant.0 c.next_spare-right.result c.next_spare-right.ensures.items
 
 pub invariant_of-self : goal.invariant_of-self
 invariant_of-self g c =

@@ -16,24 +16,26 @@ next_spare-number-requires g c =
 pub index_mut-requires : goal.index_mut-requires
 index_mut-requires g c =
     let s = c.self.inside in
-    spare_found s.slab s.rows s.spares.items c.next_spare-number.new.spares.items c.self.invariant.0
-    c.next_spare-number.result c.next_spare-number.ensures.items
+    spare_found c.next_spare-number.new.spares.items c.self.invariant.0 c.next_spare-number.result
+    c.next_spare-number.ensures.items
 
 pub push-requires : goal.push-requires
 push-requires g c =
     let s = c.self.inside in
-    let bare = bare_children s.slab s.rows s.spares.items c.next_spare-number.new.spares.items c.self.invariant.0
-    c.next_spare-number.result c.next_spare-number.ensures.items c.index_mut.result.now c.index_mut.ensures.value in
-    let blank = bare_row s.slab s.rows s.spares.items c.next_spare-number.new.spares.items c.self.invariant.0
+    let bare = bare_children c.next_spare-number.new.spares.items c.self.invariant.0
+    c.next_spare-number.result c.next_spare-number.ensures.items c.index_mut.result.now
+    c.index_mut.ensures.value in
+    let blank = bare_row c.next_spare-number.new.spares.items c.self.invariant.0
     c.next_spare-number.result c.next_spare-number.ensures.items in
     (omega arith, omega (arith, ap length bare))
 
 pub invariant_of-self : goal.invariant_of-self
 invariant_of-self g c =
     let s = c.self.inside in
-    let bare = bare_children s.slab s.rows s.spares.items c.next_spare-number.new.spares.items c.self.invariant.0
-    c.next_spare-number.result c.next_spare-number.ensures.items c.index_mut.result.now c.index_mut.ensures.value in
-    let blank = bare_row s.slab s.rows s.spares.items c.next_spare-number.new.spares.items c.self.invariant.0
+    let bare = bare_children c.next_spare-number.new.spares.items c.self.invariant.0
+    c.next_spare-number.result c.next_spare-number.ensures.items c.index_mut.result.now
+    c.index_mut.ensures.value in
+    let blank = bare_row c.next_spare-number.new.spares.items c.self.invariant.0
     c.next_spare-number.result c.next_spare-number.ensures.items in (
       rw (set-get_or s.rows c.next_spare-number.result []) at (filled_whole s.slab s.rows s.spares.items c.self.invariant.0 c.next_spare-number.result c.index_mut.result.now
           (record c.index_mut.result.now { children = c.push.new.self }) c.index_mut.ensures.value (row_of s.rows c.next_spare-number.result)
@@ -53,9 +55,10 @@ invariant_of-self g c =
 pub returns : goal.returns
 returns g c =
     let s = c.self.inside in
-    let bare = bare_children s.slab s.rows s.spares.items c.next_spare-number.new.spares.items c.self.invariant.0
-    c.next_spare-number.result c.next_spare-number.ensures.items c.index_mut.result.now c.index_mut.ensures.value in
-    let blank = bare_row s.slab s.rows s.spares.items c.next_spare-number.new.spares.items c.self.invariant.0
+    let bare = bare_children c.next_spare-number.new.spares.items c.self.invariant.0
+    c.next_spare-number.result c.next_spare-number.ensures.items c.index_mut.result.now
+    c.index_mut.ensures.value in
+    let blank = bare_row c.next_spare-number.new.spares.items c.self.invariant.0
     c.next_spare-number.result c.next_spare-number.ensures.items in
     rw (← c.self.view_is) (rw (set-get_or s.rows c.next_spare-number.result [], blank) at (filled s.slab s.rows s.spares.items c.self.invariant.0 c.next_spare-number.result c.index_mut.result.now
     (record c.index_mut.result.now { children = c.push.new.self }) c.index_mut.ensures.value (row_of s.rows c.next_spare-number.result)

@@ -15,33 +15,35 @@ next_spare-number-requires g c =
 pub index_mut-node-requires : goal.index_mut-node-requires
 index_mut-node-requires g c =
     let s = c.self.inside in
-    spare_found s.slab s.rows s.spares.items c.next_spare-number.new.spares.items c.self.invariant.0
-    c.next_spare-number.result c.next_spare-number.ensures.items
+    spare_found c.next_spare-number.new.spares.items c.self.invariant.0 c.next_spare-number.result
+    c.next_spare-number.ensures.items
 
 pub put-requires-clause-number : goal.put-requires-clause-number
 put-requires-clause-number g c =
     let s = c.self.inside in
-    spare_there s.slab s.rows s.spares.items c.next_spare-number.new.spares.items c.self.invariant.0
-    c.next_spare-number.result c.next_spare-number.ensures.items
+    spare_there c.next_spare-number.new.spares.items c.self.invariant.0 c.next_spare-number.result
+    c.next_spare-number.ensures.items
 
 pub put-requires-clause-len : goal.put-requires-clause-len
 put-requires-clause-len g c =
     let s = c.self.inside in
-    sym (ap length (bare_row s.slab s.rows s.spares.items c.next_spare-number.new.spares.items c.self.invariant.0
+    sym (ap length (bare_row c.next_spare-number.new.spares.items c.self.invariant.0
     c.next_spare-number.result c.next_spare-number.ensures.items))
 
 pub push-requires : goal.push-requires
 push-requires g c =
     let s = c.self.inside in
-    let bare = bare_children s.slab s.rows s.spares.items c.next_spare-number.new.spares.items c.self.invariant.0
-    c.next_spare-number.result c.next_spare-number.ensures.items c.index_mut-node.result.now c.index_mut-node.ensures.value in
+    let bare = bare_children c.next_spare-number.new.spares.items c.self.invariant.0
+    c.next_spare-number.result c.next_spare-number.ensures.items c.index_mut-node.result.now
+    c.index_mut-node.ensures.value in
     (omega arith, omega (arith, ap length bare))
 
 pub push-requires-2 : goal.push-requires-2
 push-requires-2 g c =
     let s = c.self.inside in
-    let bare = bare_children s.slab s.rows s.spares.items c.next_spare-number.new.spares.items c.self.invariant.0
-    c.next_spare-number.result c.next_spare-number.ensures.items c.index_mut-node.result.now c.index_mut-node.ensures.value in (
+    let bare = bare_children c.next_spare-number.new.spares.items c.self.invariant.0
+    c.next_spare-number.result c.next_spare-number.ensures.items c.index_mut-node.result.now
+    c.index_mut-node.ensures.value in (
       omega arith,
       omega (
         arith,
@@ -54,10 +56,11 @@ push-requires-2 g c =
 pub invariant_of-self : goal.invariant_of-self
 invariant_of-self g c =
     let s = c.self.inside in
-    let blank = bare_row s.slab s.rows s.spares.items c.next_spare-number.new.spares.items c.self.invariant.0
+    let blank = bare_row c.next_spare-number.new.spares.items c.self.invariant.0
     c.next_spare-number.result c.next_spare-number.ensures.items in
-    let bare = bare_children s.slab s.rows s.spares.items c.next_spare-number.new.spares.items c.self.invariant.0
-    c.next_spare-number.result c.next_spare-number.ensures.items c.index_mut-node.result.now c.index_mut-node.ensures.value in (
+    let bare = bare_children c.next_spare-number.new.spares.items c.self.invariant.0
+    c.next_spare-number.result c.next_spare-number.ensures.items c.index_mut-node.result.now
+    c.index_mut-node.ensures.value in (
       rw (c.put.ensures, ap (λ xs. insert xs 0 c.args.middle) blank) (filled_whole s.slab s.rows s.spares.items c.self.invariant.0 c.next_spare-number.result c.index_mut-node.result.now (record c.index_mut-node.result.now { len = 1; children = c.push-2.new.self })
           c.index_mut-node.ensures.value (c.args.middle ∷ []) (refl) (c.args.left ∷ c.args.right ∷ []) (c.push-2.ensures.items ∙ ap (λ ks. ks ++ c.args.right ∷ [])
           (c.push.ensures.items ∙ ap (λ ks. ks ++ c.args.left ∷ []) bare)) c.next_spare-number.new.spares.items c.next_spare-number.ensures.items),
@@ -74,10 +77,11 @@ invariant_of-self g c =
 pub returns : goal.returns
 returns g c =
     let s = c.self.inside in
-    let blank = bare_row s.slab s.rows s.spares.items c.next_spare-number.new.spares.items c.self.invariant.0
+    let blank = bare_row c.next_spare-number.new.spares.items c.self.invariant.0
     c.next_spare-number.result c.next_spare-number.ensures.items in
-    let bare = bare_children s.slab s.rows s.spares.items c.next_spare-number.new.spares.items c.self.invariant.0
-    c.next_spare-number.result c.next_spare-number.ensures.items c.index_mut-node.result.now c.index_mut-node.ensures.value in
+    let bare = bare_children c.next_spare-number.new.spares.items c.self.invariant.0
+    c.next_spare-number.result c.next_spare-number.ensures.items c.index_mut-node.result.now
+    c.index_mut-node.ensures.value in
     rw (← c.self.view_is, c.put.ensures, ap (λ xs. insert xs 0 c.args.middle) blank) (filled s.slab s.rows s.spares.items c.self.invariant.0 c.next_spare-number.result c.index_mut-node.result.now (record c.index_mut-node.result.now { len = 1; children = c.push-2.new.self })
     c.index_mut-node.ensures.value (c.args.middle ∷ []) (refl) (c.args.left ∷ c.args.right ∷ []) (c.push-2.ensures.items ∙ ap (λ ks. ks ++ c.args.right ∷ [])
     (c.push.ensures.items ∙ ap (λ ks. ks ++ c.args.left ∷ []) bare)) c.next_spare-number.new.spares.items c.next_spare-number.ensures.items)

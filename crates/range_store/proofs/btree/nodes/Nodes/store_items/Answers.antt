@@ -16,28 +16,29 @@ next_spare-number-requires g c =
 pub index_mut-requires : goal.index_mut-requires
 index_mut-requires g c =
     let s = c.self.inside in
-    spare_found s.slab s.rows s.spares.items c.next_spare-number.new.spares.items c.self.invariant.0
-    c.next_spare-number.result c.next_spare-number.ensures.items
+    spare_found c.next_spare-number.new.spares.items c.self.invariant.0 c.next_spare-number.result
+    c.next_spare-number.ensures.items
 
 pub fill-requires-clause-number : goal.fill-requires-clause-number
 fill-requires-clause-number g c =
     let s = c.self.inside in
-    spare_there s.slab s.rows s.spares.items c.next_spare-number.new.spares.items c.self.invariant.0
-    c.next_spare-number.result c.next_spare-number.ensures.items
+    spare_there c.next_spare-number.new.spares.items c.self.invariant.0 c.next_spare-number.result
+    c.next_spare-number.ensures.items
 
 pub fill-requires-clause-empty : goal.fill-requires-clause-empty
 fill-requires-clause-empty g c =
     let s = c.self.inside in
-    bare_row s.slab s.rows s.spares.items c.next_spare-number.new.spares.items c.self.invariant.0
-    c.next_spare-number.result c.next_spare-number.ensures.items
+    bare_row c.next_spare-number.new.spares.items c.self.invariant.0 c.next_spare-number.result
+    c.next_spare-number.ensures.items
 
 pub invariant_of-self : goal.invariant_of-self
 invariant_of-self g c =
     let s = c.self.inside in
-    let blank = bare_row s.slab s.rows s.spares.items c.next_spare-number.new.spares.items c.self.invariant.0
+    let blank = bare_row c.next_spare-number.new.spares.items c.self.invariant.0
     c.next_spare-number.result c.next_spare-number.ensures.items in
-    let bare = bare_children s.slab s.rows s.spares.items c.next_spare-number.new.spares.items c.self.invariant.0
-    c.next_spare-number.result c.next_spare-number.ensures.items c.index_mut.result.now c.index_mut.ensures.value in (
+    let bare = bare_children c.next_spare-number.new.spares.items c.self.invariant.0
+    c.next_spare-number.result c.next_spare-number.ensures.items c.index_mut.result.now
+    c.index_mut.ensures.value in (
       rw (c.fill.ensures.filled) (filled_whole s.slab s.rows s.spares.items c.self.invariant.0 c.next_spare-number.result c.index_mut.result.now (record c.index_mut.result.now { len = c.args.count })
           c.index_mut.ensures.value (take c.args.count (into_iter_items c.args.items.now)) (sym (length-take-le c.args.count (into_iter_items c.args.items.now) c.requires.enough)) [] (bare) c.next_spare-number.new.spares.items c.next_spare-number.ensures.items),
       omega (
@@ -52,9 +53,10 @@ invariant_of-self g c =
 pub returns-clause-stored : goal.returns-clause-stored
 returns-clause-stored g c =
     let s = c.self.inside in
-    let blank = bare_row s.slab s.rows s.spares.items c.next_spare-number.new.spares.items c.self.invariant.0
+    let blank = bare_row c.next_spare-number.new.spares.items c.self.invariant.0
     c.next_spare-number.result c.next_spare-number.ensures.items in
-    let bare = bare_children s.slab s.rows s.spares.items c.next_spare-number.new.spares.items c.self.invariant.0
-    c.next_spare-number.result c.next_spare-number.ensures.items c.index_mut.result.now c.index_mut.ensures.value in
+    let bare = bare_children c.next_spare-number.new.spares.items c.self.invariant.0
+    c.next_spare-number.result c.next_spare-number.ensures.items c.index_mut.result.now
+    c.index_mut.ensures.value in
     rw (← c.self.view_is, c.fill.ensures.filled) (filled s.slab s.rows s.spares.items c.self.invariant.0 c.next_spare-number.result c.index_mut.result.now (record c.index_mut.result.now { len = c.args.count })
     c.index_mut.ensures.value (take c.args.count (into_iter_items c.args.items.now)) (sym (length-take-le c.args.count (into_iter_items c.args.items.now) c.requires.enough)) [] (bare) c.next_spare-number.new.spares.items c.next_spare-number.ensures.items)

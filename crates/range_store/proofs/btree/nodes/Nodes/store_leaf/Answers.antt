@@ -15,28 +15,29 @@ next_spare-number-requires g c =
 pub index_mut-requires : goal.index_mut-requires
 index_mut-requires g c =
     let s = c.self.inside in
-    spare_found s.slab s.rows s.spares.items c.next_spare-number.new.spares.items c.self.invariant.0
-    c.next_spare-number.result c.next_spare-number.ensures.items
+    spare_found c.next_spare-number.new.spares.items c.self.invariant.0 c.next_spare-number.result
+    c.next_spare-number.ensures.items
 
 pub put-requires-clause-number : goal.put-requires-clause-number
 put-requires-clause-number g c =
     let s = c.self.inside in
-    spare_there s.slab s.rows s.spares.items c.next_spare-number.new.spares.items c.self.invariant.0
-    c.next_spare-number.result c.next_spare-number.ensures.items
+    spare_there c.next_spare-number.new.spares.items c.self.invariant.0 c.next_spare-number.result
+    c.next_spare-number.ensures.items
 
 pub put-requires-clause-len : goal.put-requires-clause-len
 put-requires-clause-len g c =
     let s = c.self.inside in
-    sym (ap length (bare_row s.slab s.rows s.spares.items c.next_spare-number.new.spares.items c.self.invariant.0
+    sym (ap length (bare_row c.next_spare-number.new.spares.items c.self.invariant.0
     c.next_spare-number.result c.next_spare-number.ensures.items))
 
 pub invariant_of-self : goal.invariant_of-self
 invariant_of-self g c =
     let s = c.self.inside in
-    let blank = bare_row s.slab s.rows s.spares.items c.next_spare-number.new.spares.items c.self.invariant.0
+    let blank = bare_row c.next_spare-number.new.spares.items c.self.invariant.0
     c.next_spare-number.result c.next_spare-number.ensures.items in
-    let bare = bare_children s.slab s.rows s.spares.items c.next_spare-number.new.spares.items c.self.invariant.0
-    c.next_spare-number.result c.next_spare-number.ensures.items c.index_mut.result.now c.index_mut.ensures.value in (
+    let bare = bare_children c.next_spare-number.new.spares.items c.self.invariant.0
+    c.next_spare-number.result c.next_spare-number.ensures.items c.index_mut.result.now
+    c.index_mut.ensures.value in (
       rw (c.put.ensures, ap (λ xs. insert xs 0 c.args.item) blank) (filled_whole s.slab s.rows s.spares.items c.self.invariant.0 c.next_spare-number.result c.index_mut.result.now (record c.index_mut.result.now { len = 1 })
           c.index_mut.ensures.value (c.args.item ∷ []) (refl) [] (bare) c.next_spare-number.new.spares.items c.next_spare-number.ensures.items),
       omega (
@@ -51,9 +52,10 @@ invariant_of-self g c =
 pub returns : goal.returns
 returns g c =
     let s = c.self.inside in
-    let blank = bare_row s.slab s.rows s.spares.items c.next_spare-number.new.spares.items c.self.invariant.0
+    let blank = bare_row c.next_spare-number.new.spares.items c.self.invariant.0
     c.next_spare-number.result c.next_spare-number.ensures.items in
-    let bare = bare_children s.slab s.rows s.spares.items c.next_spare-number.new.spares.items c.self.invariant.0
-    c.next_spare-number.result c.next_spare-number.ensures.items c.index_mut.result.now c.index_mut.ensures.value in
+    let bare = bare_children c.next_spare-number.new.spares.items c.self.invariant.0
+    c.next_spare-number.result c.next_spare-number.ensures.items c.index_mut.result.now
+    c.index_mut.ensures.value in
     rw (← c.self.view_is, c.put.ensures, ap (λ xs. insert xs 0 c.args.item) blank) (filled s.slab s.rows s.spares.items c.self.invariant.0 c.next_spare-number.result c.index_mut.result.now (record c.index_mut.result.now { len = 1 })
     c.index_mut.ensures.value (c.args.item ∷ []) (refl) [] (bare) c.next_spare-number.new.spares.items c.next_spare-number.ensures.items)

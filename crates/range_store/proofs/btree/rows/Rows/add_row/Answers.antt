@@ -23,7 +23,7 @@ pub invariant_of-self-2 : goal.invariant_of-self-2
 invariant_of-self-2 g c =
     let s = c.self.inside in
     let next : s.many + 1 ≡ suc s.many = omega arith in (
-      rw (next, c.reserve.ensures.items) (added_rows s.many s.cells.items c.self.invariant.0),
+      rw (next, c.reserve.ensures.items) (added_rows c.self.invariant.0),
       omega (
         arith,
         c.self.invariant.0.cells_are,
@@ -57,5 +57,4 @@ pub returns-clause-kept : goal.returns-clause-kept
 returns-clause-kept g c k =
     let s = c.self.inside in
     let next : s.many + 1 ≡ suc s.many = omega arith in
-    rw (← c.self.view_is, next, c.reserve.ensures.items) (added_kept s.many s.cells.items
-    c.self.invariant.0 k)
+    rw (← c.self.view_is, next, c.reserve.ensures.items) (added_kept c.self.invariant.0 k)

@@ -9,12 +9,12 @@ unreachable-requires g c =
     let xs = row_of c.args.self.now c.args.number in
     let stands = standing xs c.args.index c.requires.within in
     none-some stands.item (sym c.in-None.is ∙ c.index-cells-index.is
-    ∙ cell_read c.cells.result.now xs c.cells.ensures c.args.index c.requires.within stands _)
+    ∙ cell_read c.cells.ensures c.args.index c.requires.within stands _)
 
 pub returns : goal.returns
 returns g c =
     let xs = row_of c.args.self.now c.args.number in
     let stands = standing xs c.args.index c.requires.within in
     same_Some c.in-Some.item stands.item (sym c.in-Some.is ∙ c.index-cells-index.is
-    ∙ cell_read c.cells.result.now xs c.cells.ensures c.args.index c.requires.within stands _)
+    ∙ cell_read c.cells.ensures c.args.index c.requires.within stands _)
     ∙ sym (stands.item_is c.in-Some.item)

@@ -44,19 +44,18 @@ filled-requires g c =
     let s = c.self.inside in
     let there = rw (← c.self.view_is) at c.requires.number in
     let within = rw (← c.self.view_is) at c.requires.within in
-    rw (c.index_mut.ensures.value ∙ cell_in s.many s.cells.items c.self.invariant.0 c.args.number
-    c.args.index there within (standing (row_of (rows_in s.many s.cells.items) c.args.number)
-    c.args.index within) _) refl
+    rw (c.index_mut.ensures.value ∙ cell_in c.self.invariant.0 c.args.number c.args.index there
+    within (standing (row_of (rows_in s.many s.cells.items) c.args.number) c.args.index within) _)
+    refl
 
 pub invariant_of-self-lent : goal.invariant_of-self-lent
 invariant_of-self-lent g c w =
     let s = c.self.inside in
     let there = rw (← c.self.view_is) at c.requires.number in
     let within = rw (← c.self.view_is) at c.requires.within in (
-      rewritten_rows s.many s.cells.items _ c.self.invariant.0 c.args.number _
-          (cell_written c.args.number c.args.index s.cells.items
-          (row_of (rows_in s.many s.cells.items) c.args.number) w within
-          (row_held s.many s.cells.items c.self.invariant.0 c.args.number there (omega (arith, within)))),
+      rewritten_rows c.self.invariant.0 (cell_written c.args.number c.args.index s.cells.items w
+          within (row_held s.many s.cells.items c.self.invariant.0 c.args.number there (omega
+          (arith, within)))),
       c.self.invariant.1,
     )
 
@@ -69,14 +68,12 @@ returns g c =
     let stands = standing (row_of (rows_in s.many s.cells.items) c.args.number) c.args.index
     within in
     let read = c.index_mut.ensures.value
-    ∙ cell_in s.many s.cells.items c.self.invariant.0 c.args.number c.args.index there within stands
-    _ in (
+    ∙ cell_in c.self.invariant.0 c.args.number c.args.index there within stands _ in (
       (
         refl,
-        λ w. rw (← c.self.view_is) (rewritten s.many s.cells.items _ c.self.invariant.0
-            c.args.number _ (cell_written c.args.number c.args.index s.cells.items
-            (row_of (rows_in s.many s.cells.items) c.args.number) w within
-            (row_held s.many s.cells.items c.self.invariant.0 c.args.number there (omega (arith, rw (← c.self.view_is) at c.requires.within)))) less),
+        λ w. rw (← c.self.view_is) (rewritten c.self.invariant.0 (cell_written c.args.number
+            c.args.index s.cells.items w within (row_held s.many s.cells.items c.self.invariant.0
+            c.args.number there (omega (arith, rw (← c.self.view_is) at c.requires.within)))) less),
       ),
       record {
         writes_back = tt;

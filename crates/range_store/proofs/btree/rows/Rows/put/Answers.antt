@@ -62,7 +62,7 @@ offset_bounds-deref_mut-start g c =
       rw (← c.self.view_is) at c.requires.number,
       length-rows s.many s.cells.items,
     ) in
-    let long = topped_room s.many s.cells.items c.self.invariant.0 c.args.number less in
+    let long = topped_room c.self.invariant.0 c.args.number less in
     let enough : CAPACITY * c.args.number + CAPACITY ≤ length c.deref_mut.result.now =
     omega (arith, long, ap length c.add_cells.ensures.cells, ap length c.deref_mut.ensures.value) in
     let front : CAPACITY * c.args.number ≤ length c.deref_mut.result.now = omega (arith, enough) in
@@ -78,7 +78,7 @@ slice_bounds-put_item-end g c =
       rw (← c.self.view_is) at c.requires.number,
       length-rows s.many s.cells.items,
     ) in
-    let long = topped_room s.many s.cells.items c.self.invariant.0 c.args.number less in
+    let long = topped_room c.self.invariant.0 c.args.number less in
     let enough : CAPACITY * c.args.number + CAPACITY ≤ length c.deref_mut.result.now =
     omega (arith, long, ap length c.add_cells.ensures.cells, ap length c.deref_mut.ensures.value) in
     search rules
@@ -97,7 +97,7 @@ put_item-requires-clause-held g c =
     let start = CAPACITY * c.args.number in
     let all : start + CAPACITY - start ≡ CAPACITY = omega arith in
     part_holds c.args.number (start + CAPACITY - start) all more c.deref_mut.result.now row
-    c.deref_mut.ensures.value (rw c.add_cells.ensures.cells (topped_held s.many s.cells.items
+    c.deref_mut.ensures.value (rw c.add_cells.ensures.cells (topped_held
     c.self.invariant.0 c.args.number less))
 
 pub put_item-requires-clause-len : goal.put_item-requires-clause-len
@@ -114,7 +114,7 @@ put_item-requires-clause-len g c =
     let start = CAPACITY * c.args.number in
     let all : start + CAPACITY - start ≡ CAPACITY = omega arith in
     let same = part_held c.args.number (start + CAPACITY - start) all more c.deref_mut.result.now row
-    c.deref_mut.ensures.value (rw c.add_cells.ensures.cells (topped_held s.many s.cells.items
+    c.deref_mut.ensures.value (rw c.add_cells.ensures.cells (topped_held
     c.self.invariant.0 c.args.number less)) in
     (rw (← c.self.view_is) at c.requires.len) ∙ sym (ap length same)
 
@@ -132,21 +132,18 @@ invariant_of-self g c =
     let start = CAPACITY * c.args.number in
     let all : start + CAPACITY - start ≡ CAPACITY = omega arith in
     let same = part_held c.args.number (start + CAPACITY - start) all more c.deref_mut.result.now row
-    c.deref_mut.ensures.value (rw c.add_cells.ensures.cells (topped_held s.many s.cells.items
+    c.deref_mut.ensures.value (rw c.add_cells.ensures.cells (topped_held
     c.self.invariant.0 c.args.number less)) in
-    let long : CAPACITY * c.args.number + CAPACITY ≤ length more =
-    rw c.add_cells.ensures.cells (topped_room s.many s.cells.items c.self.invariant.0
-    c.args.number less) in
+    let long : CAPACITY * c.args.number + CAPACITY ≤ length more = rw c.add_cells.ensures.cells
+    (topped_room c.self.invariant.0 c.args.number less) in
     let written = part_written c.args.number (start + CAPACITY - start) all more
     c.put_item.new.row _ long (rw same at c.put_item.ensures.held) in
     let cells_are = with_items_is c.add_cells.new.cells
     (put_mid start (start + CAPACITY - start) more c.put_item.new.row)
     (omega (arith, written.len, c.add_cells.new.cells.ok)) in
-    let rows : IsRows s.many more =
-    rw c.add_cells.ensures.cells (topped_rows s.many s.cells.items c.self.invariant.0
+    let rows : IsRows s.many more = rw c.add_cells.ensures.cells (topped_rows c.self.invariant.0
     c.args.number less) in (
-      rw (c.deref_mut.ensures.value, cells_are) (rewritten_rows s.many more _ rows c.args.number _
-          written),
+      rw (c.deref_mut.ensures.value, cells_are) (rewritten_rows rows written),
       omega (arith, c.self.invariant.1, c.add_cells.ensures.capacity),
     )
 
@@ -164,20 +161,17 @@ returns g c =
     let start = CAPACITY * c.args.number in
     let all : start + CAPACITY - start ≡ CAPACITY = omega arith in
     let same = part_held c.args.number (start + CAPACITY - start) all more c.deref_mut.result.now row
-    c.deref_mut.ensures.value (rw c.add_cells.ensures.cells (topped_held s.many s.cells.items
+    c.deref_mut.ensures.value (rw c.add_cells.ensures.cells (topped_held
     c.self.invariant.0 c.args.number less)) in
-    let long : CAPACITY * c.args.number + CAPACITY ≤ length more =
-    rw c.add_cells.ensures.cells (topped_room s.many s.cells.items c.self.invariant.0
-    c.args.number less) in
+    let long : CAPACITY * c.args.number + CAPACITY ≤ length more = rw c.add_cells.ensures.cells
+    (topped_room c.self.invariant.0 c.args.number less) in
     let written = part_written c.args.number (start + CAPACITY - start) all more
     c.put_item.new.row _ long (rw same at c.put_item.ensures.held) in
     let cells_are = with_items_is c.add_cells.new.cells
     (put_mid start (start + CAPACITY - start) more c.put_item.new.row)
     (omega (arith, written.len, c.add_cells.new.cells.ok)) in
-    let rows : IsRows s.many more =
-    rw c.add_cells.ensures.cells (topped_rows s.many s.cells.items c.self.invariant.0
+    let rows : IsRows s.many more = rw c.add_cells.ensures.cells (topped_rows c.self.invariant.0
     c.args.number less) in
-    rw (← c.self.view_is, c.deref_mut.ensures.value, cells_are) (rewritten s.many more _ rows
-    c.args.number _ written less
+    rw (← c.self.view_is, c.deref_mut.ensures.value, cells_are) (rewritten rows written less
     ∙ ap (λ zs. set zs c.args.number (insert row c.args.index c.args.item)) (ap (rows_in s.many) c.add_cells.ensures.cells
-    ∙ topped_same s.many s.cells.items c.self.invariant.0 c.args.number less))
+    ∙ topped_same c.self.invariant.0 c.args.number less))

@@ -82,8 +82,7 @@ invariant_of-self g c =
     let cells_are = with_items_is s.cells
     (put_mid start (start + CAPACITY - start) s.cells.items c.take_item.new.row)
     (omega (arith, written.len, s.cells.ok)) in (
-      rw (c.deref_mut.ensures.value, cells_are) (rewritten_rows s.many s.cells.items _
-          c.self.invariant.0 c.args.number _ written),
+      rw (c.deref_mut.ensures.value, cells_are) (rewritten_rows c.self.invariant.0 written),
       c.self.invariant.1,
     )
 
@@ -106,8 +105,8 @@ returns-clause-rest g c =
     (put_mid start (start + CAPACITY - start) s.cells.items c.take_item.new.row)
     (omega (arith, written.len, s.cells.ok)) in
     let less : c.args.number < s.many = omega (arith, there, length-rows s.many s.cells.items) in
-    rw (← c.self.view_is, c.deref_mut.ensures.value, cells_are) (rewritten s.many s.cells.items _
-    c.self.invariant.0 c.args.number _ written less)
+    rw (← c.self.view_is, c.deref_mut.ensures.value, cells_are) (rewritten
+    c.self.invariant.0 written less)
 
 pub returns-clause-item : goal.returns-clause-item
 returns-clause-item g c =

@@ -1,0 +1,148 @@
+-- The first and the last of the items that are left of an iterator.
+use Rattle.std.proofs.Common.{◌≡◌, ℕ, suc, ◌+◌, ◌-◌, ◌<◌, ◌≤◌, List, [], ◌∷◌, ◌++◌, length, get_or, take, drop, Option, Some, None, refl, ap, subst, sym, ◌∙◌, arith}
+use Rattle.std.specs.Prelude.{MatchOption}
+use Rattle.std.specs.Option.{ForSome, is_some, unwrap_or}
+use Rattle.range_change.proofs.Windows.{last_of_run}
+use Rattle.range_reads.proofs.Common.{drop-drop, drop_more, false≢true}
+use Rattle.range_store.specs.ListPlaces.{IsAt}
+use Rattle.range_reads.specs.Iteration.{place_behind, IsIterator}
+
+module _ {T P : Type 0} {items : List T} {is_good : P → Type 0} {rank : P → ℕ} {run : List T}
+    {front back : Option P} {left : ℕ} (before : IsIterator items is_good rank run front back left)
+    (some : 0 < left) where
+  abbrev place : ℕ
+  place = place_behind rank back - left
+
+  -- the next item, with the run and the position that are left
+  pub record IsNext (item : T) (rest : List T) (after : Option P) : Type 0 where
+    pub next : drop place items ≡ item ∷ drop (place + 1) items
+    pub rest_is : rest ≡ take (length rest) (drop (place + 1) items)
+    pub after_at : IsAt is_good rank (length items) after (place + 1 + length rest)
+
+  pub next_steps : (item : T) (rest : List T) (after : Option P) → IsNext item rest after
+      → take left (drop place items)
+      ≡ item ∷ take (left - 1) (drop (place_behind rank back - (left - 1)) items)
+  next_steps item rest after is =
+      let many : left ≡ suc (left - 1) = omega (arith, some) in
+      let moved : place + 1 ≡ place_behind rank back - (left - 1) =
+      omega (arith, some, before.enough) in
+      ap (λ n. take n (drop place items)) many ∙ ap (take (suc (left - 1))) is.next
+      ∙ ap (λ at. item ∷ take (left - 1) (drop at items)) moved
+
+  pub next_iterator : (item : T) (rest : List T) (after : Option P) → IsNext item rest after
+      → IsIterator items is_good rank rest after back (left - 1)
+  next_iterator item rest after is =
+      let moved : place + 1 ≡ place_behind rank back - (left - 1) =
+      omega (arith, some, before.enough) in
+      record {
+        last = before.last;
+        in_range = before.in_range;
+        enough = omega (arith, before.enough);
+        run_is = rw (← moved) is.rest_is;
+        front_at = rw (← moved) is.after_at;
+      }
+
+  pub from_run : (rest : List T) (item : T) → run ≡ item ∷ rest → IsNext item rest front
+  from_run rest item at = from (drop place items) refl (rw at at before.run_is)
+    where
+      from : (ys : List T) → drop place items ≡ ys
+          → item ∷ rest ≡ take (suc (length rest)) ys → IsNext item rest front
+      from [] none same = absurd (omega (arith, ap length same))
+      from (y ∷ ys) here same =
+          let later : ys ≡ drop (place + 1) items =
+          ap (drop 1) (sym here) ∙ drop-drop 1 place items in
+          let first : y ≡ item = ap (λ zs. get_or zs 0 y) (sym same) in
+          let far : place + length run ≡ place + 1 + length rest = omega (arith, ap length at) in
+          record {
+            next = here ∙ ap (λ z. z ∷ ys) first ∙ ap (λ zs. item ∷ zs) later;
+            rest_is = ap (drop 1) same ∙ ap (take (length rest)) later;
+            after_at =
+                subst (IsAt is_good rank (length items) front) far before.front_at;
+          }
+
+  -- an empty run ends at a position
+  pub front_good : (p : P) → length run ≡ 0 → front ≡ Some p → is_good p × (rank p ≡ place)
+  front_good p none is =
+      let at = rw is at before.front_at in (at.0, omega (arith, at.1, none))
+
+  pub front_stands : length run ≡ 0 → front ≡ None → ⊥
+  front_stands none is =
+      let end : place + length run ≡ length items = rw is at before.front_at in
+      omega (arith, end, none, some, before.in_range, before.enough)
+
+  pub from_chunk : (p : P) (item : T) (rest : List T) (after : Option P) → length run ≡ 0
+      → front ≡ Some p → item ≡ get_or items (rank p) item
+      → rest ≡ take (length rest) (drop (rank p + 1) items)
+      → IsAt is_good rank (length items) after (rank p + 1 + length rest)
+      → IsNext item rest after
+  from_chunk p item rest after none is first rest_is after_at =
+      let here : rank p ≡ place = (front_good p none is).1 in
+      record {
+        next =
+            drop_more items place item (omega (arith, some, before.in_range, before.enough))
+            ∙ ap (λ z. z ∷ drop (place + 1) items)
+            (ap (λ i. get_or items i item) (sym here) ∙ sym first);
+        rest_is = rw (← here) rest_is;
+        after_at = rw (← here) after_at;
+      }
+
+module _ {T P : Type 0} (items : List T) (is_good : P → Type 0) (rank : P → ℕ) where
+  -- a position before another, or none before the first item
+  pub place_of_prev : (p : P) (prev : Option P)
+      → MatchOption prev (rank p ≡ 0) (λ q. is_good q × (rank q + 1 ≡ rank p))
+      → place_behind rank prev ≡ rank p
+  place_of_prev p None none = sym none
+  place_of_prev p (Some q) is = is.1
+
+  good_prev : (p : P) (prev : Option P)
+      → MatchOption prev (rank p ≡ 0) (λ q. is_good q × (rank q + 1 ≡ rank p))
+      → ForSome prev is_good
+  good_prev p None none = λ q is. absurd (false≢true (ap is_some is))
+  good_prev p (Some q) before = λ r is. subst is_good (ap (λ o. unwrap_or o q) is) before.0
+
+  -- what is left before the last item
+  pub prev_iterator : (run : List T) (front back prev : Option P) (p : P) (left : ℕ)
+      → IsIterator items is_good rank run front back left → 0 < left → back ≡ Some p
+      → MatchOption prev (rank p ≡ 0) (λ q. is_good q × (rank q + 1 ≡ rank p))
+      → IsIterator items is_good rank run front prev (left - 1)
+  prev_iterator run front back prev p left now some is before =
+      let end : place_behind rank back ≡ rank p + 1 = ap (place_behind rank) is in
+      let start : place_behind rank back - left ≡ place_behind rank prev - (left - 1) =
+      omega (arith, end, some, now.enough, place_of_prev p prev before) in
+      record {
+        last = good_prev p prev before;
+        in_range = omega (arith, end, now.in_range, place_of_prev p prev before);
+        enough = omega (arith, end, now.enough, place_of_prev p prev before);
+        run_is = rw (← start) now.run_is;
+        front_at = rw (← start) now.front_at;
+      }
+
+  -- the last of the items that are left
+  pub last_steps : (back prev : Option P) (p : P) (left : ℕ) (item : T) → back ≡ Some p
+      → MatchOption prev (rank p ≡ 0) (λ q. is_good q × (rank q + 1 ≡ rank p))
+      → item ≡ get_or items (rank p) item → 0 < left → left ≤ place_behind rank back
+      → place_behind rank back ≤ length items
+      → take left (drop (place_behind rank back - left) items)
+      ≡ take (left - 1) (drop (place_behind rank prev - (left - 1)) items) ++ item ∷ []
+  last_steps back prev p left item is before read some enough within =
+      let end : place_behind rank back ≡ rank p + 1 = ap (place_behind rank) is in
+      let start : place_behind rank back - left ≡ place_behind rank prev - (left - 1) =
+      omega (arith, end, some, enough, place_of_prev p prev before) in
+      last_of_run items (place_behind rank back - left) left (rank p) item some
+      (omega (arith, enough, within)) (omega (arith, end, enough)) read
+      ∙ ap (λ place. take (left - 1) (drop place items) ++ item ∷ []) start
+
+module _ {A T : Type 0} (view : A → T) (items rest : List T) where
+  -- what a whole list gives from either end, whatever is left then
+  pub first_given : (result : Option A)
+      → MatchOption result ((items ≡ []) × (rest ≡ [])) (λ x. items ≡ view x ∷ rest)
+      → MatchOption result (items ≡ []) (λ x. (others : List T) × (items ≡ view x ∷ others))
+  first_given None is = is.0
+  first_given (Some x) is = (rest, is)
+
+  pub last_given : (result : Option A)
+      → MatchOption result ((items ≡ []) × (rest ≡ [])) (λ x. items ≡ rest ++ view x ∷ [])
+      → MatchOption result (items ≡ [])
+      (λ x. (others : List T) × (items ≡ others ++ view x ∷ []))
+  last_given None is = is.0
+  last_given (Some x) is = (rest, is)

@@ -1,0 +1,3 @@
+mod Common
+pub mod Chunks
+pub mod FreeRanges

@@ -1,0 +1,5 @@
+mod Common
+pub mod FreeRanges
+pub mod Iteration
+pub mod ListOrder
+pub mod PieceLists
