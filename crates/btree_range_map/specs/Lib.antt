@@ -66,17 +66,17 @@ pub use Rattle.range_change.specs.Stored
 pub use Rattle.range_map.specs.Texts as MapTexts
 pub use Rattle.range_map.specs.Together
 pub use Rattle.range_sets.specs.Adding
-pub use Rattle.range_sets.specs.Calls
+pub use Rattle.range_multimaps.specs.Calls
 pub use Rattle.range_sets.specs.Complements
 pub use Rattle.range_commands.specs.CountedRuns
-pub use Rattle.range_sets.specs.EqualClones
+pub use Rattle.range_multimaps.specs.EqualClones
 pub use Rattle.range_sets.specs.Extending
 pub use Rattle.range_commands.specs.History
 pub use Rattle.range_sets.specs.KeySets
 pub use Rattle.range_commands.specs.LastCommands
-pub use Rattle.range_sets.specs.Members
-pub use Rattle.range_sets.specs.Multimaps
-pub use Rattle.range_sets.specs.Pairs
+pub use Rattle.range_multimaps.specs.Members
+pub use Rattle.range_multimaps.specs.Multimaps
+pub use Rattle.range_multimaps.specs.Pairs
 pub use Rattle.range_sets.specs.Reads as SetReads
 pub use Rattle.range_commands.specs.Runs
 pub use Rattle.range_sets.specs.SetLaws

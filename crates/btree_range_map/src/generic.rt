@@ -3,5 +3,5 @@
 pub mod map;
 
 pub use map::RangeMap;
-pub use range_sets::multimap::{self, RangeMultiMap};
+pub use range_multimaps::multimap::{self, RangeMultiMap};
 pub use range_sets::set::{self, RangeSet};

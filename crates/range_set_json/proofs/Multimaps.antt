@@ -13,8 +13,8 @@ use Rattle.range_keys.specs.Order.{KeyOrder, IsLawful}
 use Rattle.range_algebra.specs.declared.any.AnyRange.{AnyRange}
 use Rattle.range_store.specs.declared.storage.Item.{Item}
 use Rattle.range_change.specs.Stored.{IsStored}
-use Rattle.range_sets.specs.ListedMembers.{tree_void}
-use Rattle.range_sets.specs.Pairs.{HasNoEmptySet}
+use Rattle.range_multimaps.specs.ListedMembers.{tree_void}
+use Rattle.range_multimaps.specs.Pairs.{HasNoEmptySet}
 use Rattle.range_json.specs.declared.error.JsonError.{JsonError}
 use Rattle.range_json.specs.Faults.{before, range_fault}
 use Rattle.range_json.specs.MapFaults.{pair_fault, element_fault, value_fault, IsElementRead, IsFirstFault}

@@ -10,7 +10,7 @@ use Rattle.range_store.specs.declared.storage.Item.{Item}
 use Rattle.range_reads.specs.ListOrder.{same_list}
 use Rattle.range_change.specs.Stored.{IsStored}
 use Rattle.range_sets.specs.KeySets.{IsStoredSet}
-use Rattle.range_sets.specs.Pairs.{HasNoEmptySet}
+use Rattle.range_multimaps.specs.Pairs.{HasNoEmptySet}
 use Rattle.range_sets.specs.SetOrder.{same_ranges}
 use Rattle.range_json.specs.Shapes.{set_shape, map_shape}
 use Rattle.range_json.specs.ValueSets.{values_shape, same_values, IsValueSet}

@@ -1,13 +1,7 @@
 pub mod Adding
-pub mod Calls
 pub mod Complements
-pub mod EqualClones
 pub mod Extending
 pub mod KeySets
-pub mod ListedMembers
-pub mod Members
-pub mod Multimaps
-pub mod Pairs
 pub mod Reads
 pub mod SetLaws
 pub mod SetOrder

@@ -1,0 +1,6 @@
+pub mod Altered
+pub mod CallHistories
+pub mod Filled
+pub mod Keeping
+pub mod Pairing
+pub mod PairsTogether

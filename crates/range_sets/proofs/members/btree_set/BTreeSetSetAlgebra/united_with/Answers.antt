@@ -1,9 +1,0 @@
-use Rattle.std.proofs.lemmas.Result.{IfOk-weaker}
-use Rattle.range_sets.specs.ListedMembers.{tree_either}
-use Rattle.range_sets.proofs.members.btree_set.BTreeSetSetAlgebra.united_with.Goals as goal
-
-pub returns : goal.returns
-returns g c =
-    IfOk-weaker c.bitor.result _ _
-    (λ new made. tree_either g.V.Ord.cmp g.met.V.Ord.total g.V.PartialEq.eq g.met.V.Ord.matches_eq
-    g.V.Clone.is_clone c.requires c.args.self.now c.args.other.now new made) c.bitor.ensures
