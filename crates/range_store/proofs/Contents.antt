@@ -4,7 +4,7 @@ use Rattle.std.specs.List.{All, flat_map}
 use Rattle.std.proofs.lemmas.List.{append-nil, length-append, length-map, length-take-le, length-drop, take-append-drop, take-map, drop-map}
 use Rattle.std.proofs.lemmas.List.Concat.{flat_map-append}
 use Rattle.std.proofs.lemmas.List.Elements.{All-nil, All-cons, All-take, All-drop}
-use Rattle.range_store.specs.Heap.{Heap, node_of, items_of, children_of, child_count, Writes, Divides}
+use Rattle.range_store.specs.Heap.{Heap, node_of, child_count, Writes, Divides, node_items, node_children}
 use Rattle.range_store.specs.declared.btree.nodes.Split.{Split}
 use Rattle.range_store.specs.declared.btree.nodes.TheConstants.{CAPACITY, MIN_LEN}
 use Rattle.range_store.specs.Nodes.{weave, items_below, used, Shaped, ShapedBut, here, Moves}
@@ -19,8 +19,8 @@ module _ {T : Type 0} where
   -- a node of t has items and children of which s has the subtrees
   pub record Holds (s t : Heap T) (d n : ℕ) (xs : List T) (ks : List ℕ) : Type 0 where
     pub present : IsSome (node_of t n)
-    pub items_are : items_of (node_of t n) ≡ xs
-    pub children_are : children_of (node_of t n) ≡ ks
+    pub items_are : node_items t n ≡ xs
+    pub children_are : node_children t n ≡ ks
     pub same : SameChildren s t d ks
 
 module _ {T : Type 0} {s t : Heap T} {d n : ℕ} {xs : List T} {ks : List ℕ}

@@ -5,7 +5,7 @@ use Rattle.std.proofs.lemmas.List.{append-nil, append_assoc, length-append, leng
 use Rattle.std.proofs.lemmas.List.Concat.{flat_map-append}
 use Rattle.std.proofs.lemmas.List.Elements.{All-append, All-take, All-drop, All-weaker}
 use Rattle.std.proofs.lemmas.List.Edits.{length-insert}
-use Rattle.range_store.specs.Heap.{Heap, node_of, HasRoomFor, items_of, children_of, child_count, Writes}
+use Rattle.range_store.specs.Heap.{Heap, node_of, HasRoomFor, items_of, children_of, child_count, Writes, node_items, node_children, node_child}
 use Rattle.range_store.specs.declared.btree.nodes.Split.{Split}
 use Rattle.range_store.specs.declared.btree.nodes.TheConstants.{CAPACITY, MIN_LEN}
 use Rattle.range_store.specs.Nodes.{weave, rest_of, front_of, before, after, items_below, used, Shaped, ShapedBut, here, Owned, Moves, tops, separators, Replaces, EnoughFor, HasTreeRoom}
@@ -26,7 +26,7 @@ module _ {T : Type 0} where
   pub record Runs (s t : Heap T) (b n : ℕ) (us ms vs ts : List ℕ) : Type 0 where
     pub present : IsSome (node_of s n)
     pub owned : Owned s (suc b) n
-    pub children : children_of (node_of s n) ≡ us ++ (ms ++ vs)
+    pub children : node_children s n ≡ us ++ (ms ++ vs)
     pub moved : Moves s t (flat_map (used s b) ms) (flat_map (used t b) ts)
 
 module _ {T : Type 0} {s t : Heap T} {b n : ℕ} {us ms vs ts : List ℕ}
@@ -156,7 +156,7 @@ module _ {T : Type 0} {s t : Heap T} {b n : ℕ} {us ms vs ts : List ℕ}
 pub settled_replaces : {T : Type 0} {s t u : Heap T} {b n : ℕ} {xs : List T} {ks : List ℕ}
     (list : List T) {split : Option (Split T)}
     → Moves s t (used s (suc b) n) (n ∷ flat_map (used t b) ks)
-    → weave xs (map (items_below t b) ks) ≡ list → length (items_of (node_of s n)) ≤ length xs
+    → weave xs (map (items_below t b) ks) ≡ list → length (node_items s n) ≤ length xs
     → Settles t u b n xs ks split → Replaces s u b n split list
 settled_replaces {T} {s} {t} {u} {b} {n} {xs} {ks} list {split} moved listed more settles = record {
   listed = settles.listed ∙ listed;
@@ -165,7 +165,7 @@ settled_replaces {T} {s} {t} {u} {b} {n} {xs} {ks} list {split} moved listed mor
 }
   where
     still : (least : ℕ) (cut : Option (Split T))
-        → EnoughFor least cut (length (items_of (node_of s n))) → EnoughFor least cut (length xs)
+        → EnoughFor least cut (length (node_items s n)) → EnoughFor least cut (length xs)
     still least None enough = omega (arith, enough, more)
     still least (Some cut) enough = tt
 
@@ -185,33 +185,32 @@ content_room {T} {s} {t} {b} {n} {xs} {ks} moved content longer room over =
 -- the child at i became one or two, with one more item
 module _ {T : Type 0} {s t : Heap T} {b n : ℕ} (i rest : ℕ) (item : T) {split : Option (Split T)}
     (inner : b ≢ 0) (shaped : ShapedBut 1 CAPACITY s b n) (owned : Owned s (suc b) n)
-    (low : i ≤ length (items_of (node_of s n)))
-    (within : rest ≤ length (items_below s b (get_or (children_of (node_of s n)) i 0))) (child :
-    Replaces s t (b - 1) (get_or (children_of (node_of s n)) i 0) split
-    (insert (items_below s (suc (b - 1)) (get_or (children_of (node_of s n)) i 0)) rest item)) where
+    (low : i ≤ length (node_items s n))
+    (within : rest ≤ length (items_below s b (node_child s n i))) (child :
+    Replaces s t (b - 1) (node_child s n i) split
+    (insert (items_below s (suc (b - 1)) (node_child s n i)) rest item)) where
   abbrev xs : List T
-  xs = items_of (node_of s n)
+  xs = node_items s n
 
   abbrev ks : List ℕ
-  ks = children_of (node_of s n)
+  ks = node_children s n
 
   abbrev kid : ℕ
-  kid = get_or (children_of (node_of s n)) i 0
+  kid = node_child s n i
 
   abbrev us : List ℕ
-  us = take i (children_of (node_of s n))
+  us = take i (node_children s n)
 
   abbrev vs : List ℕ
-  vs = drop (i + 1) (children_of (node_of s n))
+  vs = drop (i + 1) (node_children s n)
 
   abbrev new_xs : List T
-  new_xs = take i (items_of (node_of s n)) ++ (separators split ++ drop i (items_of (node_of s n)))
+  new_xs = take i (node_items s n) ++ (separators split ++ drop i (node_items s n))
 
   abbrev new_ks : List ℕ
   new_ks =
-      take i (children_of (node_of s n))
-      ++ (tops (get_or (children_of (node_of s n)) i 0) split
-      ++ drop (i + 1) (children_of (node_of s n)))
+      take i (node_children s n) ++ (tops (node_child s n i) split
+      ++ drop (i + 1) (node_children s n))
 
   level : suc (b - 1) ≡ b
   level = omega arith
@@ -247,7 +246,7 @@ module _ {T : Type 0} {s t : Heap T} {b n : ℕ} (i rest : ℕ) (item : T) {spli
       rw level at (All-weaker (ShapedBut MIN_LEN CAPACITY t (b - 1)) (Shaped t (suc (b - 1)))
       (λ k. Shaped-from_but t (b - 1) k) (tops kid split) but)
     where
-      enough : (cut : Option (Split T)) → EnoughFor MIN_LEN cut (length (items_of (node_of s kid)))
+      enough : (cut : Option (Split T)) → EnoughFor MIN_LEN cut (length (node_items s kid))
       enough None = kid_shape.node.enough
       enough (Some cut) = tt
 
@@ -279,7 +278,7 @@ module _ {T : Type 0} {s t : Heap T} {b n : ℕ} (i rest : ℕ) (item : T) {spli
       (All-drop (Shaped s b) (i + 1) ks shaped.children)
 
   abbrev lists : List (List T)
-  lists = map (items_below s b) (children_of (node_of s n))
+  lists = map (items_below s b) (node_children s n)
 
   woven : (cut : Option (Split T))
       → weave (take i xs ++ (separators cut ++ drop i xs))
@@ -352,9 +351,9 @@ with_right ks i right low =
     ∙ append_assoc (take i ks) (get_or ks i 0 ∷ []) (right ∷ drop (i + 1) ks)
 
 pub kid_owned : {T : Type 0} (s : Heap T) (b n i : ℕ) → Owned s (suc b) n
-    → i < length (children_of (node_of s n)) → Owned s b (get_or (children_of (node_of s n)) i 0)
+    → i < length (node_children s n) → Owned s b (node_child s n i)
 kid_owned s b n i owned low k =
-    let ks = children_of (node_of s n) in
+    let ks = node_children s n in
     let kid = get_or ks i 0 in
     let us = flat_map (used s b) (take i ks) in
     let vs = flat_map (used s b) (drop (i + 1) ks) in
@@ -374,17 +373,15 @@ kid_owned s b n i owned low k =
 -- a child that was not cut leaves the node as it is
 module _ {T : Type 0} {s t : Heap T} {b n : ℕ} (i rest : ℕ) (item : T) (inner : b ≢ 0)
     (shaped : ShapedBut 1 CAPACITY s b n) (owned : Owned s (suc b) n)
-    (low : i ≤ length (items_of (node_of s n)))
-    (within : rest ≤ length (items_below s b (get_or (children_of (node_of s n)) i 0))) (child :
-    Replaces s t (b - 1) (get_or (children_of (node_of s n)) i 0) None
-    (insert (items_below s (suc (b - 1)) (get_or (children_of (node_of s n)) i 0)) rest item)) where
+    (low : i ≤ length (node_items s n))
+    (within : rest ≤ length (items_below s b (node_child s n i))) (child :
+    Replaces s t (b - 1) (node_child s n i) None
+    (insert (items_below s (suc (b - 1)) (node_child s n i)) rest item)) where
   abbrev xs' : List T
-  xs' = take i (items_of (node_of s n)) ++ drop i (items_of (node_of s n))
+  xs' = take i (node_items s n) ++ drop i (node_items s n)
 
   abbrev ks' : List ℕ
-  ks' =
-      take i (children_of (node_of s n))
-      ++ (get_or (children_of (node_of s n)) i 0 ∷ drop (i + 1) (children_of (node_of s n)))
+  ks' = take i (node_children s n) ++ (node_child s n i ∷ drop (i + 1) (node_children s n))
 
   kept : node_of t n ≡ node_of s n
   kept = grown_kept i rest item inner shaped owned low within child
@@ -397,39 +394,35 @@ module _ {T : Type 0} {s t : Heap T} {b n : ℕ} (i rest : ℕ) (item : T) (inne
       record {
         was = content.present;
         present = content.present;
-        items_are = ap items_of kept ∙ sym (take-append-drop i (items_of (node_of s n)));
-        children_are = ap children_of kept
-            ∙ list_splits_at (children_of (node_of s n)) i 0
+        items_are = ap items_of kept ∙ sym (take-append-drop i (node_items s n));
+        children_are = ap children_of kept ∙ list_splits_at (node_children s n) i 0
             (omega (arith, children_length (omega arith) shaped));
         others = λ k other. refl;
         len = refl;
         capacity = refl;
       }
 
-  same_length : length xs' ≡ length (items_of (node_of s n))
-  same_length = ap length (take-append-drop i (items_of (node_of s n)))
+  same_length : length xs' ≡ length (node_items s n)
+  same_length = ap length (take-append-drop i (node_items s n))
 
   pub none_replaces : Replaces s t b n None
-      (insert (items_below s (suc b) n)
-      (length (before (items_of (node_of s n))
-      (map (items_below s b) (children_of (node_of s n))) i) + rest) item)
+      (insert (items_below s (suc b) n) (length (before (node_items s n)
+      (map (items_below s b) (node_children s n)) i) + rest) item)
   none_replaces = settled_replaces _ (grown_moved i rest item inner shaped owned low within child)
       (grown_listed i rest item inner shaped owned low within child) (omega (arith, same_length))
       (written_settles t content written (omega (arith, same_length, shaped.node.fits)))
 
   pub none_edge : (side : ℕ) (g h : Edge) → turn h ≡ i → inside h ≡ g
       → IsSeat t (suc (b - 1)) (separators {T = T} None)
-      (tops {T = T} (get_or (children_of (node_of s n)) i 0) None) side g
-      → IsEdge t b n h
-      × (place t b n h ≡ length
-      (before (items_of (node_of s n)) (map (items_below s b) (children_of (node_of s n))) i) +
+      (tops {T = T} (node_child s n i) None) side g → IsEdge t b n h × (place t b n h ≡ length
+      (before (node_items s n) (map (items_below s b) (node_children s n)) i) +
       seat_place t (suc (b - 1)) (separators {T = T} None)
-      (tops {T = T} (get_or (children_of (node_of s n)) i 0) None) side g)
+      (tops {T = T} (node_child s n i) None) side g)
   none_edge side g h at into seat =
       let up = grown_seat i rest item inner shaped owned low within child side g seat in
       let one =
       seat_side t (b - 1) (separators {T = T} None)
-      (tops {T = T} (get_or (children_of (node_of s n)) i 0) None) side g seat in
+      (tops {T = T} (node_child s n i) None) side g seat in
       let holds = written_holds t content written in
       let agree = written_agree t content written in
       let edge =
@@ -440,20 +433,18 @@ module _ {T : Type 0} {s t : Heap T} {b n : ℕ} (i rest : ℕ) (item : T) (inne
 -- a node that may be cut has the item between the halves of its child, and the second of them
 module _ {T : Type 0} {s t : Heap T} {b n : ℕ} (i rest : ℕ) (item : T) (split : Split T)
     (inner : b ≢ 0) (shaped : ShapedBut 1 CAPACITY s b n) (owned : Owned s (suc b) n)
-    (low : i ≤ length (items_of (node_of s n)))
-    (within : rest ≤ length (items_below s b (get_or (children_of (node_of s n)) i 0))) (child :
-    Replaces s t (b - 1) (get_or (children_of (node_of s n)) i 0) (Some split)
-    (insert (items_below s (suc (b - 1)) (get_or (children_of (node_of s n)) i 0)) rest item)) where
-  pub some_items : take i (items_of (node_of s n))
-      ++ (split.middle ∷ drop i (items_of (node_of s n)))
-      ≡ insert (items_of (node_of t n)) i split.middle
+    (low : i ≤ length (node_items s n))
+    (within : rest ≤ length (items_below s b (node_child s n i))) (child :
+    Replaces s t (b - 1) (node_child s n i) (Some split)
+    (insert (items_below s (suc (b - 1)) (node_child s n i)) rest item)) where
+  pub some_items : take i (node_items s n) ++ (split.middle ∷ drop i (node_items s n))
+      ≡ insert (node_items t n) i split.middle
   some_items = ap (λ zs. insert zs i split.middle)
       (sym (ap items_of (grown_kept i rest item inner shaped owned low within child)))
 
-  pub some_children : take i (children_of (node_of s n))
-      ++ (get_or (children_of (node_of s n)) i 0 ∷ split.right ∷ drop (i + 1)
-      (children_of (node_of s n))) ≡ insert (children_of (node_of t n)) (i + 1) split.right
-  some_children = sym (with_right (children_of (node_of s n)) i split.right (omega (
+  pub some_children : take i (node_children s n) ++ (node_child s n i ∷ split.right ∷ drop (i + 1)
+      (node_children s n)) ≡ insert (node_children t n) (i + 1) split.right
+  some_children = sym (with_right (node_children s n) i split.right (omega (
     arith,
     children_length (omega arith) shaped,
   )))

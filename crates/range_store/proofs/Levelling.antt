@@ -2,7 +2,7 @@
 use Rattle.std.proofs.Common.{◌≡◌, ℕ, suc, ◌+◌, ◌<◌, ◌≤◌, List, [], ◌∷◌, ◌++◌, length, get_or, take, drop, map, refl, sym, ap, ◌∙◌, subst, arith, Option, Some, None}
 use Rattle.std.specs.List.{flat_map, sum_by}
 use Rattle.std.proofs.lemmas.List.{append-nil, append_assoc, length-append, length-map, length-take-le, length-drop, take_more, take-map, drop_more}
-use Rattle.range_store.specs.Heap.{Heap, node_of, items_of, children_of, Writes}
+use Rattle.range_store.specs.Heap.{Heap, Writes, node_items, node_children, node_child}
 use Rattle.range_store.specs.declared.btree.nodes.Split.{Split}
 use Rattle.range_store.specs.declared.btree.path.Edge.{Edge}
 use Rattle.range_store.specs.Nodes.{weave, rest_of, front_of, before, items_below, used, Moves, tops, separators, rights, Shrinks, IsLevelled}
@@ -26,24 +26,24 @@ pair_parts ks j low =
     (drop_more ks (j + 1) 0 low ∙ ap (λ m. get_or ks (j + 1) 0 ∷ drop m ks) far)
 
 module _ {T : Type 0} (s : Heap T) (low n j : ℕ) (x : T) (levelled : IsLevelled s low n j)
-    (here : x ≡ get_or (items_of (node_of s n)) j x) where
+    (here : x ≡ get_or (node_items s n) j x) where
   abbrev xs : List T
-  xs = items_of (node_of s n)
+  xs = node_items s n
 
   abbrev ks : List ℕ
-  ks = children_of (node_of s n)
+  ks = node_children s n
 
   abbrev l : ℕ
-  l = get_or (children_of (node_of s n)) j 0
+  l = node_child s n j
 
   abbrev r : ℕ
-  r = get_or (children_of (node_of s n)) (j + 1) 0
+  r = node_child s n (j + 1)
 
   abbrev us : List ℕ
-  us = take j (children_of (node_of s n))
+  us = take j (node_children s n)
 
   abbrev vs : List ℕ
-  vs = drop (j + 2) (children_of (node_of s n))
+  vs = drop (j + 2) (node_children s n)
 
   many : length ks ≡ length xs + 1
   many = levelled.node.branches
@@ -114,15 +114,12 @@ module _ {T : Type 0} (s : Heap T) (low n j : ℕ) (x : T) (levelled : IsLevelle
         }
 
     abbrev new_xs : List T
-    new_xs =
-        take j (items_of (node_of s n))
-        ++ (separators split ++ drop (j + 1) (items_of (node_of s n)))
+    new_xs = take j (node_items s n) ++ (separators split ++ drop (j + 1) (node_items s n))
 
     abbrev new_ks : List ℕ
     new_ks =
-        take j (children_of (node_of s n))
-        ++ (tops (get_or (children_of (node_of s n)) j 0) split
-        ++ drop (j + 2) (children_of (node_of s n)))
+        take j (node_children s n) ++ (tops (node_child s n j) split
+        ++ drop (j + 2) (node_children s n))
 
     tops_many : (cut : Option (Split T)) → length (tops l cut) ≡ length (separators cut) + 1
     tops_many None = refl

@@ -4,7 +4,7 @@ use Rattle.std.proofs.Common.{◌≡◌, ◌≢◌, ◌⊎◌, ℕ, zero, suc, �
 use Rattle.std.proofs.Math.ListN.{set, length-set}
 use Rattle.std.specs.List.{remove, flat_map}
 use Rattle.std.proofs.lemmas.List.{length-append, length-take-le, append-nil, get_or_default, get_or-append-add, get_or_append_left, drop_all, take-append-le, drop-append-le}
-use Rattle.range_store.specs.Heap.{Heap, node_of, items_of, children_of, child_count, HasPair, RotatesLeft, RotatesRight, Merges, Writes, Removes}
+use Rattle.range_store.specs.Heap.{Heap, child_count, HasPair, RotatesLeft, RotatesRight, Merges, Writes, Removes, node_items, node_children, node_child}
 use Rattle.range_store.specs.declared.btree.nodes.Split.{Split}
 use Rattle.range_store.specs.declared.btree.nodes.TheConstants.{CAPACITY, MIN_LEN}
 use Rattle.range_store.specs.declared.btree.path.Edge.{Edge}
@@ -61,27 +61,23 @@ moved_path (suc low) leaf index g e at into small =
 
 module _ {T : Type 0} {s : Heap T} {low n j : ℕ} (levelled : IsLevelled s low n j) where
   abbrev l : ℕ
-  l = get_or (children_of (node_of s n)) j 0
+  l = node_child s n j
 
   abbrev r : ℕ
-  r = get_or (children_of (node_of s n)) (j + 1) 0
+  r = node_child s n (j + 1)
 
   abbrev xs : List T
-  xs = items_of (node_of s n)
+  xs = node_items s n
 
   abbrev ks : List ℕ
-  ks = children_of (node_of s n)
+  ks = node_children s n
 
   abbrev K : List ℕ
-  K =
-      children_of (node_of s (get_or (children_of (node_of s n)) j 0))
-      ++ children_of (node_of s (get_or (children_of (node_of s n)) (j + 1) 0))
+  K = node_children s (node_child s n j) ++ node_children s (node_child s n (j + 1))
 
-  module _ (x : T) (here : x ≡ get_or (items_of (node_of s n)) j x) where
+  module _ (x : T) (here : x ≡ get_or (node_items s n) j x) where
     abbrev X : List T
-    X =
-        items_of (node_of s (get_or (children_of (node_of s n)) j 0))
-        ++ (x ∷ items_of (node_of s (get_or (children_of (node_of s n)) (j + 1) 0)))
+    X = node_items s (node_child s n j) ++ (x ∷ node_items s (node_child s n (j + 1)))
 
     pair : IsPair s low l r
     pair = pair_of s low n j x levelled here
@@ -91,14 +87,14 @@ module _ {T : Type 0} {s : Heap T} {low n j : ℕ} (levelled : IsLevelled s low 
         (first : Writes s o l (take half X) (take (half + 1) K))
         (second : Writes o t r (drop (half + 1) X) (drop (half + 1) K))
         (middle : y ≡ get_or X half y)
-        (parent : Writes t u n (set (items_of (node_of s n)) j y) (children_of (node_of s n)))
+        (parent : Writes t u n (set (node_items s n) j y) (node_children s n))
         (least : MIN_LEN ≤ half) (most : half ≤ CAPACITY) (rest : half + 1 + MIN_LEN ≤ length X)
         (few : length X ≤ half + 1 + CAPACITY) where
       within : half < length X
       within = omega (arith, rest)
 
       abbrev cut : Split T
-      cut = record { middle = y; right = get_or (children_of (node_of s n)) (j + 1) 0 }
+      cut = record { middle = y; right = node_child s n (j + 1) }
 
       rejoined : Rejoins s t low l x r (Some cut)
       rejoined = shared_rejoins s low l x r pair half within first second cut refl middle least most
@@ -115,7 +111,7 @@ module _ {T : Type 0} {s : Heap T} {low n j : ℕ} (levelled : IsLevelled s low 
       shrunk : Shrinks s u (suc low) n (items_below s (suc (suc low)) n)
       shrunk = levelled_shrinks s low n j x levelled here rejoined written
 
-      still : length (items_of (node_of u n)) ≡ length (items_of (node_of s n))
+      still : length (node_items u n) ≡ length (node_items s n)
       still = ap length parent.items_are ∙ length-set xs j y
 
       stays_left : (q : ℕ) (g e h : Edge) → q ≤ half → IsSeat s low X K q g
@@ -164,7 +160,7 @@ module _ {T : Type 0} {s : Heap T} {low n j : ℕ} (levelled : IsLevelled s low 
 
     -- the two became one
     module _ {o t u : Heap T} (first : Writes s o l X K) (second : Removes o t r) (parent : Writes t
-        u n (remove (items_of (node_of s n)) j) (remove (children_of (node_of s n)) (j + 1)))
+        u n (remove (node_items s n) j) (remove (node_children s n) (j + 1)))
         (few : length X ≤ CAPACITY) where
       joined : Rejoins s t low l x r None
       joined = united_rejoins s low l x r pair first second few
@@ -203,7 +199,7 @@ module _ {T : Type 0} {s : Heap T} {low n j : ℕ} (levelled : IsLevelled s low 
       let inner = used_kid_le s (suc low) i ks n low' in
       let itself : 0 < occurrences n (used s (suc low) (get_or ks i 0)) =
       rw same (rw (used_is s low n)
-      (occurrences_here n (flat_map (used s low) (children_of (node_of s n))))) in
+      (occurrences_here n (flat_map (used s low) (node_children s n)))) in
       omega (
         arith,
         levelled.owned n,
@@ -234,7 +230,7 @@ module _ {T : Type 0} {s : Heap T} {low n j : ℕ} (levelled : IsLevelled s low 
   }
     where
       some : T
-      some = some_of (items_of (node_of s n)) j levelled.within
+      some = some_of (node_items s n) j levelled.within
 
   -- the edges below the two
   edge_itself : (d k : ℕ) (e : Edge) → IsEdge s d k e
@@ -251,27 +247,25 @@ module _ {T : Type 0} {s : Heap T} {low n j : ℕ} (levelled : IsLevelled s low 
   -- the child at j lent an item to the one after it
   module _ {u : Heap T} (rotates : RotatesRight s u n j) (spare : MIN_LEN < child_size s n j) where
     abbrev a : ℕ
-    a = length (items_of (node_of s (get_or (children_of (node_of s n)) j 0)))
+    a = length (node_items s (node_child s n j))
 
     abbrev b : ℕ
-    b = length (items_of (node_of s (get_or (children_of (node_of s n)) (j + 1) 0)))
+    b = length (node_items s (node_child s n (j + 1)))
 
     abbrev lefts : List T
-    lefts = items_of (node_of s (get_or (children_of (node_of s n)) j 0))
+    lefts = node_items s (node_child s n j)
 
     abbrev rights : List T
-    rights = items_of (node_of s (get_or (children_of (node_of s n)) (j + 1) 0))
+    rights = node_items s (node_child s n (j + 1))
 
     abbrev left_kids : List ℕ
-    left_kids = children_of (node_of s (get_or (children_of (node_of s n)) j 0))
+    left_kids = node_children s (node_child s n j)
 
     abbrev right_kids : List ℕ
-    right_kids = children_of (node_of s (get_or (children_of (node_of s n)) (j + 1) 0))
+    right_kids = node_children s (node_child s n (j + 1))
 
     abbrev both : List T
-    both =
-        items_of (node_of s (get_or (children_of (node_of s n)) j 0))
-        ++ (rotates.down ∷ items_of (node_of s (get_or (children_of (node_of s n)) (j + 1) 0)))
+    both = node_items s (node_child s n j) ++ (rotates.down ∷ node_items s (node_child s n (j + 1)))
 
     long : length both ≡ a + 1 + b
     long = omega (arith, length-append lefts (rotates.down ∷ rights))
@@ -323,7 +317,7 @@ module _ {T : Type 0} {s : Heap T} {low n j : ℕ} (levelled : IsLevelled s low 
         rotates.rotates.parent (omega (arith, spare)) (omega (arith, levelled.left.node.fits)) least
         few
 
-    pub next_kept : length (items_of (node_of u n)) ≡ length (items_of (node_of s n))
+    pub next_kept : length (node_items u n) ≡ length (node_items s n)
     next_kept = ap length rotates.rotates.parent.items_are ∙ length-set xs j rotates.up
 
     pub next_edge : (e g h : Edge) → IsEdge s low r e
@@ -346,21 +340,20 @@ module _ {T : Type 0} {s : Heap T} {low n j : ℕ} (levelled : IsLevelled s low 
   module _ {u : Heap T} (rotates : RotatesLeft s u n j)
       (spare : MIN_LEN < child_size s n (j + 1)) where
     abbrev a' : ℕ
-    a' = length (items_of (node_of s (get_or (children_of (node_of s n)) j 0)))
+    a' = length (node_items s (node_child s n j))
 
     abbrev b' : ℕ
-    b' = length (items_of (node_of s (get_or (children_of (node_of s n)) (j + 1) 0)))
+    b' = length (node_items s (node_child s n (j + 1)))
 
     abbrev lefts' : List T
-    lefts' = items_of (node_of s (get_or (children_of (node_of s n)) j 0))
+    lefts' = node_items s (node_child s n j)
 
     abbrev rights' : List T
-    rights' = items_of (node_of s (get_or (children_of (node_of s n)) (j + 1) 0))
+    rights' = node_items s (node_child s n (j + 1))
 
     abbrev both' : List T
     both' =
-        items_of (node_of s (get_or (children_of (node_of s n)) j 0))
-        ++ (rotates.down ∷ items_of (node_of s (get_or (children_of (node_of s n)) (j + 1) 0)))
+        node_items s (node_child s n j) ++ (rotates.down ∷ node_items s (node_child s n (j + 1)))
 
     long' : length both' ≡ a' + 1 + b'
     long' = omega (arith, length-append lefts' (rotates.down ∷ rights'))
@@ -406,7 +399,7 @@ module _ {T : Type 0} {s : Heap T} {low n j : ℕ} (levelled : IsLevelled s low 
           levelled.fits,
         )) least' few'
 
-    pub previous_kept : length (items_of (node_of u n)) ≡ length (items_of (node_of s n))
+    pub previous_kept : length (node_items u n) ≡ length (node_items s n)
     previous_kept = ap length rotates.rotates.parent.items_are ∙ length-set xs j rotates.up
 
     pub previous_edge : (e h : Edge) → IsEdge s low l e → turn h ≡ j → inside h ≡ e
@@ -429,11 +422,11 @@ module _ {T : Type 0} {s : Heap T} {low n j : ℕ} (levelled : IsLevelled s low 
   -- the two were joined
   module _ {u : Heap T} (merges : Merges s u n j)
       (few : child_size s n j + 1 + child_size s n (j + 1) ≤ CAPACITY) where
-    fits : length (items_of (node_of s l) ++ (merges.down ∷ items_of (node_of s r))) ≤ CAPACITY
+    fits : length (node_items s l ++ (merges.down ∷ node_items s r)) ≤ CAPACITY
     fits =
         omega (
           arith,
-          length-append (items_of (node_of s l)) (merges.down ∷ items_of (node_of s r)),
+          length-append (node_items s l) (merges.down ∷ node_items s r),
           few,
         )
 
@@ -443,7 +436,7 @@ module _ {T : Type 0} {s : Heap T} {low n j : ℕ} (levelled : IsLevelled s low 
 
     pub joined_edge : (i : ℕ) (e g h : Edge) (q : ℕ) → (i ≡ j) ⊎ (i ≡ j + 1)
         → IsEdge s low (get_or ks i 0) e → (i - j ≡ 0 → q ≡ seat_of low e)
-        → (0 < i - j → q ≡ length (items_of (node_of s l)) + 1 + seat_of low e)
+        → (0 < i - j → q ≡ length (node_items s l) + 1 + seat_of low e)
         → (low ≡ 0 → g ≡ record { leaf = l; path = 0; index = q }) → (0 < low → turn g ≡ q)
         → (0 < low → inside g ≡ inside e) → turn h ≡ j → inside h ≡ g
         → IsEdge u (suc low) n h × (place u (suc low) n h ≡ seat_place s (suc low) xs ks i e)

@@ -1,7 +1,7 @@
 -- What a node is to hold, before it is written, and what the heap is once it was.
 use Rattle.std.specs.Prelude.{◌≡◌, ℕ, suc, ◌+◌, ◌-◌, ◌≤◌, List, ◌∷◌, ◌++◌, length, map, Option, IsSome}
 use Rattle.std.specs.List.{All, flat_map}
-use Rattle.range_store.specs.Heap.{Heap, node_of, items_of, child_count}
+use Rattle.range_store.specs.Heap.{Heap, node_of, child_count, node_items}
 use Rattle.range_store.specs.Occurrences.{occurrences}
 use Rattle.range_store.specs.declared.btree.nodes.Split.{Split}
 use Rattle.range_store.specs.declared.btree.nodes.TheConstants.{CAPACITY, MIN_LEN}
@@ -37,10 +37,8 @@ module _ {T : Type 0} where
     pub left : ShapedBut (MIN_LEN - 1) CAPACITY s d l
     pub right : ShapedBut (MIN_LEN - 1) CAPACITY s d r
     pub owned : (k : ℕ) → occurrences k (used s (suc d) l ++ used s (suc d) r) ≤ here s k
-    pub enough : MIN_LEN + MIN_LEN
-        ≤ length (items_of (node_of s l)) + 1 + length (items_of (node_of s r))
-    pub fits : length (items_of (node_of s l)) + 1 + length (items_of (node_of s r))
-        ≤ CAPACITY + MIN_LEN
+    pub enough : MIN_LEN + MIN_LEN ≤ length (node_items s l) + 1 + length (node_items s r)
+    pub fits : length (node_items s l) + 1 + length (node_items s r) ≤ CAPACITY + MIN_LEN
 
   -- they became one or two, with the item x between what they held
   pub record Rejoins (old new : Heap T) (d l : ℕ) (x : T) (r : ℕ)

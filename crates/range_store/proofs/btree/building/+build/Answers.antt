@@ -3,7 +3,7 @@ use Rattle.std.specs.Vec.Iter.{into_iter_items}
 use Rattle.range_store.specs.Building.{IsBuilt}
 use Rattle.range_store.specs.Nodes.{items_below}
 use Rattle.range_store.specs.declared.btree.nodes.TheConstants.{CAPACITY}
-use Rattle.range_store.proofs.Building.{begun_above, built_child, child_level, child_listed, child_more, listed_above, node_fits, node_items, node_there, taken_more}
+use Rattle.range_store.proofs.Building.{begun_above, built_child, child_level, child_listed, child_more, listed_above, node_fits, node_length, node_there, taken_more}
 use Rattle.range_store.proofs.Shares.{all_shared, branch_is, cut_enough, first_share, leaf_cut, leaf_width, next_share}
 use Rattle.range_store.proofs.btree.building.+build.Goals as goal
 
@@ -183,7 +183,7 @@ put-requires g t c =
     let child = built_child c.args.below _ some c.build-child.ensures.built
     (cut_enough _ _ branch.some share.enough) c.build-child.ensures.size in
     let number = c.store_above-number.result in
-    let items = node_items c.build-child.result some was.built child.moved in
+    let items = node_length c.build-child.result some was.built child.moved in
     record {
       present = node_there c.build-child.result some was.built child.moved;
       within = omega (arith, items);

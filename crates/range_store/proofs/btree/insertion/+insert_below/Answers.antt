@@ -1,7 +1,7 @@
-use Rattle.std.proofs.Common.{◌≡◌, ℕ, ◌<◌, ◌≤◌, ◌+◌, ◌-◌, length, get_or, refl, ap, ◌∙◌, arith, Some, None}
+use Rattle.std.proofs.Common.{◌≡◌, ℕ, ◌<◌, ◌≤◌, ◌+◌, ◌-◌, length, refl, ap, ◌∙◌, arith, Some, None}
 use Rattle.std.specs.List.{insert}
 use Rattle.std.proofs.lemmas.List.Edits.{length-insert}
-use Rattle.range_store.specs.Heap.{node_of, items_of, children_of}
+use Rattle.range_store.specs.Heap.{items_of, node_items, node_child}
 use Rattle.range_store.specs.declared.btree.nodes.TheConstants.{CAPACITY}
 use Rattle.range_store.specs.Edges.{turn, inside, place}
 use Rattle.range_store.proofs.Edges.{path_small, leaf_index, leaf_place}
@@ -29,7 +29,7 @@ put_or_cut-requires g t c =
     let owned = rw c.if-below-eq0.true at c.requires.owned in
     let low = leaf_index s c.args.number c.args.edge (rw c.if-below-eq0.true at c.requires.edge) in
     let long =
-    length-insert (items_of (node_of s c.args.number)) c.args.edge.index c.args.item low in
+    length-insert (node_items s c.args.number) c.args.edge.index c.args.item low in
     let content = leaf_content c.args.edge.index c.args.item shaped owned in
     let seat = leaf_seat s _ _ (c.args.edge.index + 1) c.args.edge (omega (arith, low, long)) in
     record {
@@ -52,8 +52,7 @@ returns-then-below-eq0-clause-replaces g t c =
     leaf_index c.args.nodes.now c.args.number c.args.edge
     (rw c.if-below-eq0.true at c.requires.edge) in
     let long =
-    length-insert (items_of (node_of c.args.nodes.now c.args.number)) c.args.edge.index
-    c.args.item low in
+    length-insert (node_items c.args.nodes.now c.args.number) c.args.edge.index c.args.item low in
     rw (c.if-below-eq0.true, leaf_place c.args.nodes.now c.args.number c.args.edge)
     (settled_replaces _ (leaf_moved c.args.edge.index c.args.item shaped)
     (leaf_listed c.args.edge.index c.args.item shaped) (omega (arith, long))
@@ -108,8 +107,7 @@ returns-in-None g t c =
     let low = below_turn c.if-below-eq0.false c.requires.shaped c.args.edge c.requires.edge in
     let rest =
     place c.args.nodes.now (c.args.below - 1)
-    (get_or (children_of (node_of c.args.nodes.now c.args.number)) (turn c.args.edge) 0)
-    (inside c.args.edge) in
+    (node_child c.args.nodes.now c.args.number (turn c.args.edge)) (inside c.args.edge) in
     let within = below_most c.if-below-eq0.false c.requires.shaped i (inside c.args.edge) low
     (below_inside c.if-below-eq0.false c.requires.shaped c.args.edge c.requires.edge) in
     let child =
@@ -174,8 +172,7 @@ put_or_cut-requires-in-Some g t c =
     let i = turn c.args.edge in
     let low = below_turn c.if-below-eq0.false c.requires.shaped c.args.edge c.requires.edge in
     let rest =
-    place s (c.args.below - 1)
-    (get_or (children_of (node_of s c.args.number)) (turn c.args.edge) 0)
+    place s (c.args.below - 1) (node_child s c.args.number (turn c.args.edge))
     (inside c.args.edge) in
     let within = below_most c.if-below-eq0.false c.requires.shaped i (inside c.args.edge) low
     (below_inside c.if-below-eq0.false c.requires.shaped c.args.edge c.requires.edge) in
@@ -191,7 +188,7 @@ put_or_cut-requires-in-Some g t c =
     c.requires.shaped c.requires.owned low within child in
     let content = grown_content i rest c.args.item c.if-below-eq0.false c.requires.shaped
     c.requires.owned low within child in
-    let long = length-insert (items_of (node_of s c.args.number)) i c.in-Some.cut.middle low in
+    let long = length-insert (node_items s c.args.number) i c.in-Some.cut.middle low in
     let moved = grown_moved i rest c.args.item c.if-below-eq0.false c.requires.shaped
     c.requires.owned low within child in
     let longer = grown_longer i rest c.args.item c.if-below-eq0.false c.requires.shaped
@@ -220,8 +217,7 @@ returns-in-Some-clause-replaces g t c =
     let low = below_turn c.if-below-eq0.false c.requires.shaped c.args.edge c.requires.edge in
     let rest =
     place c.args.nodes.now (c.args.below - 1)
-    (get_or (children_of (node_of c.args.nodes.now c.args.number)) (turn c.args.edge) 0)
-    (inside c.args.edge) in
+    (node_child c.args.nodes.now c.args.number (turn c.args.edge)) (inside c.args.edge) in
     let within = below_most c.if-below-eq0.false c.requires.shaped i (inside c.args.edge) low
     (below_inside c.if-below-eq0.false c.requires.shaped c.args.edge c.requires.edge) in
     let child =
@@ -233,8 +229,7 @@ returns-in-Some-clause-replaces g t c =
     let children = some_children i rest c.args.item c.in-Some.cut c.if-below-eq0.false
     c.requires.shaped c.requires.owned low within child in
     let long =
-    length-insert (items_of (node_of c.args.nodes.now c.args.number)) i c.in-Some.cut.middle
-    low in
+    length-insert (node_items c.args.nodes.now c.args.number) i c.in-Some.cut.middle low in
     let settles =
     rw (c.first_turn-index.ensures, ← items, ← children) at
     c.put_or_cut-in-Some.ensures.settles in
@@ -249,8 +244,7 @@ returns-in-Some-clause-left_whole g t c =
     let low = below_turn c.if-below-eq0.false c.requires.shaped c.args.edge c.requires.edge in
     let rest =
     place c.args.nodes.now (c.args.below - 1)
-    (get_or (children_of (node_of c.args.nodes.now c.args.number)) (turn c.args.edge) 0)
-    (inside c.args.edge) in
+    (node_child c.args.nodes.now c.args.number (turn c.args.edge)) (inside c.args.edge) in
     let within = below_most c.if-below-eq0.false c.requires.shaped i (inside c.args.edge) low
     (below_inside c.if-below-eq0.false c.requires.shaped c.args.edge c.requires.edge) in
     let child =
@@ -266,8 +260,7 @@ returns-in-Some-clause-place g t c =
     let low = below_turn c.if-below-eq0.false c.requires.shaped c.args.edge c.requires.edge in
     let rest =
     place c.args.nodes.now (c.args.below - 1)
-    (get_or (children_of (node_of c.args.nodes.now c.args.number)) (turn c.args.edge) 0)
-    (inside c.args.edge) in
+    (node_child c.args.nodes.now c.args.number (turn c.args.edge)) (inside c.args.edge) in
     let within = below_most c.if-below-eq0.false c.requires.shaped i (inside c.args.edge) low
     (below_inside c.if-below-eq0.false c.requires.shaped c.args.edge c.requires.edge) in
     let child =

@@ -1,5 +1,5 @@
 use Rattle.std.proofs.Common.{◌≡◌, ◌+◌, ◌-◌, ◌<◌, length, map, refl, ◌∙◌, arith}
-use Rattle.range_store.specs.Heap.{node_of, items_of, children_of}
+use Rattle.range_store.specs.Heap.{node_items, node_children}
 use Rattle.range_store.specs.Nodes.{before, items_below}
 use Rattle.range_store.specs.Edges.{turn}
 use Rattle.range_store.proofs.Edges.{leaf_edge, leaf_place, leaf_index, path_small}
@@ -97,10 +97,9 @@ returns-then-index-eq0 g t c =
     ) at c.edge_before.ensures in
     let first : turn c.args.edge ≡ 0 =
     omega (arith, c.first_turn-index.ensures, c.if-index-eq0.true) in
-    let start : length (before (items_of (node_of c.args.nodes.now c.args.number))
+    let start : length (before (node_items c.args.nodes.now c.args.number)
     (map (items_below c.args.nodes.now c.args.below)
-    (children_of (node_of c.args.nodes.now c.args.number))) (turn c.args.edge))
-    ≡ 0 = rw first refl in
+    (node_children c.args.nodes.now c.args.number)) (turn c.args.edge)) ≡ 0 = rw first refl in
     omega (
       arith,
       below_here c.if-below-eq0.false c.requires.shaped c.args.edge,
@@ -148,7 +147,7 @@ seen_above-requires-2-clause-path g t c =
 pub returns : goal.returns
 returns g t c =
     let i = c.first_turn-index.result - 1 in
-    let low : i < length (items_of (node_of c.args.nodes.now c.args.number)) =
+    let low : i < length (node_items c.args.nodes.now c.args.number) =
     omega (
       arith,
       c.first_turn-index.ensures,

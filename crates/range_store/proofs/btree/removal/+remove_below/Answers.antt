@@ -1,6 +1,6 @@
-use Rattle.std.proofs.Common.{◌≡◌, ◌+◌, ◌-◌, length, get_or, map, refl, ap, ◌∙◌, arith, rules}
+use Rattle.std.proofs.Common.{◌≡◌, ◌+◌, ◌-◌, length, map, refl, ap, ◌∙◌, arith, rules}
 use Rattle.std.proofs.lemmas.List.Edits.{length-remove}
-use Rattle.range_store.specs.Heap.{node_of, items_of, children_of}
+use Rattle.range_store.specs.Heap.{node_items, node_children, node_child}
 use Rattle.range_store.specs.declared.btree.nodes.TheConstants.{CAPACITY, MIN_LEN}
 use Rattle.range_store.specs.Nodes.{before, items_below}
 use Rattle.range_store.specs.Edges.{turn, inside, place}
@@ -55,7 +55,7 @@ returns-then-below-eq0-clause-edge g t c =
       index,
       c.requires.in_leaf,
       ap length c.take_item-item.ensures.rest.items_are,
-      length-remove (items_of (node_of c.args.nodes.now c.args.number)) (c.args.edge.index - 1)
+      length-remove (node_items c.args.nodes.now c.args.number) (c.args.edge.index - 1)
           (omega (arith, index, c.requires.in_leaf)),
     )))
 
@@ -140,8 +140,7 @@ returns g t c =
     c.remove_below-taken.ensures.place in
     let q =
     place c.args.nodes.now (c.args.below - 1)
-    (get_or (children_of (node_of c.args.nodes.now c.args.number)) (turn c.args.edge) 0)
-    (inside c.args.edge) in
+    (node_child c.args.nodes.now c.args.number (turn c.args.edge)) (inside c.args.edge) in
     let within = below_most c.if-below-eq0.false c.requires.shaped i (inside c.args.edge) low
     (below_inside c.if-below-eq0.false c.requires.shaped c.args.edge c.requires.edge) in
     let place' = rw c.first_turn-index.ensures at c.rebalance-edge.ensures.place in
@@ -157,9 +156,9 @@ returns g t c =
     let front' = rw
     (kid_kept i _ c.if-below-eq0.false c.requires.shaped c.requires.owned low listed moved) at front
     in
-    let same : length (before (items_of (node_of c.args.nodes.now c.args.number))
+    let same : length (before (node_items c.args.nodes.now c.args.number)
     (map (items_below c.args.nodes.now c.args.below)
-    (children_of (node_of c.args.nodes.now c.args.number))) i) + (q - 1)
+    (node_children c.args.nodes.now c.args.number)) i) + (q - 1)
     ≡ place c.args.nodes.now c.args.below c.args.number c.args.edge - 1 =
     omega (
       arith,
