@@ -1,9 +1,9 @@
 -- What is known of a node's children.
-use Rattle.std.proofs.Common.{◌≡◌, ◌⊎◌, inl, inr, ℕ, zero, suc, ◌+◌, ◌<◌, ◌≤◌, [], ◌∷◌, ◌++◌, length, drop, map, refl, ap, ◌∙◌, arith}
+use Rattle.std.proofs.Common.{◌≡◌, ◌⊎◌, inl, inr, ℕ, zero, suc, ◌+◌, ◌<◌, ◌≤◌, [], ◌∷◌, ◌++◌, length, drop, refl, ap, ◌∙◌, arith}
 use Rattle.std.proofs.lemmas.List.{length-map, get_or-map, drop_all, nil_from_length}
 use Rattle.range_store.specs.Heap.{Heap, child_count, node_items, node_children, node_child}
 use Rattle.range_store.specs.declared.btree.nodes.TheConstants.{CAPACITY, MIN_LEN}
-use Rattle.range_store.specs.Nodes.{weave, rest_of, before, after, items_below, used, Shaped, ShapedBut}
+use Rattle.range_store.specs.Nodes.{weave, rest_of, items_below, used, Shaped, ShapedBut, child_lists, before_child, after_child}
 use Rattle.std.specs.List.{flat_map}
 use Rattle.range_store.specs.Weave.{weave_at, length-before_next}
 
@@ -55,7 +55,7 @@ child_count_inner zero k inner = absurd (omega arith)
 child_count_inner (suc d) k inner = refl
 
 pub weave_items_below : {T : Type 0} (s : Heap T) (d n : ℕ)
-    → items_below s (suc d) n ≡ weave (node_items s n) (map (items_below s d) (node_children s n))
+    → items_below s (suc d) n ≡ weave (node_items s n) (child_lists s d n)
 unfolding items_below
 weave_items_below s d n = refl
 
@@ -65,41 +65,34 @@ module _ {T : Type 0} {least most : ℕ} {s : Heap T} {d n : ℕ} (inner : 0 < d
   children_length = shaped.node.branches ∙ child_count_inner d _ inner
 
   -- the lists of the children, and how many items stand before the list at i
-  pub lists_length : length (map (items_below s d) (node_children s n))
-      ≡ length (node_items s n) + 1
+  pub lists_length : length (child_lists s d n) ≡ length (node_items s n) + 1
   lists_length = length-map (node_children s n) (items_below s d) ∙ children_length
 
   pub items_below_at : (i : ℕ) → i ≤ length (node_items s n) → items_below s (suc d) n
-      ≡ before (node_items s n) (map (items_below s d) (node_children s n)) i
-      ++ (items_below s d (node_child s n i)
-      ++ after (node_items s n) (map (items_below s d) (node_children s n)) i)
+      ≡ before_child s d n i ++ (items_below s d (node_child s n i) ++ after_child s d n i)
   items_below_at i within =
       let kid =
       get_or-map (items_below s d) (node_children s n) i 0 [] (omega (arith, children_length)) in
-      weave_items_below s d n ∙ weave_at (node_items s n)
-      (map (items_below s d) (node_children s n)) i within lists_length
-      ∙ ap (λ zs. before (node_items s n) (map (items_below s d) (node_children s n)) i
-      ++ (zs ++ after (node_items s n) (map (items_below s d) (node_children s n)) i)) kid
+      weave_items_below s d n ∙ weave_at (node_items s n) (child_lists s d n) i within lists_length
+      ∙ ap (λ zs. before_child s d n i ++ (zs ++ after_child s d n i)) kid
 
   pub length-before_more : (i : ℕ) → i < length (node_items s n)
-      → length (before (node_items s n) (map (items_below s d) (node_children s n)) (i + 1))
-      ≡ length (before (node_items s n) (map (items_below s d) (node_children s n)) i) + length
+      → length (before_child s d n (i + 1)) ≡ length (before_child s d n i) + length
       (items_below s d (node_child s n i)) + 1
   length-before_more i within =
       let kid =
       get_or-map (items_below s d) (node_children s n) i 0 [] (omega (arith, children_length)) in
       omega (
         arith,
-        length-before_next (node_items s n) (map (items_below s d) (node_children s n)) i within
+        length-before_next (node_items s n) (child_lists s d n) i within
             (omega (arith, lists_length)),
         ap length kid,
       )
 
   -- after the last child stands nothing
-  pub none_after_last : after (node_items s n)
-      (map (items_below s d) (node_children s n)) (length (node_items s n)) ≡ []
+  pub none_after_last : after_child s d n (length (node_items s n)) ≡ []
   none_after_last =
       let i = length (node_items s n) in
-      let lists = map (items_below s d) (node_children s n) in
+      let lists = child_lists s d n in
       ap (λ zs. rest_of zs (drop (i + 1) lists)) (drop_all i (node_items s n) (omega arith))
       ∙ ap (rest_of []) (drop_all (i + 1) lists (omega (arith, lists_length)))

@@ -263,11 +263,11 @@ module _ {T : Type 0} where
     pub size : length (items_below new d n) ≡ count
     pub few : MIN_LEN * node_count new ≤ MIN_LEN * node_count old + count
 
-pub built_child : {T : Type 0} {r s : Heap T} (d : ℕ) {n many : ℕ} (count : ℕ) → 0 < d
+pub built_child : {T : Type 0} {r s : Heap T} (d : ℕ) {n many count : ℕ} → 0 < d
     → IsBuilt r s (d - 1) n many → MIN_LEN ≤ many → length (items_below s (suc (d - 1)) n) ≡ count
     → IsChild r s d n count
-built_child {T} {r} {s} zero {n} {many} count some built enough size = absurd (omega arith)
-built_child {T} {r} {s} (suc d) {n} {many} count some built' enough size' =
+built_child {T} {r} {s} zero {n} {many} {count} some built enough size = absurd (omega arith)
+built_child {T} {r} {s} (suc d) {n} {many} {count} some built' enough size' =
     let level : suc d - 1 ≡ d = omega arith in
     let built = rw level at built' in
     let size = rw level at size' in

@@ -1,5 +1,5 @@
 -- The paths to edges, and what stands at one.
-use Rattle.std.proofs.Common.{◌≡◌, ℕ, zero, suc, ◌+◌, ◌^◌, ◌<◌, ◌≤◌, [], ◌∷◌, ◌++◌, length, get_or, map, refl, ap, arith}
+use Rattle.std.proofs.Common.{◌≡◌, ℕ, zero, suc, ◌+◌, ◌^◌, ◌<◌, ◌≤◌, [], ◌∷◌, ◌++◌, length, get_or, refl, ap, arith}
 use Rattle.std.proofs.Math.Nat.{pow-suc, pow-le-pow_right}
 use Rattle.std.proofs.lemmas.List.{length-append}
 use Rattle.std.specs.List.{flat_map}
@@ -7,7 +7,7 @@ use Rattle.range_store.specs.Heap.{Heap, node_of, node_items, node_children, nod
 use Rattle.range_store.specs.declared.btree.nodes.TheConstants.{CAPACITY, MIN_LEN}
 use Rattle.range_store.specs.declared.btree.path.Edge.{Edge}
 use Rattle.range_store.specs.declared.btree.path.TheConstants.{PATH_BASE, MAX_LEVELS}
-use Rattle.range_store.specs.Nodes.{items_below, used, before, after, ShapedBut}
+use Rattle.range_store.specs.Nodes.{items_below, used, before, after, ShapedBut, child_lists, before_child}
 use Rattle.range_store.specs.Edges.{turn, inside, IsEdge, place}
 use Rattle.range_store.specs.Frame.{AgreeAt, AgreeAt-right, agree_kid, same_children}
 use Rattle.range_store.proofs.Below.{items_below_at, items_below_leaf}
@@ -73,15 +73,12 @@ unfolding IsEdge
 edge_above s d n i g h at within small is = rw (at, within) (small, is)
 
 pub place_above : {T : Type 0} (s : Heap T) (d n i : ℕ) (g h : Edge) → turn h ≡ i → inside h ≡ g
-    → place s (suc d) n h ≡ length
-    (before (node_items s n) (map (items_below s (suc d)) (node_children s n)) i) +
-    place s d (node_child s n i) g
+    → place s (suc d) n h ≡ length (before_child s (suc d) n i) + place s d (node_child s n i) g
 unfolding place
 place_above s d n i g h at within = rw (at, within) refl
 
 pub place_inside : {T : Type 0} (s : Heap T) (d n : ℕ) (g : Edge)
-    → place s (suc d) n g ≡ length
-    (before (node_items s n) (map (items_below s (suc d)) (node_children s n))
+    → place s (suc d) n g ≡ length (before_child s (suc d) n
     (turn g)) + place s d (node_child s n (turn g)) (inside g)
 unfolding place
 place_inside s d n g = refl
@@ -97,7 +94,7 @@ place_within {T} {s} zero {n} g {least} {most} shaped is = omega (
 )
 place_within {T} {s} (suc d) {n} g {least} {most} shaped is =
     let xs = node_items s n in
-    let lists = map (items_below s (suc d)) (node_children s n) in
+    let lists = child_lists s (suc d) n in
     let i = turn g in
     let kid = node_child s n i in
     let low : i ≤ length xs = omega (arith, turn_within s d n g is, shaped.node.branches) in

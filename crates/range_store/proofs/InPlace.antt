@@ -8,20 +8,20 @@ use Rattle.range_store.specs.declared.btree.nodes.TheConstants.{CAPACITY, MIN_LE
 use Rattle.range_store.specs.declared.btree.BoxStorage.{BoxStorage}
 use Rattle.range_store.specs.declared.btree.path.Edge.{Edge}
 use Rattle.range_store.specs.declared.btree.path.TheConstants.{PATH_BASE}
-use Rattle.range_store.specs.Nodes.{weave, before, after, items_below, used, Shaped, ShapedBut, Owned, IsTree}
+use Rattle.range_store.specs.Nodes.{weave, before, items_below, used, Shaped, ShapedBut, Owned, IsTree, before_child, after_child}
 use Rattle.range_store.specs.Edges.{turn, inside, IsEdge, place}
-use Rattle.range_store.specs.Contents.{IsContent, IsRewritten}
+use Rattle.range_store.specs.Contents.{IsContent}
 use Rattle.range_store.specs.Occurrences.{occurrences}
 use Rattle.range_store.specs.Holding.{box_items, IsBoxEdge, box_place}
 use Rattle.range_store.proofs.Below.{items_below_at, items_below_leaf, used_is, shaped_within_wider, Shaped-from_but}
-use Rattle.range_store.proofs.Contents.{Holds, written_holds, held_items_below, held_used, held_shape}
+use Rattle.range_store.proofs.Contents.{IsRewritten, Holds, written_holds, held_items_below, held_used, held_shape}
 use Rattle.range_store.specs.Frame.{IsNode-same}
 use Rattle.range_store.proofs.Edges.{leaf_edge, leaf_place, edge_above, place_inside}
 use Rattle.range_store.proofs.Growing.{kid_owned}
 use Rattle.range_store.proofs.Moves.{Writes-moves}
 use Rattle.range_store.proofs.Rank.{kid_shaped}
 use Rattle.range_store.specs.Written.{root_shaped}
-use Rattle.range_store.proofs.Shortening.{kid_kept, kid_moved, kid_listed, kid_front, kid_children, remove_middle}
+use Rattle.range_store.proofs.Shortening.{ListsAnew, kid_kept, kid_moved, kid_listed, kid_front, kid_children, remove_middle}
 use Rattle.range_store.proofs.InLeaf.{IsLeafOf, leaf_of_edge}
 use Rattle.range_store.proofs.Roots.{tree_owned, rewritten_tree}
 use Rattle.range_store.specs.Weave.{insert_middle, regroup}
@@ -89,13 +89,24 @@ module _ {T : Type 0} {s t : Heap T} {d n : ℕ} (g : Edge) {items : List T}
     inner same = absurd (omega (arith, same))
 
     abbrev fore : List T
-    fore = before (node_items s n) (map (items_below s (suc d)) (node_children s n)) (turn g)
+    fore = before_child s (suc d) n (turn g)
 
     abbrev behind : List T
-    behind = after (node_items s n) (map (items_below s (suc d)) (node_children s n)) (turn g)
+    behind = after_child s (suc d) n (turn g)
+
+    anew : ListsAnew s t (suc d) n (turn g) (below.front ++ (items ++ below.rest))
+    anew =
+        record {
+          inner = inner;
+          shaped = shaped;
+          owned = owned;
+          low = low;
+          listed = below.rewritten.listed;
+          moved = below.rewritten.moved;
+        }
 
     kept : node_of t n ≡ node_of s n
-    kept = kid_kept (turn g) _ inner shaped owned low below.rewritten.listed below.rewritten.moved
+    kept = kid_kept anew
 
     kid_now : Shaped t (suc d) (node_child s n (turn g))
     kid_now = Shaped-from_but t d _
@@ -111,24 +122,18 @@ module _ {T : Type 0} {s t : Heap T} {d n : ℕ} (g : Edge) {items : List T}
       place_is =
           omega (arith, place_inside s d n g, below.place_is, length-append fore below.front);
       rewritten = record {
-        listed = kid_listed (turn g) _ inner shaped owned low below.rewritten.listed
-            below.rewritten.moved
-            ∙ regroup fore below.front items below.rest behind;
-        moved = kid_moved (turn g) _ inner shaped owned low below.rewritten.listed
-            below.rewritten.moved;
+        listed = kid_listed anew ∙ regroup fore below.front items below.rest behind;
+        moved = kid_moved anew;
         shape = λ least small old. record {
           node = IsNode-same t kept old.node;
-          children = kid_children (turn g) _ inner shaped owned low below.rewritten.listed
-              below.rewritten.moved kid_now;
+          children = kid_children anew kid_now;
         };
       };
       edges = λ h leaf path index.
           let first : turn h ≡ turn g = ap (λ w. w % PATH_BASE) path in
           let further = below.edges (inside h) leaf (ap (λ w. w / PATH_BASE) path) index in
           let now = rw (kept, first) at (place_inside t d n h) in
-          let fronts = rw kept at
-          (kid_front (turn g) _ inner shaped owned low below.rewritten.listed below.rewritten.moved)
-          in (
+          let fronts = rw kept at (kid_front anew) in (
             edge_above t d n (turn g) (inside h) h first refl (rw kept within) (rw kept further.0),
             omega (arith, now, fronts, further.1, length-append fore below.front),
           );
@@ -145,7 +150,6 @@ leaf_edit {T} {s} {t} zero {n} g {items} fits enough shaped owned is written = e
 leaf_edit {T} {s} {t} (suc d) {n} g {items} fits enough shaped owned is written =
     let low : turn g ≤ length (node_items s n) =
     omega (arith, is.0, shaped.node.branches) in
-    let kid = node_child s n (turn g) in
     let kid_whole = shaped_within_wider 1 CAPACITY (omega arith) (omega arith)
     (kid_shaped d (turn g) shaped low) in
     edited_above g shaped owned low is.0 (leaf_edit d (inside g) fits enough kid_whole

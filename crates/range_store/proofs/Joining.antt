@@ -8,16 +8,16 @@ use Rattle.range_store.specs.Heap.{Heap, node_of, child_count, Writes, Removes, 
 use Rattle.range_store.specs.declared.btree.nodes.Split.{Split}
 use Rattle.range_store.specs.declared.btree.nodes.TheConstants.{CAPACITY, MIN_LEN}
 use Rattle.range_store.specs.declared.btree.path.Edge.{Edge}
-use Rattle.range_store.specs.Nodes.{weave, items_below, used, Shaped, ShapedBut, here}
+use Rattle.range_store.specs.Nodes.{weave, items_below, used, Shaped, ShapedBut, here, child_lists}
 use Rattle.range_store.specs.Edges.{turn, inside, seat_of, IsEdge, place, IsSeat, seat_place}
-use Rattle.range_store.specs.Contents.{IsContent, IsPair, Rejoins}
+use Rattle.range_store.specs.Contents.{IsContent}
 use Rattle.range_store.specs.Occurrences.{occurrences, occurrences-append, occurrences-cons, occurrences_itself}
 use Rattle.range_store.specs.Weave.{weave_cut}
 use Rattle.range_store.specs.Frame.{AgreeAt, same_children}
 use Rattle.range_store.proofs.Below.{weave_items_below, used_is, items_below_leaf, Shaped-from_but}
 use Rattle.range_store.proofs.Room.{items_below_size}
 use Rattle.range_store.proofs.Moves.{here_le, SameNodes, Moves-like, Moves-then, Writes-moves, Removes-moves}
-use Rattle.range_store.proofs.Contents.{Holds, held_items_below, held_used, held_shape, content_apart, halves_listed, halves_nodes, halves_shape, part_agree}
+use Rattle.range_store.proofs.Contents.{IsPair, Rejoins, Holds, held_items_below, held_used, held_shape, content_apart, halves_listed, halves_nodes, halves_shape, part_agree}
 use Rattle.range_store.proofs.Seats.{seat_run}
 
 weave_join : {T : Type 0} (xs : List T) (x : T) (ys : List T) (ks ls : List (List T)) (d : ℕ)
@@ -110,8 +110,7 @@ module _ {T : Type 0} (s : Heap T) (d l : ℕ) (x : T) (r : ℕ) (pair : IsPair 
       ++ (x ∷ items_below s (suc d) r)
   pair_listed =
       ap (weave xs) (map-append (items_below s d) (node_children s l) (node_children s r))
-      ∙ weave_join (node_items s l) x (node_items s r) (map (items_below s d) (node_children s l))
-      (map (items_below s d) (node_children s r)) d
+      ∙ weave_join (node_items s l) x (node_items s r) (child_lists s d l) (child_lists s d r) d
       (length-map (node_children s l) (items_below s d) ∙ pair.left.node.branches)
       (length-map (node_children s r) (items_below s d) ∙ pair.right.node.branches)
       ∙ rw (weave_items_below s d l, weave_items_below s d r) refl

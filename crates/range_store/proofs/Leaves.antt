@@ -1,12 +1,12 @@
 -- An item into a leaf.
-use Rattle.std.proofs.Common.{◌≡◌, ℕ, ◌+◌, ◌≤◌, List, ◌∷◌, length, map, refl, ap, arith, subst}
+use Rattle.std.proofs.Common.{◌≡◌, ℕ, ◌+◌, ◌≤◌, List, ◌∷◌, length, refl, ap, arith, subst}
 use Rattle.std.specs.List.{insert, flat_map}
 use Rattle.std.proofs.lemmas.List.{nil_from_length}
 use Rattle.std.proofs.lemmas.List.Edits.{length-insert}
 use Rattle.range_store.specs.Heap.{Heap, node_items, node_children}
 use Rattle.range_store.specs.declared.btree.nodes.TheConstants.{CAPACITY}
 use Rattle.range_store.specs.declared.btree.path.Edge.{Edge}
-use Rattle.range_store.specs.Nodes.{weave, items_below, used, ShapedBut, Owned, Moves}
+use Rattle.range_store.specs.Nodes.{weave, items_below, used, ShapedBut, Owned, Moves, child_lists}
 use Rattle.range_store.specs.Edges.{IsSeat, seat_place}
 use Rattle.range_store.specs.Contents.{IsContent}
 use Rattle.range_store.specs.Occurrences.{occurrences}
@@ -27,7 +27,7 @@ module _ {T : Type 0} {s : Heap T} {n : ℕ} (i : ℕ) (item : T) (shaped : Shap
   leaf_moved = subst (λ zs. Moves s s (used s 1 n) zs) (used_is s 0 n) (Moves-none s (used s 1 n))
 
   pub leaf_listed : weave (insert (node_items s n) i item)
-      (map (items_below s 0) (node_children s n)) ≡ insert (items_below s 1 n) i item
+      (child_lists s 0 n) ≡ insert (items_below s 1 n) i item
   leaf_listed =
       rw (
         items_below_leaf s n shaped.node.branches,
@@ -35,7 +35,7 @@ module _ {T : Type 0} {s : Heap T} {n : ℕ} (i : ℕ) (item : T) (shaped : Shap
       ) refl
 
   pub leaf_longer : i ≤ length (node_items s n) → length (weave (insert (node_items s n) i item)
-      (map (items_below s 0) (node_children s n))) ≡ length (items_below s 1 n) + 1
+      (child_lists s 0 n)) ≡ length (items_below s 1 n) + 1
   leaf_longer low =
       omega (
         arith,

@@ -5,14 +5,14 @@ use Rattle.std.proofs.lemmas.List.{append-nil, append_assoc, length-append, leng
 use Rattle.range_store.specs.Heap.{Heap, Writes, node_items, node_children, node_child}
 use Rattle.range_store.specs.declared.btree.nodes.Split.{Split}
 use Rattle.range_store.specs.declared.btree.path.Edge.{Edge}
-use Rattle.range_store.specs.Nodes.{weave, rest_of, front_of, before, items_below, used, Moves, tops, separators, rights, Shrinks, IsLevelled}
+use Rattle.range_store.specs.Nodes.{weave, rest_of, front_of, before, items_below, used, Moves, tops, separators, Shrinks, IsLevelled}
 use Rattle.range_store.specs.Edges.{turn, inside, IsEdge, place, IsSeat, seat_place}
-use Rattle.range_store.specs.Contents.{IsContent, IsPair, Rejoins}
+use Rattle.range_store.specs.Contents.{IsContent}
 use Rattle.range_store.specs.Occurrences.{occurrences, occurrences-append, occurrences-cons}
 use Rattle.range_store.specs.Weave.{list_splits_at, weave_splice, length-before}
 use Rattle.range_store.proofs.Below.{weave_items_below}
 use Rattle.range_store.proofs.Moves.{Moves-then, Writes-moves}
-use Rattle.range_store.proofs.Contents.{held_items_below, held_used, held_shape, written_holds, written_agree}
+use Rattle.range_store.proofs.Contents.{IsPair, Rejoins, held_items_below, held_used, held_shape, written_holds, written_agree}
 use Rattle.range_store.proofs.Growing.{Runs, run_moved, run_content, run_lists, same_before, used_old}
 use Rattle.range_store.proofs.Seats.{seat_run, seat_written}
 
@@ -197,7 +197,7 @@ module _ {T : Type 0} (s : Heap T) (low n j : ℕ) (x : T) (levelled : IsLevelle
 
     -- what is written to the node
     pub pair_children : (cut : Option (Split T))
-        → take (j + 1) ks ++ (rights cut ++ vs) ≡ us ++ (tops l cut ++ vs)
+        → take (j + 1) ks ++ (drop 1 (tops l cut) ++ vs) ≡ us ++ (tops l cut ++ vs)
     pair_children None =
         ap (λ zs. zs ++ vs) (take_more ks j 0 (omega (arith, many, levelled.within)))
         ∙ append_assoc us (l ∷ []) vs

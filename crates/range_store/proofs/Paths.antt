@@ -1,10 +1,10 @@
 -- A node above the leaves, and the edges and items below its children.
-use Rattle.std.proofs.Common.{◌≡◌, ◌≢◌, ℕ, zero, suc, ◌+◌, ◌-◌, ◌<◌, ◌≤◌, ◌++◌, length, map, refl, ap, ◌∙◌, arith, cond, true, false, ◌==◌, inl, inr}
+use Rattle.std.proofs.Common.{◌≡◌, ◌≢◌, ℕ, zero, suc, ◌+◌, ◌-◌, ◌<◌, ◌≤◌, ◌++◌, length, refl, ap, ◌∙◌, arith, cond, true, false, ◌==◌, inl, inr}
 use Rattle.range_store.specs.Heap.{Heap, node_items, node_children, node_child}
 use Rattle.range_store.specs.declared.btree.nodes.TheConstants.{CAPACITY, MIN_LEN}
 use Rattle.range_store.specs.declared.btree.path.Edge.{Edge}
 use Rattle.range_store.specs.declared.btree.path.Home.{Home}
-use Rattle.range_store.specs.Nodes.{items_below, before, after, ShapedBut}
+use Rattle.range_store.specs.Nodes.{items_below, before, after, ShapedBut, child_lists, before_child}
 use Rattle.range_store.specs.Edges.{turn, inside, is_start, IsEdge, place, home_of}
 use Rattle.range_store.specs.Written.{place_of_start, start_of_place}
 use Rattle.range_store.proofs.Below.{children_length, items_below_at, length-before_more, none_after_last, shaped_within_wider}
@@ -78,14 +78,11 @@ module _ {T : Type 0} {s : Heap T} {b n : ℕ} (inner : b ≢ 0)
       rw level_of_children at (edge_above s (b - 1) n i g h at within (child_within i low) is)
 
   pub below_place : (i : ℕ) (g h : Edge) → turn h ≡ i → inside h ≡ g
-      → place s b n h ≡ length
-      (before (node_items s n) (map (items_below s b) (node_children s n)) i) +
-      place s (b - 1) (node_child s n i) g
+      → place s b n h ≡ length (before_child s b n i) + place s (b - 1) (node_child s n i) g
   below_place i g h at within = rw level_of_children at (place_above s (b - 1) n i g h at within)
 
   pub below_here : (g : Edge)
-      → place s b n g ≡ length
-      (before (node_items s n) (map (items_below s b) (node_children s n)) (turn g))
+      → place s b n g ≡ length (before_child s b n (turn g))
       + place s (b - 1) (node_child s n (turn g)) (inside g)
   below_here g = rw level_of_children at (place_inside s (b - 1) n g)
 
@@ -95,12 +92,11 @@ module _ {T : Type 0} {s : Heap T} {b n : ℕ} (inner : b ≢ 0)
   below_most i g low is = rw level_of_children at (place_within (b - 1) g (below_kid i low) is)
 
   -- after the last child stands nothing
-  pub past_last : (i : ℕ) → i ≡ length (node_items s n) → length (before (node_items s n)
-      (map (items_below s b) (node_children s n)) i) + length
+  pub past_last : (i : ℕ) → i ≡ length (node_items s n) → length (before_child s b n i) + length
       (items_below s b (node_child s n i)) ≡ length (items_below s (suc b) n)
   past_last i last =
       let xs = node_items s n in
-      let lists = map (items_below s b) (node_children s n) in
+      let lists = child_lists s b n in
       let kid = node_child s n i in
       let whole = items_below_at (omega arith) shaped i (omega arith) in
       let none : length (after xs lists i) ≡ 0 = rw last
@@ -114,10 +110,8 @@ module _ {T : Type 0} {s : Heap T} {b n : ℕ} (inner : b ≢ 0)
       )
 
   -- an edge at the end of the child at i is one before the next child
-  pub before_next : (i : ℕ) → i < length (node_items s n)
-      → length (before (node_items s n) (map (items_below s b) (node_children s n)) (i + 1))
-      ≡ length (before (node_items s n) (map (items_below s b) (node_children s n)) i) + length
-      (items_below s b (node_child s n i)) + 1
+  pub before_next : (i : ℕ) → i < length (node_items s n) → length (before_child s b n (i + 1))
+      ≡ length (before_child s b n i) + length (items_below s b (node_child s n i)) + 1
   before_next i low = length-before_more (omega arith) shaped i low
 
   -- where the item before an edge stands, which begins a child or goes further down
@@ -144,8 +138,7 @@ module _ {T : Type 0} {s : Heap T} {b n : ℕ} (inner : b ≢ 0)
     where
       from : (t : ℕ) → t ≡ turn g → 0 < t
       from zero at =
-          let none : length (before (node_items s n)
-          (map (items_below s b) (node_children s n)) (turn g)) ≡ 0 = rw (← at) refl in
+          let none : length (before_child s b n (turn g)) ≡ 0 = rw (← at) refl in
           absurd
           (omega (
             arith,

@@ -1,12 +1,12 @@
 -- The way down from a node: the edges below a node on it, as they are seen from where it began.
-use Rattle.std.proofs.Common.{◌≡◌, ◌≢◌, ℕ, suc, ◌+◌, ◌-◌, ◌*◌, ◌/◌, ◌^◌, ◌<◌, ◌≤◌, length, map, refl, sym, ap, ◌∙◌, arith}
+use Rattle.std.proofs.Common.{◌≡◌, ◌≢◌, ℕ, suc, ◌+◌, ◌-◌, ◌*◌, ◌/◌, ◌^◌, ◌<◌, ◌≤◌, length, refl, sym, ap, ◌∙◌, arith}
 use Rattle.std.proofs.Math.Nat.{pow-suc, pow-le-pow_right, mul_assoc, mul_comm, mul-add, mul-le-mul_left}
-use Rattle.range_store.specs.Heap.{Heap, node_items, node_children, node_child}
+use Rattle.range_store.specs.Heap.{Heap, node_items, node_child}
 use Rattle.range_store.specs.declared.btree.nodes.TheConstants.{CAPACITY}
 use Rattle.range_store.specs.declared.btree.path.Edge.{Edge}
 use Rattle.range_store.specs.declared.btree.path.TheConstants.{PATH_BASE, MAX_LEVELS}
 use Rattle.range_store.specs.Edges.{turn, inside, IsEdge, place}
-use Rattle.range_store.specs.Nodes.{before, items_below, ShapedBut}
+use Rattle.range_store.specs.Nodes.{ShapedBut, before_child}
 use Rattle.range_store.specs.Written.{start_of_place}
 use Rattle.range_store.proofs.Paths.{below_kid, below_edge, below_place}
 
@@ -31,7 +31,7 @@ weight_fits below left weight deep some is =
 module _ {T : Type 0} (s : Heap T) where
   -- how many items stand before the child at i
   abbrev pub ahead_of : ℕ → ℕ → ℕ → ℕ
-  ahead_of b n i = length (before (node_items s n) (map (items_below s b) (node_children s n)) i)
+  ahead_of b n i = length (before_child s b n i)
 
   -- the node `at`, over `left` levels, lies below another by this path, behind so many items
   pub record LiesBelow (below number left at path weight ahead : ℕ) : Type 0 where

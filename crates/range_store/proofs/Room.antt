@@ -8,7 +8,7 @@ use Rattle.std.proofs.lemmas.List.Sums.{sum_by-cons, sum_by-append}
 use Rattle.std.proofs.lemmas.List.Elements.{All-head, All-tail, All-take, All-drop}
 use Rattle.range_store.specs.Heap.{Heap, node_count, node_items, node_children, node_child}
 use Rattle.range_store.specs.declared.btree.nodes.TheConstants.{MIN_LEN, CAPACITY}
-use Rattle.range_store.specs.Nodes.{items_below, used, Shaped, ShapedBut, HasTreeRoom}
+use Rattle.range_store.specs.Nodes.{items_below, used, Shaped, ShapedBut, HasTreeRoom, child_lists}
 use Rattle.range_store.proofs.Below.{weave_items_below, children_length, child_count_cases, used_is, Shaped-but}
 use Rattle.range_store.specs.Weave.{length-weave, list_splits_at}
 
@@ -25,8 +25,7 @@ sizes-append {T} s d us vs =
 pub items_below_size : {T : Type 0} {least most : ℕ} {s : Heap T} {d n : ℕ}
     → ShapedBut least most s d n → length (items_below s (suc d) n) ≡ length (node_items s n) + sizes s d (node_children s n)
 items_below_size {T} {least} {most} {s} {d} {n} shaped = ap length (weave_items_below s d n)
-    ∙ length-weave (node_items s n) (map (items_below s d) (node_children s n))
-    (child_count_cases d _ _
+    ∙ length-weave (node_items s n) (child_lists s d n) (child_count_cases d _ _
     (length-map (node_children s n) (items_below s d) ∙ shaped.node.branches))
 
 children_le_from : {T : Type 0} (s : Heap T) (d : ℕ)

@@ -6,7 +6,8 @@ use Rattle.std.proofs.lemmas.Bool.{cases_eq}
 use Rattle.range_store.specs.Heap.{Heap, Removes, node_items, node_children, node_child}
 use Rattle.range_store.specs.declared.btree.nodes.TheConstants.{CAPACITY, MIN_LEN}
 use Rattle.range_store.specs.Occurrences.{occurrences, occurrences-cons, occurrences-nil, occurrences_itself, occurrences_other}
-use Rattle.range_store.specs.Nodes.{weave, before, items_below, used, here, Shaped, IsTree, IsLooseTree, Shrinks}
+use Rattle.range_store.specs.Nodes.{weave, before, items_below, used, here, Shaped, IsTree, IsLooseTree, Shrinks, child_lists}
+use Rattle.range_store.proofs.Contents.{IsRewritten}
 use Rattle.range_store.proofs.Below.{weave_items_below, used_is, used_leaf, items_below_leaf, Shaped-but, shaped_within_wider}
 use Rattle.range_store.specs.Frame.{same_below, SameBelow}
 use Rattle.range_store.proofs.Edges.{SameEdge, same_edge, edge_inside, turn_within, place_inside}
@@ -14,7 +15,6 @@ use Rattle.range_store.proofs.Moves.{here_some}
 use Rattle.range_store.proofs.Rank.{items_below_none, used_none}
 use Rattle.range_store.specs.declared.btree.path.Edge.{Edge}
 use Rattle.range_store.specs.Edges.{turn, inside, IsEdge, place}
-use Rattle.range_store.specs.Contents.{IsRewritten}
 
 -- the items after one went below the root
 pub loosened_items : {T : Type 0} {s t : Heap T} (levels : ℕ) {root : ℕ} {list : List T}
@@ -155,8 +155,7 @@ only_child_is_root {T} {s} {t} (suc (suc e)) {root} more loose empty gone =
     } in
     let list : items_below t (suc e) kid ≡ items_below s (suc (suc e)) root =
     same.items_below_same
-    ∙ sym (weave_items_below s (suc e) root
-    ∙ ap (λ zs. weave zs (map (items_below s (suc e)) (node_children s root)))
+    ∙ sym (weave_items_below s (suc e) root ∙ ap (λ zs. weave zs (child_lists s (suc e) root))
     (nil_from_length (node_items s root) empty)
     ∙ ap (λ zs. weave [] (map (items_below s (suc e)) zs)) one
     ∙ append-nil (items_below s (suc e) kid)) in

@@ -10,14 +10,13 @@ use Rattle.range_store.specs.declared.btree.nodes.TheConstants.{CAPACITY, MIN_LE
 use Rattle.range_store.specs.declared.btree.path.Edge.{Edge}
 use Rattle.range_store.specs.Nodes.{before, items_below, used, Shrinks, IsLevelled, child_size}
 use Rattle.range_store.specs.Edges.{turn, inside, seat_of, IsEdge, place, IsSeat, seat_place}
-use Rattle.range_store.specs.Contents.{IsPair, Rejoins}
 use Rattle.range_store.specs.Written.{set_parts, item_behind, some_of}
 use Rattle.range_store.specs.Frame.{used_kid_le}
 use Rattle.range_store.specs.Occurrences.{occurrences, occurrences-cons, occurrences_here, occurrences_itself}
 use Rattle.range_store.proofs.Below.{used_is}
 use Rattle.range_store.proofs.Moves.{here_le}
 use Rattle.range_store.proofs.Pairs.{pair_seat, seat_low}
-use Rattle.range_store.proofs.Contents.{left_items_below, part_agree}
+use Rattle.range_store.proofs.Contents.{IsPair, Rejoins, left_items_below, part_agree}
 use Rattle.range_store.proofs.Edits.{remove_parts, take-append-add, drop-append-add}
 use Rattle.range_store.proofs.Joining.{pair_apart, pair_content, united_agree, united_holds, united_rejoins, shared_agree, shared_left, shared_right, shared_rejoins}
 use Rattle.range_store.proofs.Levelling.{levelled_edge, levelled_shrinks, pair_children, pair_of, pair_parts}
@@ -72,6 +71,18 @@ module _ {T : Type 0} {s : Heap T} {low n j : ℕ} (levelled : IsLevelled s low 
   abbrev ks : List ℕ
   ks = node_children s n
 
+  abbrev lefts : List T
+  lefts = node_items s (node_child s n j)
+
+  abbrev rights : List T
+  rights = node_items s (node_child s n (j + 1))
+
+  abbrev a : ℕ
+  a = length (node_items s (node_child s n j))
+
+  abbrev b : ℕ
+  b = length (node_items s (node_child s n (j + 1)))
+
   abbrev K : List ℕ
   K = node_children s (node_child s n j) ++ node_children s (node_child s n (j + 1))
 
@@ -82,23 +93,27 @@ module _ {T : Type 0} {s : Heap T} {low n j : ℕ} (levelled : IsLevelled s low 
     pair : IsPair s low l r
     pair = pair_of s low n j x levelled here
 
-    -- an item went from one child to the other
-    module _ {o t u : Heap T} (y : T) (half : ℕ)
-        (first : Writes s o l (take half X) (take (half + 1) K))
-        (second : Writes o t r (drop (half + 1) X) (drop (half + 1) K))
-        (middle : y ≡ get_or X half y)
-        (parent : Writes t u n (set (node_items s n) j y) (node_children s n))
-        (least : MIN_LEN ≤ half) (most : half ≤ CAPACITY) (rest : half + 1 + MIN_LEN ≤ length X)
-        (few : length X ≤ half + 1 + CAPACITY) where
+    -- an item went from one child to the other, and the first has `half`
+    pub record IsShared (o t u : Heap T) (y : T) (half : ℕ) : Type 0 where
+      pub first : Writes s o l (take half X) (take (half + 1) K)
+      pub second : Writes o t r (drop (half + 1) X) (drop (half + 1) K)
+      pub middle : y ≡ get_or X half y
+      pub parent : Writes t u n (set (node_items s n) j y) (node_children s n)
+      pub least : MIN_LEN ≤ half
+      pub most : half ≤ CAPACITY
+      pub rest : half + 1 + MIN_LEN ≤ length X
+      pub few : length X ≤ half + 1 + CAPACITY
+
+    module _ {o t u : Heap T} {y : T} {half : ℕ} (shared : IsShared o t u y half) where
       within : half < length X
-      within = omega (arith, rest)
+      within = omega (arith, shared.rest)
 
       abbrev cut : Split T
       cut = record { middle = y; right = node_child s n (j + 1) }
 
       rejoined : Rejoins s t low l x r (Some cut)
-      rejoined = shared_rejoins s low l x r pair half within first second cut refl middle least most
-          rest few
+      rejoined = shared_rejoins s low l x r pair half within shared.first shared.second cut refl
+          shared.middle shared.least shared.most shared.rest shared.few
 
       written : Writes t u n (take j xs ++ (y ∷ drop (j + 1) xs))
           (take j ks ++ (l ∷ r ∷ drop (j + 2) ks))
@@ -106,13 +121,10 @@ module _ {T : Type 0} {s : Heap T} {low n j : ℕ} (levelled : IsLevelled s low 
           rw (
             sym (set_parts xs j y levelled.within),
             sym (pair_parts ks j (omega (arith, levelled.within, levelled.node.branches))),
-          ) parent
+          ) shared.parent
 
       shrunk : Shrinks s u (suc low) n (items_below s (suc (suc low)) n)
       shrunk = levelled_shrinks s low n j x levelled here rejoined written
-
-      still : length (node_items u n) ≡ length (node_items s n)
-      still = ap length parent.items_are ∙ length-set xs j y
 
       stays_left : (q : ℕ) (g e h : Edge) → q ≤ half → IsSeat s low X K q g
           → (low ≡ 0 → e ≡ record { leaf = l; path = 0; index = q }) → (0 < low → turn e ≡ q)
@@ -125,9 +137,10 @@ module _ {T : Type 0} {s : Heap T} {low n j : ℕ} (levelled : IsLevelled s low 
           seat_left s half X K q g within low
           (pair_content s low l x r pair).branches small seat in
           let agree = (part_agree s t low (half + 1) K
-          (shared_agree s low l x r pair half within first second)).0 in
+          (shared_agree s low l x r pair half within shared.first shared.second)).0 in
           let edge = seat_written s t l (take half X) (take (half + 1) K) q g e low
-          (shared_left s low l x r pair half within first second) agree leaf at into left.0 in
+          (shared_left s low l x r pair half within shared.first shared.second) agree leaf at into
+          left.0 in
           let alone = seat_alone t low l e (Some cut) edge.0 in
           let up = levelled_edge s low n j x levelled here rejoined written 0 e h (omega (
             arith,
@@ -147,15 +160,16 @@ module _ {T : Type 0} {s : Heap T} {low n j : ℕ} (levelled : IsLevelled s low 
           seat_right s half X K q g within low
           (pair_content s low l x r pair).branches large seat in
           let agree = (part_agree s t low (half + 1) K
-          (shared_agree s low l x r pair half within first second)).1 in
+          (shared_agree s low l x r pair half within shared.first shared.second)).1 in
           let edge = seat_written s t r (drop (half + 1) X) (drop (half + 1) K) (q - half - 1) g e
-          low (shared_right s low l x r pair half within first second) agree leaf at into right.0 in
+          low (shared_right s low l x r pair half within shared.first shared.second) agree leaf at
+          into right.0 in
           let beside = seat_beside t low l e cut edge.0 in
           let up = levelled_edge s low n j x levelled here rejoined written 1 e h turned inner
           beside.0 in
           let fore = ap length (left_items_below half (pair_content s low l x r pair) within
-          (shared_left s low l x r pair half within first second)
-          (shared_right s low l x r pair half within first second)) in
+          (shared_left s low l x r pair half within shared.first shared.second)
+          (shared_right s low l x r pair half within shared.first shared.second)) in
           (up.0, omega (arith, up.1, beside.1, edge.1, right.1, fore))
 
     -- the two became one
@@ -246,76 +260,42 @@ module _ {T : Type 0} {s : Heap T} {low n j : ℕ} (levelled : IsLevelled s low 
 
   -- the child at j lent an item to the one after it
   module _ {u : Heap T} (rotates : RotatesRight s u n j) (spare : MIN_LEN < child_size s n j) where
-    abbrev a : ℕ
-    a = length (node_items s (node_child s n j))
-
-    abbrev b : ℕ
-    b = length (node_items s (node_child s n (j + 1)))
-
-    abbrev lefts : List T
-    lefts = node_items s (node_child s n j)
-
-    abbrev rights : List T
-    rights = node_items s (node_child s n (j + 1))
-
-    abbrev left_kids : List ℕ
-    left_kids = node_children s (node_child s n j)
-
-    abbrev right_kids : List ℕ
-    right_kids = node_children s (node_child s n (j + 1))
-
-    abbrev both : List T
-    both = node_items s (node_child s n j) ++ (rotates.down ∷ node_items s (node_child s n (j + 1)))
-
-    long : length both ≡ a + 1 + b
-    long = omega (arith, length-append lefts (rotates.down ∷ rights))
-
     one : a - 1 + 1 ≡ a
     one = omega (arith, spare)
 
-    first : Writes s rotates.rotates.first l (take (a - 1) both) (take (a - 1 + 1) K)
-    first =
-        let items : take (a - 1) both ≡ take (a - 1) lefts =
-        take-append-le (a - 1) lefts (rotates.down ∷ rights) (omega arith) in
-        let kids : take (a - 1 + 1) K ≡ take a left_kids =
-        ap (λ m. take m K) one
-        ∙ take_fewer low a b left_kids right_kids levelled.left.node.branches
-        levelled.right.node.branches in
-        rw (items, kids) rotates.rotates.left
-
-    second : Writes rotates.rotates.first rotates.rotates.second r (drop (a - 1 + 1) both)
-        (drop (a - 1 + 1) K)
-    second =
-        let items : drop (a - 1 + 1) both ≡ rotates.down ∷ rights =
-        drop-append-add lefts (rotates.down ∷ rights) (a - 1 + 1) 0
-        (omega (arith, spare)) in
-        let kids : drop (a - 1 + 1) K ≡ drop a left_kids ++ right_kids =
-        ap (λ m. drop m K) one
-        ∙ drop_fewer low a b left_kids right_kids levelled.left.node.branches
-        levelled.right.node.branches in
-        rw (items, kids) rotates.rotates.right
-
-    middle : rotates.up ≡ get_or both (a - 1) rotates.up
-    middle =
+    to_right : IsShared rotates.down rotates.down_is rotates.rotates.first rotates.rotates.second u
+        rotates.up (a - 1)
+    to_right =
+        let more = rotates.down ∷ rights in
+        let long = length-append lefts more in
         let fore : length (take (a - 1) lefts) ≡ a - 1 =
         length-take-le (a - 1) lefts (omega arith) in
-        sym (
-        get_or_append_left lefts (rotates.down ∷ rights) rotates.up (a - 1) (omega (arith, spare))
-        ∙ ap (λ zs. get_or zs (a - 1) rotates.up) rotates.up_is
-        ∙ ap (λ m. get_or (take (a - 1) lefts ++ (rotates.up ∷ [])) m rotates.up) (sym fore)
-        ∙ item_behind (take (a - 1) lefts) rotates.up [] rotates.up
-        )
-
-    least : a - 1 + 1 + MIN_LEN ≤ length both
-    least = omega (arith, long, spare, levelled.right.node.enough)
-
-    few : length both ≤ a - 1 + 1 + CAPACITY
-    few = omega (arith, long, spare, levelled.fits)
+        record {
+          first = rw (
+            take-append-le (a - 1) lefts more (omega arith),
+            one,
+            take_fewer low a b _ _ levelled.left.node.branches levelled.right.node.branches,
+          ) rotates.rotates.left;
+          second = rw (
+            drop-append-add lefts more (a - 1 + 1) 0 (omega (arith, spare)),
+            one,
+            drop_fewer low a b _ _ levelled.left.node.branches levelled.right.node.branches,
+          ) rotates.rotates.right;
+          middle = sym (
+              get_or_append_left lefts more rotates.up (a - 1) (omega (arith, spare))
+              ∙ ap (λ zs. get_or zs (a - 1) rotates.up) rotates.up_is
+              ∙ ap (λ m. get_or (take (a - 1) lefts ++ (rotates.up ∷ [])) m rotates.up) (sym fore)
+              ∙ item_behind (take (a - 1) lefts) rotates.up [] rotates.up
+              );
+          parent = rotates.rotates.parent;
+          least = omega (arith, spare);
+          most = omega (arith, levelled.left.node.fits);
+          rest = omega (arith, long, spare, levelled.right.node.enough);
+          few = omega (arith, long, spare, levelled.fits);
+        }
 
     pub next_shrinks : Shrinks s u (suc low) n (items_below s (suc (suc low)) n)
-    next_shrinks = shrunk rotates.down rotates.down_is rotates.up (a - 1) first second middle
-        rotates.rotates.parent (omega (arith, spare)) (omega (arith, levelled.left.node.fits)) least
-        few
+    next_shrinks = shrunk rotates.down rotates.down_is to_right
 
     pub next_kept : length (node_items u n) ≡ length (node_items s n)
     next_kept = ap length rotates.rotates.parent.items_are ∙ length-set xs j rotates.up
@@ -331,73 +311,41 @@ module _ {T : Type 0} {s : Heap T} {low n j : ℕ} (levelled : IsLevelled s low 
         (λ none. absurd (omega (arith, none))) (λ some. refl) in
         let moved : a + 1 + seat_of low e - (a - 1) - 1 ≡ seat_of low e + 1 =
         omega (arith, spare) in
-        let up = moves_right rotates.down rotates.down_is rotates.up (a - 1) first second middle
-        rotates.rotates.parent (omega (arith, spare)) (omega (arith, levelled.left.node.fits)) least
-        few q (inside e) g h (omega arith) seat.0 (rw moved leaf) (rw moved at) into turned inner in
+        let up = moves_right rotates.down rotates.down_is to_right q (inside e) g h (omega arith)
+        seat.0 (rw moved leaf) (rw moved at) into turned inner in
         (up.0, up.1 ∙ seat.1)
 
   -- the child after j lent an item to that at j
   module _ {u : Heap T} (rotates : RotatesLeft s u n j)
       (spare : MIN_LEN < child_size s n (j + 1)) where
-    abbrev a' : ℕ
-    a' = length (node_items s (node_child s n j))
-
-    abbrev b' : ℕ
-    b' = length (node_items s (node_child s n (j + 1)))
-
-    abbrev lefts' : List T
-    lefts' = node_items s (node_child s n j)
-
-    abbrev rights' : List T
-    rights' = node_items s (node_child s n (j + 1))
-
-    abbrev both' : List T
-    both' =
-        node_items s (node_child s n j) ++ (rotates.down ∷ node_items s (node_child s n (j + 1)))
-
-    long' : length both' ≡ a' + 1 + b'
-    long' = omega (arith, length-append lefts' (rotates.down ∷ rights'))
-
-    next : a' + 1 + 1 ≡ a' + 2
-    next = omega arith
-
-    first' : Writes s rotates.rotates.first l (take (a' + 1) both') (take (a' + 1 + 1) K)
-    first' =
-        let kids =
-        ap (λ m. take m K) next
-        ∙ take_children low a' b' _ _ levelled.left.node.branches
-        levelled.right.node.branches in
-        rw (take-append-add lefts' (rotates.down ∷ rights') (a' + 1) 1 refl, kids)
-        rotates.rotates.left
-
-    second' : Writes rotates.rotates.first rotates.rotates.second r (drop (a' + 1 + 1) both')
-        (drop (a' + 1 + 1) K)
-    second' =
-        let kids =
-        ap (λ m. drop m K) next
-        ∙ drop_children low a' b' _ _ levelled.left.node.branches
-        levelled.right.node.branches in
-        rw (drop-append-add lefts' (rotates.down ∷ rights') (a' + 1 + 1) 2 next, kids)
-        rotates.rotates.right
-
-    middle' : rotates.up ≡ get_or both' (a' + 1) rotates.up
-    middle' =
-        sym (get_or-append-add lefts' (rotates.down ∷ rights') 1 rotates.up
-        ∙ ap (λ zs. get_or zs 0 rotates.up) rotates.up_is)
-
-    least' : a' + 1 + 1 + MIN_LEN ≤ length both'
-    least' = omega (arith, long', spare)
-
-    few' : length both' ≤ a' + 1 + 1 + CAPACITY
-    few' = omega (arith, long', levelled.right.node.fits)
+    to_left : IsShared rotates.down rotates.down_is rotates.rotates.first rotates.rotates.second u
+        rotates.up (a + 1)
+    to_left =
+        let more = rotates.down ∷ rights in
+        let long = length-append lefts more in
+        let next : a + 1 + 1 ≡ a + 2 = omega arith in
+        record {
+          first = rw (
+            take-append-add lefts more (a + 1) 1 refl,
+            next,
+            take_children low a b _ _ levelled.left.node.branches levelled.right.node.branches,
+          ) rotates.rotates.left;
+          second = rw (
+            drop-append-add lefts more (a + 1 + 1) 2 next,
+            next,
+            drop_children low a b _ _ levelled.left.node.branches levelled.right.node.branches,
+          ) rotates.rotates.right;
+          middle = sym (get_or-append-add lefts more 1 rotates.up
+              ∙ ap (λ zs. get_or zs 0 rotates.up) rotates.up_is);
+          parent = rotates.rotates.parent;
+          least = omega (arith, levelled.left.node.enough);
+          most = omega (arith, spare, levelled.fits);
+          rest = omega (arith, long, spare);
+          few = omega (arith, long, levelled.right.node.fits);
+        }
 
     pub previous_shrinks : Shrinks s u (suc low) n (items_below s (suc (suc low)) n)
-    previous_shrinks = shrunk rotates.down rotates.down_is rotates.up (a' + 1) first' second'
-        middle' rotates.rotates.parent (omega (arith, levelled.left.node.enough)) (omega (
-          arith,
-          spare,
-          levelled.fits,
-        )) least' few'
+    previous_shrinks = shrunk rotates.down rotates.down_is to_left
 
     pub previous_kept : length (node_items u n) ≡ length (node_items s n)
     previous_kept = ap length rotates.rotates.parent.items_are ∙ length-set xs j rotates.up
@@ -408,15 +356,9 @@ module _ {T : Type 0} {s : Heap T} {low n j : ℕ} (levelled : IsLevelled s low 
         let seat = pair_seat rotates.down levelled rotates.down_is j e (seat_of low e) (inl refl) is
         (λ none. refl) (λ some. absurd (omega (arith, some))) in
         let itself = edge_itself low l e is in
-        let up = stays_left rotates.down rotates.down_is rotates.up (a' + 1) first' second' middle'
-        rotates.rotates.parent (omega (arith, levelled.left.node.enough)) (omega (
-          arith,
-          spare,
-          levelled.fits,
-        )) least' few' (seat_of low e) (inside e) e h (omega (
-          arith,
-          seat_low low e levelled.left is,
-        )) seat.0 itself.0 itself.1 (λ some. refl) turned inner in
+        let up = stays_left rotates.down rotates.down_is to_left (seat_of low e) (inside e) e h
+        (omega (arith, seat_low low e levelled.left is)) seat.0 itself.0 itself.1 (λ some. refl)
+        turned inner in
         (up.0, up.1 ∙ seat.1)
 
   -- the two were joined

@@ -5,7 +5,7 @@ use Rattle.range_store.specs.Heap.{Heap, node_items, node_children, node_child}
 use Rattle.range_store.specs.declared.btree.path.Edge.{Edge}
 use Rattle.range_store.specs.declared.btree.path.Home.{Home}
 use Rattle.range_store.specs.declared.btree.path.TheConstants.{PATH_BASE}
-use Rattle.range_store.specs.Nodes.{items_below, before}
+use Rattle.range_store.specs.Nodes.{items_below, before, before_child}
 
 -- the child through which the path to an edge goes first, and the edge as that child sees it
 abbrev pub turn : Edge → ℕ
@@ -36,7 +36,7 @@ module _ {T : Type 0} where
   unfoldable pub place : Heap T → ℕ → ℕ → Edge → ℕ
   place s zero n edge = edge.index
   place s (suc d) n edge =
-      length (before (node_items s n) (map (items_below s (suc d)) (node_children s n)) (turn edge))
+      length (before_child s (suc d) n (turn edge))
       + place s d (node_child s n (turn edge)) (inside edge)
 
   -- where the item before the edge stands

@@ -44,6 +44,16 @@ module _ {T : Type 0} where
   items_below s zero n = []
   items_below s (suc d) n = weave (node_items s n) (map (items_below s d) (node_children s n))
 
+  -- the lists below the children of a node, and what stands before the one at i, and after it
+  abbrev pub child_lists : Heap T → ℕ → ℕ → List (List T)
+  child_lists s d n = map (items_below s d) (node_children s n)
+
+  abbrev pub before_child : Heap T → ℕ → ℕ → ℕ → List T
+  before_child s d n i = before (node_items s n) (child_lists s d n) i
+
+  abbrev pub after_child : Heap T → ℕ → ℕ → ℕ → List T
+  after_child s d n i = after (node_items s n) (child_lists s d n) i
+
   -- the nodes of the tree below a node, and itself
   unfoldable pub used : Heap T → ℕ → ℕ → List ℕ
   used s zero n = []
@@ -90,10 +100,6 @@ module _ {T : Type 0} where
   abbrev pub separators : Option (Split T) → List T
   separators None = []
   separators (Some split) = split.middle ∷ []
-
-  abbrev pub rights : Option (Split T) → List ℕ
-  rights None = []
-  rights (Some split) = split.right ∷ []
 
   -- a node that was not cut has so many items; halves always have enough
   abbrev pub EnoughFor : ℕ → Option (Split T) → ℕ → Type 0

@@ -13,7 +13,7 @@ use Rattle.range_store.specs.Occurrences.{occurrences, occurrences-append, occur
 use Rattle.range_store.specs.declared.btree.path.Edge.{Edge}
 use Rattle.range_store.specs.declared.btree.path.Home.{Home}
 use Rattle.range_store.specs.declared.btree.nodes.TheConstants.{CAPACITY, MIN_LEN}
-use Rattle.range_store.specs.Nodes.{weave, rest_of, before, after, items_below, used, IsNode, Shaped, ShapedBut, IsRoot, IsTree, here}
+use Rattle.range_store.specs.Nodes.{weave, rest_of, before, after, items_below, used, IsNode, Shaped, ShapedBut, IsRoot, IsTree, here, child_lists}
 use Rattle.range_store.specs.Edges.{turn, inside, is_start, IsEdge, place, home_of}
 use Rattle.range_store.specs.Frame.{AgreeAt, same_children, used_kid, used_kid_le}
 use Rattle.range_store.specs.Weave.{weave_at, weave_cut, length-weave, length-before, list_splits_at, regroup}
@@ -119,8 +119,7 @@ module _ {T : Type 0} {s t : Heap T} (same : SameShape s t) where
   length_same zero n = refl
   length_same (suc d) n =
       rw (same.children n) (weave_length (node_items t n) (node_items s n)
-      (map (items_below t d) (node_children s n))
-      (map (items_below s d) (node_children s n)) (same.sizes n)
+      (map (items_below t d) (node_children s n)) (child_lists s d n) (same.sizes n)
       (lists_length_from d (length_same d) (node_children s n)))
 
   node_same : {least most d n : ℕ} → IsNode least most s d n → IsNode least most t d n
@@ -249,7 +248,7 @@ module _ {T : Type 0} (s : Heap T) where
   start_of_place least most zero n g shaped is none = (is.1, none)
   start_of_place least most (suc d) n g shaped is none =
       let xs = node_items s n in
-      let lists = map (items_below s (suc d)) (node_children s n) in
+      let lists = child_lists s (suc d) n in
       let front =
       length-before xs lists (turn g) (omega (arith, is.0, shaped.node.branches))
       (omega (arith, is.0, length-map (node_children s n) (items_below s (suc d))))
@@ -268,7 +267,7 @@ module _ {T : Type 0} (s : Heap T) where
     ks = node_children s n
 
     abbrev lists : List (List T)
-    lists = map (items_below s (suc d)) (node_children s n)
+    lists = child_lists s (suc d) n
 
     abbrev i : ℕ
     i = turn g

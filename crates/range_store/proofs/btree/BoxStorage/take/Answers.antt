@@ -94,7 +94,6 @@ home-home-requires g c =
 
 pub replace_item-item-requires : goal.replace_item-item-requires
 replace_item-item-requires g c =
-    let s = c.args.self.now in
     let t = c.take_in_leaf-next.new.self in
     let behind = tree_behind c.requires.edge (omega (arith, c.if-edge-gt0.false)) in
     let left : IsBoxEdge c.take_in_leaf-next.new.self c.in-Some-left.left

@@ -13,4 +13,5 @@ item_at-requires-clause-within g c =
 pub returns : goal.returns
 returns g c =
     let present = rw (← c.self.view_is) at c.requires.present in
-    rw (← c.self.view_is) (rw (items_seen c.self.invariant.0 c.args.number present) c.item_at.ensures)
+    rw (← c.self.view_is)
+    (rw (items_seen c.self.invariant.0 c.args.number present) c.item_at.ensures)

@@ -17,7 +17,6 @@ replace_item-down-requires g c =
 
 pub returns : goal.returns
 returns g c =
-    let s = c.args.self.now in
     let t = c.take_beside-up.new.self in
     let u = c.replace_item-down.new.self in
     let n = c.args.number in
