@@ -183,6 +183,20 @@ content_room {T} {s} {t} {b} {n} {xs} {ks} moved content longer room over =
     let few = children_le t b ks content.shaped in
     omega (arith, woven, few, longer, moved.len, room.filled, moved.capacity, over)
 
+-- what stands in the place of a node
+pub tops_many : {T : Type 0} (k : ℕ) (cut : Option (Split T))
+    → length (tops k cut) ≡ length (separators cut) + 1
+tops_many k None = refl
+tops_many k (Some cut) = refl
+
+pub weave_tops : {T : Type 0} (fore back : List T) (L R : List (List T)) (f : ℕ → List T) (k : ℕ)
+    (cut : Option (Split T)) → length fore ≡ length L
+    → weave (fore ++ (separators cut ++ back)) (L ++ (map f (tops k cut) ++ R))
+    ≡ front_of fore L ++ (weave (separators cut) (map f (tops k cut)) ++ rest_of back R)
+weave_tops fore back L R f k None same = weave_splice fore [] back L (f k) [] R same refl
+weave_tops fore back L R f k (Some cut) same =
+    weave_splice fore (cut.middle ∷ []) back L (f k) (f cut.right ∷ []) R same refl
+
 -- the child at i became one or two, with one more item, before that at `rest` of its own
 pub record Grows {T : Type 0} (s t : Heap T) (b n i rest : ℕ) (item : T)
     (split : Option (Split T)) : Type 0 where
@@ -276,10 +290,6 @@ module _ {T : Type 0} {s t : Heap T} {b n i rest : ℕ} {item : T} {split : Opti
       enough None = kid_shape.node.enough
       enough (Some cut) = tt
 
-  tops_many : (cut : Option (Split T)) → length (tops kid cut) ≡ length (separators cut) + 1
-  tops_many None = refl
-  tops_many (Some cut) = refl
-
   us_many : length us ≡ i
   us_many = length-take-le i ks (omega (arith, many))
 
@@ -292,7 +302,7 @@ module _ {T : Type 0} {s t : Heap T} {b n i rest : ℕ} {item : T} {split : Opti
     child_count_inner b (length new_xs) (omega arith),
     length-append us (tops kid split ++ vs),
     length-append (tops kid split) vs,
-    tops_many split,
+    tops_many kid split,
     us_many,
     length-append (take i xs) (separators split ++ drop i xs),
     length-append (separators split) (drop i xs),
@@ -306,22 +316,6 @@ module _ {T : Type 0} {s t : Heap T} {b n i rest : ℕ} {item : T} {split : Opti
   abbrev lists : List (List T)
   lists = child_lists s b n
 
-  woven : (cut : Option (Split T))
-      → weave (take i xs ++ (separators cut ++ drop i xs))
-      (map (items_below s b) us
-      ++ (map (items_below t b) (tops kid cut) ++ map (items_below s b) vs))
-      ≡ front_of (take i xs) (map (items_below s b) us)
-      ++ (weave (separators cut) (map (items_below t b) (tops kid cut))
-      ++ rest_of (drop i xs) (map (items_below s b) vs))
-  woven None =
-      weave_splice (take i xs) [] (drop i xs) (map (items_below s b) us) (items_below t b kid) []
-      (map (items_below s b) vs)
-      (omega (arith, front_many, us_many, length-map us (items_below s b))) refl
-  woven (Some cut) =
-      weave_splice (take i xs) (cut.middle ∷ []) (drop i xs) (map (items_below s b) us)
-      (items_below t b kid) (items_below t b cut.right ∷ []) (map (items_below s b) vs)
-      (omega (arith, front_many, us_many, length-map us (items_below s b))) refl
-
   pub grown_listed : weave new_xs (map (items_below t b) new_ks)
       ≡ insert (items_below s (suc b) n) (length (before xs lists i) + rest) item
   grown_listed =
@@ -329,7 +323,9 @@ module _ {T : Type 0} {s t : Heap T} {b n i rest : ℕ} {item : T} {split : Opti
       ≡ insert (items_below s b kid) rest item = rw level at grows.child.listed in
       let whole = items_below_at (omega arith) grows.shaped i grows.low in
       ap (weave new_xs) (run_lists grown_run)
-      ∙ woven split
+      ∙ weave_tops (take i xs) (drop i xs) (map (items_below s b) us) (map (items_below s b) vs)
+      (items_below t b) kid split
+      (omega (arith, front_many, us_many, length-map us (items_below s b)))
       ∙ rw (inserted, ← take-map (items_below s b) i ks, ← drop-map (items_below s b) (i + 1) ks)
       refl
       ∙ sym (insert_middle (before xs lists i) (items_below s b kid)
@@ -360,7 +356,7 @@ module _ {T : Type 0} {s t : Heap T} {b n i rest : ℕ} {item : T} {split : Opti
   grown_seat side g seat =
       let all =
       seat_run t (b - 1) us (tops kid split) vs (take i xs) (separators split)
-      (drop i xs) i side g us_many front_many (tops_many split) seat in
+      (drop i xs) i side g us_many front_many (tops_many kid split) seat in
       let here = ap (λ m. seat_place t m new_xs new_ks (i + side) g) level in
       let sums = ap (λ m. sum_by length (map (items_below t m) us)) level in
       let front =

@@ -35,7 +35,7 @@ child_count-join : (d a b m n : ℕ) → m ≡ child_count d a → n ≡ child_c
 child_count-join zero a b m n h h' = omega arith
 child_count-join (suc d) a b m n h h' = omega arith
 
-module _ {T : Type 0} (s : Heap T) (d l : ℕ) (x : T) (r : ℕ) (pair : IsPair s d l r) where
+module _ {T : Type 0} {s : Heap T} {d l r : ℕ} (x : T) (pair : IsPair s d l r) where
   abbrev xs : List T
   xs = node_items s l ++ (x ∷ node_items s r)
 
@@ -118,6 +118,19 @@ module _ {T : Type 0} (s : Heap T) (d l : ℕ) (x : T) (r : ℕ) (pair : IsPair 
   pub pair_length : length xs ≡ length (node_items s l) + 1 + length (node_items s r)
   pair_length = omega (arith, length-append (node_items s l) (x ∷ node_items s r))
 
+  swapped : SameNodes (l ∷ r ∷ F) (r ∷ l ∷ F)
+  swapped =
+      record {
+        occur = λ k. omega (
+          arith,
+          occurrences-cons k l (r ∷ F),
+          occurrences-cons k r F,
+          occurrences-cons k r (l ∷ F),
+          occurrences-cons k l F,
+        );
+        len = refl;
+      }
+
   -- all of it in the left node
   module _ {t u : Heap T} (written : Writes s t l xs ks) (removed : Removes t u r)
       (few : length xs ≤ CAPACITY) where
@@ -159,19 +172,6 @@ module _ {T : Type 0} (s : Heap T) (d l : ℕ) (x : T) (r : ℕ) (pair : IsPair 
           MIN_LEN (omega (arith, pair_length, pair.enough)) (omega (arith, few))
           pair_content.branches pair_content.shaped)) (All-nil _);
     }
-      where
-        swapped : SameNodes (l ∷ r ∷ F) (r ∷ l ∷ F)
-        swapped =
-            record {
-              occur = λ k. omega (
-                arith,
-                occurrences-cons k l (r ∷ F),
-                occurrences-cons k r F,
-                occurrences-cons k r (l ∷ F),
-                occurrences-cons k l F,
-              );
-              len = refl;
-            }
 
   -- the first half of it in the left node, the other in the right one
   module _ {t u : Heap T} (half : ℕ) (low : half < length xs)
@@ -218,7 +218,7 @@ module _ {T : Type 0} (s : Heap T) (d l : ℕ) (x : T) (r : ℕ) (pair : IsPair 
           (used u (suc d) l ++ (used u (suc d) r ++ []))
           (record { occur = λ k. sym (pair_nodes.occur k); len = sym pair_nodes.len })
           (halves_nodes half pair_content low shared_left shared_right) (Moves-then
-          (Moves-like (r ∷ l ∷ F) (r ∷ l ∷ F) swapped' swapped' (Writes-moves (r ∷ F) first))
+          (Moves-like (r ∷ l ∷ F) (r ∷ l ∷ F) swapped swapped (Writes-moves (r ∷ F) first))
           (Writes-moves (l ∷ F) second));
       shaped =
           let but = halves_shape half pair_content low shared_left shared_right least_left most_left
@@ -226,19 +226,6 @@ module _ {T : Type 0} (s : Heap T) (d l : ℕ) (x : T) (r : ℕ) (pair : IsPair 
           All-weaker (ShapedBut MIN_LEN CAPACITY u d) (Shaped u (suc d))
           (λ k. Shaped-from_but u d k) (l ∷ r ∷ []) but;
     })
-      where
-        swapped' : SameNodes (l ∷ r ∷ F) (r ∷ l ∷ F)
-        swapped' =
-            record {
-              occur = λ k. omega (
-                arith,
-                occurrences-cons k l (r ∷ F),
-                occurrences-cons k r F,
-                occurrences-cons k r (l ∷ F),
-                occurrences-cons k l F,
-              );
-              len = refl;
-            }
 
 -- the seat of an edge among the items of both, from that in the left or in the right one
 module _ {T : Type 0} (s : Heap T) (l : ℕ) (x : T) (r : ℕ) (g : Edge) where

@@ -13,7 +13,7 @@ use Rattle.range_store.specs.Weave.{list_splits_at, weave_splice, length-before}
 use Rattle.range_store.proofs.Below.{weave_items_below}
 use Rattle.range_store.proofs.Moves.{Moves-then, Writes-moves}
 use Rattle.range_store.proofs.Contents.{IsPair, Rejoins, held_items_below, held_used, held_shape, written_holds, written_agree}
-use Rattle.range_store.proofs.Growing.{Runs, run_moved, run_content, run_lists, same_before, used_old}
+use Rattle.range_store.proofs.Growing.{Runs, tops_many, weave_tops, run_moved, run_content, run_lists, same_before, used_old}
 use Rattle.range_store.proofs.Seats.{seat_run, seat_written}
 
 -- the parts round the two children at j and after it
@@ -25,7 +25,7 @@ pair_parts ks j low =
     ∙ ap (λ zs. take j ks ++ (get_or ks j 0 ∷ zs))
     (drop_more ks (j + 1) 0 low ∙ ap (λ m. get_or ks (j + 1) 0 ∷ drop m ks) far)
 
-module _ {T : Type 0} (s : Heap T) (low n j : ℕ) (x : T) (levelled : IsLevelled s low n j)
+module _ {T : Type 0} {s : Heap T} {low n j : ℕ} (x : T) (levelled : IsLevelled s low n j)
     (here : x ≡ get_or (node_items s n) j x) where
   abbrev xs : List T
   xs = node_items s n
@@ -121,10 +121,6 @@ module _ {T : Type 0} (s : Heap T) (low n j : ℕ) (x : T) (levelled : IsLevelle
         take j (node_children s n) ++ (tops (node_child s n j) split
         ++ drop (j + 2) (node_children s n))
 
-    tops_many : (cut : Option (Split T)) → length (tops l cut) ≡ length (separators cut) + 1
-    tops_many None = refl
-    tops_many (Some cut) = refl
-
     few : (cut : Option (Split T)) → length (separators cut) ≤ 1
     few None = omega arith
     few (Some cut) = omega arith
@@ -146,30 +142,13 @@ module _ {T : Type 0} (s : Heap T) (low n j : ℕ) (x : T) (levelled : IsLevelle
       new_length,
       length-append us (tops l split ++ vs),
       length-append (tops l split) vs,
-      tops_many split,
+      tops_many l split,
       us_many,
       length-drop (j + 2) ks,
       many,
       levelled.within,
     ))
         levelled.before rejoins.shaped levelled.behind
-
-    woven : (cut : Option (Split T))
-        → weave (take j xs ++ (separators cut ++ drop (j + 1) xs))
-        (map (items_below s (suc low)) us
-        ++ (map (items_below t (suc low)) (tops l cut) ++ map (items_below s (suc low)) vs))
-        ≡ front_of (take j xs) (map (items_below s (suc low)) us)
-        ++ (weave (separators cut) (map (items_below t (suc low)) (tops l cut))
-        ++ rest_of (drop (j + 1) xs) (map (items_below s (suc low)) vs))
-    woven None =
-        weave_splice (take j xs) [] (drop (j + 1) xs) (map (items_below s (suc low)) us)
-        (items_below t (suc low) l) [] (map (items_below s (suc low)) vs)
-        (omega (arith, front_many, us_many, length-map us (items_below s (suc low)))) refl
-    woven (Some cut) =
-        weave_splice (take j xs) (cut.middle ∷ []) (drop (j + 1) xs)
-        (map (items_below s (suc low)) us) (items_below t (suc low) l)
-        (items_below t (suc low) cut.right ∷ []) (map (items_below s (suc low)) vs)
-        (omega (arith, front_many, us_many, length-map us (items_below s (suc low)))) refl
 
     woven_old : items_below s (suc (suc low)) n
         ≡ front_of (take j xs) (map (items_below s (suc low)) us)
@@ -193,7 +172,10 @@ module _ {T : Type 0} (s : Heap T) (low n j : ℕ) (x : T) (levelled : IsLevelle
     new_listed : weave new_xs (map (items_below t (suc low)) new_ks)
         ≡ items_below s (suc (suc low)) n
     new_listed = ap (weave new_xs) (run_lists pair_run)
-        ∙ woven split ∙ rw rejoins.listed refl ∙ sym woven_old
+        ∙ weave_tops (take j xs) (drop (j + 1) xs) (map (items_below s (suc low)) us)
+        (map (items_below s (suc low)) vs) (items_below t (suc low)) l split
+        (omega (arith, front_many, us_many, length-map us (items_below s (suc low))))
+        ∙ rw rejoins.listed refl ∙ sym woven_old
 
     -- what is written to the node
     pub pair_children : (cut : Option (Split T))
@@ -228,7 +210,7 @@ module _ {T : Type 0} (s : Heap T) (low n j : ℕ) (x : T) (levelled : IsLevelle
       levelled_edge side g h at into seat =
           let run =
           seat_run t low us (tops l split) vs (take j xs) (separators split)
-          (drop (j + 1) xs) j side g us_many front_many (tops_many split) seat in
+          (drop (j + 1) xs) j side g us_many front_many (tops_many l split) seat in
           let holds = written_holds u new_content written in
           let agree = written_agree u new_content written in
           let edge =

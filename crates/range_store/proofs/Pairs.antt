@@ -14,7 +14,11 @@ use Rattle.range_store.proofs.Levelling.{pair_of}
 pub seat_low : {T : Type 0} {s : Heap T} (low : ℕ) {k : ℕ} (g : Edge) {least : ℕ}
     → ShapedBut least CAPACITY s low k → IsEdge s low k g → seat_of low g ≤ length (node_items s k)
 seat_low {T} {s} zero {k} g {least} shaped is = leaf_index s k g is
-seat_low {T} {s} (suc d) {k} g shaped is = omega (arith, turn_within s d k g is, shaped.node.branches)
+seat_low {T} {s} (suc d) {k} g shaped is = omega (
+  arith,
+  turn_within s d k g is,
+  shaped.node.branches,
+)
 
 -- the seat of an edge below one of two neighbours, in either of them and among what both have
 pub near_seat : {T : Type 0} {s : Heap T} {low n j : ℕ} (i : ℕ) (g : Edge) → IsLevelled s low n j
@@ -81,11 +85,11 @@ module _ {T : Type 0} {s : Heap T} {low n j : ℕ} (x : T) (levelled : IsLevelle
   unfolding seat_place
   pair_seat i g q (inl same) is left right =
       let at : q ≡ seat_of low g = left (omega (arith, same)) in
-      let seat = seat_from_left s l x r g low (pair_of s low n j x levelled here) (rw same at is) in
+      let seat = seat_from_left s l x r g low (pair_of x levelled here) (rw same at is) in
       rw (at, same) (seat.0, omega (arith, seat.1))
   pair_seat i g q (inr next) is left right =
       let at : q ≡ length (node_items s l) + 1 + seat_of low g =
       right (omega (arith, next)) in
       let seat =
-      seat_from_right s l x r g low (pair_of s low n j x levelled here) (rw next at is) in
+      seat_from_right s l x r g low (pair_of x levelled here) (rw next at is) in
       rw (at, next) (seat.0, omega (arith, seat.1, rest_before))

@@ -91,7 +91,7 @@ module _ {T : Type 0} {s : Heap T} {low n j : ℕ} (levelled : IsLevelled s low 
     X = node_items s (node_child s n j) ++ (x ∷ node_items s (node_child s n (j + 1)))
 
     pair : IsPair s low l r
-    pair = pair_of s low n j x levelled here
+    pair = pair_of x levelled here
 
     -- an item went from one child to the other, and the first has `half`
     pub record IsShared (o t u : Heap T) (y : T) (half : ℕ) : Type 0 where
@@ -112,7 +112,7 @@ module _ {T : Type 0} {s : Heap T} {low n j : ℕ} (levelled : IsLevelled s low 
       cut = record { middle = y; right = node_child s n (j + 1) }
 
       rejoined : Rejoins s t low l x r (Some cut)
-      rejoined = shared_rejoins s low l x r pair half within shared.first shared.second cut refl
+      rejoined = shared_rejoins x pair half within shared.first shared.second cut refl
           shared.middle shared.least shared.most shared.rest shared.few
 
       written : Writes t u n (take j xs ++ (y ∷ drop (j + 1) xs))
@@ -124,7 +124,7 @@ module _ {T : Type 0} {s : Heap T} {low n j : ℕ} (levelled : IsLevelled s low 
           ) shared.parent
 
       shrunk : Shrinks s u (suc low) n (items_below s (suc (suc low)) n)
-      shrunk = levelled_shrinks s low n j x levelled here rejoined written
+      shrunk = levelled_shrinks x levelled here rejoined written
 
       stays_left : (q : ℕ) (g e h : Edge) → q ≤ half → IsSeat s low X K q g
           → (low ≡ 0 → e ≡ record { leaf = l; path = 0; index = q }) → (0 < low → turn e ≡ q)
@@ -133,19 +133,16 @@ module _ {T : Type 0} {s : Heap T} {low n j : ℕ} (levelled : IsLevelled s low 
           × (place u (suc low) n h
           ≡ length (before xs (map (items_below s (suc low)) ks) j) + seat_place s low X K q g)
       stays_left q g e h small seat leaf at into turned inner =
-          let left =
-          seat_left s half X K q g within low
-          (pair_content s low l x r pair).branches small seat in
+          let left = seat_left s half X K q g within low (pair_content x pair).branches small seat
+          in
           let agree = (part_agree s t low (half + 1) K
-          (shared_agree s low l x r pair half within shared.first shared.second)).0 in
+          (shared_agree x pair half within shared.first shared.second)).0 in
           let edge = seat_written s t l (take half X) (take (half + 1) K) q g e low
-          (shared_left s low l x r pair half within shared.first shared.second) agree leaf at into
-          left.0 in
+          (shared_left x pair half within shared.first shared.second) agree leaf at into left.0 in
           let alone = seat_alone t low l e (Some cut) edge.0 in
-          let up = levelled_edge s low n j x levelled here rejoined written 0 e h (omega (
-            arith,
-            turned,
-          )) inner alone.0 in
+          let up = levelled_edge x levelled here rejoined written 0 e h (omega (arith, turned))
+          inner
+          alone.0 in
           (up.0, omega (arith, up.1, alone.1, edge.1, left.1))
 
       moves_right : (q : ℕ) (g e h : Edge) → half < q → IsSeat s low X K q g
@@ -157,19 +154,17 @@ module _ {T : Type 0} {s : Heap T} {low n j : ℕ} (levelled : IsLevelled s low 
           ≡ length (before xs (map (items_below s (suc low)) ks) j) + seat_place s low X K q g)
       moves_right q g e h large seat leaf at into turned inner =
           let right =
-          seat_right s half X K q g within low
-          (pair_content s low l x r pair).branches large seat in
+          seat_right s half X K q g within low (pair_content x pair).branches large seat in
           let agree = (part_agree s t low (half + 1) K
-          (shared_agree s low l x r pair half within shared.first shared.second)).1 in
+          (shared_agree x pair half within shared.first shared.second)).1 in
           let edge = seat_written s t r (drop (half + 1) X) (drop (half + 1) K) (q - half - 1) g e
-          low (shared_right s low l x r pair half within shared.first shared.second) agree leaf at
-          into right.0 in
+          low (shared_right x pair half within shared.first shared.second) agree leaf at into
+          right.0 in
           let beside = seat_beside t low l e cut edge.0 in
-          let up = levelled_edge s low n j x levelled here rejoined written 1 e h turned inner
-          beside.0 in
-          let fore = ap length (left_items_below half (pair_content s low l x r pair) within
-          (shared_left s low l x r pair half within shared.first shared.second)
-          (shared_right s low l x r pair half within shared.first shared.second)) in
+          let up = levelled_edge x levelled here rejoined written 1 e h turned inner beside.0 in
+          let fore = ap length (left_items_below half (pair_content x pair) within
+          (shared_left x pair half within shared.first shared.second)
+          (shared_right x pair half within shared.first shared.second)) in
           (up.0, omega (arith, up.1, beside.1, edge.1, right.1, fore))
 
     -- the two became one
@@ -177,18 +172,18 @@ module _ {T : Type 0} {s : Heap T} {low n j : ℕ} (levelled : IsLevelled s low 
         u n (remove (node_items s n) j) (remove (node_children s n) (j + 1)))
         (few : length X ≤ CAPACITY) where
       joined : Rejoins s t low l x r None
-      joined = united_rejoins s low l x r pair first second few
+      joined = united_rejoins x pair first second few
 
       detached : Writes t u n (take j xs ++ drop (j + 1) xs) (take j ks ++ (l ∷ drop (j + 2) ks))
       detached =
           let far : j + 1 + 1 ≡ j + 2 = omega arith in
           let kids : remove ks (j + 1) ≡ take j ks ++ (l ∷ drop (j + 2) ks) =
           remove_parts ks (j + 1) ∙ ap (λ m. take (j + 1) ks ++ drop m ks) far
-          ∙ pair_children s low n j x levelled here joined None in
+          ∙ pair_children x levelled here joined None in
           rw (sym (remove_parts xs j), sym kids) parent
 
       merged_shrinks : Shrinks s u (suc low) n (items_below s (suc (suc low)) n)
-      merged_shrinks = levelled_shrinks s low n j x levelled here joined detached
+      merged_shrinks = levelled_shrinks x levelled here joined detached
 
       merged_edge : (q : ℕ) (g e h : Edge) → IsSeat s low X K q g
           → (low ≡ 0 → e ≡ record { leaf = l; path = 0; index = q }) → (0 < low → turn e ≡ q)
@@ -198,13 +193,11 @@ module _ {T : Type 0} {s : Heap T} {low n j : ℕ} (levelled : IsLevelled s low 
           ≡ length (before xs (map (items_below s (suc low)) ks) j) + seat_place s low X K q g)
       merged_edge q g e h seat leaf at into turned inner =
           let edge = seat_written s t l X K q g e low
-          (united_holds s low l x r pair first second few)
-          (united_agree s low l x r pair first second few) leaf at into seat in
+          (united_holds x pair first second few) (united_agree x pair first second few) leaf at into
+          seat in
           let alone = seat_alone t low l e None edge.0 in
-          let up = levelled_edge s low n j x levelled here joined detached 0 e h (omega (
-            arith,
-            turned,
-          )) inner alone.0 in
+          let up = levelled_edge x levelled here joined detached 0 e h (omega (arith, turned)) inner
+          alone.0 in
           (up.0, omega (arith, up.1, alone.1, edge.1))
 
   kid_apart : (i : ℕ) → i < length ks → get_or ks i 0 ≢ n
@@ -235,8 +228,7 @@ module _ {T : Type 0} {s : Heap T} {low n j : ℕ} (levelled : IsLevelled s low 
     left_apart = kid_apart j (omega (arith, levelled.within, levelled.node.branches));
     right_apart = kid_apart (j + 1) (omega (arith, levelled.within, levelled.node.branches));
     apart =
-        pair_apart s low l (get_or xs j some) r
-        (pair_of s low n j (get_or xs j some) levelled
+        pair_apart (get_or xs j some) (pair_of (get_or xs j some) levelled
         (get_or_default xs j some _ levelled.within));
     below = low;
     left_branches = levelled.left.node.branches;
