@@ -1,8 +1,8 @@
 -- The edge behind the leaf of another, found on the way down to the leaf.
-use Rattle.std.proofs.Common.{◌≡◌, ◌≢◌, ℕ, zero, suc, ◌+◌, ◌-◌, ◌*◌, ◌<◌, ◌≤◌, Option, Some, None, length, get_or, refl, sym, ap, subst, ◌∙◌, arith}
+use Rattle.std.proofs.Common.{◌≡◌, ◌≢◌, ℕ, zero, suc, ◌+◌, ◌-◌, ◌*◌, ◌<◌, ◌≤◌, Option, Some, None, length, refl, sym, ap, subst, ◌∙◌, arith}
 use Rattle.std.specs.Prelude.{MatchOption}
 use Rattle.std.proofs.Math.Nat.{mul-add}
-use Rattle.range_store.specs.Heap.{Heap, node_of, items_of, children_of}
+use Rattle.range_store.specs.Heap.{Heap, node_items, node_child}
 use Rattle.range_store.specs.declared.btree.nodes.TheConstants.{CAPACITY}
 use Rattle.range_store.specs.declared.btree.path.Edge.{Edge}
 use Rattle.range_store.specs.declared.btree.path.Subtree.{Subtree}
@@ -60,9 +60,9 @@ module _ {T : Type 0} (s : Heap T) where
       (way : IsOnTheWay below number edge left at path weight inner behind) (i : ℕ)
       (i_is : i ≡ turn inner) where
     abbrev kid : ℕ → ℕ
-    kid k = get_or (children_of (node_of s at)) k 0
+    kid k = node_child s at k
 
-    pub turn_low : i ≤ length (items_of (node_of s at))
+    pub turn_low : i ≤ length (node_items s at)
     turn_low = rw i_is (below_turn above way.lies.shaped inner way.is)
 
     level : suc (left - 1) ≡ left
@@ -86,7 +86,7 @@ module _ {T : Type 0} (s : Heap T) where
         }
 
     -- below the last child nothing else comes behind
-    pub goes_by_the_last : length (items_of (node_of s at)) ≤ i
+    pub goes_by_the_last : length (node_items s at) ≤ i
         → IsOnTheWay below number edge (left - 1) (kid i) (path + weight * i) (weight * PATH_BASE)
         (inside inner) behind
     goes_by_the_last last =
@@ -97,7 +97,7 @@ module _ {T : Type 0} (s : Heap T) where
         further behind (subst (ComesAfter below number behind) same way.after)
 
     -- below another the next child does
-    pub goes_by_another : i < length (items_of (node_of s at))
+    pub goes_by_another : i < length (node_items s at)
         → IsOnTheWay below number edge (left - 1) (kid i) (path + weight * i) (weight * PATH_BASE)
         (inside inner) (Some (record {
           node = kid (i + 1);
@@ -123,14 +123,14 @@ module _ {T : Type 0} (s : Heap T) where
   pub comes_to_the_end : {below number : ℕ} {edge : Edge} (left at path weight : ℕ) (inner : Edge)
       (behind : Option Subtree) → left ≡ 0
       → IsOnTheWay below number edge left at path weight inner behind
-      → length (items_of (node_of s edge.leaf)) ≤ edge.index
+      → length (node_items s edge.leaf) ≤ edge.index
       → ComesAfter below number behind (place s below number edge)
   comes_to_the_end {below} {number} {edge} (suc left) at path weight inner behind bottom way last =
       absurd (omega arith)
   comes_to_the_end {below} {number} {edge} zero at path weight inner behind bottom way last =
       let leaf : edge.leaf ≡ at = sym way.leaf_is ∙ leaf_is s at inner way.is in
-      let end : length (items_of (node_of s at)) ≤ edge.index =
-      subst (λ n. length (items_of (node_of s n)) ≤ edge.index) leaf last in
+      let end : length (node_items s at) ≤ edge.index =
+      subst (λ n. length (node_items s n) ≤ edge.index) leaf last in
       let all = ap length (items_below_leaf s at way.lies.shaped.node.branches) in
       let same : way.ahead + length (items_below s (suc zero) at) ≡ place s below number edge =
       omega (

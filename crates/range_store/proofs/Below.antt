@@ -1,9 +1,9 @@
 -- What is known of a node's children.
-use Rattle.std.proofs.Common.{◌≡◌, ◌⊎◌, inl, inr, ℕ, zero, suc, ◌+◌, ◌<◌, ◌≤◌, [], ◌∷◌, ◌++◌, length, get_or, drop, map, refl, ap, ◌∙◌, arith}
+use Rattle.std.proofs.Common.{◌≡◌, ◌⊎◌, inl, inr, ℕ, zero, suc, ◌+◌, ◌<◌, ◌≤◌, [], ◌∷◌, ◌++◌, length, drop, refl, ap, ◌∙◌, arith}
 use Rattle.std.proofs.lemmas.List.{length-map, get_or-map, drop_all, nil_from_length}
-use Rattle.range_store.specs.Heap.{Heap, node_of, items_of, children_of, child_count}
+use Rattle.range_store.specs.Heap.{Heap, child_count, node_items, node_children, node_child}
 use Rattle.range_store.specs.declared.btree.nodes.TheConstants.{CAPACITY, MIN_LEN}
-use Rattle.range_store.specs.Nodes.{weave, rest_of, before, after, items_below, used, Shaped, ShapedBut}
+use Rattle.range_store.specs.Nodes.{weave, rest_of, items_below, used, Shaped, ShapedBut, child_lists, before_child, after_child}
 use Rattle.std.specs.List.{flat_map}
 use Rattle.range_store.specs.Weave.{weave_at, length-before_next}
 
@@ -36,80 +36,63 @@ child_count_cases zero k m h = inl h
 child_count_cases (suc d) k m h = inr h
 
 pub used_is : {T : Type 0} (s : Heap T) (d n : ℕ)
-    → used s (suc d) n ≡ n ∷ flat_map (used s d) (children_of (node_of s n))
+    → used s (suc d) n ≡ n ∷ flat_map (used s d) (node_children s n)
 unfolding used
 used_is s d n = refl
 
-pub items_below_leaf : {T : Type 0} (s : Heap T) (n : ℕ) → length (children_of (node_of s n)) ≡ 0
-    → items_below s (suc zero) n ≡ items_of (node_of s n)
+pub items_below_leaf : {T : Type 0} (s : Heap T) (n : ℕ) → length (node_children s n) ≡ 0
+    → items_below s (suc zero) n ≡ node_items s n
 unfolding items_below
-items_below_leaf s n none = rw (nil_from_length (children_of (node_of s n)) none) refl
+items_below_leaf s n none = rw (nil_from_length (node_children s n) none) refl
 
-pub used_leaf : {T : Type 0} (s : Heap T) (n : ℕ) → length (children_of (node_of s n)) ≡ 0
+pub used_leaf : {T : Type 0} (s : Heap T) (n : ℕ) → length (node_children s n) ≡ 0
     → used s (suc zero) n ≡ n ∷ []
 unfolding used
-used_leaf s n none = rw (nil_from_length (children_of (node_of s n)) none) refl
+used_leaf s n none = rw (nil_from_length (node_children s n) none) refl
 
 pub child_count_inner : (d k : ℕ) → 0 < d → child_count d k ≡ k + 1
 child_count_inner zero k inner = absurd (omega arith)
 child_count_inner (suc d) k inner = refl
 
 pub weave_items_below : {T : Type 0} (s : Heap T) (d n : ℕ)
-    → items_below s (suc d) n
-    ≡ weave (items_of (node_of s n)) (map (items_below s d) (children_of (node_of s n)))
+    → items_below s (suc d) n ≡ weave (node_items s n) (child_lists s d n)
 unfolding items_below
 weave_items_below s d n = refl
 
 module _ {T : Type 0} {least most : ℕ} {s : Heap T} {d n : ℕ} (inner : 0 < d)
     (shaped : ShapedBut least most s d n) where
-  pub children_length : length (children_of (node_of s n)) ≡ length (items_of (node_of s n)) + 1
+  pub children_length : length (node_children s n) ≡ length (node_items s n) + 1
   children_length = shaped.node.branches ∙ child_count_inner d _ inner
 
   -- the lists of the children, and how many items stand before the list at i
-  pub lists_length : length (map (items_below s d) (children_of (node_of s n)))
-      ≡ length (items_of (node_of s n)) + 1
-  lists_length = length-map (children_of (node_of s n)) (items_below s d) ∙ children_length
+  pub lists_length : length (child_lists s d n) ≡ length (node_items s n) + 1
+  lists_length = length-map (node_children s n) (items_below s d) ∙ children_length
 
-  pub items_below_at : (i : ℕ) → i ≤ length (items_of (node_of s n))
-      → items_below s (suc d) n
-      ≡ before (items_of (node_of s n)) (map (items_below s d) (children_of (node_of s n))) i
-      ++ (items_below s d (get_or (children_of (node_of s n)) i 0)
-      ++ after (items_of (node_of s n)) (map (items_below s d) (children_of (node_of s n))) i)
+  pub items_below_at : (i : ℕ) → i ≤ length (node_items s n) → items_below s (suc d) n
+      ≡ before_child s d n i ++ (items_below s d (node_child s n i) ++ after_child s d n i)
   items_below_at i within =
       let kid =
-      get_or-map (items_below s d) (children_of (node_of s n)) i 0 []
-      (omega (arith, children_length)) in
-      weave_items_below s d n
-      ∙ weave_at (items_of (node_of s n))
-      (map (items_below s d) (children_of (node_of s n))) i within lists_length
-      ∙ ap (λ zs. before (items_of (node_of s n))
-      (map (items_below s d) (children_of (node_of s n))) i
-      ++ (zs ++ after (items_of (node_of s n))
-      (map (items_below s d) (children_of (node_of s n))) i)) kid
+      get_or-map (items_below s d) (node_children s n) i 0 [] (omega (arith, children_length)) in
+      weave_items_below s d n ∙ weave_at (node_items s n) (child_lists s d n) i within lists_length
+      ∙ ap (λ zs. before_child s d n i ++ (zs ++ after_child s d n i)) kid
 
-  pub length-before_more : (i : ℕ) → i < length (items_of (node_of s n))
-      → length (before (items_of (node_of s n)) (map (items_below s d) (children_of (node_of s n)))
-      (i + 1))
-      ≡ length (before (items_of (node_of s n))
-      (map (items_below s d) (children_of (node_of s n))) i) + length
-      (items_below s d (get_or (children_of (node_of s n)) i 0)) + 1
+  pub length-before_more : (i : ℕ) → i < length (node_items s n)
+      → length (before_child s d n (i + 1)) ≡ length (before_child s d n i) + length
+      (items_below s d (node_child s n i)) + 1
   length-before_more i within =
       let kid =
-      get_or-map (items_below s d) (children_of (node_of s n)) i 0 []
-      (omega (arith, children_length)) in
+      get_or-map (items_below s d) (node_children s n) i 0 [] (omega (arith, children_length)) in
       omega (
         arith,
-        length-before_next (items_of (node_of s n))
-            (map (items_below s d) (children_of (node_of s n))) i within
+        length-before_next (node_items s n) (child_lists s d n) i within
             (omega (arith, lists_length)),
         ap length kid,
       )
 
   -- after the last child stands nothing
-  pub none_after_last : after (items_of (node_of s n))
-      (map (items_below s d) (children_of (node_of s n))) (length (items_of (node_of s n))) ≡ []
+  pub none_after_last : after_child s d n (length (node_items s n)) ≡ []
   none_after_last =
-      let i = length (items_of (node_of s n)) in
-      let lists = map (items_below s d) (children_of (node_of s n)) in
-      ap (λ zs. rest_of zs (drop (i + 1) lists)) (drop_all i (items_of (node_of s n)) (omega arith))
+      let i = length (node_items s n) in
+      let lists = child_lists s d n in
+      ap (λ zs. rest_of zs (drop (i + 1) lists)) (drop_all i (node_items s n) (omega arith))
       ∙ ap (rest_of []) (drop_all (i + 1) lists (omega (arith, lists_length)))

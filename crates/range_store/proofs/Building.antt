@@ -5,7 +5,7 @@ use Rattle.std.proofs.lemmas.List.{append-nil, length_push, length-map, map-appe
 use Rattle.std.proofs.lemmas.List.Concat.{flat_map-append}
 use Rattle.std.proofs.lemmas.List.Edits.{insert_end}
 use Rattle.std.proofs.lemmas.List.Elements.{All-append, All-cons, All-nil}
-use Rattle.range_store.specs.Heap.{Heap, node_of, node_count, items_of, children_of, child_count, FitsChild, HasNode, Stores, Writes}
+use Rattle.range_store.specs.Heap.{Heap, node_of, node_count, items_of, children_of, child_count, FitsChild, HasNode, Stores, Writes, node_items, node_children}
 use Rattle.range_store.specs.declared.btree.nodes.TheConstants.{CAPACITY, MIN_LEN}
 use Rattle.range_store.specs.Nodes.{weave, items_below, used, here, Shaped, Moves, IsTree}
 use Rattle.range_store.specs.Building.{IsBuilt}
@@ -47,10 +47,10 @@ built_shaped {T} {r} {s} {d} {n} built enough =
 module _ {T : Type 0} {r s t : Heap T} {d n many : ℕ} (cs : List ℕ) (built : IsBuilt r s d n many)
     (moved : Moves s t [] (flat_map (used t d) cs)) where
   abbrev xs : List T
-  xs = items_of (node_of s n)
+  xs = node_items s n
 
   abbrev ks : List ℕ
-  ks = children_of (node_of s n)
+  ks = node_children s n
 
   agree : AgreeAt s t (used s (suc d) n)
   agree = Moves-agree (used s (suc d) n) (λ k. omega (
@@ -145,7 +145,7 @@ module _ {T : Type 0} {r s t : Heap T} {d n many : ℕ} (cs : List ℕ) (built :
 pub built_leaf : {T : Type 0} {r s : Heap T} {n : ℕ} {xs : List T} → Stores r s n xs []
     → length xs ≤ CAPACITY → IsBuilt r s 0 n (length xs) × (items_below s (suc 0) n ≡ xs)
 built_leaf {T} {r} {s} {n} {xs} stored fits =
-    let childless : length (children_of (node_of s n)) ≡ 0 = ap length stored.children_are in
+    let childless : length (node_children s n) ≡ 0 = ap length stored.children_are in
     let built : IsBuilt r s 0 n (length xs) = record {
       shape = record {
         node =
@@ -202,9 +202,9 @@ module _ {T : Type 0} {r s t : Heap T} {d n : ℕ} (c : ℕ) {many : ℕ} (inner
   one_moved : Moves s t [] (flat_map (used t d) (c ∷ []))
   one_moved = subst (Moves s t []) (sym (append-nil (used t d c))) moved
 
-  branches : length (children_of (node_of s n)) ≡ many + 1
+  branches : length (node_children s n) ≡ many + 1
   branches =
-      built.shape.node.branches ∙ child_count_inner d (length (items_of (node_of s n))) inner
+      built.shape.node.branches ∙ child_count_inner d (length (node_items s n)) inner
       ∙ ap (λ m. m + 1) built.items
 
   pub node_kept : node_of t n ≡ node_of s n
@@ -213,35 +213,34 @@ module _ {T : Type 0} {r s t : Heap T} {d n : ℕ} (c : ℕ) {many : ℕ} (inner
   pub node_there : HasNode t n
   node_there = rw node_kept built.shape.node.present
 
-  pub node_items : length (items_of (node_of t n)) ≡ many
-  node_items = ap (λ node. length (items_of node)) node_kept ∙ built.items
+  pub node_length : length (node_items t n) ≡ many
+  node_length = ap (λ node. length (items_of node)) node_kept ∙ built.items
 
-  pub node_fits : FitsChild (Some c) (items_of (node_of t n)) (children_of (node_of t n))
+  pub node_fits : FitsChild (Some c) (node_items t n) (node_children t n)
   node_fits =
       ap (λ node. length (children_of node)) node_kept ∙ branches
-      ∙ ap (λ m. m + 1) (sym node_items)
+      ∙ ap (λ m. m + 1) (sym node_length)
 
   module _ {u : Heap T} (x : T) (room : many < CAPACITY) (shaped : Shaped t d c) (put : Writes t u n
-      (insert (items_of (node_of t n)) many x) (insert (children_of (node_of t n)) (many + 1) c))
+      (insert (node_items t n) many x) (insert (node_children t n) (many + 1) c))
     where
-      child_written : Writes t u n (items_of (node_of s n) ++ x ∷ [])
-          (children_of (node_of s n) ++ c ∷ [])
+      child_written : Writes t u n (node_items s n ++ x ∷ []) (node_children s n ++ c ∷ [])
       child_written =
-          let xs = items_of (node_of s n) in
-          let ks = children_of (node_of s n) in
-          let items : insert (items_of (node_of t n)) many x ≡ xs ++ x ∷ [] =
+          let xs = node_items s n in
+          let ks = node_children s n in
+          let items : insert (node_items t n) many x ≡ xs ++ x ∷ [] =
           ap (λ node. insert (items_of node) many x) node_kept
           ∙ ap (λ m. insert xs m x) (sym built.items) ∙ insert_end xs x in
-          let children : insert (children_of (node_of t n)) (many + 1) c ≡ ks ++ c ∷ [] =
+          let children : insert (node_children t n) (many + 1) c ≡ ks ++ c ∷ [] =
           ap (λ node. insert (children_of node) (many + 1) c) node_kept
           ∙ ap (λ m. insert ks m c) (sym branches) ∙ insert_end ks c in
           subst (λ ys. Writes t u n ys (ks ++ c ∷ [])) items
-          (subst (Writes t u n (insert (items_of (node_of t n)) many x)) children put)
+          (subst (Writes t u n (insert (node_items t n) many x)) children put)
 
       below_one : All (Shaped t d) (c ∷ [])
       below_one = All-cons (Shaped t d) c [] shaped (All-nil (Shaped t d))
 
-      both : length (c ∷ []) + length (children_of (node_of s n)) ≡ child_count d (many + 1)
+      both : length (c ∷ []) + length (node_children s n) ≡ child_count d (many + 1)
       both = omega (arith, branches, child_count_inner d (many + 1) inner)
 
       pub child_more : IsBuilt r u d n (many + 1)
@@ -249,8 +248,8 @@ module _ {T : Type 0} {r s t : Heap T} {d n : ℕ} (c : ℕ) {many : ℕ} (inner
 
       pub child_listed : items_below u (suc d) n ≡ items_below s (suc d) n ++ x ∷ items_below t d c
       child_listed =
-          let xs = items_of (node_of s n) in
-          let ks = children_of (node_of s n) in
+          let xs = node_items s n in
+          let ks = node_children s n in
           listed_more (c ∷ []) built one_moved x room below_one both child_written
           ∙ weave_more xs x (map (items_below s d) ks) (items_below t d c)
           (omega (arith, length-map ks (items_below s d), branches, built.items))
@@ -264,11 +263,11 @@ module _ {T : Type 0} where
     pub size : length (items_below new d n) ≡ count
     pub few : MIN_LEN * node_count new ≤ MIN_LEN * node_count old + count
 
-pub built_child : {T : Type 0} {r s : Heap T} (d : ℕ) {n many : ℕ} (count : ℕ) → 0 < d
+pub built_child : {T : Type 0} {r s : Heap T} (d : ℕ) {n many count : ℕ} → 0 < d
     → IsBuilt r s (d - 1) n many → MIN_LEN ≤ many → length (items_below s (suc (d - 1)) n) ≡ count
     → IsChild r s d n count
-built_child {T} {r} {s} zero {n} {many} count some built enough size = absurd (omega arith)
-built_child {T} {r} {s} (suc d) {n} {many} count some built' enough size' =
+built_child {T} {r} {s} zero {n} {many} {count} some built enough size = absurd (omega arith)
+built_child {T} {r} {s} (suc d) {n} {many} {count} some built' enough size' =
     let level : suc d - 1 ≡ d = omega arith in
     let built = rw level at built' in
     let size = rw level at size' in

@@ -1,13 +1,13 @@
 -- A node, or two, written with given items and children.
-use Rattle.std.proofs.Common.{◌≡◌, ◌≢◌, ◌⊎◌, ℕ, zero, suc, ◌+◌, ◌-◌, ◌<◌, ◌≤◌, List, [], ◌∷◌, ◌++◌, length, get_or, take, drop, map, refl, sym, ap, ◌∙◌, subst, arith, Some, None, IsSome}
+use Rattle.std.proofs.Common.{◌≡◌, ◌≢◌, ◌⊎◌, ℕ, zero, suc, ◌+◌, ◌-◌, ◌<◌, ◌≤◌, List, [], ◌∷◌, ◌++◌, length, get_or, take, drop, map, refl, sym, ap, ◌∙◌, subst, arith, Some, None, IsSome, Option}
 use Rattle.std.specs.List.{All, flat_map}
 use Rattle.std.proofs.lemmas.List.{append-nil, length-append, length-map, length-take-le, length-drop, take-append-drop, take-map, drop-map}
 use Rattle.std.proofs.lemmas.List.Concat.{flat_map-append}
 use Rattle.std.proofs.lemmas.List.Elements.{All-nil, All-cons, All-take, All-drop}
-use Rattle.range_store.specs.Heap.{Heap, node_of, items_of, children_of, child_count, Writes, Divides}
+use Rattle.range_store.specs.Heap.{Heap, node_of, child_count, Writes, Divides, node_items, node_children}
 use Rattle.range_store.specs.declared.btree.nodes.Split.{Split}
 use Rattle.range_store.specs.declared.btree.nodes.TheConstants.{CAPACITY, MIN_LEN}
-use Rattle.range_store.specs.Nodes.{weave, items_below, used, Shaped, ShapedBut, here, Moves}
+use Rattle.range_store.specs.Nodes.{weave, items_below, used, Shaped, ShapedBut, here, Moves, tops, separators}
 use Rattle.range_store.specs.Contents.{IsContent, Settles}
 use Rattle.range_store.specs.Occurrences.{occurrences, occurrences-append, occurrences-cons}
 use Rattle.range_store.specs.Frame.{AgreeAt, AgreeAt-left, AgreeAt-right, SameChildren, same_children}
@@ -16,11 +16,35 @@ use Rattle.range_store.proofs.Moves.{here_some, here_le, occurrences_self, SameN
 use Rattle.range_store.specs.Weave.{weave_halves}
 
 module _ {T : Type 0} where
+  -- the subtree of n has another list, and the same nodes
+  pub record IsRewritten (old new : Heap T) (d n : ℕ) (list : List T) : Type 0 where
+    pub listed : items_below new (suc d) n ≡ list
+    pub moved : Moves old new (used old (suc d) n) (used new (suc d) n)
+    pub shape : (least : ℕ) → least ≤ MIN_LEN → ShapedBut least CAPACITY old d n
+        → ShapedBut least CAPACITY new d n
+
+  -- two nodes over d levels, of which one may lack an item
+  pub record IsPair (s : Heap T) (d l r : ℕ) : Type 0 where
+    pub left : ShapedBut (MIN_LEN - 1) CAPACITY s d l
+    pub right : ShapedBut (MIN_LEN - 1) CAPACITY s d r
+    pub owned : (k : ℕ) → occurrences k (used s (suc d) l ++ used s (suc d) r) ≤ here s k
+    pub enough : MIN_LEN + MIN_LEN ≤ length (node_items s l) + 1 + length (node_items s r)
+    pub fits : length (node_items s l) + 1 + length (node_items s r) ≤ CAPACITY + MIN_LEN
+
+  -- they became one or two, with the item x between what they held
+  pub record Rejoins (old new : Heap T) (d l : ℕ) (x : T) (r : ℕ)
+      (split : Option (Split T)) : Type 0 where
+    pub listed : weave (separators split) (map (items_below new (suc d)) (tops l split))
+        ≡ items_below old (suc d) l ++ (x ∷ items_below old (suc d) r)
+    pub moved : Moves old new (used old (suc d) l ++ used old (suc d) r)
+        (flat_map (used new (suc d)) (tops l split))
+    pub shaped : All (Shaped new (suc d)) (tops l split)
+
   -- a node of t has items and children of which s has the subtrees
   pub record Holds (s t : Heap T) (d n : ℕ) (xs : List T) (ks : List ℕ) : Type 0 where
     pub present : IsSome (node_of t n)
-    pub items_are : items_of (node_of t n) ≡ xs
-    pub children_are : children_of (node_of t n) ≡ ks
+    pub items_are : node_items t n ≡ xs
+    pub children_are : node_children t n ≡ ks
     pub same : SameChildren s t d ks
 
 module _ {T : Type 0} {s t : Heap T} {d n : ℕ} {xs : List T} {ks : List ℕ}

@@ -1,8 +1,8 @@
 -- How a search goes down: what it finds below a node is what it finds below the one where it began,
 -- by the path between the two.
-use Rattle.std.proofs.Common.{◌≡◌, ◌≢◌, ℕ, zero, suc, ◌+◌, ◌-◌, ◌*◌, ◌≤◌, Bool, length, get_or, refl, sym, ap, ◌∙◌, arith, count_by}
+use Rattle.std.proofs.Common.{◌≡◌, ◌≢◌, ℕ, zero, suc, ◌+◌, ◌-◌, ◌*◌, ◌≤◌, Bool, length, refl, sym, ap, ◌∙◌, arith, count_by}
 use Rattle.std.proofs.lemmas.List.Sums.{count_by-le-length}
-use Rattle.range_store.specs.Heap.{Heap, node_of, items_of, children_of}
+use Rattle.range_store.specs.Heap.{Heap, node_items, node_child}
 use Rattle.range_store.specs.declared.btree.nodes.TheConstants.{CAPACITY}
 use Rattle.range_store.specs.declared.btree.path.Edge.{Edge}
 use Rattle.range_store.specs.declared.btree.path.TheConstants.{PATH_BASE}
@@ -44,12 +44,11 @@ module _ {T : Type 0} (p : T → Bool) (s : Heap T) where
 
   pub descends : {below number left : ℕ} (at path weight : ℕ) → left ≢ 0
       → Descent below number left at path weight → (i : ℕ)
-      → i ≡ count_by p (items_of (node_of s at)) → Descent below number (left - 1) (get_or
-      (children_of (node_of s at)) i 0) (path + weight * i) (weight * PATH_BASE)
+      → i ≡ count_by p (node_items s at) → Descent below number (left - 1) (node_child s at i) (path + weight * i) (weight * PATH_BASE)
   descends {below} {number} {left} at path weight inner d i count =
       let back = level_of_children inner d.lies.shaped in
-      let low : i ≤ length (items_of (node_of s at)) =
-      omega (arith, count, count_by-le-length p (items_of (node_of s at))) in
+      let low : i ≤ length (node_items s at) =
+      omega (arith, count, count_by-le-length p (node_items s at)) in
       let step = rw (← count) at (search_step p d.lies.shaped (omega (arith, inner)) d.falls) in
       record {
         ahead = d.ahead + ahead_of s left at i;
@@ -60,14 +59,13 @@ module _ {T : Type 0} (p : T → Bool) (s : Heap T) where
 
   -- a leaf ends the path down
   pub descent_ends : {below number : ℕ} (left at path weight : ℕ) → left ≡ 0
-      → Descent below number left at path weight → (i : ℕ)
-      → i ≡ count_by p (items_of (node_of s at))
+      → Descent below number left at path weight → (i : ℕ) → i ≡ count_by p (node_items s at)
       → Outcome below number (record { path = path; leaf = at; index = i })
   descent_ends {below} {number} (suc left) at path weight bottom d i count = absurd (omega arith)
   descent_ends {below} {number} zero at path weight bottom d i count =
       let all = items_below_leaf s at d.lies.shaped.node.branches in
-      let low : i ≤ length (items_of (node_of s at)) =
-      omega (arith, count, count_by-le-length p (items_of (node_of s at))) in
+      let low : i ≤ length (node_items s at) =
+      omega (arith, count, count_by-le-length p (node_items s at)) in
       let e : Edge = record { path = 0; leaf = at; index = i } in
       let is = leaf_edge s at e refl refl low in
       let path_is : path + weight * 0 ≡ path = omega arith in

@@ -1,13 +1,13 @@
 -- The paths to edges, and what stands at one.
-use Rattle.std.proofs.Common.{◌≡◌, ℕ, zero, suc, ◌+◌, ◌^◌, ◌<◌, ◌≤◌, [], ◌∷◌, ◌++◌, length, get_or, map, refl, ap, arith}
+use Rattle.std.proofs.Common.{◌≡◌, ℕ, zero, suc, ◌+◌, ◌^◌, ◌<◌, ◌≤◌, [], ◌∷◌, ◌++◌, length, get_or, refl, ap, arith}
 use Rattle.std.proofs.Math.Nat.{pow-suc, pow-le-pow_right}
 use Rattle.std.proofs.lemmas.List.{length-append}
 use Rattle.std.specs.List.{flat_map}
-use Rattle.range_store.specs.Heap.{Heap, node_of, items_of, children_of}
+use Rattle.range_store.specs.Heap.{Heap, node_of, node_items, node_children, node_child}
 use Rattle.range_store.specs.declared.btree.nodes.TheConstants.{CAPACITY, MIN_LEN}
 use Rattle.range_store.specs.declared.btree.path.Edge.{Edge}
 use Rattle.range_store.specs.declared.btree.path.TheConstants.{PATH_BASE, MAX_LEVELS}
-use Rattle.range_store.specs.Nodes.{items_below, used, before, after, ShapedBut}
+use Rattle.range_store.specs.Nodes.{items_below, used, before, after, ShapedBut, child_lists, before_child}
 use Rattle.range_store.specs.Edges.{turn, inside, IsEdge, place}
 use Rattle.range_store.specs.Frame.{AgreeAt, AgreeAt-right, agree_kid, same_children}
 use Rattle.range_store.proofs.Below.{items_below_at, items_below_leaf}
@@ -39,7 +39,7 @@ path_low s d n g deep is =
     omega (arith, path_fits s d n g is, most, width)
 
 pub leaf_edge : {T : Type 0} (s : Heap T) (n : ℕ) (g : Edge) → g.leaf ≡ n → g.path ≡ 0
-    → g.index ≤ length (items_of (node_of s n)) → IsEdge s zero n g
+    → g.index ≤ length (node_items s n) → IsEdge s zero n g
 unfolding IsEdge
 leaf_edge s n g leaf path index = (leaf, path, index)
 
@@ -48,7 +48,7 @@ unfolding IsEdge
 leaf_is s n g is = is.0
 
 pub leaf_index : {T : Type 0} (s : Heap T) (n : ℕ) (g : Edge) → IsEdge s zero n g
-    → g.index ≤ length (items_of (node_of s n))
+    → g.index ≤ length (node_items s n)
 unfolding IsEdge
 leaf_index s n g is = is.2
 
@@ -57,33 +57,29 @@ unfolding place
 leaf_place s n g = refl
 
 pub turn_within : {T : Type 0} (s : Heap T) (d n : ℕ) (g : Edge) → IsEdge s (suc d) n g
-    → turn g < length (children_of (node_of s n))
+    → turn g < length (node_children s n)
 unfolding IsEdge
 turn_within s d n g is = is.0
 
 pub edge_inside : {T : Type 0} (s : Heap T) (d n : ℕ) (g : Edge) → IsEdge s (suc d) n g
-    → IsEdge s d (get_or (children_of (node_of s n)) (turn g) 0) (inside g)
+    → IsEdge s d (node_child s n (turn g)) (inside g)
 unfolding IsEdge
 edge_inside s d n g is = is.1
 
 -- an edge by the child that it is below
 pub edge_above : {T : Type 0} (s : Heap T) (d n i : ℕ) (g h : Edge) → turn h ≡ i → inside h ≡ g
-    → i < length (children_of (node_of s n)) → IsEdge s d (get_or (children_of (node_of s n)) i 0) g
-    → IsEdge s (suc d) n h
+    → i < length (node_children s n) → IsEdge s d (node_child s n i) g → IsEdge s (suc d) n h
 unfolding IsEdge
 edge_above s d n i g h at within small is = rw (at, within) (small, is)
 
 pub place_above : {T : Type 0} (s : Heap T) (d n i : ℕ) (g h : Edge) → turn h ≡ i → inside h ≡ g
-    → place s (suc d) n h ≡ length
-    (before (items_of (node_of s n)) (map (items_below s (suc d)) (children_of (node_of s n))) i) +
-    place s d (get_or (children_of (node_of s n)) i 0) g
+    → place s (suc d) n h ≡ length (before_child s (suc d) n i) + place s d (node_child s n i) g
 unfolding place
 place_above s d n i g h at within = rw (at, within) refl
 
 pub place_inside : {T : Type 0} (s : Heap T) (d n : ℕ) (g : Edge)
-    → place s (suc d) n g ≡ length
-    (before (items_of (node_of s n)) (map (items_below s (suc d)) (children_of (node_of s n)))
-    (turn g)) + place s d (get_or (children_of (node_of s n)) (turn g) 0) (inside g)
+    → place s (suc d) n g ≡ length (before_child s (suc d) n
+    (turn g)) + place s d (node_child s n (turn g)) (inside g)
 unfolding place
 place_inside s d n g = refl
 
@@ -97,10 +93,10 @@ place_within {T} {s} zero {n} g {least} {most} shaped is = omega (
   ap length (items_below_leaf s n shaped.node.branches),
 )
 place_within {T} {s} (suc d) {n} g {least} {most} shaped is =
-    let xs = items_of (node_of s n) in
-    let lists = map (items_below s (suc d)) (children_of (node_of s n)) in
+    let xs = node_items s n in
+    let lists = child_lists s (suc d) n in
     let i = turn g in
-    let kid = get_or (children_of (node_of s n)) i 0 in
+    let kid = node_child s n i in
     let low : i ≤ length xs = omega (arith, turn_within s d n g is, shaped.node.branches) in
     let further = place_within d (inside g) (kid_shaped d i shaped low) (edge_inside s d n g is) in
     let whole = items_below_at (omega arith) shaped i low in
@@ -124,10 +120,10 @@ pub same_edge : {T : Type 0} (s t : Heap T) (d n : ℕ) (g : Edge) → AgreeAt s
 unfolding used IsEdge place
 same_edge s t zero n g agree is =
     let here : node_of t n ≡ node_of s n =
-    agree n (occurrences_here n (flat_map (used s zero) (children_of (node_of s n)))) in
+    agree n (occurrences_here n (flat_map (used s zero) (node_children s n))) in
     record { edge = λ h. rw here h; place = refl }
 same_edge s t (suc d) n g agree is =
-    let ks = children_of (node_of s n) in
+    let ks = node_children s n in
     let here : node_of t n ≡ node_of s n =
     agree n (occurrences_here n (flat_map (used s (suc d)) ks)) in
     let below = AgreeAt-right s t (n ∷ []) (flat_map (used s (suc d)) ks) agree in

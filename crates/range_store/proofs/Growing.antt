@@ -5,16 +5,17 @@ use Rattle.std.proofs.lemmas.List.{append-nil, append_assoc, length-append, leng
 use Rattle.std.proofs.lemmas.List.Concat.{flat_map-append}
 use Rattle.std.proofs.lemmas.List.Elements.{All-append, All-take, All-drop, All-weaker}
 use Rattle.std.proofs.lemmas.List.Edits.{length-insert}
-use Rattle.range_store.specs.Heap.{Heap, node_of, HasRoomFor, items_of, children_of, child_count, Writes}
+use Rattle.range_store.specs.Heap.{Heap, node_of, HasRoomFor, items_of, children_of, child_count, Writes, node_items, node_children, node_child}
 use Rattle.range_store.specs.declared.btree.nodes.Split.{Split}
 use Rattle.range_store.specs.declared.btree.nodes.TheConstants.{CAPACITY, MIN_LEN}
-use Rattle.range_store.specs.Nodes.{weave, rest_of, front_of, before, after, items_below, used, Shaped, ShapedBut, here, Owned, Moves, tops, separators, Replaces, EnoughFor, HasTreeRoom}
+use Rattle.range_store.specs.Nodes.{weave, rest_of, front_of, before, after, items_below, used, Shaped, ShapedBut, here, Owned, Moves, tops, separators, Replaces, EnoughFor, HasTreeRoom, child_lists, before_child}
 use Rattle.range_store.specs.Contents.{IsContent, Settles}
 use Rattle.range_store.specs.Occurrences.{occurrences, occurrences-append, occurrences-cons, occurrences_itself}
 use Rattle.range_store.specs.Weave.{list_splits_at, weave_splice, insert_middle, length-weave, length-before}
 use Rattle.range_store.specs.Frame.{AgreeAt, AgreeAt-left, AgreeAt-right, SameChildren, same_children}
 use Rattle.range_store.proofs.Below.{children_length, items_below_at, used_is, Shaped-from_but, Shaped-but, child_count_cases, child_count_inner}
 use Rattle.range_store.proofs.Moves.{Moves-like, Moves-then, Moves-beside, Moves-agree}
+use Rattle.range_store.proofs.Paths.{below_inside, below_most, below_turn}
 use Rattle.range_store.proofs.Room.{children_le}
 use Rattle.range_store.proofs.Seats.{seat_run, seat_side, seat_written}
 use Rattle.range_store.proofs.Contents.{written_settles, written_holds, written_agree}
@@ -26,7 +27,7 @@ module _ {T : Type 0} where
   pub record Runs (s t : Heap T) (b n : ℕ) (us ms vs ts : List ℕ) : Type 0 where
     pub present : IsSome (node_of s n)
     pub owned : Owned s (suc b) n
-    pub children : children_of (node_of s n) ≡ us ++ (ms ++ vs)
+    pub children : node_children s n ≡ us ++ (ms ++ vs)
     pub moved : Moves s t (flat_map (used s b) ms) (flat_map (used t b) ts)
 
 module _ {T : Type 0} {s t : Heap T} {b n : ℕ} {us ms vs ts : List ℕ}
@@ -156,7 +157,7 @@ module _ {T : Type 0} {s t : Heap T} {b n : ℕ} {us ms vs ts : List ℕ}
 pub settled_replaces : {T : Type 0} {s t u : Heap T} {b n : ℕ} {xs : List T} {ks : List ℕ}
     (list : List T) {split : Option (Split T)}
     → Moves s t (used s (suc b) n) (n ∷ flat_map (used t b) ks)
-    → weave xs (map (items_below t b) ks) ≡ list → length (items_of (node_of s n)) ≤ length xs
+    → weave xs (map (items_below t b) ks) ≡ list → length (node_items s n) ≤ length xs
     → Settles t u b n xs ks split → Replaces s u b n split list
 settled_replaces {T} {s} {t} {u} {b} {n} {xs} {ks} list {split} moved listed more settles = record {
   listed = settles.listed ∙ listed;
@@ -165,7 +166,7 @@ settled_replaces {T} {s} {t} {u} {b} {n} {xs} {ks} list {split} moved listed mor
 }
   where
     still : (least : ℕ) (cut : Option (Split T))
-        → EnoughFor least cut (length (items_of (node_of s n))) → EnoughFor least cut (length xs)
+        → EnoughFor least cut (length (node_items s n)) → EnoughFor least cut (length xs)
     still least None enough = omega (arith, enough, more)
     still least (Some cut) enough = tt
 
@@ -182,57 +183,95 @@ content_room {T} {s} {t} {b} {n} {xs} {ks} moved content longer room over =
     let few = children_le t b ks content.shaped in
     omega (arith, woven, few, longer, moved.len, room.filled, moved.capacity, over)
 
--- the child at i became one or two, with one more item
-module _ {T : Type 0} {s t : Heap T} {b n : ℕ} (i rest : ℕ) (item : T) {split : Option (Split T)}
-    (inner : b ≢ 0) (shaped : ShapedBut 1 CAPACITY s b n) (owned : Owned s (suc b) n)
-    (low : i ≤ length (items_of (node_of s n)))
-    (within : rest ≤ length (items_below s b (get_or (children_of (node_of s n)) i 0))) (child :
-    Replaces s t (b - 1) (get_or (children_of (node_of s n)) i 0) split
-    (insert (items_below s (suc (b - 1)) (get_or (children_of (node_of s n)) i 0)) rest item)) where
+-- what stands in the place of a node
+pub tops_many : {T : Type 0} (k : ℕ) (cut : Option (Split T))
+    → length (tops k cut) ≡ length (separators cut) + 1
+tops_many k None = refl
+tops_many k (Some cut) = refl
+
+pub weave_tops : {T : Type 0} (fore back : List T) (L R : List (List T)) (f : ℕ → List T) (k : ℕ)
+    (cut : Option (Split T)) → length fore ≡ length L
+    → weave (fore ++ (separators cut ++ back)) (L ++ (map f (tops k cut) ++ R))
+    ≡ front_of fore L ++ (weave (separators cut) (map f (tops k cut)) ++ rest_of back R)
+weave_tops fore back L R f k None same = weave_splice fore [] back L (f k) [] R same refl
+weave_tops fore back L R f k (Some cut) same =
+    weave_splice fore (cut.middle ∷ []) back L (f k) (f cut.right ∷ []) R same refl
+
+-- the child at i became one or two, with one more item, before that at `rest` of its own
+pub record Grows {T : Type 0} (s t : Heap T) (b n i rest : ℕ) (item : T)
+    (split : Option (Split T)) : Type 0 where
+  pub inner : b ≢ 0
+  pub shaped : ShapedBut 1 CAPACITY s b n
+  pub owned : Owned s (suc b) n
+  pub low : i ≤ length (node_items s n)
+  pub within : rest ≤ length (items_below s b (node_child s n i))
+  pub child : Replaces s t (b - 1) (node_child s n i) split
+      (insert (items_below s (suc (b - 1)) (node_child s n i)) rest item)
+
+pub grows_below : {T : Type 0} {s t : Heap T} {b n : ℕ} {item : T} {split : Option (Split T)} → b ≢
+    0
+    → ShapedBut 1 CAPACITY s b n → Owned s (suc b) n → (g : Edge) → IsEdge s b n g
+    → Replaces s t (b - 1) (node_child s n (turn g)) split
+    (insert (items_below s (suc (b - 1)) (node_child s n (turn g)))
+    (place s (b - 1) (node_child s n (turn g)) (inside g)) item)
+    → Grows s t b n (turn g) (place s (b - 1) (node_child s n (turn g)) (inside g)) item split
+grows_below inner shaped owned g is child =
+    let low = below_turn inner shaped g is in
+    record {
+      inner = inner;
+      shaped = shaped;
+      owned = owned;
+      low = low;
+      within = below_most inner shaped (turn g) (inside g) low (below_inside inner shaped g is);
+      child = child;
+    }
+
+module _ {T : Type 0} {s t : Heap T} {b n i rest : ℕ} {item : T} {split : Option (Split T)}
+    (grows : Grows s t b n i rest item split) where
   abbrev xs : List T
-  xs = items_of (node_of s n)
+  xs = node_items s n
 
   abbrev ks : List ℕ
-  ks = children_of (node_of s n)
+  ks = node_children s n
 
   abbrev kid : ℕ
-  kid = get_or (children_of (node_of s n)) i 0
+  kid = node_child s n i
 
   abbrev us : List ℕ
-  us = take i (children_of (node_of s n))
+  us = take i (node_children s n)
 
   abbrev vs : List ℕ
-  vs = drop (i + 1) (children_of (node_of s n))
+  vs = drop (i + 1) (node_children s n)
 
   abbrev new_xs : List T
-  new_xs = take i (items_of (node_of s n)) ++ (separators split ++ drop i (items_of (node_of s n)))
+  new_xs = take i (node_items s n) ++ (separators split ++ drop i (node_items s n))
 
   abbrev new_ks : List ℕ
   new_ks =
-      take i (children_of (node_of s n))
-      ++ (tops (get_or (children_of (node_of s n)) i 0) split
-      ++ drop (i + 1) (children_of (node_of s n)))
+      take i (node_children s n) ++ (tops (node_child s n i) split
+      ++ drop (i + 1) (node_children s n))
 
   level : suc (b - 1) ≡ b
   level = omega arith
 
   many : length ks ≡ length xs + 1
-  many = children_length (omega arith) shaped
+  many = children_length (omega arith) grows.shaped
 
   ks_parts : ks ≡ us ++ (kid ∷ vs)
   ks_parts = list_splits_at ks i 0 (omega (arith, many))
 
   kid_shape : ShapedBut MIN_LEN CAPACITY s (b - 1) kid
-  kid_shape = Shaped-but s (b - 1) kid (rw (← level) at (shaped.children i 0 (omega (arith, many))))
+  kid_shape = Shaped-but s (b - 1) kid (rw (← level) at (grows.shaped.children i 0
+      (omega (arith, many))))
 
   grown_run : Runs s t b n us (kid ∷ []) vs (tops kid split)
   grown_run =
       record {
-        present = shaped.node.present;
-        owned = owned;
+        present = grows.shaped.node.present;
+        owned = grows.owned;
         children = ks_parts;
         moved = subst (λ zs. Moves s t zs (flat_map (used t b) (tops kid split)))
-            (sym (append-nil (used s b kid))) (rw level at child.moved);
+            (sym (append-nil (used s b kid))) (rw level at grows.child.moved);
       }
 
   pub grown_kept : node_of t n ≡ node_of s n
@@ -243,23 +282,19 @@ module _ {T : Type 0} {s t : Heap T} {b n : ℕ} (i rest : ℕ) (item : T) {spli
 
   tops_shaped : All (Shaped t b) (tops kid split)
   tops_shaped =
-      let but = child.shape MIN_LEN (omega arith) (enough split) in
+      let but = grows.child.shape MIN_LEN (omega arith) (enough split) in
       rw level at (All-weaker (ShapedBut MIN_LEN CAPACITY t (b - 1)) (Shaped t (suc (b - 1)))
       (λ k. Shaped-from_but t (b - 1) k) (tops kid split) but)
     where
-      enough : (cut : Option (Split T)) → EnoughFor MIN_LEN cut (length (items_of (node_of s kid)))
+      enough : (cut : Option (Split T)) → EnoughFor MIN_LEN cut (length (node_items s kid))
       enough None = kid_shape.node.enough
       enough (Some cut) = tt
-
-  tops_many : (cut : Option (Split T)) → length (tops kid cut) ≡ length (separators cut) + 1
-  tops_many None = refl
-  tops_many (Some cut) = refl
 
   us_many : length us ≡ i
   us_many = length-take-le i ks (omega (arith, many))
 
   front_many : length (take i xs) ≡ i
-  front_many = length-take-le i xs low
+  front_many = length-take-le i xs grows.low
 
   pub grown_content : IsContent t b n new_xs new_ks
   grown_content = run_content grown_run new_xs (omega (
@@ -267,7 +302,7 @@ module _ {T : Type 0} {s t : Heap T} {b n : ℕ} (i rest : ℕ) (item : T) {spli
     child_count_inner b (length new_xs) (omega arith),
     length-append us (tops kid split ++ vs),
     length-append (tops kid split) vs,
-    tops_many split,
+    tops_many kid split,
     us_many,
     length-append (take i xs) (separators split ++ drop i xs),
     length-append (separators split) (drop i xs),
@@ -275,53 +310,39 @@ module _ {T : Type 0} {s t : Heap T} {b n : ℕ} (i rest : ℕ) (item : T) {spli
     length-drop i xs,
     length-drop (i + 1) ks,
     many,
-  )) (All-take (Shaped s b) i ks shaped.children) tops_shaped
-      (All-drop (Shaped s b) (i + 1) ks shaped.children)
+  )) (All-take (Shaped s b) i ks grows.shaped.children) tops_shaped
+      (All-drop (Shaped s b) (i + 1) ks grows.shaped.children)
 
   abbrev lists : List (List T)
-  lists = map (items_below s b) (children_of (node_of s n))
-
-  woven : (cut : Option (Split T))
-      → weave (take i xs ++ (separators cut ++ drop i xs))
-      (map (items_below s b) us
-      ++ (map (items_below t b) (tops kid cut) ++ map (items_below s b) vs))
-      ≡ front_of (take i xs) (map (items_below s b) us)
-      ++ (weave (separators cut) (map (items_below t b) (tops kid cut))
-      ++ rest_of (drop i xs) (map (items_below s b) vs))
-  woven None =
-      weave_splice (take i xs) [] (drop i xs) (map (items_below s b) us) (items_below t b kid) []
-      (map (items_below s b) vs)
-      (omega (arith, front_many, us_many, length-map us (items_below s b))) refl
-  woven (Some cut) =
-      weave_splice (take i xs) (cut.middle ∷ []) (drop i xs) (map (items_below s b) us)
-      (items_below t b kid) (items_below t b cut.right ∷ []) (map (items_below s b) vs)
-      (omega (arith, front_many, us_many, length-map us (items_below s b))) refl
+  lists = child_lists s b n
 
   pub grown_listed : weave new_xs (map (items_below t b) new_ks)
       ≡ insert (items_below s (suc b) n) (length (before xs lists i) + rest) item
   grown_listed =
       let inserted : weave (separators split) (map (items_below t b) (tops kid split))
-      ≡ insert (items_below s b kid) rest item = rw level at child.listed in
-      let whole = items_below_at (omega arith) shaped i low in
+      ≡ insert (items_below s b kid) rest item = rw level at grows.child.listed in
+      let whole = items_below_at (omega arith) grows.shaped i grows.low in
       ap (weave new_xs) (run_lists grown_run)
-      ∙ woven split
+      ∙ weave_tops (take i xs) (drop i xs) (map (items_below s b) us) (map (items_below s b) vs)
+      (items_below t b) kid split
+      (omega (arith, front_many, us_many, length-map us (items_below s b)))
       ∙ rw (inserted, ← take-map (items_below s b) i ks, ← drop-map (items_below s b) (i + 1) ks)
       refl
       ∙ sym (insert_middle (before xs lists i) (items_below s b kid)
-      (after xs lists i) rest item within)
+      (after xs lists i) rest item grows.within)
       ∙ ap (λ zs. insert zs (length (before xs lists i) + rest) item) (sym whole)
 
   pub grown_longer : length (weave new_xs (map (items_below t b) new_ks))
       ≡ length (items_below s (suc b) n) + 1
   grown_longer =
-      let whole = items_below_at (omega arith) shaped i low in
+      let whole = items_below_at (omega arith) grows.shaped i grows.low in
       let place : length (before xs lists i) + rest ≤ length (items_below s (suc b) n) =
       omega (
         arith,
         ap length whole,
         length-append (before xs lists i) (items_below s b kid ++ after xs lists i),
         length-append (items_below s b kid) (after xs lists i),
-        within,
+        grows.within,
       ) in
       ap length grown_listed
       ∙ length-insert (items_below s (suc b) n) (length (before xs lists i) + rest) item place
@@ -335,11 +356,11 @@ module _ {T : Type 0} {s t : Heap T} {b n : ℕ} (i rest : ℕ) (item : T) {spli
   grown_seat side g seat =
       let all =
       seat_run t (b - 1) us (tops kid split) vs (take i xs) (separators split)
-      (drop i xs) i side g us_many front_many (tops_many split) seat in
+      (drop i xs) i side g us_many front_many (tops_many kid split) seat in
       let here = ap (λ m. seat_place t m new_xs new_ks (i + side) g) level in
       let sums = ap (λ m. sum_by length (map (items_below t m) us)) level in
       let front =
-      length-before xs lists i low (omega (arith, many, length-map ks (items_below s b))) in
+      length-before xs lists i grows.low (omega (arith, many, length-map ks (items_below s b))) in
       let same : map (items_below t b) us ≡ take i lists = (same_before grown_run).items_below_same
       ∙ sym (take-map (items_below s b) i ks) in
       (rw level at all.0, omega (arith, all.1, front, here, sums, ap (sum_by length) same))
@@ -352,9 +373,9 @@ with_right ks i right low =
     ∙ append_assoc (take i ks) (get_or ks i 0 ∷ []) (right ∷ drop (i + 1) ks)
 
 pub kid_owned : {T : Type 0} (s : Heap T) (b n i : ℕ) → Owned s (suc b) n
-    → i < length (children_of (node_of s n)) → Owned s b (get_or (children_of (node_of s n)) i 0)
+    → i < length (node_children s n) → Owned s b (node_child s n i)
 kid_owned s b n i owned low k =
-    let ks = children_of (node_of s n) in
+    let ks = node_children s n in
     let kid = get_or ks i 0 in
     let us = flat_map (used s b) (take i ks) in
     let vs = flat_map (used s b) (drop (i + 1) ks) in
@@ -372,90 +393,72 @@ kid_owned s b n i owned low k =
     )
 
 -- a child that was not cut leaves the node as it is
-module _ {T : Type 0} {s t : Heap T} {b n : ℕ} (i rest : ℕ) (item : T) (inner : b ≢ 0)
-    (shaped : ShapedBut 1 CAPACITY s b n) (owned : Owned s (suc b) n)
-    (low : i ≤ length (items_of (node_of s n)))
-    (within : rest ≤ length (items_below s b (get_or (children_of (node_of s n)) i 0))) (child :
-    Replaces s t (b - 1) (get_or (children_of (node_of s n)) i 0) None
-    (insert (items_below s (suc (b - 1)) (get_or (children_of (node_of s n)) i 0)) rest item)) where
+module _ {T : Type 0} {s t : Heap T} {b n i rest : ℕ} {item : T}
+    (grows : Grows s t b n i rest item None) where
   abbrev xs' : List T
-  xs' = take i (items_of (node_of s n)) ++ drop i (items_of (node_of s n))
+  xs' = take i (node_items s n) ++ drop i (node_items s n)
 
   abbrev ks' : List ℕ
-  ks' =
-      take i (children_of (node_of s n))
-      ++ (get_or (children_of (node_of s n)) i 0 ∷ drop (i + 1) (children_of (node_of s n)))
+  ks' = take i (node_children s n) ++ (node_child s n i ∷ drop (i + 1) (node_children s n))
 
   kept : node_of t n ≡ node_of s n
-  kept = grown_kept i rest item inner shaped owned low within child
+  kept = grown_kept grows
 
   content : IsContent t b n xs' ks'
-  content = grown_content i rest item inner shaped owned low within child
+  content = grown_content grows
 
   written : Writes t t n xs' ks'
   written =
       record {
         was = content.present;
         present = content.present;
-        items_are = ap items_of kept ∙ sym (take-append-drop i (items_of (node_of s n)));
-        children_are = ap children_of kept
-            ∙ list_splits_at (children_of (node_of s n)) i 0
-            (omega (arith, children_length (omega arith) shaped));
+        items_are = ap items_of kept ∙ sym (take-append-drop i (node_items s n));
+        children_are = ap children_of kept ∙ list_splits_at (node_children s n) i 0
+            (omega (arith, children_length (omega arith) grows.shaped));
         others = λ k other. refl;
         len = refl;
         capacity = refl;
       }
 
-  same_length : length xs' ≡ length (items_of (node_of s n))
-  same_length = ap length (take-append-drop i (items_of (node_of s n)))
+  same_length : length xs' ≡ length (node_items s n)
+  same_length = ap length (take-append-drop i (node_items s n))
 
   pub none_replaces : Replaces s t b n None
-      (insert (items_below s (suc b) n)
-      (length (before (items_of (node_of s n))
-      (map (items_below s b) (children_of (node_of s n))) i) + rest) item)
-  none_replaces = settled_replaces _ (grown_moved i rest item inner shaped owned low within child)
-      (grown_listed i rest item inner shaped owned low within child) (omega (arith, same_length))
-      (written_settles t content written (omega (arith, same_length, shaped.node.fits)))
+      (insert (items_below s (suc b) n) (length (before_child s b n i) + rest) item)
+  none_replaces = settled_replaces _ (grown_moved grows)
+      (grown_listed grows) (omega (arith, same_length))
+      (written_settles t content written (omega (arith, same_length, grows.shaped.node.fits)))
 
   pub none_edge : (side : ℕ) (g h : Edge) → turn h ≡ i → inside h ≡ g
       → IsSeat t (suc (b - 1)) (separators {T = T} None)
-      (tops {T = T} (get_or (children_of (node_of s n)) i 0) None) side g
-      → IsEdge t b n h
-      × (place t b n h ≡ length
-      (before (items_of (node_of s n)) (map (items_below s b) (children_of (node_of s n))) i) +
-      seat_place t (suc (b - 1)) (separators {T = T} None)
-      (tops {T = T} (get_or (children_of (node_of s n)) i 0) None) side g)
+      (tops {T = T} (node_child s n i) None) side g → IsEdge t b n h × (place t b n h ≡ length
+      (before_child s b n i) + seat_place t (suc (b - 1)) (separators {T = T} None)
+      (tops {T = T} (node_child s n i) None) side g)
   none_edge side g h at into seat =
-      let up = grown_seat i rest item inner shaped owned low within child side g seat in
+      let up = grown_seat grows side g seat in
       let one =
       seat_side t (b - 1) (separators {T = T} None)
-      (tops {T = T} (get_or (children_of (node_of s n)) i 0) None) side g seat in
+      (tops {T = T} (node_child s n i) None) side g seat in
       let holds = written_holds t content written in
       let agree = written_agree t content written in
       let edge =
-      seat_written t t n xs' ks' (i + side) g h b holds agree (λ none. absurd (inner none))
+      seat_written t t n xs' ks' (i + side) g h b holds agree (λ none. absurd (grows.inner none))
       (λ some. omega (arith, at, one)) (λ some. into) up.0 in
       (edge.0, edge.1 ∙ up.1)
 
 -- a node that may be cut has the item between the halves of its child, and the second of them
-module _ {T : Type 0} {s t : Heap T} {b n : ℕ} (i rest : ℕ) (item : T) (split : Split T)
-    (inner : b ≢ 0) (shaped : ShapedBut 1 CAPACITY s b n) (owned : Owned s (suc b) n)
-    (low : i ≤ length (items_of (node_of s n)))
-    (within : rest ≤ length (items_below s b (get_or (children_of (node_of s n)) i 0))) (child :
-    Replaces s t (b - 1) (get_or (children_of (node_of s n)) i 0) (Some split)
-    (insert (items_below s (suc (b - 1)) (get_or (children_of (node_of s n)) i 0)) rest item)) where
-  pub some_items : take i (items_of (node_of s n))
-      ++ (split.middle ∷ drop i (items_of (node_of s n)))
-      ≡ insert (items_of (node_of t n)) i split.middle
+module _ {T : Type 0} {s t : Heap T} {b n i rest : ℕ} {item : T} {split : Split T}
+    (grows : Grows s t b n i rest item (Some split)) where
+  pub some_items : take i (node_items s n) ++ (split.middle ∷ drop i (node_items s n))
+      ≡ insert (node_items t n) i split.middle
   some_items = ap (λ zs. insert zs i split.middle)
-      (sym (ap items_of (grown_kept i rest item inner shaped owned low within child)))
+      (sym (ap items_of (grown_kept grows)))
 
-  pub some_children : take i (children_of (node_of s n))
-      ++ (get_or (children_of (node_of s n)) i 0 ∷ split.right ∷ drop (i + 1)
-      (children_of (node_of s n))) ≡ insert (children_of (node_of t n)) (i + 1) split.right
-  some_children = sym (with_right (children_of (node_of s n)) i split.right (omega (
+  pub some_children : take i (node_children s n) ++ (node_child s n i ∷ split.right ∷ drop (i + 1)
+      (node_children s n)) ≡ insert (node_children t n) (i + 1) split.right
+  some_children = sym (with_right (node_children s n) i split.right (omega (
     arith,
-    children_length (omega arith) shaped,
+    children_length (omega arith) grows.shaped,
   )))
       ∙ ap (λ zs. insert zs (i + 1) split.right)
-      (sym (ap children_of (grown_kept i rest item inner shaped owned low within child)))
+      (sym (ap children_of (grown_kept grows)))

@@ -3,7 +3,7 @@ use Rattle.std.proofs.Common.{◌≡◌, ℕ, zero, suc, ◌+◌, ◌-◌, ◌/�
 use Rattle.std.specs.List.{remove}
 use Rattle.std.proofs.Math.ListN.{set}
 use Rattle.std.proofs.lemmas.Bool.{and_right, ne_eqb}
-use Rattle.range_store.specs.Heap.{Heap, node_of, items_of, children_of}
+use Rattle.range_store.specs.Heap.{Heap, node_of, node_items, node_children, node_child}
 use Rattle.range_store.specs.declared.btree.nodes.TheConstants.{CAPACITY, MIN_LEN}
 use Rattle.range_store.specs.declared.btree.path.TheConstants.{PATH_BASE}
 use Rattle.range_store.specs.declared.btree.path.Edge.{Edge}
@@ -16,17 +16,16 @@ use Rattle.range_store.proofs.Rank.{kid_shaped}
 pub place_index : {T : Type 0} (s : Heap T) (d n : ℕ) (g : Edge) → g.index ≤ place s d n g
 unfolding place
 place_index s zero n g = omega arith
-place_index s (suc d) n g =
-    omega (arith, place_index s d (get_or (children_of (node_of s n)) (turn g) 0) (inside g))
+place_index s (suc d) n g = omega (arith, place_index s d (node_child s n (turn g)) (inside g))
 
 module _ {T : Type 0} where
   -- the leaf that an edge lies in
   pub record IsLeafOf (s : Heap T) (g : Edge) : Type 0 where
     pub present : IsSome (node_of s g.leaf)
-    pub some : 0 < length (items_of (node_of s g.leaf))
-    pub fits : length (items_of (node_of s g.leaf)) ≤ CAPACITY
-    pub childless : length (children_of (node_of s g.leaf)) ≡ 0
-    pub within : g.index ≤ length (items_of (node_of s g.leaf))
+    pub some : 0 < length (node_items s g.leaf)
+    pub fits : length (node_items s g.leaf) ≤ CAPACITY
+    pub childless : length (node_children s g.leaf) ≡ 0
+    pub within : g.index ≤ length (node_items s g.leaf)
 
 pub leaf_of_edge : {T : Type 0} {s : Heap T} (d : ℕ) {n : ℕ} (g : Edge) → ShapedBut 1 CAPACITY s d n
     → IsEdge s d n g → IsLeafOf s g
@@ -40,7 +39,7 @@ leaf_of_edge {T} {s} zero {n} g shaped is =
       within = is.2;
     })
 leaf_of_edge {T} {s} (suc d) {n} g shaped is =
-    let low : turn g ≤ length (items_of (node_of s n)) =
+    let low : turn g ≤ length (node_items s n) =
     omega (arith, is.0, shaped.node.branches) in
     let below = leaf_of_edge d (inside g)
     (shaped_within_wider 1 CAPACITY (omega arith) (omega arith) (kid_shaped d (turn g) shaped low))
@@ -55,16 +54,16 @@ leaf_of_edge {T} {s} (suc d) {n} g shaped is =
 
 -- another edge in it
 pub leaf_beside : {T : Type 0} (s : Heap T) (d n : ℕ) (g h : Edge) → h.leaf ≡ g.leaf
-    → h.path ≡ g.path → h.index ≤ length (items_of (node_of s g.leaf)) → IsEdge s d n g
+    → h.path ≡ g.path → h.index ≤ length (node_items s g.leaf) → IsEdge s d n g
     → IsEdge s d n h × (place s d n h + g.index ≡ place s d n g + h.index)
 unfolding IsEdge place
 leaf_beside s zero n g h leaf path index is =
-    let within : h.index ≤ length (items_of (node_of s n)) = rw is.0 at index in
+    let within : h.index ≤ length (node_items s n) = rw is.0 at index in
     ((leaf ∙ is.0, path ∙ is.1, within), omega arith)
 leaf_beside s (suc d) n g h leaf path index is =
     let first : turn h ≡ turn g = ap (λ w. w % PATH_BASE) path in
     let rest =
-    leaf_beside s d (get_or (children_of (node_of s n)) (turn g) 0) (inside g)
+    leaf_beside s d (node_child s n (turn g)) (inside g)
     (inside h) leaf (ap (λ w. w / PATH_BASE) path) index is.1 in
     rw first ((is.0, rest.0), omega (arith, rest.1))
 

@@ -1,27 +1,27 @@
 -- A leaf with other items, below nodes that stay as they were.
-use Rattle.std.proofs.Common.{◌≡◌, ◌≢◌, ℕ, zero, suc, ◌+◌, ◌-◌, ◌/◌, ◌%◌, ◌<◌, ◌≤◌, List, [], ◌++◌, length, get_or, map, refl, sym, ap, ◌∙◌, arith}
+use Rattle.std.proofs.Common.{◌≡◌, ◌≢◌, ℕ, zero, suc, ◌+◌, ◌-◌, ◌/◌, ◌%◌, ◌<◌, ◌≤◌, List, [], ◌++◌, length, map, refl, sym, ap, ◌∙◌, arith}
 use Rattle.std.specs.List.{flat_map, insert, remove}
 use Rattle.std.proofs.lemmas.List.{append-nil, length-append, nil_from_length}
 use Rattle.std.proofs.lemmas.List.Edits.{length-insert, length-remove}
-use Rattle.range_store.specs.Heap.{Heap, node_of, items_of, children_of, Writes}
+use Rattle.range_store.specs.Heap.{Heap, node_of, Writes, node_items, node_children, node_child}
 use Rattle.range_store.specs.declared.btree.nodes.TheConstants.{CAPACITY, MIN_LEN}
 use Rattle.range_store.specs.declared.btree.BoxStorage.{BoxStorage}
 use Rattle.range_store.specs.declared.btree.path.Edge.{Edge}
 use Rattle.range_store.specs.declared.btree.path.TheConstants.{PATH_BASE}
-use Rattle.range_store.specs.Nodes.{weave, before, after, items_below, used, Shaped, ShapedBut, Owned, IsTree}
+use Rattle.range_store.specs.Nodes.{weave, before, items_below, used, Shaped, ShapedBut, Owned, IsTree, before_child, after_child}
 use Rattle.range_store.specs.Edges.{turn, inside, IsEdge, place}
-use Rattle.range_store.specs.Contents.{IsContent, IsRewritten}
+use Rattle.range_store.specs.Contents.{IsContent}
 use Rattle.range_store.specs.Occurrences.{occurrences}
 use Rattle.range_store.specs.Holding.{box_items, IsBoxEdge, box_place}
 use Rattle.range_store.proofs.Below.{items_below_at, items_below_leaf, used_is, shaped_within_wider, Shaped-from_but}
-use Rattle.range_store.proofs.Contents.{Holds, written_holds, held_items_below, held_used, held_shape}
+use Rattle.range_store.proofs.Contents.{IsRewritten, Holds, written_holds, held_items_below, held_used, held_shape}
 use Rattle.range_store.specs.Frame.{IsNode-same}
 use Rattle.range_store.proofs.Edges.{leaf_edge, leaf_place, edge_above, place_inside}
 use Rattle.range_store.proofs.Growing.{kid_owned}
 use Rattle.range_store.proofs.Moves.{Writes-moves}
 use Rattle.range_store.proofs.Rank.{kid_shaped}
 use Rattle.range_store.specs.Written.{root_shaped}
-use Rattle.range_store.proofs.Shortening.{kid_kept, kid_moved, kid_listed, kid_front, kid_children, remove_middle}
+use Rattle.range_store.proofs.Shortening.{ListsAnew, kid_kept, kid_moved, kid_listed, kid_front, kid_children, remove_middle}
 use Rattle.range_store.proofs.InLeaf.{IsLeafOf, leaf_of_edge}
 use Rattle.range_store.proofs.Roots.{tree_owned, rewritten_tree}
 use Rattle.range_store.specs.Weave.{insert_middle, regroup}
@@ -32,7 +32,7 @@ module _ {T : Type 0} where
   pub record IsLeafEdit (s t : Heap T) (d n : ℕ) (g : Edge) (items : List T) : Type 0 where
     pub front : List T
     pub rest : List T
-    pub was : items_below s (suc d) n ≡ front ++ (items_of (node_of s g.leaf) ++ rest)
+    pub was : items_below s (suc d) n ≡ front ++ (node_items s g.leaf ++ rest)
     pub place_is : place s d n g ≡ length front + g.index
     pub rewritten : IsRewritten s t d n (front ++ (items ++ rest))
     pub edges : (h : Edge) → h.leaf ≡ g.leaf → h.path ≡ g.path → h.index ≤ length items
@@ -41,9 +41,9 @@ module _ {T : Type 0} where
 -- of a leaf itself
 module _ {T : Type 0} {s t : Heap T} {n : ℕ} (g : Edge) {items : List T}
     (fits : length items ≤ CAPACITY) (enough : (least : ℕ) → least ≤ MIN_LEN → least ≤ length
-    (items_of (node_of s n)) → least ≤ length items) (shaped : ShapedBut 1 CAPACITY s zero n)
-    (owned : Owned s 1 n) (written : Writes s t n items (children_of (node_of s n))) where
-  content : IsContent s zero n items (children_of (node_of s n))
+    (node_items s n) → least ≤ length items) (shaped : ShapedBut 1 CAPACITY s zero n)
+    (owned : Owned s 1 n) (written : Writes s t n items (node_children s n)) where
+  content : IsContent s zero n items (node_children s n)
   content = record {
     present = shaped.node.present;
     shaped = shaped.children;
@@ -51,25 +51,23 @@ module _ {T : Type 0} {s t : Heap T} {n : ℕ} (g : Edge) {items : List T}
     owned = λ k. omega (arith, owned k, ap (occurrences k) (used_is s zero n));
   }
 
-  holds : Holds s t zero n items (children_of (node_of s n))
+  holds : Holds s t zero n items (node_children s n)
   holds = written_holds t content written
 
   edited_here : g.leaf ≡ n → g.path ≡ 0 → IsLeafEdit s t zero n g items
   edited_here at first =
-      let childless = nil_from_length (children_of (node_of s n)) shaped.node.branches in
+      let childless = nil_from_length (node_children s n) shaped.node.branches in
       record {
         front = [];
         rest = [];
-        was =
-            rw at (items_below_leaf s n shaped.node.branches
-            ∙ sym (append-nil (items_of (node_of s n))));
+        was = rw at (items_below_leaf s n shaped.node.branches ∙ sym (append-nil (node_items s n)));
         place_is = omega (arith, leaf_place s n g);
         rewritten = record {
           listed = held_items_below holds
               ∙ ap (λ zs. weave items (map (items_below s zero) zs)) childless
               ∙ sym (append-nil items);
           moved = rw (used_is s zero n, held_used holds)
-              (Writes-moves (flat_map (used s zero) (children_of (node_of s n))) written);
+              (Writes-moves (flat_map (used s zero) (node_children s n)) written);
           shape = λ least small old. held_shape holds least (enough least small old.node.enough)
               fits shaped.node.branches shaped.children;
         };
@@ -84,27 +82,33 @@ module _ {T : Type 0} {s t : Heap T} {n : ℕ} (g : Edge) {items : List T}
 -- of a leaf below the child through which the path goes
 module _ {T : Type 0} {s t : Heap T} {d n : ℕ} (g : Edge) {items : List T}
     (shaped : ShapedBut 1 CAPACITY s (suc d) n) (owned : Owned s (suc (suc d)) n)
-    (low : turn g ≤ length (items_of (node_of s n)))
-    (within : turn g < length (children_of (node_of s n)))
-    (below : IsLeafEdit s t d (get_or (children_of (node_of s n)) (turn g) 0) (inside g) items)
+    (low : turn g ≤ length (node_items s n)) (within : turn g < length (node_children s n))
+    (below : IsLeafEdit s t d (node_child s n (turn g)) (inside g) items)
   where
     inner : suc d ≢ 0
     inner same = absurd (omega (arith, same))
 
     abbrev fore : List T
-    fore =
-        before (items_of (node_of s n)) (map (items_below s (suc d)) (children_of (node_of s n)))
-        (turn g)
+    fore = before_child s (suc d) n (turn g)
 
     abbrev behind : List T
-    behind =
-        after (items_of (node_of s n)) (map (items_below s (suc d)) (children_of (node_of s n)))
-        (turn g)
+    behind = after_child s (suc d) n (turn g)
+
+    anew : ListsAnew s t (suc d) n (turn g) (below.front ++ (items ++ below.rest))
+    anew =
+        record {
+          inner = inner;
+          shaped = shaped;
+          owned = owned;
+          low = low;
+          listed = below.rewritten.listed;
+          moved = below.rewritten.moved;
+        }
 
     kept : node_of t n ≡ node_of s n
-    kept = kid_kept (turn g) _ inner shaped owned low below.rewritten.listed below.rewritten.moved
+    kept = kid_kept anew
 
-    kid_now : Shaped t (suc d) (get_or (children_of (node_of s n)) (turn g) 0)
+    kid_now : Shaped t (suc d) (node_child s n (turn g))
     kid_now = Shaped-from_but t d _
         (below.rewritten.shape MIN_LEN (omega arith) (kid_shaped d (turn g) shaped low))
 
@@ -114,28 +118,22 @@ module _ {T : Type 0} {s t : Heap T} {d n : ℕ} (g : Edge) {items : List T}
       rest = below.rest ++ behind;
       was = items_below_at (omega arith) shaped (turn g) low
           ∙ ap (λ zs. fore ++ (zs ++ behind)) below.was
-          ∙ regroup fore below.front (items_of (node_of s g.leaf)) below.rest behind;
+          ∙ regroup fore below.front (node_items s g.leaf) below.rest behind;
       place_is =
           omega (arith, place_inside s d n g, below.place_is, length-append fore below.front);
       rewritten = record {
-        listed = kid_listed (turn g) _ inner shaped owned low below.rewritten.listed
-            below.rewritten.moved
-            ∙ regroup fore below.front items below.rest behind;
-        moved = kid_moved (turn g) _ inner shaped owned low below.rewritten.listed
-            below.rewritten.moved;
+        listed = kid_listed anew ∙ regroup fore below.front items below.rest behind;
+        moved = kid_moved anew;
         shape = λ least small old. record {
           node = IsNode-same t kept old.node;
-          children = kid_children (turn g) _ inner shaped owned low below.rewritten.listed
-              below.rewritten.moved kid_now;
+          children = kid_children anew kid_now;
         };
       };
       edges = λ h leaf path index.
           let first : turn h ≡ turn g = ap (λ w. w % PATH_BASE) path in
           let further = below.edges (inside h) leaf (ap (λ w. w / PATH_BASE) path) index in
           let now = rw (kept, first) at (place_inside t d n h) in
-          let fronts = rw kept at
-          (kid_front (turn g) _ inner shaped owned low below.rewritten.listed below.rewritten.moved)
-          in (
+          let fronts = rw kept at (kid_front anew) in (
             edge_above t d n (turn g) (inside h) h first refl (rw kept within) (rw kept further.0),
             omega (arith, now, fronts, further.1, length-append fore below.front),
           );
@@ -143,16 +141,15 @@ module _ {T : Type 0} {s t : Heap T} {d n : ℕ} (g : Edge) {items : List T}
 
 pub leaf_edit : {T : Type 0} {s t : Heap T} (d : ℕ) {n : ℕ} (g : Edge) {items : List T}
     → length items ≤ CAPACITY → ((least : ℕ) → least ≤ MIN_LEN → least ≤ length
-    (items_of (node_of s g.leaf)) → least ≤ length items) → ShapedBut 1 CAPACITY s d n
-    → Owned s (suc d) n → IsEdge s d n g → Writes s t g.leaf items (children_of (node_of s g.leaf))
+    (node_items s g.leaf) → least ≤ length items) → ShapedBut 1 CAPACITY s d n
+    → Owned s (suc d) n → IsEdge s d n g → Writes s t g.leaf items (node_children s g.leaf)
     → IsLeafEdit s t d n g items
 unfolding IsEdge
 leaf_edit {T} {s} {t} zero {n} g {items} fits enough shaped owned is written = edited_here g fits
     (rw is.0 at enough) shaped owned (rw is.0 at written) is.0 is.1
 leaf_edit {T} {s} {t} (suc d) {n} g {items} fits enough shaped owned is written =
-    let low : turn g ≤ length (items_of (node_of s n)) =
+    let low : turn g ≤ length (node_items s n) =
     omega (arith, is.0, shaped.node.branches) in
-    let kid = get_or (children_of (node_of s n)) (turn g) 0 in
     let kid_whole = shaped_within_wider 1 CAPACITY (omega arith) (omega arith)
     (kid_shaped d (turn g) shaped low) in
     edited_above g shaped owned low is.0 (leaf_edit d (inside g) fits enough kid_whole
@@ -160,36 +157,34 @@ leaf_edit {T} {s} {t} (suc d) {n} g {items} fits enough shaped owned is written 
 
 -- an item more, before the edge
 module _ {T : Type 0} {s t : Heap T} {d n : ℕ} (item : T) {g : Edge}
-    (edit : IsLeafEdit s t d n g (insert (items_of (node_of s g.leaf)) g.index item))
-    (within : g.index ≤ length (items_of (node_of s g.leaf))) where
-  pub inserted_in_leaf : edit.front
-      ++ (insert (items_of (node_of s g.leaf)) g.index item ++ edit.rest)
+    (edit : IsLeafEdit s t d n g (insert (node_items s g.leaf) g.index item))
+    (within : g.index ≤ length (node_items s g.leaf)) where
+  pub inserted_in_leaf : edit.front ++ (insert (node_items s g.leaf) g.index item ++ edit.rest)
       ≡ insert (items_below s (suc d) n) (place s d n g) item
   inserted_in_leaf =
-      sym (insert_middle edit.front (items_of (node_of s g.leaf)) edit.rest g.index item within)
-      ∙ ap (λ m. insert (edit.front ++ (items_of (node_of s g.leaf) ++ edit.rest)) m item)
+      sym (insert_middle edit.front (node_items s g.leaf) edit.rest g.index item within)
+      ∙ ap (λ m. insert (edit.front ++ (node_items s g.leaf ++ edit.rest)) m item)
       (sym edit.place_is)
       ∙ ap (λ zs. insert zs (place s d n g) item) (sym edit.was)
 
 -- an item less, from before the edge
 module _ {T : Type 0} {s t : Heap T} {d n : ℕ} {g : Edge}
-    (edit : IsLeafEdit s t d n g (remove (items_of (node_of s g.leaf)) (g.index - 1)))
-    (some : 0 < g.index) (within : g.index ≤ length (items_of (node_of s g.leaf))) where
-  pub removed_in_leaf : edit.front
-      ++ (remove (items_of (node_of s g.leaf)) (g.index - 1) ++ edit.rest)
+    (edit : IsLeafEdit s t d n g (remove (node_items s g.leaf) (g.index - 1)))
+    (some : 0 < g.index) (within : g.index ≤ length (node_items s g.leaf)) where
+  pub removed_in_leaf : edit.front ++ (remove (node_items s g.leaf) (g.index - 1) ++ edit.rest)
       ≡ remove (items_below s (suc d) n) (place s d n g - 1)
   removed_in_leaf =
       let at : length edit.front + (g.index - 1) ≡ place s d n g - 1 =
       omega (arith, edit.place_is, some) in
-      sym (remove_middle edit.front (items_of (node_of s g.leaf)) edit.rest (g.index - 1)
+      sym (remove_middle edit.front (node_items s g.leaf) edit.rest (g.index - 1)
       (omega (arith, some, within)))
-      ∙ ap (remove (edit.front ++ (items_of (node_of s g.leaf) ++ edit.rest))) at
+      ∙ ap (remove (edit.front ++ (node_items s g.leaf ++ edit.rest))) at
       ∙ ap (λ zs. remove zs (place s d n g - 1)) (sym edit.was)
 
 -- the leaf of an edge of a whole tree, with an item more or less
 module _ {T : Type 0} {t : BoxStorage T} (new : Heap T) {g : Edge} (is : IsBoxEdge t g) where
   abbrev items : List T
-  items = items_of (node_of t.nodes g.leaf)
+  items = node_items t.nodes g.leaf
 
   level : suc (t.levels - 1) ≡ t.levels
   level = omega (arith, is.some)
@@ -227,7 +222,7 @@ module _ {T : Type 0} {t : BoxStorage T} (new : Heap T) {g : Edge} (is : IsBoxEd
       }
 
   pub put_in_leaf : (item : T) (h : Edge) → length items < CAPACITY
-      → Writes t.nodes new g.leaf (insert items g.index item) (children_of (node_of t.nodes g.leaf))
+      → Writes t.nodes new g.leaf (insert items g.index item) (node_children t.nodes g.leaf)
       → h.leaf ≡ g.leaf → h.path ≡ g.path → h.index ≡ g.index + 1
       → IsLeafChange (insert (box_items t) (box_place t g) item) h h.index
   put_in_leaf item h room written at path next =
@@ -240,7 +235,7 @@ module _ {T : Type 0} {t : BoxStorage T} (new : Heap T) {g : Edge} (is : IsBoxEd
 
   pub take_from_leaf : (h : Edge) → MIN_LEN < length items → 0 < g.index
       → Writes t.nodes new g.leaf (remove items (g.index - 1))
-      (children_of (node_of t.nodes g.leaf)) → h.leaf ≡ g.leaf → h.path ≡ g.path
+      (node_children t.nodes g.leaf) → h.leaf ≡ g.leaf → h.path ≡ g.path
       → h.index ≡ g.index - 1 → IsLeafChange (remove (box_items t) (box_place t g - 1)) h h.index
   take_from_leaf h spare some written at path back =
       let within = leaf.within in

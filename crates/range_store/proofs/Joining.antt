@@ -4,20 +4,20 @@ use Rattle.std.specs.List.{flat_map}
 use Rattle.std.proofs.lemmas.List.{append-nil, append_assoc, length-append, length-map, map-append}
 use Rattle.std.proofs.lemmas.List.Concat.{flat_map-append}
 use Rattle.std.proofs.lemmas.List.Elements.{All-append, All-cons, All-nil, All-weaker}
-use Rattle.range_store.specs.Heap.{Heap, node_of, items_of, children_of, child_count, Writes, Removes}
+use Rattle.range_store.specs.Heap.{Heap, node_of, child_count, Writes, Removes, node_items, node_children}
 use Rattle.range_store.specs.declared.btree.nodes.Split.{Split}
 use Rattle.range_store.specs.declared.btree.nodes.TheConstants.{CAPACITY, MIN_LEN}
 use Rattle.range_store.specs.declared.btree.path.Edge.{Edge}
-use Rattle.range_store.specs.Nodes.{weave, items_below, used, Shaped, ShapedBut, here}
+use Rattle.range_store.specs.Nodes.{weave, items_below, used, Shaped, ShapedBut, here, child_lists}
 use Rattle.range_store.specs.Edges.{turn, inside, seat_of, IsEdge, place, IsSeat, seat_place}
-use Rattle.range_store.specs.Contents.{IsContent, IsPair, Rejoins}
+use Rattle.range_store.specs.Contents.{IsContent}
 use Rattle.range_store.specs.Occurrences.{occurrences, occurrences-append, occurrences-cons, occurrences_itself}
 use Rattle.range_store.specs.Weave.{weave_cut}
 use Rattle.range_store.specs.Frame.{AgreeAt, same_children}
 use Rattle.range_store.proofs.Below.{weave_items_below, used_is, items_below_leaf, Shaped-from_but}
 use Rattle.range_store.proofs.Room.{items_below_size}
 use Rattle.range_store.proofs.Moves.{here_le, SameNodes, Moves-like, Moves-then, Writes-moves, Removes-moves}
-use Rattle.range_store.proofs.Contents.{Holds, held_items_below, held_used, held_shape, content_apart, halves_listed, halves_nodes, halves_shape, part_agree}
+use Rattle.range_store.proofs.Contents.{IsPair, Rejoins, Holds, held_items_below, held_used, held_shape, content_apart, halves_listed, halves_nodes, halves_shape, part_agree}
 use Rattle.range_store.proofs.Seats.{seat_run}
 
 weave_join : {T : Type 0} (xs : List T) (x : T) (ys : List T) (ks ls : List (List T)) (d : ℕ)
@@ -35,24 +35,23 @@ child_count-join : (d a b m n : ℕ) → m ≡ child_count d a → n ≡ child_c
 child_count-join zero a b m n h h' = omega arith
 child_count-join (suc d) a b m n h h' = omega arith
 
-module _ {T : Type 0} (s : Heap T) (d l : ℕ) (x : T) (r : ℕ) (pair : IsPair s d l r) where
+module _ {T : Type 0} {s : Heap T} {d l r : ℕ} (x : T) (pair : IsPair s d l r) where
   abbrev xs : List T
-  xs = items_of (node_of s l) ++ (x ∷ items_of (node_of s r))
+  xs = node_items s l ++ (x ∷ node_items s r)
 
   abbrev ks : List ℕ
-  ks = children_of (node_of s l) ++ children_of (node_of s r)
+  ks = node_children s l ++ node_children s r
 
   abbrev F : List ℕ
-  F = flat_map (used s d) (children_of (node_of s l) ++ children_of (node_of s r))
+  F = flat_map (used s d) (node_children s l ++ node_children s r)
 
-  both : F ≡ flat_map (used s d) (children_of (node_of s l))
-      ++ flat_map (used s d) (children_of (node_of s r))
-  both = flat_map-append (used s d) (children_of (node_of s l)) (children_of (node_of s r))
+  both : F ≡ flat_map (used s d) (node_children s l) ++ flat_map (used s d) (node_children s r)
+  both = flat_map-append (used s d) (node_children s l) (node_children s r)
 
   pub pair_nodes : SameNodes (used s (suc d) l ++ used s (suc d) r) (r ∷ l ∷ F)
   pair_nodes =
-      let us = flat_map (used s d) (children_of (node_of s l)) in
-      let vs = flat_map (used s d) (children_of (node_of s r)) in
+      let us = flat_map (used s d) (node_children s l) in
+      let vs = flat_map (used s d) (node_children s r) in
       rw (used_is s d l, used_is s d r) (record {
         occur =
             λ k.
@@ -90,39 +89,47 @@ module _ {T : Type 0} (s : Heap T) (d l : ℕ) (x : T) (r : ℕ) (pair : IsPair 
       let itself : occurrences k (r ∷ []) ≡ 1 = rw same (occurrences_itself r) in
       omega (arith, occur_pair k, itself, here_le s k)
 
-  one : length (items_of (node_of s l)) + (1 + length (items_of (node_of s r)))
-      ≡ length (items_of (node_of s l)) + length (x ∷ items_of (node_of s r))
+  one : length (node_items s l) + (1 + length (node_items s r))
+      ≡ length (node_items s l) + length (x ∷ node_items s r)
   one = omega arith
 
   pub pair_content : IsContent s d l xs ks
   pair_content = record {
     present = pair.left.node.present;
     shaped =
-        All-append (Shaped s d) (children_of (node_of s l))
-        (children_of (node_of s r)) pair.left.children pair.right.children;
+        All-append (Shaped s d) (node_children s l)
+        (node_children s r) pair.left.children pair.right.children;
     branches =
-        length-append (children_of (node_of s l)) (children_of (node_of s r))
+        length-append (node_children s l) (node_children s r)
         ∙ child_count-join d _ _ _ _ pair.left.node.branches pair.right.node.branches
-        ∙ ap (child_count d) (one
-        ∙ sym (length-append (items_of (node_of s l)) (x ∷ items_of (node_of s r))));
+        ∙ ap (child_count d) (one ∙ sym (length-append (node_items s l) (x ∷ node_items s r)));
     owned = λ k. omega (arith, occur_pair k, occurrences-cons k l F);
   }
 
   pub pair_listed : weave xs (map (items_below s d) ks) ≡ items_below s (suc d) l
       ++ (x ∷ items_below s (suc d) r)
   pair_listed =
-      ap (weave xs) (map-append (items_below s d) (children_of (node_of s l))
-      (children_of (node_of s r)))
-      ∙ weave_join (items_of (node_of s l)) x (items_of (node_of s r))
-      (map (items_below s d) (children_of (node_of s l)))
-      (map (items_below s d) (children_of (node_of s r))) d
-      (length-map (children_of (node_of s l)) (items_below s d) ∙ pair.left.node.branches)
-      (length-map (children_of (node_of s r)) (items_below s d) ∙ pair.right.node.branches)
+      ap (weave xs) (map-append (items_below s d) (node_children s l) (node_children s r))
+      ∙ weave_join (node_items s l) x (node_items s r) (child_lists s d l) (child_lists s d r) d
+      (length-map (node_children s l) (items_below s d) ∙ pair.left.node.branches)
+      (length-map (node_children s r) (items_below s d) ∙ pair.right.node.branches)
       ∙ rw (weave_items_below s d l, weave_items_below s d r) refl
 
-  pub pair_length : length xs
-      ≡ length (items_of (node_of s l)) + 1 + length (items_of (node_of s r))
-  pair_length = omega (arith, length-append (items_of (node_of s l)) (x ∷ items_of (node_of s r)))
+  pub pair_length : length xs ≡ length (node_items s l) + 1 + length (node_items s r)
+  pair_length = omega (arith, length-append (node_items s l) (x ∷ node_items s r))
+
+  swapped : SameNodes (l ∷ r ∷ F) (r ∷ l ∷ F)
+  swapped =
+      record {
+        occur = λ k. omega (
+          arith,
+          occurrences-cons k l (r ∷ F),
+          occurrences-cons k r F,
+          occurrences-cons k r (l ∷ F),
+          occurrences-cons k l F,
+        );
+        len = refl;
+      }
 
   -- all of it in the left node
   module _ {t u : Heap T} (written : Writes s t l xs ks) (removed : Removes t u r)
@@ -165,19 +172,6 @@ module _ {T : Type 0} (s : Heap T) (d l : ℕ) (x : T) (r : ℕ) (pair : IsPair 
           MIN_LEN (omega (arith, pair_length, pair.enough)) (omega (arith, few))
           pair_content.branches pair_content.shaped)) (All-nil _);
     }
-      where
-        swapped : SameNodes (l ∷ r ∷ F) (r ∷ l ∷ F)
-        swapped =
-            record {
-              occur = λ k. omega (
-                arith,
-                occurrences-cons k l (r ∷ F),
-                occurrences-cons k r F,
-                occurrences-cons k r (l ∷ F),
-                occurrences-cons k l F,
-              );
-              len = refl;
-            }
 
   -- the first half of it in the left node, the other in the right one
   module _ {t u : Heap T} (half : ℕ) (low : half < length xs)
@@ -224,7 +218,7 @@ module _ {T : Type 0} (s : Heap T) (d l : ℕ) (x : T) (r : ℕ) (pair : IsPair 
           (used u (suc d) l ++ (used u (suc d) r ++ []))
           (record { occur = λ k. sym (pair_nodes.occur k); len = sym pair_nodes.len })
           (halves_nodes half pair_content low shared_left shared_right) (Moves-then
-          (Moves-like (r ∷ l ∷ F) (r ∷ l ∷ F) swapped' swapped' (Writes-moves (r ∷ F) first))
+          (Moves-like (r ∷ l ∷ F) (r ∷ l ∷ F) swapped swapped (Writes-moves (r ∷ F) first))
           (Writes-moves (l ∷ F) second));
       shaped =
           let but = halves_shape half pair_content low shared_left shared_right least_left most_left
@@ -232,63 +226,49 @@ module _ {T : Type 0} (s : Heap T) (d l : ℕ) (x : T) (r : ℕ) (pair : IsPair 
           All-weaker (ShapedBut MIN_LEN CAPACITY u d) (Shaped u (suc d))
           (λ k. Shaped-from_but u d k) (l ∷ r ∷ []) but;
     })
-      where
-        swapped' : SameNodes (l ∷ r ∷ F) (r ∷ l ∷ F)
-        swapped' =
-            record {
-              occur = λ k. omega (
-                arith,
-                occurrences-cons k l (r ∷ F),
-                occurrences-cons k r F,
-                occurrences-cons k r (l ∷ F),
-                occurrences-cons k l F,
-              );
-              len = refl;
-            }
 
 -- the seat of an edge among the items of both, from that in the left or in the right one
 module _ {T : Type 0} (s : Heap T) (l : ℕ) (x : T) (r : ℕ) (g : Edge) where
   abbrev all_items : List T
-  all_items = items_of (node_of s l) ++ (x ∷ items_of (node_of s r))
+  all_items = node_items s l ++ (x ∷ node_items s r)
 
   abbrev all_children : List ℕ
-  all_children = children_of (node_of s l) ++ children_of (node_of s r)
+  all_children = node_children s l ++ node_children s r
 
   pub seat_from_left : (d : ℕ) → IsPair s d l r → IsEdge s d l g
       → IsSeat s d all_items all_children (seat_of d g) (inside g)
       × (seat_place s d all_items all_children (seat_of d g) (inside g) ≡ place s d l g)
   unfolding IsEdge place IsSeat seat_place
   seat_from_left zero pair is = (
-    omega (arith, is.2, length-append (items_of (node_of s l)) (x ∷ items_of (node_of s r))),
+    omega (arith, is.2, length-append (node_items s l) (x ∷ node_items s r)),
     refl,
   )
   seat_from_left (suc e) pair is =
       let run =
-      seat_run s e [] (children_of (node_of s l)) (children_of (node_of s r)) []
-      (items_of (node_of s l)) (x ∷ items_of (node_of s r)) 0 (turn g)
+      seat_run s e [] (node_children s l) (node_children s r) []
+      (node_items s l) (x ∷ node_items s r) 0 (turn g)
       (inside g) refl refl pair.left.node.branches is in
       let start : 0 + turn g ≡ turn g = omega arith in
       let run' = rw start at run in
       (run'.0, run'.1 ∙ omega arith)
 
   pub seat_from_right : (d : ℕ) → IsPair s d l r → IsEdge s d r g
-      → IsSeat s d all_items all_children (length (items_of (node_of s l)) + 1 + seat_of d g)
-      (inside g)
-      × (seat_place s d all_items all_children (length (items_of (node_of s l)) + 1 + seat_of d g)
+      → IsSeat s d all_items all_children (length (node_items s l) + 1 + seat_of d g) (inside g)
+      × (seat_place s d all_items all_children (length (node_items s l) + 1 + seat_of d g)
       (inside g) ≡ length (items_below s (suc d) l) + 1 + place s d r g)
   unfolding IsEdge place IsSeat seat_place
   seat_from_right zero pair is = (
-    omega (arith, is.2, length-append (items_of (node_of s l)) (x ∷ items_of (node_of s r))),
+    omega (arith, is.2, length-append (node_items s l) (x ∷ node_items s r)),
     omega (arith, ap length (items_below_leaf s l pair.left.node.branches)),
   )
   seat_from_right (suc e) pair is =
-      let xs = items_of (node_of s l) in
-      let ys = items_of (node_of s r) in
+      let xs = node_items s l in
+      let ys = node_items s r in
       let run =
-      seat_run s e (children_of (node_of s l)) (children_of (node_of s r)) []
+      seat_run s e (node_children s l) (node_children s r) []
       (xs ++ x ∷ []) ys [] (length xs + 1) (turn g) (inside g) pair.left.node.branches
       (length-append xs (x ∷ [])) pair.right.node.branches is in
       let items : (xs ++ x ∷ []) ++ (ys ++ []) ≡ xs ++ (x ∷ ys) =
       ap (λ zs. (xs ++ x ∷ []) ++ zs) (append-nil ys) ∙ append_assoc xs (x ∷ []) ys in
-      let run' = rw (items, append-nil (children_of (node_of s r))) at run in
+      let run' = rw (items, append-nil (node_children s r)) at run in
       (run'.0, omega (arith, run'.1, items_below_size pair.left))

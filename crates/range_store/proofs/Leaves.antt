@@ -1,12 +1,12 @@
 -- An item into a leaf.
-use Rattle.std.proofs.Common.{◌≡◌, ℕ, ◌+◌, ◌≤◌, List, ◌∷◌, length, map, refl, ap, arith, subst}
+use Rattle.std.proofs.Common.{◌≡◌, ℕ, ◌+◌, ◌≤◌, List, ◌∷◌, length, refl, ap, arith, subst}
 use Rattle.std.specs.List.{insert, flat_map}
 use Rattle.std.proofs.lemmas.List.{nil_from_length}
 use Rattle.std.proofs.lemmas.List.Edits.{length-insert}
-use Rattle.range_store.specs.Heap.{Heap, node_of, items_of, children_of}
+use Rattle.range_store.specs.Heap.{Heap, node_items, node_children}
 use Rattle.range_store.specs.declared.btree.nodes.TheConstants.{CAPACITY}
 use Rattle.range_store.specs.declared.btree.path.Edge.{Edge}
-use Rattle.range_store.specs.Nodes.{weave, items_below, used, ShapedBut, Owned, Moves}
+use Rattle.range_store.specs.Nodes.{weave, items_below, used, ShapedBut, Owned, Moves, child_lists}
 use Rattle.range_store.specs.Edges.{IsSeat, seat_place}
 use Rattle.range_store.specs.Contents.{IsContent}
 use Rattle.range_store.specs.Occurrences.{occurrences}
@@ -15,7 +15,7 @@ use Rattle.range_store.proofs.Moves.{Moves-none}
 
 module _ {T : Type 0} {s : Heap T} {n : ℕ} (i : ℕ) (item : T) (shaped : ShapedBut 1 CAPACITY s 0 n) where
   pub leaf_content : Owned s 1 n
-      → IsContent s 0 n (insert (items_of (node_of s n)) i item) (children_of (node_of s n))
+      → IsContent s 0 n (insert (node_items s n) i item) (node_children s n)
   leaf_content owned = record {
     present = shaped.node.present;
     shaped = shaped.children;
@@ -23,26 +23,25 @@ module _ {T : Type 0} {s : Heap T} {n : ℕ} (i : ℕ) (item : T) (shaped : Shap
     owned = λ k. omega (arith, owned k, ap (occurrences k) (used_is s 0 n));
   }
 
-  pub leaf_moved : Moves s s (used s 1 n) (n ∷ flat_map (used s 0) (children_of (node_of s n)))
+  pub leaf_moved : Moves s s (used s 1 n) (n ∷ flat_map (used s 0) (node_children s n))
   leaf_moved = subst (λ zs. Moves s s (used s 1 n) zs) (used_is s 0 n) (Moves-none s (used s 1 n))
 
-  pub leaf_listed : weave (insert (items_of (node_of s n)) i item)
-      (map (items_below s 0) (children_of (node_of s n))) ≡ insert (items_below s 1 n) i item
+  pub leaf_listed : weave (insert (node_items s n) i item)
+      (child_lists s 0 n) ≡ insert (items_below s 1 n) i item
   leaf_listed =
       rw (
         items_below_leaf s n shaped.node.branches,
-        nil_from_length (children_of (node_of s n)) shaped.node.branches,
+        nil_from_length (node_children s n) shaped.node.branches,
       ) refl
 
-  pub leaf_longer : i ≤ length (items_of (node_of s n))
-      → length (weave (insert (items_of (node_of s n)) i item)
-      (map (items_below s 0) (children_of (node_of s n)))) ≡ length (items_below s 1 n) + 1
+  pub leaf_longer : i ≤ length (node_items s n) → length (weave (insert (node_items s n) i item)
+      (child_lists s 0 n)) ≡ length (items_below s 1 n) + 1
   leaf_longer low =
       omega (
         arith,
         ap length leaf_listed,
         ap (λ zs. length (insert zs i item)) (items_below_leaf s n shaped.node.branches),
-        length-insert (items_of (node_of s n)) i item low,
+        length-insert (node_items s n) i item low,
         ap length (items_below_leaf s n shaped.node.branches),
       )
 

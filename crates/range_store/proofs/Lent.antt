@@ -4,7 +4,7 @@ use Rattle.std.proofs.Math.Bridge.{le_prop}
 use Rattle.std.proofs.Math.Nat.{ℕ_set}
 use Rattle.range_store.specs.Depth.{HasLevels}
 use Rattle.range_store.specs.Edges.{IsEdge}
-use Rattle.range_store.specs.Heap.{Heap, node_of, items_of, with_item}
+use Rattle.range_store.specs.Heap.{Heap, with_item, node_items}
 use Rattle.range_store.specs.Holding.{box_home, box_items, box_place, box_rank, Decided, IsGood, good_item, good_or_not, rank_is, with_box_item, with_good_item, with_item_as, written_roomy}
 use Rattle.range_store.specs.Nodes.{items_below, IsRoomy, IsRoomy-prop}
 use Rattle.range_store.specs.Written.{SameShape, edge_same, place_same}
@@ -101,11 +101,10 @@ module _ {T : Type 0} {s : BoxStorage T} {edge : Edge} (good : IsGood s edge) wh
   counted_at x n same = rw same (with_good_item s edge good x).counted
 
   pub item_home : (home : Home) → home ≡ box_home s edge → (x : T)
-      → x ≡ get_or (items_of (node_of s.nodes home.node)) home.index x
+      → x ≡ get_or (node_items s.nodes home.node) home.index x
       → x ≡ get_or (box_items s) (box_rank s edge) x
   item_home home at x here =
-      here
-      ∙ ap (λ h. get_or (items_of (node_of s.nodes h.node)) h.index x) at
+      here ∙ ap (λ h. get_or (node_items s.nodes h.node) h.index x) at
       ∙ sym (good_item s edge good x)
       ∙ ap (λ i. get_or (box_items s) i x) (sym (rank_is good))
 

@@ -2,18 +2,18 @@
 use Rattle.std.proofs.Common.{◌≡◌, ℕ, suc, ◌+◌, ◌<◌, ◌≤◌, List, [], ◌∷◌, ◌++◌, length, get_or, take, drop, map, refl, sym, ap, ◌∙◌, subst, arith, Option, Some, None}
 use Rattle.std.specs.List.{flat_map, sum_by}
 use Rattle.std.proofs.lemmas.List.{append-nil, append_assoc, length-append, length-map, length-take-le, length-drop, take_more, take-map, drop_more}
-use Rattle.range_store.specs.Heap.{Heap, node_of, items_of, children_of, Writes}
+use Rattle.range_store.specs.Heap.{Heap, Writes, node_items, node_children, node_child}
 use Rattle.range_store.specs.declared.btree.nodes.Split.{Split}
 use Rattle.range_store.specs.declared.btree.path.Edge.{Edge}
-use Rattle.range_store.specs.Nodes.{weave, rest_of, front_of, before, items_below, used, Moves, tops, separators, rights, Shrinks, IsLevelled}
+use Rattle.range_store.specs.Nodes.{weave, rest_of, front_of, before, items_below, used, Moves, tops, separators, Shrinks, IsLevelled}
 use Rattle.range_store.specs.Edges.{turn, inside, IsEdge, place, IsSeat, seat_place}
-use Rattle.range_store.specs.Contents.{IsContent, IsPair, Rejoins}
+use Rattle.range_store.specs.Contents.{IsContent}
 use Rattle.range_store.specs.Occurrences.{occurrences, occurrences-append, occurrences-cons}
 use Rattle.range_store.specs.Weave.{list_splits_at, weave_splice, length-before}
 use Rattle.range_store.proofs.Below.{weave_items_below}
 use Rattle.range_store.proofs.Moves.{Moves-then, Writes-moves}
-use Rattle.range_store.proofs.Contents.{held_items_below, held_used, held_shape, written_holds, written_agree}
-use Rattle.range_store.proofs.Growing.{Runs, run_moved, run_content, run_lists, same_before, used_old}
+use Rattle.range_store.proofs.Contents.{IsPair, Rejoins, held_items_below, held_used, held_shape, written_holds, written_agree}
+use Rattle.range_store.proofs.Growing.{Runs, tops_many, weave_tops, run_moved, run_content, run_lists, same_before, used_old}
 use Rattle.range_store.proofs.Seats.{seat_run, seat_written}
 
 -- the parts round the two children at j and after it
@@ -25,25 +25,25 @@ pair_parts ks j low =
     ∙ ap (λ zs. take j ks ++ (get_or ks j 0 ∷ zs))
     (drop_more ks (j + 1) 0 low ∙ ap (λ m. get_or ks (j + 1) 0 ∷ drop m ks) far)
 
-module _ {T : Type 0} (s : Heap T) (low n j : ℕ) (x : T) (levelled : IsLevelled s low n j)
-    (here : x ≡ get_or (items_of (node_of s n)) j x) where
+module _ {T : Type 0} {s : Heap T} {low n j : ℕ} (x : T) (levelled : IsLevelled s low n j)
+    (here : x ≡ get_or (node_items s n) j x) where
   abbrev xs : List T
-  xs = items_of (node_of s n)
+  xs = node_items s n
 
   abbrev ks : List ℕ
-  ks = children_of (node_of s n)
+  ks = node_children s n
 
   abbrev l : ℕ
-  l = get_or (children_of (node_of s n)) j 0
+  l = node_child s n j
 
   abbrev r : ℕ
-  r = get_or (children_of (node_of s n)) (j + 1) 0
+  r = node_child s n (j + 1)
 
   abbrev us : List ℕ
-  us = take j (children_of (node_of s n))
+  us = take j (node_children s n)
 
   abbrev vs : List ℕ
-  vs = drop (j + 2) (children_of (node_of s n))
+  vs = drop (j + 2) (node_children s n)
 
   many : length ks ≡ length xs + 1
   many = levelled.node.branches
@@ -114,19 +114,12 @@ module _ {T : Type 0} (s : Heap T) (low n j : ℕ) (x : T) (levelled : IsLevelle
         }
 
     abbrev new_xs : List T
-    new_xs =
-        take j (items_of (node_of s n))
-        ++ (separators split ++ drop (j + 1) (items_of (node_of s n)))
+    new_xs = take j (node_items s n) ++ (separators split ++ drop (j + 1) (node_items s n))
 
     abbrev new_ks : List ℕ
     new_ks =
-        take j (children_of (node_of s n))
-        ++ (tops (get_or (children_of (node_of s n)) j 0) split
-        ++ drop (j + 2) (children_of (node_of s n)))
-
-    tops_many : (cut : Option (Split T)) → length (tops l cut) ≡ length (separators cut) + 1
-    tops_many None = refl
-    tops_many (Some cut) = refl
+        take j (node_children s n) ++ (tops (node_child s n j) split
+        ++ drop (j + 2) (node_children s n))
 
     few : (cut : Option (Split T)) → length (separators cut) ≤ 1
     few None = omega arith
@@ -149,30 +142,13 @@ module _ {T : Type 0} (s : Heap T) (low n j : ℕ) (x : T) (levelled : IsLevelle
       new_length,
       length-append us (tops l split ++ vs),
       length-append (tops l split) vs,
-      tops_many split,
+      tops_many l split,
       us_many,
       length-drop (j + 2) ks,
       many,
       levelled.within,
     ))
         levelled.before rejoins.shaped levelled.behind
-
-    woven : (cut : Option (Split T))
-        → weave (take j xs ++ (separators cut ++ drop (j + 1) xs))
-        (map (items_below s (suc low)) us
-        ++ (map (items_below t (suc low)) (tops l cut) ++ map (items_below s (suc low)) vs))
-        ≡ front_of (take j xs) (map (items_below s (suc low)) us)
-        ++ (weave (separators cut) (map (items_below t (suc low)) (tops l cut))
-        ++ rest_of (drop (j + 1) xs) (map (items_below s (suc low)) vs))
-    woven None =
-        weave_splice (take j xs) [] (drop (j + 1) xs) (map (items_below s (suc low)) us)
-        (items_below t (suc low) l) [] (map (items_below s (suc low)) vs)
-        (omega (arith, front_many, us_many, length-map us (items_below s (suc low)))) refl
-    woven (Some cut) =
-        weave_splice (take j xs) (cut.middle ∷ []) (drop (j + 1) xs)
-        (map (items_below s (suc low)) us) (items_below t (suc low) l)
-        (items_below t (suc low) cut.right ∷ []) (map (items_below s (suc low)) vs)
-        (omega (arith, front_many, us_many, length-map us (items_below s (suc low)))) refl
 
     woven_old : items_below s (suc (suc low)) n
         ≡ front_of (take j xs) (map (items_below s (suc low)) us)
@@ -196,11 +172,14 @@ module _ {T : Type 0} (s : Heap T) (low n j : ℕ) (x : T) (levelled : IsLevelle
     new_listed : weave new_xs (map (items_below t (suc low)) new_ks)
         ≡ items_below s (suc (suc low)) n
     new_listed = ap (weave new_xs) (run_lists pair_run)
-        ∙ woven split ∙ rw rejoins.listed refl ∙ sym woven_old
+        ∙ weave_tops (take j xs) (drop (j + 1) xs) (map (items_below s (suc low)) us)
+        (map (items_below s (suc low)) vs) (items_below t (suc low)) l split
+        (omega (arith, front_many, us_many, length-map us (items_below s (suc low))))
+        ∙ rw rejoins.listed refl ∙ sym woven_old
 
     -- what is written to the node
     pub pair_children : (cut : Option (Split T))
-        → take (j + 1) ks ++ (rights cut ++ vs) ≡ us ++ (tops l cut ++ vs)
+        → take (j + 1) ks ++ (drop 1 (tops l cut) ++ vs) ≡ us ++ (tops l cut ++ vs)
     pair_children None =
         ap (λ zs. zs ++ vs) (take_more ks j 0 (omega (arith, many, levelled.within)))
         ∙ append_assoc us (l ∷ []) vs
@@ -231,7 +210,7 @@ module _ {T : Type 0} (s : Heap T) (low n j : ℕ) (x : T) (levelled : IsLevelle
       levelled_edge side g h at into seat =
           let run =
           seat_run t low us (tops l split) vs (take j xs) (separators split)
-          (drop (j + 1) xs) j side g us_many front_many (tops_many split) seat in
+          (drop (j + 1) xs) j side g us_many front_many (tops_many l split) seat in
           let holds = written_holds u new_content written in
           let agree = written_agree u new_content written in
           let edge =

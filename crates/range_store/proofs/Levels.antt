@@ -5,7 +5,7 @@ use Rattle.std.proofs.Math.Nat.{pow-suc, suc-mul, zero-mul, mul-one, mul_comm, m
 use Rattle.std.proofs.lemmas.List.{nil_from_length}
 use Rattle.std.proofs.lemmas.List.Sums.{sum_by-cons}
 use Rattle.std.proofs.lemmas.List.Elements.{All-head, All-tail}
-use Rattle.range_store.specs.Heap.{Heap, node_of, children_of}
+use Rattle.range_store.specs.Heap.{Heap, node_children}
 use Rattle.range_store.specs.declared.btree.nodes.TheConstants.{CAPACITY, MIN_LEN}
 use Rattle.range_store.specs.Depth.{HasLevels}
 use Rattle.range_store.specs.Nodes.{items_below, Shaped, ShapedBut, IsTree}
@@ -50,7 +50,7 @@ lower_but {T} {least} {most} {s} zero {n} below shaped = omega (
   shaped.node.enough,
 )
 lower_but {T} {least} {most} {s} (suc d) {n} below shaped =
-    let ks = children_of (node_of s n) in
+    let ks = node_children s n in
     let all = children_lower s (suc d) ((MIN_LEN + 1) ^ suc d) below ks shaped.children in
     let enough : least + 1 ≤ length ks = omega (arith, shaped.node.enough, shaped.node.branches) in
     let more : (least + 1) * (MIN_LEN + 1) ^ suc d ≤ length ks * (MIN_LEN + 1) ^ suc d =
@@ -67,11 +67,10 @@ upper_but {T} {least} {most} {s} zero {n} below shaped = omega (
   mul-one (most + 1),
   items_below_size shaped,
   shaped.node.fits,
-  ap (λ zs. sizes s zero zs)
-      (nil_from_length (children_of (node_of s n)) shaped.node.branches),
+  ap (λ zs. sizes s zero zs) (nil_from_length (node_children s n) shaped.node.branches),
 )
 upper_but {T} {least} {most} {s} (suc d) {n} below shaped =
-    let ks = children_of (node_of s n) in
+    let ks = node_children s n in
     let all = children_upper s (suc d) ((CAPACITY + 1) ^ suc d) below ks shaped.children in
     let fits : length ks ≤ most + 1 = omega (arith, shaped.node.fits, shaped.node.branches) in
     let more : length ks * (CAPACITY + 1) ^ suc d ≤ (most + 1) * (CAPACITY + 1) ^ suc d =

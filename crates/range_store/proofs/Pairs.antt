@@ -1,7 +1,7 @@
 -- An edge below one of two children that are levelled.
 use Rattle.std.proofs.Common.{◌≡◌, ◌⊎◌, ℕ, zero, suc, ◌+◌, ◌-◌, ◌<◌, ◌≤◌, List, [], ◌∷◌, ◌++◌, length, get_or, map, ap, inl, inr, arith}
 use Rattle.std.proofs.lemmas.List.{length-map, get_or-map}
-use Rattle.range_store.specs.Heap.{Heap, node_of, items_of, children_of}
+use Rattle.range_store.specs.Heap.{Heap, node_items, node_children, node_child}
 use Rattle.range_store.specs.declared.btree.nodes.TheConstants.{CAPACITY, MIN_LEN}
 use Rattle.range_store.specs.declared.btree.path.Edge.{Edge}
 use Rattle.range_store.specs.Nodes.{items_below, before, ShapedBut, IsLevelled, child_size}
@@ -12,14 +12,17 @@ use Rattle.range_store.proofs.Joining.{seat_from_left, seat_from_right}
 use Rattle.range_store.proofs.Levelling.{pair_of}
 
 pub seat_low : {T : Type 0} {s : Heap T} (low : ℕ) {k : ℕ} (g : Edge) {least : ℕ}
-    → ShapedBut least CAPACITY s low k → IsEdge s low k g
-    → seat_of low g ≤ length (items_of (node_of s k))
+    → ShapedBut least CAPACITY s low k → IsEdge s low k g → seat_of low g ≤ length (node_items s k)
 seat_low {T} {s} zero {k} g {least} shaped is = leaf_index s k g is
-seat_low {T} {s} (suc d) {k} g shaped is = omega (arith, turn_within s d k g is, shaped.node.branches)
+seat_low {T} {s} (suc d) {k} g shaped is = omega (
+  arith,
+  turn_within s d k g is,
+  shaped.node.branches,
+)
 
 -- the seat of an edge below one of two neighbours, in either of them and among what both have
 pub near_seat : {T : Type 0} {s : Heap T} {low n j : ℕ} (i : ℕ) (g : Edge) → IsLevelled s low n j
-    → (i ≡ j) ⊎ (i ≡ j + 1) → IsEdge s low (get_or (children_of (node_of s n)) i 0) g
+    → (i ≡ j) ⊎ (i ≡ j + 1) → IsEdge s low (node_child s n i) g
     → child_size s n j + 1 + child_size s n (j + 1) ≤ CAPACITY → (seat_of low g ≤ CAPACITY) ×
     ((q : ℕ) → (i - j ≡ 0 → q ≡ seat_of low g) →
     (0 < i - j → q ≡ child_size s n j + 1 + seat_of low g) → q ≤ CAPACITY)
@@ -35,24 +38,24 @@ near_seat {T} {s} {low} i g levelled (inr next) is few =
     )
 
 module _ {T : Type 0} {s : Heap T} {low n j : ℕ} (x : T) (levelled : IsLevelled s low n j)
-    (here : x ≡ get_or (items_of (node_of s n)) j x) where
+    (here : x ≡ get_or (node_items s n) j x) where
   abbrev xs : List T
-  xs = items_of (node_of s n)
+  xs = node_items s n
 
   abbrev ks : List ℕ
-  ks = children_of (node_of s n)
+  ks = node_children s n
 
   abbrev l : ℕ
-  l = get_or (children_of (node_of s n)) j 0
+  l = node_child s n j
 
   abbrev r : ℕ
-  r = get_or (children_of (node_of s n)) (j + 1) 0
+  r = node_child s n (j + 1)
 
   abbrev wide_items : List T
-  wide_items = items_of (node_of s l) ++ (x ∷ items_of (node_of s r))
+  wide_items = node_items s l ++ (x ∷ node_items s r)
 
   abbrev wide_children : List ℕ
-  wide_children = children_of (node_of s l) ++ children_of (node_of s r)
+  wide_children = node_children s l ++ node_children s r
 
   rest_before : length (before xs (map (items_below s (suc low)) ks) (j + 1))
       ≡ length (before xs (map (items_below s (suc low)) ks) j) + length
@@ -75,18 +78,18 @@ module _ {T : Type 0} {s : Heap T} {low n j : ℕ} (x : T) (levelled : IsLevelle
 
   pub pair_seat : (i : ℕ) (g : Edge) (q : ℕ) → (i ≡ j) ⊎ (i ≡ j + 1)
       → IsEdge s low (get_or ks i 0) g → (i - j ≡ 0 → q ≡ seat_of low g)
-      → (0 < i - j → q ≡ length (items_of (node_of s l)) + 1 + seat_of low g)
+      → (0 < i - j → q ≡ length (node_items s l) + 1 + seat_of low g)
       → IsSeat s low wide_items wide_children q (inside g)
       × (length (before xs (map (items_below s (suc low)) ks) j) + seat_place s low wide_items
       wide_children q (inside g) ≡ seat_place s (suc low) xs ks i g)
   unfolding seat_place
   pair_seat i g q (inl same) is left right =
       let at : q ≡ seat_of low g = left (omega (arith, same)) in
-      let seat = seat_from_left s l x r g low (pair_of s low n j x levelled here) (rw same at is) in
+      let seat = seat_from_left s l x r g low (pair_of x levelled here) (rw same at is) in
       rw (at, same) (seat.0, omega (arith, seat.1))
   pair_seat i g q (inr next) is left right =
-      let at : q ≡ length (items_of (node_of s l)) + 1 + seat_of low g =
+      let at : q ≡ length (node_items s l) + 1 + seat_of low g =
       right (omega (arith, next)) in
       let seat =
-      seat_from_right s l x r g low (pair_of s low n j x levelled here) (rw next at is) in
+      seat_from_right s l x r g low (pair_of x levelled here) (rw next at is) in
       rw (at, next) (seat.0, omega (arith, seat.1, rest_before))

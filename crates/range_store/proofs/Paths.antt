@@ -1,10 +1,10 @@
 -- A node above the leaves, and the edges and items below its children.
-use Rattle.std.proofs.Common.{◌≡◌, ◌≢◌, ℕ, zero, suc, ◌+◌, ◌-◌, ◌<◌, ◌≤◌, ◌++◌, length, get_or, map, refl, ap, ◌∙◌, arith, cond, true, false, ◌==◌, inl, inr}
-use Rattle.range_store.specs.Heap.{Heap, node_of, items_of, children_of}
+use Rattle.std.proofs.Common.{◌≡◌, ◌≢◌, ℕ, zero, suc, ◌+◌, ◌-◌, ◌<◌, ◌≤◌, ◌++◌, length, refl, ap, ◌∙◌, arith, cond, true, false, ◌==◌, inl, inr}
+use Rattle.range_store.specs.Heap.{Heap, node_items, node_children, node_child}
 use Rattle.range_store.specs.declared.btree.nodes.TheConstants.{CAPACITY, MIN_LEN}
 use Rattle.range_store.specs.declared.btree.path.Edge.{Edge}
 use Rattle.range_store.specs.declared.btree.path.Home.{Home}
-use Rattle.range_store.specs.Nodes.{items_below, before, after, ShapedBut}
+use Rattle.range_store.specs.Nodes.{items_below, before, after, ShapedBut, child_lists, before_child}
 use Rattle.range_store.specs.Edges.{turn, inside, is_start, IsEdge, place, home_of}
 use Rattle.range_store.specs.Written.{place_of_start, start_of_place}
 use Rattle.range_store.proofs.Below.{children_length, items_below_at, length-before_more, none_after_last, shaped_within_wider}
@@ -20,7 +20,7 @@ home_leaf s n g = refl
 
 home_step : {T : Type 0} (s : Heap T) (d n : ℕ) (g : Edge)
     → home_of s (suc d) n g ≡ cond (is_start (inside g)) (record { node = n; index = turn g - 1 })
-    (home_of s d (get_or (children_of (node_of s n)) (turn g) 0) (inside g))
+    (home_of s d (node_child s n (turn g)) (inside g))
 unfolding home_of
 home_step s d n g = refl
 
@@ -52,16 +52,15 @@ module _ {T : Type 0} {s : Heap T} {b n : ℕ} (inner : b ≢ 0)
   deeper : ShapedBut 1 CAPACITY s (suc (b - 1)) n
   deeper = rw (← level_of_children) at shaped
 
-  pub child_within : (i : ℕ) → i ≤ length (items_of (node_of s n))
-      → i < length (children_of (node_of s n))
+  pub child_within : (i : ℕ) → i ≤ length (node_items s n) → i < length (node_children s n)
   child_within i low = omega (arith, children_length (omega arith) shaped)
 
-  pub below_kid : (i : ℕ) → i ≤ length (items_of (node_of s n))
-      → ShapedBut 1 CAPACITY s (b - 1) (get_or (children_of (node_of s n)) i 0)
+  pub below_kid : (i : ℕ) → i ≤ length (node_items s n)
+      → ShapedBut 1 CAPACITY s (b - 1) (node_child s n i)
   below_kid i low = shaped_within_wider 1 CAPACITY (omega arith) (omega arith)
       (kid_shaped (b - 1) i deeper low)
 
-  pub below_turn : (g : Edge) → IsEdge s b n g → turn g ≤ length (items_of (node_of s n))
+  pub below_turn : (g : Edge) → IsEdge s b n g → turn g ≤ length (node_items s n)
   below_turn g is =
       omega (
         arith,
@@ -70,42 +69,35 @@ module _ {T : Type 0} {s : Heap T} {b n : ℕ} (inner : b ≢ 0)
       )
 
   pub below_inside : (g : Edge) → IsEdge s b n g
-      → IsEdge s (b - 1) (get_or (children_of (node_of s n)) (turn g) 0) (inside g)
+      → IsEdge s (b - 1) (node_child s n (turn g)) (inside g)
   below_inside g is = edge_inside s (b - 1) n g (rw (← level_of_children) at is)
 
-  pub below_edge : (i : ℕ) (g h : Edge) → turn h ≡ i → inside h ≡ g
-      → i ≤ length (items_of (node_of s n))
-      → IsEdge s (b - 1) (get_or (children_of (node_of s n)) i 0) g → IsEdge s b n h
+  pub below_edge : (i : ℕ) (g h : Edge) → turn h ≡ i → inside h ≡ g → i ≤ length (node_items s n)
+      → IsEdge s (b - 1) (node_child s n i) g → IsEdge s b n h
   below_edge i g h at within low is =
       rw level_of_children at (edge_above s (b - 1) n i g h at within (child_within i low) is)
 
   pub below_place : (i : ℕ) (g h : Edge) → turn h ≡ i → inside h ≡ g
-      → place s b n h ≡ length
-      (before (items_of (node_of s n)) (map (items_below s b) (children_of (node_of s n))) i) +
-      place s (b - 1) (get_or (children_of (node_of s n)) i 0) g
+      → place s b n h ≡ length (before_child s b n i) + place s (b - 1) (node_child s n i) g
   below_place i g h at within = rw level_of_children at (place_above s (b - 1) n i g h at within)
 
   pub below_here : (g : Edge)
-      → place s b n g ≡ length
-      (before (items_of (node_of s n)) (map (items_below s b) (children_of (node_of s n))) (turn g))
-      + place s (b - 1) (get_or (children_of (node_of s n)) (turn g) 0) (inside g)
+      → place s b n g ≡ length (before_child s b n (turn g))
+      + place s (b - 1) (node_child s n (turn g)) (inside g)
   below_here g = rw level_of_children at (place_inside s (b - 1) n g)
 
-  pub below_most : (i : ℕ) (g : Edge) → i ≤ length (items_of (node_of s n))
-      → IsEdge s (b - 1) (get_or (children_of (node_of s n)) i 0) g
-      → place s (b - 1) (get_or (children_of (node_of s n)) i 0) g
-      ≤ length (items_below s b (get_or (children_of (node_of s n)) i 0))
+  pub below_most : (i : ℕ) (g : Edge) → i ≤ length (node_items s n)
+      → IsEdge s (b - 1) (node_child s n i) g → place s (b - 1) (node_child s n i) g
+      ≤ length (items_below s b (node_child s n i))
   below_most i g low is = rw level_of_children at (place_within (b - 1) g (below_kid i low) is)
 
   -- after the last child stands nothing
-  pub past_last : (i : ℕ) → i ≡ length (items_of (node_of s n))
-      → length (before (items_of (node_of s n))
-      (map (items_below s b) (children_of (node_of s n))) i) + length
-      (items_below s b (get_or (children_of (node_of s n)) i 0)) ≡ length (items_below s (suc b) n)
+  pub past_last : (i : ℕ) → i ≡ length (node_items s n) → length (before_child s b n i) + length
+      (items_below s b (node_child s n i)) ≡ length (items_below s (suc b) n)
   past_last i last =
-      let xs = items_of (node_of s n) in
-      let lists = map (items_below s b) (children_of (node_of s n)) in
-      let kid = get_or (children_of (node_of s n)) i 0 in
+      let xs = node_items s n in
+      let lists = child_lists s b n in
+      let kid = node_child s n i in
       let whole = items_below_at (omega arith) shaped i (omega arith) in
       let none : length (after xs lists i) ≡ 0 = rw last
       (ap length (none_after_last (omega arith) shaped)) in
@@ -118,12 +110,8 @@ module _ {T : Type 0} {s : Heap T} {b n : ℕ} (inner : b ≢ 0)
       )
 
   -- an edge at the end of the child at i is one before the next child
-  pub before_next : (i : ℕ) → i < length (items_of (node_of s n))
-      → length (before (items_of (node_of s n)) (map (items_below s b) (children_of (node_of s n)))
-      (i + 1))
-      ≡ length (before (items_of (node_of s n))
-      (map (items_below s b) (children_of (node_of s n))) i) + length
-      (items_below s b (get_or (children_of (node_of s n)) i 0)) + 1
+  pub before_next : (i : ℕ) → i < length (node_items s n) → length (before_child s b n (i + 1))
+      ≡ length (before_child s b n i) + length (items_below s b (node_child s n i)) + 1
   before_next i low = length-before_more (omega arith) shaped i low
 
   -- where the item before an edge stands, which begins a child or goes further down
@@ -133,17 +121,14 @@ module _ {T : Type 0} {s : Heap T} {b n : ℕ} (inner : b ≢ 0)
       let at : Home = record { node = n; index = turn g - 1 } in
       let step : home_of s (suc (b - 1)) n g ≡ at =
       home_step s (b - 1) n g
-      ∙ ap (λ v.
-      cond v at (home_of s (b - 1) (get_or (children_of (node_of s n)) (turn g) 0)
-      (inside g))) start in
+      ∙ ap (λ v. cond v at (home_of s (b - 1) (node_child s n (turn g)) (inside g))) start in
       rw level_of_children at step
 
   pub home_inside : (g : Edge) → is_start (inside g) ≡ false
-      → home_of s b n g ≡ home_of s (b - 1) (get_or (children_of (node_of s n)) (turn g) 0)
-      (inside g)
+      → home_of s b n g ≡ home_of s (b - 1) (node_child s n (turn g)) (inside g)
   home_inside g later =
       let at : Home = record { node = n; index = turn g - 1 } in
-      let below = home_of s (b - 1) (get_or (children_of (node_of s n)) (turn g) 0) (inside g) in
+      let below = home_of s (b - 1) (node_child s n (turn g)) (inside g) in
       let step : home_of s (suc (b - 1)) n g ≡ below =
       home_step s (b - 1) n g ∙ ap (λ v. cond v at below) later in
       rw level_of_children at step
@@ -153,22 +138,20 @@ module _ {T : Type 0} {s : Heap T} {b n : ℕ} (inner : b ≢ 0)
     where
       from : (t : ℕ) → t ≡ turn g → 0 < t
       from zero at =
-          let none : length (before (items_of (node_of s n))
-          (map (items_below s b) (children_of (node_of s n))) (turn g))
-          ≡ 0 = rw (← at) refl in
+          let none : length (before_child s b n (turn g)) ≡ 0 = rw (← at) refl in
           absurd
           (omega (
             arith,
             some,
             below_here g,
             none,
-            place_of_start s (b - 1) (get_or (children_of (node_of s n)) (turn g) 0) (inside g)
+            place_of_start s (b - 1) (node_child s n (turn g)) (inside g)
                 (start_parts (inside g) start).0 (start_parts (inside g) start).1,
           ))
       from (suc t) at = omega arith
 
   pub inside_is_later : (g : Edge) → IsEdge s b n g → is_start (inside g) ≡ false
-      → 0 < place s (b - 1) (get_or (children_of (node_of s n)) (turn g) 0) (inside g)
+      → 0 < place s (b - 1) (node_child s n (turn g)) (inside g)
   inside_is_later g is later =
       let low = below_turn g is in
       not_start (inside g) (below_kid (turn g) low) (below_inside g is) later

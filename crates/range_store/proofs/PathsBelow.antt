@@ -1,12 +1,12 @@
 -- The way down from a node: the edges below a node on it, as they are seen from where it began.
-use Rattle.std.proofs.Common.{◌≡◌, ◌≢◌, ℕ, suc, ◌+◌, ◌-◌, ◌*◌, ◌/◌, ◌^◌, ◌<◌, ◌≤◌, length, get_or, map, refl, sym, ap, ◌∙◌, arith}
+use Rattle.std.proofs.Common.{◌≡◌, ◌≢◌, ℕ, suc, ◌+◌, ◌-◌, ◌*◌, ◌/◌, ◌^◌, ◌<◌, ◌≤◌, length, refl, sym, ap, ◌∙◌, arith}
 use Rattle.std.proofs.Math.Nat.{pow-suc, pow-le-pow_right, mul_assoc, mul_comm, mul-add, mul-le-mul_left}
-use Rattle.range_store.specs.Heap.{Heap, node_of, items_of, children_of}
+use Rattle.range_store.specs.Heap.{Heap, node_items, node_child}
 use Rattle.range_store.specs.declared.btree.nodes.TheConstants.{CAPACITY}
 use Rattle.range_store.specs.declared.btree.path.Edge.{Edge}
 use Rattle.range_store.specs.declared.btree.path.TheConstants.{PATH_BASE, MAX_LEVELS}
 use Rattle.range_store.specs.Edges.{turn, inside, IsEdge, place}
-use Rattle.range_store.specs.Nodes.{before, items_below, ShapedBut}
+use Rattle.range_store.specs.Nodes.{ShapedBut, before_child}
 use Rattle.range_store.specs.Written.{start_of_place}
 use Rattle.range_store.proofs.Paths.{below_kid, below_edge, below_place}
 
@@ -31,9 +31,7 @@ weight_fits below left weight deep some is =
 module _ {T : Type 0} (s : Heap T) where
   -- how many items stand before the child at i
   abbrev pub ahead_of : ℕ → ℕ → ℕ → ℕ
-  ahead_of b n i =
-      length
-      (before (items_of (node_of s n)) (map (items_below s b) (children_of (node_of s n))) i)
+  ahead_of b n i = length (before_child s b n i)
 
   -- the node `at`, over `left` levels, lies below another by this path, behind so many items
   pub record LiesBelow (below number left at path weight ahead : ℕ) : Type 0 where
@@ -65,11 +63,10 @@ module _ {T : Type 0} (s : Heap T) where
 
   pub lies_in_child : {below number left : ℕ} (at path weight ahead : ℕ) → left ≢ 0
       → LiesBelow below number left at path weight ahead → (i : ℕ)
-      → i ≤ length (items_of (node_of s at)) → LiesBelow below number (left - 1) (get_or
-      (children_of (node_of s at)) i 0) (path + weight * i) (weight * PATH_BASE) (ahead + ahead_of
+      → i ≤ length (node_items s at) → LiesBelow below number (left - 1) (node_child s at i) (path + weight * i) (weight * PATH_BASE) (ahead + ahead_of
       left at i)
   lies_in_child {below} {number} {left} at path weight ahead inner lies i low =
-      let kid = get_or (children_of (node_of s at)) i 0 in
+      let kid = node_child s at i in
       let few : i ≤ CAPACITY = omega (arith, low, lies.shaped.node.fits) in
       let deeper : below - (left - 1) ≡ suc (below - left) = omega (arith, inner, lies.low) in
       let above = λ (e : Edge). record e { path = e.path * PATH_BASE + i } in

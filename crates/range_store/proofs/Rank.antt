@@ -1,6 +1,6 @@
 -- What stands at a rank, and what is known of a whole tree.
-use Rattle.std.proofs.Common.{◌≡◌, ℕ, zero, suc, ◌+◌, ◌*◌, ◌≤◌, [], length, get_or, refl, ap, arith}
-use Rattle.range_store.specs.Heap.{Heap, node_of, node_count, items_of, children_of}
+use Rattle.std.proofs.Common.{◌≡◌, ℕ, zero, suc, ◌+◌, ◌*◌, ◌≤◌, [], length, refl, ap, arith}
+use Rattle.range_store.specs.Heap.{Heap, node_count, node_items, node_child}
 use Rattle.range_store.specs.declared.btree.nodes.TheConstants.{CAPACITY, MIN_LEN}
 use Rattle.range_store.specs.Nodes.{items_below, used, ShapedBut, IsTree, here}
 use Rattle.range_store.proofs.Below.{Shaped-but}
@@ -42,7 +42,7 @@ first_room {T} {s} zero {root} none tree room = omega (arith, tree.len, ap lengt
 first_room (suc d) none tree room = absurd (omega arith)
 
 pub kid_shaped : {T : Type 0} {least most : ℕ} {s : Heap T} (d : ℕ) {n : ℕ} (i : ℕ)
-    → ShapedBut least most s (suc d) n → i ≤ length (items_of (node_of s n))
-    → ShapedBut MIN_LEN CAPACITY s d (get_or (children_of (node_of s n)) i 0)
+    → ShapedBut least most s (suc d) n → i ≤ length (node_items s n)
+    → ShapedBut MIN_LEN CAPACITY s d (node_child s n i)
 kid_shaped {T} {least} {most} {s} d i shaped within = Shaped-but s d _
     (shaped.children i 0 (omega (arith, shaped.node.branches)))

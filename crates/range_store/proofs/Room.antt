@@ -6,9 +6,9 @@ use Rattle.std.proofs.lemmas.List.{length-append, length-map, map-append}
 use Rattle.std.proofs.lemmas.List.Concat.{flat_map-append}
 use Rattle.std.proofs.lemmas.List.Sums.{sum_by-cons, sum_by-append}
 use Rattle.std.proofs.lemmas.List.Elements.{All-head, All-tail, All-take, All-drop}
-use Rattle.range_store.specs.Heap.{Heap, node_of, node_count, items_of, children_of}
+use Rattle.range_store.specs.Heap.{Heap, node_count, node_items, node_children, node_child}
 use Rattle.range_store.specs.declared.btree.nodes.TheConstants.{MIN_LEN, CAPACITY}
-use Rattle.range_store.specs.Nodes.{items_below, used, Shaped, ShapedBut, HasTreeRoom}
+use Rattle.range_store.specs.Nodes.{items_below, used, Shaped, ShapedBut, HasTreeRoom, child_lists}
 use Rattle.range_store.proofs.Below.{weave_items_below, children_length, child_count_cases, used_is, Shaped-but}
 use Rattle.range_store.specs.Weave.{length-weave, list_splits_at}
 
@@ -23,12 +23,10 @@ sizes-append {T} s d us vs =
     ∙ sum_by-append (length {A = T}) (map (items_below s d) us) (map (items_below s d) vs)
 
 pub items_below_size : {T : Type 0} {least most : ℕ} {s : Heap T} {d n : ℕ}
-    → ShapedBut least most s d n → length (items_below s (suc d) n) ≡ length (items_of
-    (node_of s n)) + sizes s d (children_of (node_of s n))
+    → ShapedBut least most s d n → length (items_below s (suc d) n) ≡ length (node_items s n) + sizes s d (node_children s n)
 items_below_size {T} {least} {most} {s} {d} {n} shaped = ap length (weave_items_below s d n)
-    ∙ length-weave (items_of (node_of s n)) (map (items_below s d) (children_of (node_of s n)))
-    (child_count_cases d _ _
-    (length-map (children_of (node_of s n)) (items_below s d) ∙ shaped.node.branches))
+    ∙ length-weave (node_items s n) (child_lists s d n) (child_count_cases d _ _
+    (length-map (node_children s n) (items_below s d) ∙ shaped.node.branches))
 
 children_le_from : {T : Type 0} (s : Heap T) (d : ℕ)
     → ((n : ℕ) → Shaped s d n → MIN_LEN * length (used s d n) ≤ length (items_below s d n))
@@ -53,7 +51,7 @@ used_le s (suc d) n shaped =
       arith,
       ap length (used_is s d n),
       items_below_size but,
-      children_le_from s d (used_le s d) (children_of (node_of s n)) but.children,
+      children_le_from s d (used_le s d) (node_children s n) but.children,
       but.node.enough,
     )
 
@@ -63,12 +61,12 @@ children_le s d ns shaped = children_le_from s d (used_le s d) ns shaped
 
 -- capacity below a node is capacity below each of its children
 pub HasTreeRoom-child : {T : Type 0} {most : ℕ} {s : Heap T} {d n : ℕ} (i : ℕ) {more : ℕ} → 0 < d
-    → i ≤ length (items_of (node_of s n)) → ShapedBut 1 most s d n → HasTreeRoom s (suc d) n more
-    → HasTreeRoom s d (get_or (children_of (node_of s n)) i 0) more
+    → i ≤ length (node_items s n) → ShapedBut 1 most s d n → HasTreeRoom s (suc d) n more
+    → HasTreeRoom s d (node_child s n i) more
 HasTreeRoom-child {T} {most} {s} {d} {n} i {more} inner within shaped room =
-    let ks = children_of (node_of s n) in
+    let ks = node_children s n in
     let kid = get_or ks i 0 in
-    let many : length ks ≡ length (items_of (node_of s n)) + 1 = children_length inner shaped in
+    let many : length ks ≡ length (node_items s n) + 1 = children_length inner shaped in
     let three : ks ≡ take i ks ++ (kid ∷ drop (i + 1) ks) =
     list_splits_at ks i 0 (omega (arith, many)) in
     let sizes_all : sizes s d ks
@@ -110,6 +108,6 @@ HasTreeRoom-child {T} {most} {s} {d} {n} i {more} inner within shaped room =
         → MIN_LEN * node_count s + (length (items_below s b m) + more) + 1
         ≤ MIN_LEN * s.capacity + MIN_LEN * length (used s b m) + MIN_LEN → Shaped s b m → 0 < b
         → MIN_LEN * node_count s + (length (items_below s b m) + more) + 1
-        ≤ MIN_LEN * s.capacity + MIN_LEN * length (used s b m) + length (items_of (node_of s m))
+        ≤ MIN_LEN * s.capacity + MIN_LEN * length (used s b m) + length (node_items s m)
     few_from zero m kept known some = absurd (omega arith)
     few_from (suc b) m kept known some = omega (arith, kept, (Shaped-but s b m known).node.enough)

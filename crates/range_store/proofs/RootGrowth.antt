@@ -4,7 +4,7 @@ use Rattle.std.specs.List.{All, flat_map}
 use Rattle.std.proofs.lemmas.List.{append-nil, length-append}
 use Rattle.std.proofs.lemmas.List.Elements.{All-nil, All-head, All-tail, All-weaker}
 use Rattle.std.proofs.lemmas.Bool.{cases_eq}
-use Rattle.range_store.specs.Heap.{Heap, node_of, HasRoomFor, children_of, Stores}
+use Rattle.range_store.specs.Heap.{Heap, HasRoomFor, Stores, node_children}
 use Rattle.range_store.specs.declared.btree.nodes.Split.{Split}
 use Rattle.range_store.specs.declared.btree.nodes.TheConstants.{CAPACITY, MAX_LEN, MIN_LEN}
 use Rattle.range_store.specs.declared.btree.path.Edge.{Edge}
@@ -39,7 +39,7 @@ pub first_tree : {T : Type 0} {s t : Heap T} (levels : ℕ) {root n : ℕ} (item
     (items_below t 1 n ≡ item ∷ [])
 first_tree {T} {s} {t} (suc d) {root} {n} item none tree stored = absurd (omega arith)
 first_tree {T} {s} {t} zero {root} {n} item none tree stored =
-    let childless : length (children_of (node_of t n)) ≡ 0 = ap length stored.children_are in
+    let childless : length (node_children t n) ≡ 0 = ap length stored.children_are in
     let whole : IsTree t 1 n = record {
       shaped = record {
         node =

@@ -3,10 +3,11 @@ use Rattle.std.proofs.Common.{◌≡◌, ◌≢◌, ℕ, zero, suc, ◌+◌, ◌
 use Rattle.std.specs.List.{flat_map}
 use Rattle.std.proofs.lemmas.List.{append-nil, nil_from_length}
 use Rattle.std.proofs.lemmas.Bool.{cases_eq}
-use Rattle.range_store.specs.Heap.{Heap, node_of, items_of, children_of, Removes}
+use Rattle.range_store.specs.Heap.{Heap, Removes, node_items, node_children, node_child}
 use Rattle.range_store.specs.declared.btree.nodes.TheConstants.{CAPACITY, MIN_LEN}
 use Rattle.range_store.specs.Occurrences.{occurrences, occurrences-cons, occurrences-nil, occurrences_itself, occurrences_other}
-use Rattle.range_store.specs.Nodes.{weave, before, items_below, used, here, Shaped, IsTree, IsLooseTree, Shrinks}
+use Rattle.range_store.specs.Nodes.{weave, before, items_below, used, here, Shaped, IsTree, IsLooseTree, Shrinks, child_lists}
+use Rattle.range_store.proofs.Contents.{IsRewritten}
 use Rattle.range_store.proofs.Below.{weave_items_below, used_is, used_leaf, items_below_leaf, Shaped-but, shaped_within_wider}
 use Rattle.range_store.specs.Frame.{same_below, SameBelow}
 use Rattle.range_store.proofs.Edges.{SameEdge, same_edge, edge_inside, turn_within, place_inside}
@@ -14,7 +15,6 @@ use Rattle.range_store.proofs.Moves.{here_some}
 use Rattle.range_store.proofs.Rank.{items_below_none, used_none}
 use Rattle.range_store.specs.declared.btree.path.Edge.{Edge}
 use Rattle.range_store.specs.Edges.{turn, inside, IsEdge, place}
-use Rattle.range_store.specs.Contents.{IsRewritten}
 
 -- the items after one went below the root
 pub loosened_items : {T : Type 0} {s t : Heap T} (levels : ℕ) {root : ℕ} {list : List T}
@@ -38,7 +38,7 @@ loosened_tree (suc d) some tree step' =
 
 -- a root with an item stays
 pub stays_root : {T : Type 0} {s : Heap T} (levels : ℕ) {root : ℕ} → IsLooseTree s levels root
-    → 0 < length (items_of (node_of s root)) → IsTree s levels root
+    → 0 < length (node_items s root) → IsTree s levels root
 stays_root {T} {s} zero {root} loose full = absurd (omega (arith, loose.some))
 stays_root (suc d) loose full =
     let level : suc d - 1 ≡ d = omega arith in
@@ -79,7 +79,7 @@ here_without {T} {s} {t} {root} present gone k =
 
 -- a tree of one level that lost its last item
 pub empty_root_leaves_nothing : {T : Type 0} {s t : Heap T} (levels : ℕ) {root : ℕ} → levels ≡ 1
-    → IsLooseTree s levels root → length (items_of (node_of s root)) ≡ 0 → Removes s t root
+    → IsLooseTree s levels root → length (node_items s root) ≡ 0 → Removes s t root
     → IsTree t 0 0 × (items_below t 0 0 ≡ items_below s levels root)
 empty_root_leaves_nothing {T} {s} {t} zero {root} one loose empty gone = absurd (omega arith)
 empty_root_leaves_nothing {T} {s} {t} (suc (suc d)) {root} one loose empty gone = absurd (omega arith)
@@ -102,23 +102,23 @@ empty_root_leaves_nothing {T} {s} {t} (suc zero) {root} one loose empty gone =
       len = omega (arith, gone.len, loose.len, ap length alone, ap length (used_none t 0));
     } in (
       tree,
-      items_below_none t 0 ∙ sym (nil_from_length (items_of (node_of s root)) empty)
+      items_below_none t 0 ∙ sym (nil_from_length (node_items s root) empty)
           ∙ sym (items_below_leaf s root shaped.node.branches),
     )
 
 -- a taller tree whose root has one child alone
 pub only_child_is_root : {T : Type 0} {s t : Heap T} (levels : ℕ) {root : ℕ} → levels ≢ 1
-    → IsLooseTree s levels root → length (items_of (node_of s root)) ≡ 0 → Removes s t root
-    → IsTree t (levels - 1) (get_or (children_of (node_of s root)) 0 0) × (items_below t
-    (levels - 1) (get_or (children_of (node_of s root)) 0 0) ≡ items_below s levels root)
+    → IsLooseTree s levels root → length (node_items s root) ≡ 0 → Removes s t root
+    → IsTree t (levels - 1) (node_child s root 0) × (items_below t
+    (levels - 1) (node_child s root 0) ≡ items_below s levels root)
 only_child_is_root {T} {s} {t} zero {root} more loose empty gone = absurd (omega (arith, loose.some))
 only_child_is_root {T} {s} {t} (suc zero) {root} more loose empty gone = absurd (more refl)
 only_child_is_root {T} {s} {t} (suc (suc e)) {root} more loose empty gone =
     let level : suc (suc e) - 1 ≡ suc e = omega arith in
     let shaped = rw level at loose.shaped in
-    let ks = children_of (node_of s root) in
-    let kid = get_or (children_of (node_of s root)) 0 0 in
-    let one : children_of (node_of s root) ≡ kid ∷ [] =
+    let ks = node_children s root in
+    let kid = node_child s root 0 in
+    let one : node_children s root ≡ kid ∷ [] =
     list_of_one ks (omega (arith, shaped.node.branches, empty)) in
     let used_all : used s (suc (suc e)) root ≡ root ∷ used s (suc e) kid =
     used_is s (suc e) root ∙ ap (λ zs. root ∷ flat_map (used s (suc e)) zs) one
@@ -155,20 +155,18 @@ only_child_is_root {T} {s} {t} (suc (suc e)) {root} more loose empty gone =
     } in
     let list : items_below t (suc e) kid ≡ items_below s (suc (suc e)) root =
     same.items_below_same
-    ∙ sym (weave_items_below s (suc e) root
-    ∙ ap (λ zs. weave zs (map (items_below s (suc e)) (children_of (node_of s root))))
-    (nil_from_length (items_of (node_of s root)) empty)
+    ∙ sym (weave_items_below s (suc e) root ∙ ap (λ zs. weave zs (child_lists s (suc e) root))
+    (nil_from_length (node_items s root) empty)
     ∙ ap (λ zs. weave [] (map (items_below s (suc e)) zs)) one
     ∙ append-nil (items_below s (suc e) kid)) in
     rw level (tree, list)
 
 -- an edge below the only child of the root
 pub lowered_edge : {T : Type 0} {s t : Heap T} (levels : ℕ) {root : ℕ} (g : Edge) → levels ≢ 1
-    → IsLooseTree s levels root → length (items_of (node_of s root)) ≡ 0 → Removes s t root
+    → IsLooseTree s levels root → length (node_items s root) ≡ 0 → Removes s t root
     → IsEdge s (levels - 1) root g
-    → IsEdge t (levels - 1 - 1) (get_or (children_of (node_of s root)) 0 0) (inside g) × (place t
-    (levels - 1 - 1) (get_or (children_of (node_of s root)) 0 0) (inside g) ≡ place s (levels - 1)
-    root g)
+    → IsEdge t (levels - 1 - 1) (node_child s root 0) (inside g) × (place t
+    (levels - 1 - 1) (node_child s root 0) (inside g) ≡ place s (levels - 1) root g)
 lowered_edge {T} {s} {t} zero {root} g more loose empty gone is = absurd (omega (arith, loose.some))
 lowered_edge {T} {s} {t} (suc zero) {root} g more loose empty gone is = absurd (more refl)
 lowered_edge {T} {s} {t} (suc (suc e)) {root} g more loose empty gone is' =
@@ -176,7 +174,7 @@ lowered_edge {T} {s} {t} (suc (suc e)) {root} g more loose empty gone is' =
     let lower : suc e - 1 ≡ e = omega arith in
     let shaped = rw level at loose.shaped in
     let is = rw level at is' in
-    let ks = children_of (node_of s root) in
+    let ks = node_children s root in
     let kid = get_or ks 0 0 in
     let one : ks ≡ kid ∷ [] = list_of_one ks (omega (arith, shaped.node.branches, empty)) in
     let first : turn g ≡ 0 =
@@ -202,7 +200,7 @@ lowered_edge {T} {s} {t} (suc (suc e)) {root} g more loose empty gone is' =
     ≡ 1 = rw (← at) (occurrences_itself k) in let was : here s k ≡ 1 =
     rw at present in omega (arith, occurs k, itself, was))) below in
     let here' = rw first at (place_inside s e root g) in
-    let start : length (before (items_of (node_of s root)) (map (items_below s (suc e)) ks) 0) ≡ 0 =
+    let start : length (before (node_items s root) (map (items_below s (suc e)) ks) 0) ≡ 0 =
     refl in
     rw (level, lower) (same.edge below, omega (arith, same.place, here', start))
 

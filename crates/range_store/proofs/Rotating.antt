@@ -4,20 +4,19 @@ use Rattle.std.proofs.Common.{◌≡◌, ◌≢◌, ◌⊎◌, ℕ, zero, suc, �
 use Rattle.std.proofs.Math.ListN.{set, length-set}
 use Rattle.std.specs.List.{remove, flat_map}
 use Rattle.std.proofs.lemmas.List.{length-append, length-take-le, append-nil, get_or_default, get_or-append-add, get_or_append_left, drop_all, take-append-le, drop-append-le}
-use Rattle.range_store.specs.Heap.{Heap, node_of, items_of, children_of, child_count, HasPair, RotatesLeft, RotatesRight, Merges, Writes, Removes}
+use Rattle.range_store.specs.Heap.{Heap, child_count, HasPair, RotatesLeft, RotatesRight, Merges, Writes, Removes, node_items, node_children, node_child}
 use Rattle.range_store.specs.declared.btree.nodes.Split.{Split}
 use Rattle.range_store.specs.declared.btree.nodes.TheConstants.{CAPACITY, MIN_LEN}
 use Rattle.range_store.specs.declared.btree.path.Edge.{Edge}
 use Rattle.range_store.specs.Nodes.{before, items_below, used, Shrinks, IsLevelled, child_size}
 use Rattle.range_store.specs.Edges.{turn, inside, seat_of, IsEdge, place, IsSeat, seat_place}
-use Rattle.range_store.specs.Contents.{IsPair, Rejoins}
 use Rattle.range_store.specs.Written.{set_parts, item_behind, some_of}
 use Rattle.range_store.specs.Frame.{used_kid_le}
 use Rattle.range_store.specs.Occurrences.{occurrences, occurrences-cons, occurrences_here, occurrences_itself}
 use Rattle.range_store.proofs.Below.{used_is}
 use Rattle.range_store.proofs.Moves.{here_le}
 use Rattle.range_store.proofs.Pairs.{pair_seat, seat_low}
-use Rattle.range_store.proofs.Contents.{left_items_below, part_agree}
+use Rattle.range_store.proofs.Contents.{IsPair, Rejoins, left_items_below, part_agree}
 use Rattle.range_store.proofs.Edits.{remove_parts, take-append-add, drop-append-add}
 use Rattle.range_store.proofs.Joining.{pair_apart, pair_content, united_agree, united_holds, united_rejoins, shared_agree, shared_left, shared_right, shared_rejoins}
 use Rattle.range_store.proofs.Levelling.{levelled_edge, levelled_shrinks, pair_children, pair_of, pair_parts}
@@ -61,48 +60,60 @@ moved_path (suc low) leaf index g e at into small =
 
 module _ {T : Type 0} {s : Heap T} {low n j : ℕ} (levelled : IsLevelled s low n j) where
   abbrev l : ℕ
-  l = get_or (children_of (node_of s n)) j 0
+  l = node_child s n j
 
   abbrev r : ℕ
-  r = get_or (children_of (node_of s n)) (j + 1) 0
+  r = node_child s n (j + 1)
 
   abbrev xs : List T
-  xs = items_of (node_of s n)
+  xs = node_items s n
 
   abbrev ks : List ℕ
-  ks = children_of (node_of s n)
+  ks = node_children s n
+
+  abbrev lefts : List T
+  lefts = node_items s (node_child s n j)
+
+  abbrev rights : List T
+  rights = node_items s (node_child s n (j + 1))
+
+  abbrev a : ℕ
+  a = length (node_items s (node_child s n j))
+
+  abbrev b : ℕ
+  b = length (node_items s (node_child s n (j + 1)))
 
   abbrev K : List ℕ
-  K =
-      children_of (node_of s (get_or (children_of (node_of s n)) j 0))
-      ++ children_of (node_of s (get_or (children_of (node_of s n)) (j + 1) 0))
+  K = node_children s (node_child s n j) ++ node_children s (node_child s n (j + 1))
 
-  module _ (x : T) (here : x ≡ get_or (items_of (node_of s n)) j x) where
+  module _ (x : T) (here : x ≡ get_or (node_items s n) j x) where
     abbrev X : List T
-    X =
-        items_of (node_of s (get_or (children_of (node_of s n)) j 0))
-        ++ (x ∷ items_of (node_of s (get_or (children_of (node_of s n)) (j + 1) 0)))
+    X = node_items s (node_child s n j) ++ (x ∷ node_items s (node_child s n (j + 1)))
 
     pair : IsPair s low l r
-    pair = pair_of s low n j x levelled here
+    pair = pair_of x levelled here
 
-    -- an item went from one child to the other
-    module _ {o t u : Heap T} (y : T) (half : ℕ)
-        (first : Writes s o l (take half X) (take (half + 1) K))
-        (second : Writes o t r (drop (half + 1) X) (drop (half + 1) K))
-        (middle : y ≡ get_or X half y)
-        (parent : Writes t u n (set (items_of (node_of s n)) j y) (children_of (node_of s n)))
-        (least : MIN_LEN ≤ half) (most : half ≤ CAPACITY) (rest : half + 1 + MIN_LEN ≤ length X)
-        (few : length X ≤ half + 1 + CAPACITY) where
+    -- an item went from one child to the other, and the first has `half`
+    pub record IsShared (o t u : Heap T) (y : T) (half : ℕ) : Type 0 where
+      pub first : Writes s o l (take half X) (take (half + 1) K)
+      pub second : Writes o t r (drop (half + 1) X) (drop (half + 1) K)
+      pub middle : y ≡ get_or X half y
+      pub parent : Writes t u n (set (node_items s n) j y) (node_children s n)
+      pub least : MIN_LEN ≤ half
+      pub most : half ≤ CAPACITY
+      pub rest : half + 1 + MIN_LEN ≤ length X
+      pub few : length X ≤ half + 1 + CAPACITY
+
+    module _ {o t u : Heap T} {y : T} {half : ℕ} (shared : IsShared o t u y half) where
       within : half < length X
-      within = omega (arith, rest)
+      within = omega (arith, shared.rest)
 
       abbrev cut : Split T
-      cut = record { middle = y; right = get_or (children_of (node_of s n)) (j + 1) 0 }
+      cut = record { middle = y; right = node_child s n (j + 1) }
 
       rejoined : Rejoins s t low l x r (Some cut)
-      rejoined = shared_rejoins s low l x r pair half within first second cut refl middle least most
-          rest few
+      rejoined = shared_rejoins x pair half within shared.first shared.second cut refl
+          shared.middle shared.least shared.most shared.rest shared.few
 
       written : Writes t u n (take j xs ++ (y ∷ drop (j + 1) xs))
           (take j ks ++ (l ∷ r ∷ drop (j + 2) ks))
@@ -110,13 +121,10 @@ module _ {T : Type 0} {s : Heap T} {low n j : ℕ} (levelled : IsLevelled s low 
           rw (
             sym (set_parts xs j y levelled.within),
             sym (pair_parts ks j (omega (arith, levelled.within, levelled.node.branches))),
-          ) parent
+          ) shared.parent
 
       shrunk : Shrinks s u (suc low) n (items_below s (suc (suc low)) n)
-      shrunk = levelled_shrinks s low n j x levelled here rejoined written
-
-      still : length (items_of (node_of u n)) ≡ length (items_of (node_of s n))
-      still = ap length parent.items_are ∙ length-set xs j y
+      shrunk = levelled_shrinks x levelled here rejoined written
 
       stays_left : (q : ℕ) (g e h : Edge) → q ≤ half → IsSeat s low X K q g
           → (low ≡ 0 → e ≡ record { leaf = l; path = 0; index = q }) → (0 < low → turn e ≡ q)
@@ -125,18 +133,16 @@ module _ {T : Type 0} {s : Heap T} {low n j : ℕ} (levelled : IsLevelled s low 
           × (place u (suc low) n h
           ≡ length (before xs (map (items_below s (suc low)) ks) j) + seat_place s low X K q g)
       stays_left q g e h small seat leaf at into turned inner =
-          let left =
-          seat_left s half X K q g within low
-          (pair_content s low l x r pair).branches small seat in
+          let left = seat_left s half X K q g within low (pair_content x pair).branches small seat
+          in
           let agree = (part_agree s t low (half + 1) K
-          (shared_agree s low l x r pair half within first second)).0 in
+          (shared_agree x pair half within shared.first shared.second)).0 in
           let edge = seat_written s t l (take half X) (take (half + 1) K) q g e low
-          (shared_left s low l x r pair half within first second) agree leaf at into left.0 in
+          (shared_left x pair half within shared.first shared.second) agree leaf at into left.0 in
           let alone = seat_alone t low l e (Some cut) edge.0 in
-          let up = levelled_edge s low n j x levelled here rejoined written 0 e h (omega (
-            arith,
-            turned,
-          )) inner alone.0 in
+          let up = levelled_edge x levelled here rejoined written 0 e h (omega (arith, turned))
+          inner
+          alone.0 in
           (up.0, omega (arith, up.1, alone.1, edge.1, left.1))
 
       moves_right : (q : ℕ) (g e h : Edge) → half < q → IsSeat s low X K q g
@@ -148,37 +154,36 @@ module _ {T : Type 0} {s : Heap T} {low n j : ℕ} (levelled : IsLevelled s low 
           ≡ length (before xs (map (items_below s (suc low)) ks) j) + seat_place s low X K q g)
       moves_right q g e h large seat leaf at into turned inner =
           let right =
-          seat_right s half X K q g within low
-          (pair_content s low l x r pair).branches large seat in
+          seat_right s half X K q g within low (pair_content x pair).branches large seat in
           let agree = (part_agree s t low (half + 1) K
-          (shared_agree s low l x r pair half within first second)).1 in
+          (shared_agree x pair half within shared.first shared.second)).1 in
           let edge = seat_written s t r (drop (half + 1) X) (drop (half + 1) K) (q - half - 1) g e
-          low (shared_right s low l x r pair half within first second) agree leaf at into right.0 in
+          low (shared_right x pair half within shared.first shared.second) agree leaf at into
+          right.0 in
           let beside = seat_beside t low l e cut edge.0 in
-          let up = levelled_edge s low n j x levelled here rejoined written 1 e h turned inner
-          beside.0 in
-          let fore = ap length (left_items_below half (pair_content s low l x r pair) within
-          (shared_left s low l x r pair half within first second)
-          (shared_right s low l x r pair half within first second)) in
+          let up = levelled_edge x levelled here rejoined written 1 e h turned inner beside.0 in
+          let fore = ap length (left_items_below half (pair_content x pair) within
+          (shared_left x pair half within shared.first shared.second)
+          (shared_right x pair half within shared.first shared.second)) in
           (up.0, omega (arith, up.1, beside.1, edge.1, right.1, fore))
 
     -- the two became one
     module _ {o t u : Heap T} (first : Writes s o l X K) (second : Removes o t r) (parent : Writes t
-        u n (remove (items_of (node_of s n)) j) (remove (children_of (node_of s n)) (j + 1)))
+        u n (remove (node_items s n) j) (remove (node_children s n) (j + 1)))
         (few : length X ≤ CAPACITY) where
       joined : Rejoins s t low l x r None
-      joined = united_rejoins s low l x r pair first second few
+      joined = united_rejoins x pair first second few
 
       detached : Writes t u n (take j xs ++ drop (j + 1) xs) (take j ks ++ (l ∷ drop (j + 2) ks))
       detached =
           let far : j + 1 + 1 ≡ j + 2 = omega arith in
           let kids : remove ks (j + 1) ≡ take j ks ++ (l ∷ drop (j + 2) ks) =
           remove_parts ks (j + 1) ∙ ap (λ m. take (j + 1) ks ++ drop m ks) far
-          ∙ pair_children s low n j x levelled here joined None in
+          ∙ pair_children x levelled here joined None in
           rw (sym (remove_parts xs j), sym kids) parent
 
       merged_shrinks : Shrinks s u (suc low) n (items_below s (suc (suc low)) n)
-      merged_shrinks = levelled_shrinks s low n j x levelled here joined detached
+      merged_shrinks = levelled_shrinks x levelled here joined detached
 
       merged_edge : (q : ℕ) (g e h : Edge) → IsSeat s low X K q g
           → (low ≡ 0 → e ≡ record { leaf = l; path = 0; index = q }) → (0 < low → turn e ≡ q)
@@ -188,13 +193,11 @@ module _ {T : Type 0} {s : Heap T} {low n j : ℕ} (levelled : IsLevelled s low 
           ≡ length (before xs (map (items_below s (suc low)) ks) j) + seat_place s low X K q g)
       merged_edge q g e h seat leaf at into turned inner =
           let edge = seat_written s t l X K q g e low
-          (united_holds s low l x r pair first second few)
-          (united_agree s low l x r pair first second few) leaf at into seat in
+          (united_holds x pair first second few) (united_agree x pair first second few) leaf at into
+          seat in
           let alone = seat_alone t low l e None edge.0 in
-          let up = levelled_edge s low n j x levelled here joined detached 0 e h (omega (
-            arith,
-            turned,
-          )) inner alone.0 in
+          let up = levelled_edge x levelled here joined detached 0 e h (omega (arith, turned)) inner
+          alone.0 in
           (up.0, omega (arith, up.1, alone.1, edge.1))
 
   kid_apart : (i : ℕ) → i < length ks → get_or ks i 0 ≢ n
@@ -203,7 +206,7 @@ module _ {T : Type 0} {s : Heap T} {low n j : ℕ} (levelled : IsLevelled s low 
       let inner = used_kid_le s (suc low) i ks n low' in
       let itself : 0 < occurrences n (used s (suc low) (get_or ks i 0)) =
       rw same (rw (used_is s low n)
-      (occurrences_here n (flat_map (used s low) (children_of (node_of s n))))) in
+      (occurrences_here n (flat_map (used s low) (node_children s n)))) in
       omega (
         arith,
         levelled.owned n,
@@ -225,8 +228,7 @@ module _ {T : Type 0} {s : Heap T} {low n j : ℕ} (levelled : IsLevelled s low 
     left_apart = kid_apart j (omega (arith, levelled.within, levelled.node.branches));
     right_apart = kid_apart (j + 1) (omega (arith, levelled.within, levelled.node.branches));
     apart =
-        pair_apart s low l (get_or xs j some) r
-        (pair_of s low n j (get_or xs j some) levelled
+        pair_apart (get_or xs j some) (pair_of (get_or xs j some) levelled
         (get_or_default xs j some _ levelled.within));
     below = low;
     left_branches = levelled.left.node.branches;
@@ -234,7 +236,7 @@ module _ {T : Type 0} {s : Heap T} {low n j : ℕ} (levelled : IsLevelled s low 
   }
     where
       some : T
-      some = some_of (items_of (node_of s n)) j levelled.within
+      some = some_of (node_items s n) j levelled.within
 
   -- the edges below the two
   edge_itself : (d k : ℕ) (e : Edge) → IsEdge s d k e
@@ -250,80 +252,44 @@ module _ {T : Type 0} {s : Heap T} {low n j : ℕ} (levelled : IsLevelled s low 
 
   -- the child at j lent an item to the one after it
   module _ {u : Heap T} (rotates : RotatesRight s u n j) (spare : MIN_LEN < child_size s n j) where
-    abbrev a : ℕ
-    a = length (items_of (node_of s (get_or (children_of (node_of s n)) j 0)))
-
-    abbrev b : ℕ
-    b = length (items_of (node_of s (get_or (children_of (node_of s n)) (j + 1) 0)))
-
-    abbrev lefts : List T
-    lefts = items_of (node_of s (get_or (children_of (node_of s n)) j 0))
-
-    abbrev rights : List T
-    rights = items_of (node_of s (get_or (children_of (node_of s n)) (j + 1) 0))
-
-    abbrev left_kids : List ℕ
-    left_kids = children_of (node_of s (get_or (children_of (node_of s n)) j 0))
-
-    abbrev right_kids : List ℕ
-    right_kids = children_of (node_of s (get_or (children_of (node_of s n)) (j + 1) 0))
-
-    abbrev both : List T
-    both =
-        items_of (node_of s (get_or (children_of (node_of s n)) j 0))
-        ++ (rotates.down ∷ items_of (node_of s (get_or (children_of (node_of s n)) (j + 1) 0)))
-
-    long : length both ≡ a + 1 + b
-    long = omega (arith, length-append lefts (rotates.down ∷ rights))
-
     one : a - 1 + 1 ≡ a
     one = omega (arith, spare)
 
-    first : Writes s rotates.rotates.first l (take (a - 1) both) (take (a - 1 + 1) K)
-    first =
-        let items : take (a - 1) both ≡ take (a - 1) lefts =
-        take-append-le (a - 1) lefts (rotates.down ∷ rights) (omega arith) in
-        let kids : take (a - 1 + 1) K ≡ take a left_kids =
-        ap (λ m. take m K) one
-        ∙ take_fewer low a b left_kids right_kids levelled.left.node.branches
-        levelled.right.node.branches in
-        rw (items, kids) rotates.rotates.left
-
-    second : Writes rotates.rotates.first rotates.rotates.second r (drop (a - 1 + 1) both)
-        (drop (a - 1 + 1) K)
-    second =
-        let items : drop (a - 1 + 1) both ≡ rotates.down ∷ rights =
-        drop-append-add lefts (rotates.down ∷ rights) (a - 1 + 1) 0
-        (omega (arith, spare)) in
-        let kids : drop (a - 1 + 1) K ≡ drop a left_kids ++ right_kids =
-        ap (λ m. drop m K) one
-        ∙ drop_fewer low a b left_kids right_kids levelled.left.node.branches
-        levelled.right.node.branches in
-        rw (items, kids) rotates.rotates.right
-
-    middle : rotates.up ≡ get_or both (a - 1) rotates.up
-    middle =
+    to_right : IsShared rotates.down rotates.down_is rotates.rotates.first rotates.rotates.second u
+        rotates.up (a - 1)
+    to_right =
+        let more = rotates.down ∷ rights in
+        let long = length-append lefts more in
         let fore : length (take (a - 1) lefts) ≡ a - 1 =
         length-take-le (a - 1) lefts (omega arith) in
-        sym (
-        get_or_append_left lefts (rotates.down ∷ rights) rotates.up (a - 1) (omega (arith, spare))
-        ∙ ap (λ zs. get_or zs (a - 1) rotates.up) rotates.up_is
-        ∙ ap (λ m. get_or (take (a - 1) lefts ++ (rotates.up ∷ [])) m rotates.up) (sym fore)
-        ∙ item_behind (take (a - 1) lefts) rotates.up [] rotates.up
-        )
-
-    least : a - 1 + 1 + MIN_LEN ≤ length both
-    least = omega (arith, long, spare, levelled.right.node.enough)
-
-    few : length both ≤ a - 1 + 1 + CAPACITY
-    few = omega (arith, long, spare, levelled.fits)
+        record {
+          first = rw (
+            take-append-le (a - 1) lefts more (omega arith),
+            one,
+            take_fewer low a b _ _ levelled.left.node.branches levelled.right.node.branches,
+          ) rotates.rotates.left;
+          second = rw (
+            drop-append-add lefts more (a - 1 + 1) 0 (omega (arith, spare)),
+            one,
+            drop_fewer low a b _ _ levelled.left.node.branches levelled.right.node.branches,
+          ) rotates.rotates.right;
+          middle = sym (
+              get_or_append_left lefts more rotates.up (a - 1) (omega (arith, spare))
+              ∙ ap (λ zs. get_or zs (a - 1) rotates.up) rotates.up_is
+              ∙ ap (λ m. get_or (take (a - 1) lefts ++ (rotates.up ∷ [])) m rotates.up) (sym fore)
+              ∙ item_behind (take (a - 1) lefts) rotates.up [] rotates.up
+              );
+          parent = rotates.rotates.parent;
+          least = omega (arith, spare);
+          most = omega (arith, levelled.left.node.fits);
+          rest = omega (arith, long, spare, levelled.right.node.enough);
+          few = omega (arith, long, spare, levelled.fits);
+        }
 
     pub next_shrinks : Shrinks s u (suc low) n (items_below s (suc (suc low)) n)
-    next_shrinks = shrunk rotates.down rotates.down_is rotates.up (a - 1) first second middle
-        rotates.rotates.parent (omega (arith, spare)) (omega (arith, levelled.left.node.fits)) least
-        few
+    next_shrinks = shrunk rotates.down rotates.down_is to_right
 
-    pub next_kept : length (items_of (node_of u n)) ≡ length (items_of (node_of s n))
+    pub next_kept : length (node_items u n) ≡ length (node_items s n)
     next_kept = ap length rotates.rotates.parent.items_are ∙ length-set xs j rotates.up
 
     pub next_edge : (e g h : Edge) → IsEdge s low r e
@@ -337,76 +303,43 @@ module _ {T : Type 0} {s : Heap T} {low n j : ℕ} (levelled : IsLevelled s low 
         (λ none. absurd (omega (arith, none))) (λ some. refl) in
         let moved : a + 1 + seat_of low e - (a - 1) - 1 ≡ seat_of low e + 1 =
         omega (arith, spare) in
-        let up = moves_right rotates.down rotates.down_is rotates.up (a - 1) first second middle
-        rotates.rotates.parent (omega (arith, spare)) (omega (arith, levelled.left.node.fits)) least
-        few q (inside e) g h (omega arith) seat.0 (rw moved leaf) (rw moved at) into turned inner in
+        let up = moves_right rotates.down rotates.down_is to_right q (inside e) g h (omega arith)
+        seat.0 (rw moved leaf) (rw moved at) into turned inner in
         (up.0, up.1 ∙ seat.1)
 
   -- the child after j lent an item to that at j
   module _ {u : Heap T} (rotates : RotatesLeft s u n j)
       (spare : MIN_LEN < child_size s n (j + 1)) where
-    abbrev a' : ℕ
-    a' = length (items_of (node_of s (get_or (children_of (node_of s n)) j 0)))
-
-    abbrev b' : ℕ
-    b' = length (items_of (node_of s (get_or (children_of (node_of s n)) (j + 1) 0)))
-
-    abbrev lefts' : List T
-    lefts' = items_of (node_of s (get_or (children_of (node_of s n)) j 0))
-
-    abbrev rights' : List T
-    rights' = items_of (node_of s (get_or (children_of (node_of s n)) (j + 1) 0))
-
-    abbrev both' : List T
-    both' =
-        items_of (node_of s (get_or (children_of (node_of s n)) j 0))
-        ++ (rotates.down ∷ items_of (node_of s (get_or (children_of (node_of s n)) (j + 1) 0)))
-
-    long' : length both' ≡ a' + 1 + b'
-    long' = omega (arith, length-append lefts' (rotates.down ∷ rights'))
-
-    next : a' + 1 + 1 ≡ a' + 2
-    next = omega arith
-
-    first' : Writes s rotates.rotates.first l (take (a' + 1) both') (take (a' + 1 + 1) K)
-    first' =
-        let kids =
-        ap (λ m. take m K) next
-        ∙ take_children low a' b' _ _ levelled.left.node.branches
-        levelled.right.node.branches in
-        rw (take-append-add lefts' (rotates.down ∷ rights') (a' + 1) 1 refl, kids)
-        rotates.rotates.left
-
-    second' : Writes rotates.rotates.first rotates.rotates.second r (drop (a' + 1 + 1) both')
-        (drop (a' + 1 + 1) K)
-    second' =
-        let kids =
-        ap (λ m. drop m K) next
-        ∙ drop_children low a' b' _ _ levelled.left.node.branches
-        levelled.right.node.branches in
-        rw (drop-append-add lefts' (rotates.down ∷ rights') (a' + 1 + 1) 2 next, kids)
-        rotates.rotates.right
-
-    middle' : rotates.up ≡ get_or both' (a' + 1) rotates.up
-    middle' =
-        sym (get_or-append-add lefts' (rotates.down ∷ rights') 1 rotates.up
-        ∙ ap (λ zs. get_or zs 0 rotates.up) rotates.up_is)
-
-    least' : a' + 1 + 1 + MIN_LEN ≤ length both'
-    least' = omega (arith, long', spare)
-
-    few' : length both' ≤ a' + 1 + 1 + CAPACITY
-    few' = omega (arith, long', levelled.right.node.fits)
+    to_left : IsShared rotates.down rotates.down_is rotates.rotates.first rotates.rotates.second u
+        rotates.up (a + 1)
+    to_left =
+        let more = rotates.down ∷ rights in
+        let long = length-append lefts more in
+        let next : a + 1 + 1 ≡ a + 2 = omega arith in
+        record {
+          first = rw (
+            take-append-add lefts more (a + 1) 1 refl,
+            next,
+            take_children low a b _ _ levelled.left.node.branches levelled.right.node.branches,
+          ) rotates.rotates.left;
+          second = rw (
+            drop-append-add lefts more (a + 1 + 1) 2 next,
+            next,
+            drop_children low a b _ _ levelled.left.node.branches levelled.right.node.branches,
+          ) rotates.rotates.right;
+          middle = sym (get_or-append-add lefts more 1 rotates.up
+              ∙ ap (λ zs. get_or zs 0 rotates.up) rotates.up_is);
+          parent = rotates.rotates.parent;
+          least = omega (arith, levelled.left.node.enough);
+          most = omega (arith, spare, levelled.fits);
+          rest = omega (arith, long, spare);
+          few = omega (arith, long, levelled.right.node.fits);
+        }
 
     pub previous_shrinks : Shrinks s u (suc low) n (items_below s (suc (suc low)) n)
-    previous_shrinks = shrunk rotates.down rotates.down_is rotates.up (a' + 1) first' second'
-        middle' rotates.rotates.parent (omega (arith, levelled.left.node.enough)) (omega (
-          arith,
-          spare,
-          levelled.fits,
-        )) least' few'
+    previous_shrinks = shrunk rotates.down rotates.down_is to_left
 
-    pub previous_kept : length (items_of (node_of u n)) ≡ length (items_of (node_of s n))
+    pub previous_kept : length (node_items u n) ≡ length (node_items s n)
     previous_kept = ap length rotates.rotates.parent.items_are ∙ length-set xs j rotates.up
 
     pub previous_edge : (e h : Edge) → IsEdge s low l e → turn h ≡ j → inside h ≡ e
@@ -415,25 +348,19 @@ module _ {T : Type 0} {s : Heap T} {low n j : ℕ} (levelled : IsLevelled s low 
         let seat = pair_seat rotates.down levelled rotates.down_is j e (seat_of low e) (inl refl) is
         (λ none. refl) (λ some. absurd (omega (arith, some))) in
         let itself = edge_itself low l e is in
-        let up = stays_left rotates.down rotates.down_is rotates.up (a' + 1) first' second' middle'
-        rotates.rotates.parent (omega (arith, levelled.left.node.enough)) (omega (
-          arith,
-          spare,
-          levelled.fits,
-        )) least' few' (seat_of low e) (inside e) e h (omega (
-          arith,
-          seat_low low e levelled.left is,
-        )) seat.0 itself.0 itself.1 (λ some. refl) turned inner in
+        let up = stays_left rotates.down rotates.down_is to_left (seat_of low e) (inside e) e h
+        (omega (arith, seat_low low e levelled.left is)) seat.0 itself.0 itself.1 (λ some. refl)
+        turned inner in
         (up.0, up.1 ∙ seat.1)
 
   -- the two were joined
   module _ {u : Heap T} (merges : Merges s u n j)
       (few : child_size s n j + 1 + child_size s n (j + 1) ≤ CAPACITY) where
-    fits : length (items_of (node_of s l) ++ (merges.down ∷ items_of (node_of s r))) ≤ CAPACITY
+    fits : length (node_items s l ++ (merges.down ∷ node_items s r)) ≤ CAPACITY
     fits =
         omega (
           arith,
-          length-append (items_of (node_of s l)) (merges.down ∷ items_of (node_of s r)),
+          length-append (node_items s l) (merges.down ∷ node_items s r),
           few,
         )
 
@@ -443,7 +370,7 @@ module _ {T : Type 0} {s : Heap T} {low n j : ℕ} (levelled : IsLevelled s low 
 
     pub joined_edge : (i : ℕ) (e g h : Edge) (q : ℕ) → (i ≡ j) ⊎ (i ≡ j + 1)
         → IsEdge s low (get_or ks i 0) e → (i - j ≡ 0 → q ≡ seat_of low e)
-        → (0 < i - j → q ≡ length (items_of (node_of s l)) + 1 + seat_of low e)
+        → (0 < i - j → q ≡ length (node_items s l) + 1 + seat_of low e)
         → (low ≡ 0 → g ≡ record { leaf = l; path = 0; index = q }) → (0 < low → turn g ≡ q)
         → (0 < low → inside g ≡ inside e) → turn h ≡ j → inside h ≡ g
         → IsEdge u (suc low) n h × (place u (suc low) n h ≡ seat_place s (suc low) xs ks i e)

@@ -29,43 +29,38 @@ module _ {T : Type 0} where
   length-rows (suc many) cells = ap suc (length-rows many (drop CAPACITY cells))
 
   -- a row past the cells has no item
-  module _ (many : ℕ) (cells : List (Option T)) (rows : IsRows many cells) (n : ℕ) where
+  module _ {many : ℕ} {cells : List (Option T)} (rows : IsRows many cells) (n : ℕ) where
     cells_past : rows.there ≤ n → cells_of cells n ≡ []
     cells_past past =
         ap (take CAPACITY)
         (drop_all (CAPACITY * n) cells (omega (arith, past, rows.cells_are)))
 
-    module _ (within : n < length (rows_in many cells))
-        (some : 0 < length (row_of (rows_in many cells) n)) where
+    module _ (less : n < many) {i : ℕ} (within : i < length (row_of (rows_in many cells) n)) where
       row_there : n < rows.there
       row_there =
           elim (cases_lt n rows.there) [
             | inl less ↦ less
             | inr past ↦
                 let none : length (row_of (rows_in many cells) n) ≡ 0 =
-                ap length (rows_read many cells n (omega (arith, within, length-rows many cells))
+                ap length (rows_read many cells n less
                 ∙ ap items_in (cells_past (omega (arith, past)))) in
-                absurd (omega (arith, none, some))
+                absurd (omega (arith, none, within))
           ]
 
       -- what a row with an item holds
       pub row_held : HoldsItems (cells_of cells n) (row_of (rows_in many cells) n)
-      row_held = rw (rows_read many cells n (omega (arith, within, length-rows many cells)))
-          (rows.held n row_there)
+      row_held = rw (rows_read many cells n less) (rows.held n row_there)
 
       pub room : CAPACITY * n + CAPACITY ≤ length cells
       room = omega (arith, rows.cells_are, row_there)
 
-  -- the cell of an item
-  pub cell_in : {many : ℕ} {cells : List (Option T)} → IsRows many cells → (n i : ℕ)
-      → n < length (rows_in many cells) → i < length (row_of (rows_in many cells) n)
-      → (stands : Standing (row_of (rows_in many cells) n) i) → (d : Option T)
-      → get_or cells (CAPACITY * n + i) d ≡ Some stands.item
-  cell_in {many} {cells} rows n i there within stands d =
-      let held = row_held many cells rows n there (omega (arith, within)) in
-      sym (get_or-take CAPACITY (drop (CAPACITY * n) cells) i d (omega (arith, held.fits))
-      ∙ get_or-drop (CAPACITY * n) cells i d)
-      ∙ cell_read held i within stands d
+      -- the cell of an item
+      pub cell_in : (stands : Standing (row_of (rows_in many cells) n) i) → (d : Option T)
+          → get_or cells (CAPACITY * n + i) d ≡ Some stands.item
+      cell_in stands d =
+          sym (get_or-take CAPACITY (drop (CAPACITY * n) cells) i d (omega (arith, row_held.fits))
+          ∙ get_or-drop (CAPACITY * n) cells i d)
+          ∙ cell_read row_held i within stands d
 
   -- the cells of one number are new, and hold these items
   pub record Rewrites (cells new : List (Option T)) (n : ℕ) (items : List T) : Type 0 where
@@ -73,8 +68,15 @@ module _ {T : Type 0} where
     pub others : (m : ℕ) → m ≢ n → cells_of new m ≡ cells_of cells m
     pub here : HoldsItems (cells_of new n) items
 
+  -- one row has these items, and the others have what they had
+  pub record IsRowWritten (many : ℕ) (cells new : List (Option T)) (n : ℕ) (items : List T)
+      : Type 0 where
+    pub rows : IsRows many new
+    pub is : rows_in many new ≡ set (rows_in many cells) n items
+    pub len : length new ≡ length cells
+
   module _ {many : ℕ} {cells new : List (Option T)} (rows : IsRows many cells) {n : ℕ}
-      {items : List T} (rewrites : Rewrites cells new n items) where
+      (within : n < many) {items : List T} (rewrites : Rewrites cells new n items) where
     held_anew : (m : ℕ) → m < rows.there → HoldsItems (cells_of new m) (items_in (cells_of new m))
     held_anew m within =
         elim (cases_eq m n) [
@@ -83,31 +85,32 @@ module _ {T : Type 0} where
           | inr other ↦ rw (rewrites.others m other) (rows.held m within)
         ]
 
-    pub rewritten_rows : IsRows many new
-    rewritten_rows = record {
-      there = rows.there;
-      few = rows.few;
-      cells_are = rewrites.len ∙ rows.cells_are;
-      held = held_anew;
-    }
-
-    pub rewritten : n < many → rows_in many new ≡ set (rows_in many cells) n items
-    rewritten within =
+    row_written : IsRowWritten many cells new n items
+    row_written =
         let long = length-rows many cells in
-        ext_get_or [] (rows_in many new) (set (rows_in many cells) n items)
-        (length-rows many new ∙ sym (length-set (rows_in many cells) n items ∙ long))
-        (λ m below.
-        let less : m < many = omega (arith, length-rows many new) in
-        elim (cases_eq m n) [
-          | inl same ↦
-              rw same (rows_read many new n within
-              ∙ items_held rewrites.here
-              ∙ sym (get_or-set_same (rows_in many cells) n items [] (omega (arith, long))))
-          | inr other ↦
-              rows_read many new m less ∙ ap items_in (rewrites.others m other)
-              ∙ sym (rows_read many cells m less)
-              ∙ sym (get_or-set_other (rows_in many cells) n m items [] other)
-        ])
+        record {
+          rows = record {
+            there = rows.there;
+            few = rows.few;
+            cells_are = rewrites.len ∙ rows.cells_are;
+            held = held_anew;
+          };
+          is = ext_get_or [] (rows_in many new) (set (rows_in many cells) n items)
+              (length-rows many new ∙ sym (length-set (rows_in many cells) n items ∙ long))
+              (λ m below.
+              let less : m < many = omega (arith, length-rows many new) in
+              elim (cases_eq m n) [
+                | inl same ↦
+                    rw same (rows_read many new n within
+                    ∙ items_held rewrites.here
+                    ∙ sym (get_or-set_same (rows_in many cells) n items [] (omega (arith, long))))
+                | inr other ↦
+                    rows_read many new m less ∙ ap items_in (rewrites.others m other)
+                    ∙ sym (rows_read many cells m less)
+                    ∙ sym (get_or-set_other (rows_in many cells) n m items [] other)
+              ]);
+          len = rewrites.len;
+        }
 
   -- the cells of a number were written at once
   all_written : (n : ℕ) (cells : List (Option T)) {part : List (Option T)} {items : List T}
@@ -149,21 +152,17 @@ module _ {T : Type 0} where
         here = rw here holds;
       }
 
-  pub part_written : (n k : ℕ) → k ≡ CAPACITY → (cells part : List (Option T)) (items : List T)
-      → CAPACITY * n + CAPACITY ≤ length cells → HoldsItems part items
-      → Rewrites cells (put_mid (CAPACITY * n) k cells part) n items
-  part_written n k all cells part items within holds = rw all (all_written n cells within holds)
+  pub part_written : {many : ℕ} {cells : List (Option T)} → IsRows many cells → {n : ℕ} → n < many
+      → (k : ℕ) → k ≡ CAPACITY → CAPACITY * n + CAPACITY ≤ length cells → {part : List (Option T)}
+      → {items : List T} → HoldsItems part items
+      → IsRowWritten many cells (put_mid (CAPACITY * n) k cells part) n items
+  part_written {many} {cells} rows {n} less k all within holds =
+      rw all (row_written rows less (all_written n cells within holds))
 
   -- the items that it had
-  pub part_held : (n k : ℕ) → k ≡ CAPACITY → (cells part : List (Option T)) (items : List T)
-      → part ≡ cells → HoldsItems (cells_of cells n) items
-      → items_in (take k (drop (CAPACITY * n) part)) ≡ items
-  part_held n k all cells part items same held = rw (all, same) (items_held held)
-
-  pub part_holds : (n k : ℕ) → k ≡ CAPACITY → (cells part : List (Option T)) (items : List T)
-      → part ≡ cells → HoldsItems (cells_of cells n) items
-      → HoldsItems (take k (drop (CAPACITY * n) part)) (items_in (take k (drop (CAPACITY * n) part)))
-  part_holds n k all cells part items same held = rw (all, same) (rw (items_held held) held)
+  pub part_held : (cells : List (Option T)) (n k : ℕ) → k ≡ CAPACITY → {items : List T}
+      → HoldsItems (cells_of cells n) items → items_in (take k (drop (CAPACITY * n) cells)) ≡ items
+  part_held cells n k all held = rw all (items_held held)
 
   take_set : (n : ℕ) (xs : List (Option T)) (i : ℕ) (x : Option T)
       → take n (set xs i x) ≡ set (take n xs) i x
@@ -173,10 +172,10 @@ module _ {T : Type 0} where
   take_set (suc n) (y ∷ xs) (suc i) x = ap (λ ys. y ∷ ys) (take_set n xs i x)
 
   -- one cell of a number was written
-  pub cell_written : (n i : ℕ) (cells : List (Option T)) {items : List T} (item : T)
+  cell_rewritten : (n i : ℕ) (cells : List (Option T)) {items : List T} (item : T)
       → i < length items → HoldsItems (cells_of cells n) items
       → Rewrites cells (set cells (CAPACITY * n + i) (Some item)) n (set items i item)
-  cell_written n i cells {items} item within holds =
+  cell_rewritten n i cells {items} item within holds =
       let cell : Option T = Some item in
       let less : i < CAPACITY = omega (arith, holds.fits) in
       let here : cells_of (set cells (CAPACITY * n + i) cell) n ≡ set (cells_of cells n) i cell =
@@ -198,6 +197,13 @@ module _ {T : Type 0} where
             ];
         here = rw here (held_set i item holds within);
       }
+
+  pub cell_written : {many : ℕ} {cells : List (Option T)} → IsRows many cells → {n : ℕ} → n < many
+      → {i : ℕ} → i < length (row_of (rows_in many cells) n) → (item : T)
+      → IsRowWritten many cells (set cells (CAPACITY * n + i) (Some item)) n
+      (set (row_of (rows_in many cells) n) i item)
+  cell_written {many} {cells} rows {n} less {i} within item = row_written rows less
+      (cell_rewritten n i cells item within (row_held rows n less within))
 
   -- empty cells were added up to a row
   module _ {many : ℕ} {cells : List (Option T)} (rows : IsRows many cells) (n : ℕ)
@@ -284,7 +290,7 @@ module _ {T : Type 0} where
           | inl less ↦ ap items_in (old_cells m less)
           | inr past ↦
               none_new m (omega (arith, past))
-              ∙ sym (ap items_in (cells_past many cells rows m (omega (arith, past))))
+              ∙ sym (ap items_in (cells_past rows m (omega (arith, past))))
         ]
         ∙ sym (rows_read many cells m (omega (arith, long, below))))
 
@@ -313,7 +319,7 @@ module _ {T : Type 0} where
               elim (cases_eq n many) [
                 | inl same ↦
                     rows_read (suc many) cells n (omega (arith, same))
-                    ∙ ap items_in (cells_past many cells rows n (omega (arith, past, rows.few)))
+                    ∙ ap items_in (cells_past rows n (omega (arith, past, rows.few)))
                     ∙ sym (get_or_past (rows_in many cells) n []
                     (omega (arith, length-rows many cells, past)))
                 | inr other ↦

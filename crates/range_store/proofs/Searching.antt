@@ -3,9 +3,9 @@ use Rattle.std.proofs.Common.{◌≡◌, ◌⊎◌, ℕ, suc, ◌+◌, ◌<◌, 
 use Rattle.std.proofs.lemmas.List.{append-nil, length-append, length-map, get_or-map}
 use Rattle.std.proofs.lemmas.List.Sums.{count_by-le-length}
 use Rattle.std.proofs.lemmas.Bool.{cases_lt}
-use Rattle.range_store.specs.Heap.{Heap, node_of, items_of, children_of, child_count}
+use Rattle.range_store.specs.Heap.{Heap, child_count, node_items, node_children, node_child}
 use Rattle.range_store.specs.Falling.{Falls}
-use Rattle.range_store.specs.Nodes.{weave, rest_of, before, after, items_below, ShapedBut}
+use Rattle.range_store.specs.Nodes.{weave, rest_of, before, after, items_below, ShapedBut, child_lists, before_child}
 use Rattle.range_store.proofs.Below.{children_length, lists_length, items_below_at, weave_items_below, child_count_cases}
 use Rattle.range_store.proofs.Front.{falls_parts, true_or_false, count-append, count-yes, count-no}
 
@@ -119,42 +119,37 @@ module _ {T : Type 0} (p : T → Bool) where
       ]
 
 pub fits_weave : {T : Type 0} (s : Heap T) (d n : ℕ)
-    → length (children_of (node_of s n)) ≡ child_count d (length (items_of (node_of s n)))
-    → (length (map (items_below s d) (children_of (node_of s n))) ≡ 0) ⊎
-    (length (map (items_below s d) (children_of (node_of s n)))
-    ≡ length (items_of (node_of s n)) + 1)
+    → length (node_children s n) ≡ child_count d (length (node_items s n))
+    → (length (child_lists s d n) ≡ 0) ⊎ (length (child_lists s d n) ≡ length (node_items s n) + 1)
 fits_weave s d n branches =
-    child_count_cases d _ _ (length-map (children_of (node_of s n)) (items_below s d) ∙ branches)
+    child_count_cases d _ _ (length-map (node_children s n) (items_below s d) ∙ branches)
 
 -- what a search may ask of a node
 module _ {T : Type 0} (p : T → Bool) {least most : ℕ} {s : Heap T} {d n : ℕ}
     (shaped : ShapedBut least most s d n) where
-  pub node_falls : Falls p (items_below s (suc d) n) → Falls p (items_of (node_of s n))
+  pub node_falls : Falls p (items_below s (suc d) n) → Falls p (node_items s n)
   node_falls falls =
-      falls_weave p (items_of (node_of s n)) (map (items_below s d) (children_of (node_of s n)))
+      falls_weave p (node_items s n) (child_lists s d n)
       (fits_weave s d n shaped.node.branches) (rw weave_items_below at falls)
 
-  module _ (inner : 0 < d) (i : ℕ) (within : i ≤ length (items_of (node_of s n))) where
-    pub kid_falls : Falls p (items_below s (suc d) n)
-        → Falls p (items_below s d (get_or (children_of (node_of s n)) i 0))
+  module _ (inner : 0 < d) (i : ℕ) (within : i ≤ length (node_items s n)) where
+    pub kid_falls : Falls p (items_below s (suc d) n) → Falls p (items_below s d (node_child s n i))
     kid_falls falls =
-        let lists = map (items_below s d) (children_of (node_of s n)) in
+        let lists = child_lists s d n in
         let whole = items_below_at inner shaped i within in
         let first =
-        falls_parts p (before (items_of (node_of s n)) lists i)
-        (items_below s d (get_or (children_of (node_of s n)) i 0)
-        ++ after (items_of (node_of s n)) lists i) (rw whole at falls) in
-        (falls_parts p (items_below s d (get_or (children_of (node_of s n)) i 0))
-        (after (items_of (node_of s n)) lists i) first.back).front
+        falls_parts p (before (node_items s n) lists i) (items_below s d (node_child s n i)
+        ++ after (node_items s n) lists i) (rw whole at falls) in
+        (falls_parts p (items_below s d (node_child s n i))
+        (after (node_items s n) lists i) first.back).front
 
   pub search_step : 0 < d → Falls p (items_below s (suc d) n)
-      → count_by p (items_below s (suc d) n)
-      ≡ length (before (items_of (node_of s n)) (map (items_below s d) (children_of (node_of s n)))
-      (count_by p (items_of (node_of s n)))) + count_by p
-      (items_below s d (get_or (children_of (node_of s n)) (count_by p (items_of (node_of s n))) 0))
+      → count_by p (items_below s (suc d) n) ≡ length (before_child s d n
+      (count_by p (node_items s n))) + count_by p
+      (items_below s d (node_child s n (count_by p (node_items s n))))
   search_step inner falls =
-      let xs = items_of (node_of s n) in
-      let ks = children_of (node_of s n) in
+      let xs = node_items s n in
+      let ks = node_children s n in
       let within = count_by-le-length p xs in
       let many = children_length inner shaped in
       let main = count-weave p xs (map (items_below s d) ks) (lists_length inner shaped)

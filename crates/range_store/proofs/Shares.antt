@@ -97,22 +97,22 @@ cut_is width count some least most =
     }
 
 -- a child has as many items as a node needs that is not the root
-pub cut_enough : (inner share : ℕ) → 0 < inner → MIN_LEN * inner ≤ share → MIN_LEN ≤ share / inner
-cut_enough inner share some enough = le-div MIN_LEN share inner some enough
+pub cut_enough : {inner share : ℕ} → 0 < inner → MIN_LEN * inner ≤ share → MIN_LEN ≤ share / inner
+cut_enough {inner} {share} some enough = le-div MIN_LEN share inner some enough
 
 -- the widths
 pub width_some : (width below : ℕ) → width ≡ (CAPACITY + 1) ^ below → 0 < width
 width_some width below is = omega (arith, is, one-le-pow below (CAPACITY + 1) (omega arith))
 
-pub leaf_width : (width below : ℕ) → below ≡ 0 → width ≡ (CAPACITY + 1) ^ below → width ≡ 1
-leaf_width width zero none is = is
-leaf_width width (suc d) none is = absurd (omega arith)
+pub leaf_width : {width below : ℕ} → below ≡ 0 → width ≡ (CAPACITY + 1) ^ below → width ≡ 1
+leaf_width {below = zero} none is = is
+leaf_width {below = suc d} none is = absurd (omega arith)
 
-pub leaf_cut : (width below count : ℕ) → below ≡ 0 → width ≡ (CAPACITY + 1) ^ below
+pub leaf_cut : {width below : ℕ} (count : ℕ) → below ≡ 0 → width ≡ (CAPACITY + 1) ^ below
     → count / width ≡ count
-leaf_cut width below count none is =
+leaf_cut count none is =
     let one : count / 1 ≡ count = omega arith in
-    ap (λ m. count / m) (leaf_width width below none is) ∙ one
+    ap (λ m. count / m) (leaf_width none is) ∙ one
 
 pub inner_is : (width below : ℕ) → 0 < below → width ≡ (CAPACITY + 1) ^ below
     → (width / (CAPACITY + 1) ≡ (CAPACITY + 1) ^ (below - 1))
@@ -153,10 +153,10 @@ pub record IsBranch (width below count inner many : ℕ) : Type 0 where
   pub within : many ≤ count
   pub can : CanBeShared (count - many) (many + 1) (MIN_LEN * inner) ((CAPACITY + 1) * inner)
 
-pub branch_is : (width below count : ℕ) → 0 < below → width ≡ (CAPACITY + 1) ^ below
+pub branch_is : {width below count : ℕ} → 0 < below → width ≡ (CAPACITY + 1) ^ below
     → width ≤ count → count < (CAPACITY + 1) * width
     → IsBranch width below count (width / (CAPACITY + 1)) (count / width)
-branch_is width below count some is least most =
+branch_is {width} {below} {count} some is least most =
     let inner = inner_is width below some is in
     let some_inner : 0 < width / (CAPACITY + 1) =
     omega (arith, inner.0, one-le-pow (below - 1) (CAPACITY + 1) (omega arith)) in
@@ -180,16 +180,16 @@ pub first_share : {width below count inner many : ℕ} → IsBranch width below 
 first_share {width} {below} {count} {inner} {many} branch = share_is many branch.can
 
 -- and of the one after the item at an index
-pub next_share : {rest : ℕ} (many index : ℕ) {low high : ℕ} → index < many
+pub next_share : {rest many : ℕ} (index : ℕ) {low high : ℕ} → index < many
     → CanBeShared rest (many - index) low high
     → IsShare rest (many - (index + 1)) low high (rest / (many - index))
-next_share {rest} many index {low} {high} more can =
+next_share {rest} {many} index {low} {high} more can =
     let level : many - index ≡ many - (index + 1) + 1 = omega arith in
     rw level (share_is (many - (index + 1)) (rw level at can))
 
 -- nothing is left
-pub all_shared : {rest : ℕ} (many index : ℕ) {low high : ℕ} → index ≡ many
+pub all_shared : {rest many : ℕ} (index : ℕ) {low high : ℕ} → index ≡ many
     → CanBeShared rest (many - index) low high → rest ≡ 0
-all_shared many index all can =
+all_shared {rest} {many} index all can =
     let none : many - index ≡ 0 = omega (arith, all) in
     omega (arith, (rw none at can).fits)

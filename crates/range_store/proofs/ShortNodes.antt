@@ -3,7 +3,7 @@ use Rattle.std.proofs.Common.{◌≡◌, ◌⊎◌, ℕ, suc, ◌+◌, ◌-◌, 
 use Rattle.std.specs.List.{All}
 use Rattle.std.proofs.lemmas.List.{drop_more, take_more, length-append, get_or_append_left}
 use Rattle.std.proofs.lemmas.List.Elements.{All-cons, All-head, All-tail, All-append, All-weaker}
-use Rattle.range_store.specs.Heap.{Heap, node_of, items_of, children_of}
+use Rattle.range_store.specs.Heap.{Heap, node_of, node_items, node_children, node_child}
 use Rattle.range_store.specs.declared.btree.nodes.TheConstants.{CAPACITY, MIN_LEN}
 use Rattle.range_store.specs.Nodes.{items_below, used, Shaped, ShapedBut, Shrinks, MayBeRebalanced, IsLevelled}
 use Rattle.range_store.proofs.Below.{Shaped-from_but, Shaped-but, shaped_within_wider}
@@ -22,13 +22,13 @@ module _ {X : Type 0} (P : X → Type 0) where
 
 module _ {T : Type 0} (s : Heap T) (low n i : ℕ) (m : MayBeRebalanced s low n i) where
   abbrev xs : List T
-  xs = items_of (node_of s n)
+  xs = node_items s n
 
   abbrev ks : List ℕ
-  ks = children_of (node_of s n)
+  ks = node_children s n
 
   abbrev kid : ℕ
-  kid = get_or (children_of (node_of s n)) i 0
+  kid = node_child s n i
 
   abbrev P : ℕ → Type 0
   P = Shaped s (suc low)
@@ -53,7 +53,7 @@ module _ {T : Type 0} (s : Heap T) (low n i : ℕ) (m : MayBeRebalanced s low n 
       (All-cons Present kid (drop (i + 1) ks) m.child.node.present
       (All-weaker P Present present_of (drop (i + 1) ks) m.behind)))
 
-  pub stays_balanced : MIN_LEN ≤ length (items_of (node_of s kid))
+  pub stays_balanced : MIN_LEN ≤ length (node_items s kid)
       → Shrinks s s (suc low) n (items_below s (suc (suc low)) n)
   stays_balanced enough =
       let here = Shaped-from_but s low kid (record {
@@ -89,7 +89,7 @@ module _ {T : Type 0} (s : Heap T) (low n i : ℕ) (m : MayBeRebalanced s low n 
   loose c shaped = shaped_within_wider (MIN_LEN - 1) CAPACITY (omega arith) (omega arith)
       (Shaped-but s low c shaped)
 
-  with_behind : i < length xs → length (items_of (node_of s kid)) < MIN_LEN → IsLevelled s low n i
+  with_behind : i < length xs → length (node_items s kid) < MIN_LEN → IsLevelled s low n i
   with_behind within short =
       let two : drop (i + 1) ks ≡ get_or ks (i + 1) 0 ∷ drop (i + 1 + 1) ks =
       drop_more ks (i + 1) 0 (omega (arith, many)) in
@@ -109,8 +109,7 @@ module _ {T : Type 0} (s : Heap T) (low n i : ℕ) (m : MayBeRebalanced s low n 
         fits = omega (arith, short, next'.node.fits);
       }
 
-  with_before : (j : ℕ) → j + 1 ≡ i → length (items_of (node_of s kid)) < MIN_LEN
-      → IsLevelled s low n j
+  with_before : (j : ℕ) → j + 1 ≡ i → length (node_items s kid) < MIN_LEN → IsLevelled s low n j
   with_before j next short =
       let within : j < length xs = omega (arith, m.within) in
       let front : take i ks ≡ take j ks ++ (get_or ks j 0 ∷ []) =
@@ -133,6 +132,6 @@ module _ {T : Type 0} (s : Heap T) (low n i : ℕ) (m : MayBeRebalanced s low n 
       }
 
   pub pair_levelled : (j : ℕ) → j < length xs → (j ≡ i) ⊎ (j + 1 ≡ i)
-      → length (items_of (node_of s kid)) < MIN_LEN → IsLevelled s low n j
+      → length (node_items s kid) < MIN_LEN → IsLevelled s low n j
   pair_levelled j within (inl same) short = rw same (with_behind (omega arith) short)
   pair_levelled j within (inr next) short = with_before j next short

@@ -1,12 +1,12 @@
 -- What becomes of a node when an item went below one of its children.
-use Rattle.std.proofs.Common.{◌≡◌, ◌≢◌, ℕ, suc, ◌+◌, ◌-◌, ◌<◌, ◌≤◌, List, [], ◌∷◌, ◌++◌, length, get_or, take, drop, map, refl, sym, ap, ◌∙◌, subst, arith}
+use Rattle.std.proofs.Common.{◌≡◌, ◌≢◌, ℕ, suc, ◌+◌, ◌-◌, ◌<◌, ◌≤◌, List, [], ◌∷◌, ◌++◌, length, take, drop, map, refl, sym, ap, ◌∙◌, subst, arith}
 use Rattle.std.specs.List.{All, flat_map, sum_by, remove}
 use Rattle.std.proofs.lemmas.List.{append-nil, length-map, length-take-le, take-map, drop-map, take-append-drop, nil_from_length}
 use Rattle.std.proofs.lemmas.List.Edits.{remove-append_left, remove-append_right, length-remove}
 use Rattle.std.proofs.lemmas.List.Elements.{All-append, All-cons, All-take, All-drop}
-use Rattle.range_store.specs.Heap.{Heap, node_of, items_of, children_of, Writes}
+use Rattle.range_store.specs.Heap.{Heap, node_of, items_of, children_of, Writes, node_items, node_children, node_child}
 use Rattle.range_store.specs.declared.btree.nodes.TheConstants.{CAPACITY, MIN_LEN}
-use Rattle.range_store.specs.Nodes.{weave, rest_of, front_of, before, after, items_below, used, Shaped, ShapedBut, Owned, Moves, Shrinks, MayBeRebalanced}
+use Rattle.range_store.specs.Nodes.{weave, rest_of, front_of, before, after, items_below, used, Shaped, ShapedBut, Owned, Moves, Shrinks, MayBeRebalanced, child_lists, before_child}
 use Rattle.range_store.specs.Contents.{IsContent}
 use Rattle.range_store.specs.Occurrences.{occurrences}
 use Rattle.range_store.proofs.Contents.{written_holds, held_items_below, held_used, held_shape}
@@ -26,29 +26,33 @@ remove_middle f k r rest within =
     ∙ ap (λ zs. f ++ zs) (remove-append_left k r rest within)
 
 -- the subtree of the child at i has another list
-module _ {T : Type 0} {s t : Heap T} {b n : ℕ} (i : ℕ) (list : List T) (inner : b ≢ 0)
-    (shaped : ShapedBut 1 CAPACITY s b n) (owned : Owned s (suc b) n)
-    (low : i ≤ length (items_of (node_of s n)))
-    (listed : items_below t b (get_or (children_of (node_of s n)) i 0) ≡ list) (moved : Moves s t
-    (used s b (get_or (children_of (node_of s n)) i 0))
-    (used t b (get_or (children_of (node_of s n)) i 0))) where
+pub record ListsAnew {T : Type 0} (s t : Heap T) (b n i : ℕ) (list : List T) : Type 0 where
+  pub inner : b ≢ 0
+  pub shaped : ShapedBut 1 CAPACITY s b n
+  pub owned : Owned s (suc b) n
+  pub low : i ≤ length (node_items s n)
+  pub listed : items_below t b (node_child s n i) ≡ list
+  pub moved : Moves s t (used s b (node_child s n i)) (used t b (node_child s n i))
+
+module _ {T : Type 0} {s t : Heap T} {b n i : ℕ} {list : List T}
+    (anew : ListsAnew s t b n i list) where
   abbrev xs : List T
-  xs = items_of (node_of s n)
+  xs = node_items s n
 
   abbrev ks : List ℕ
-  ks = children_of (node_of s n)
+  ks = node_children s n
 
   abbrev kid : ℕ
-  kid = get_or (children_of (node_of s n)) i 0
+  kid = node_child s n i
 
   abbrev us : List ℕ
-  us = take i (children_of (node_of s n))
+  us = take i (node_children s n)
 
   abbrev vs : List ℕ
-  vs = drop (i + 1) (children_of (node_of s n))
+  vs = drop (i + 1) (node_children s n)
 
   many : length ks ≡ length xs + 1
-  many = children_length (omega arith) shaped
+  many = children_length (omega arith) anew.shaped
 
   ks_parts : ks ≡ us ++ (kid ∷ vs)
   ks_parts = list_splits_at ks i 0 (omega (arith, many))
@@ -56,10 +60,10 @@ module _ {T : Type 0} {s t : Heap T} {b n : ℕ} (i : ℕ) (list : List T) (inne
   kid_run : Runs s t b n us (kid ∷ []) vs (kid ∷ [])
   kid_run =
       record {
-        present = shaped.node.present;
-        owned = owned;
+        present = anew.shaped.node.present;
+        owned = anew.owned;
         children = ks_parts;
-        moved = rw (append-nil (used s b kid), append-nil (used t b kid)) moved;
+        moved = rw (append-nil (used s b kid), append-nil (used t b kid)) anew.moved;
       }
 
   pub kid_kept : node_of t n ≡ node_of s n
@@ -73,10 +77,10 @@ module _ {T : Type 0} {s t : Heap T} {b n : ℕ} (i : ℕ) (list : List T) (inne
       subst (λ zs. Moves s t (used s (suc b) n) zs) (sym now) (run_moved kid_run)
 
   pub kid_owned_after : Owned t (suc b) n
-  kid_owned_after k = omega (arith, kid_moved.owned k, owned k)
+  kid_owned_after k = omega (arith, kid_moved.owned k, anew.owned k)
 
   abbrev lists : List (List T)
-  lists = map (items_below s b) (children_of (node_of s n))
+  lists = child_lists s b n
 
   pub kid_listed : items_below t (suc b) n ≡ before xs lists i ++ (list ++ after xs lists i)
   kid_listed =
@@ -86,20 +90,19 @@ module _ {T : Type 0} {s t : Heap T} {b n : ℕ} (i : ℕ) (list : List T) (inne
       weave_splice (take i xs) [] (drop i xs) L (items_below t b kid) [] R
       (omega (
         arith,
-        length-take-le i xs low,
+        length-take-le i xs anew.low,
         length-take-le i ks (omega (arith, many)),
         length-map us (items_below s b),
       )) refl in
       let middle =
       ap (λ zs. front_of (take i xs) L ++ (zs ++ rest_of (drop i xs) R))
-      (append-nil (items_below t b kid) ∙ listed) in
+      (append-nil (items_below t b kid) ∙ anew.listed) in
       let sides : front_of (take i xs) (map (items_below s b) us)
       ++ (list ++ rest_of (drop i xs) (map (items_below s b) vs)) ≡ before xs lists i
       ++ (list ++ after xs lists i) =
       rw (← take-map (items_below s b) i ks, ← drop-map (items_below s b) (i + 1) ks) refl
       in
-      weave_items_below t b n
-      ∙ ap (λ zs. weave zs (map (items_below t b) (children_of (node_of t n))))
+      weave_items_below t b n ∙ ap (λ zs. weave zs (child_lists t b n))
       (ap items_of kid_kept ∙ sym (take-append-drop i xs))
       ∙ ap (λ zs. weave (take i xs ++ drop i xs) (map (items_below t b) zs))
       (ap children_of kid_kept ∙ ks_parts)
@@ -107,16 +110,15 @@ module _ {T : Type 0} {s t : Heap T} {b n : ℕ} (i : ℕ) (list : List T) (inne
       ∙ woven ∙ middle ∙ sides
 
   -- what stands before the child
-  pub kid_front : length (before (items_of (node_of t n))
-      (map (items_below t b) (children_of (node_of t n))) i) ≡ length (before xs lists i)
+  pub kid_front : length (before_child t b n i) ≡ length (before xs lists i)
   kid_front =
       let same : map (items_below t b) us ≡ take i lists = (same_before kid_run).items_below_same
       ∙ sym (take-map (items_below s b) i ks) in
       let first =
-      length-before xs (map (items_below t b) ks) i low
+      length-before xs (map (items_below t b) ks) i anew.low
       (omega (arith, many, length-map ks (items_below t b))) in
       let second =
-      length-before xs lists i low (omega (arith, many, length-map ks (items_below s b))) in
+      length-before xs lists i anew.low (omega (arith, many, length-map ks (items_below s b))) in
       rw kid_kept
       (omega (
         arith,
@@ -125,11 +127,12 @@ module _ {T : Type 0} {s t : Heap T} {b n : ℕ} (i : ℕ) (list : List T) (inne
         ap (sum_by length) (take-map (items_below t b) i ks ∙ same),
       ))
 
-  pub kid_children : Shaped t b kid → All (Shaped t b) (children_of (node_of t n))
+  pub kid_children : Shaped t b kid → All (Shaped t b) (node_children t n)
   kid_children shape =
-      let before = (same_before kid_run).shaped_same (All-take (Shaped s b) i ks shaped.children) in
+      let before = (same_before kid_run).shaped_same (All-take (Shaped s b) i ks
+      anew.shaped.children) in
       let behind = (same_after kid_run).shaped_same
-      (All-drop (Shaped s b) (i + 1) ks shaped.children) in
+      (All-drop (Shaped s b) (i + 1) ks anew.shaped.children) in
       rw kid_kept (subst (All (Shaped t b)) (sym ks_parts)
       (All-append (Shaped t b) us (kid ∷ vs) before
       (All-cons (Shaped t b) kid vs shape behind)))
@@ -140,14 +143,15 @@ module _ {T : Type 0} {s t : Heap T} {b n : ℕ} (i : ℕ) (list : List T) (inne
   pub kid_may_be_rebalanced : ShapedBut (MIN_LEN - 1) CAPACITY t (b - 1) kid
       → MayBeRebalanced t (b - 1) n i
   kid_may_be_rebalanced short =
-      let node = IsNode-same t kid_kept shaped.node in
-      let before = (same_before kid_run).shaped_same (All-take (Shaped s b) i ks shaped.children) in
+      let node = IsNode-same t kid_kept anew.shaped.node in
+      let before = (same_before kid_run).shaped_same (All-take (Shaped s b) i ks
+      anew.shaped.children) in
       let behind = (same_after kid_run).shaped_same
-      (All-drop (Shaped s b) (i + 1) ks shaped.children) in
+      (All-drop (Shaped s b) (i + 1) ks anew.shaped.children) in
       record {
         node = rw (← level) at node;
         owned = rw (← level) at kid_owned_after;
-        within = rw kid_kept low;
+        within = rw kid_kept anew.low;
         before = rw kid_kept (rw (← level) at before);
         child = rw kid_kept short;
         behind = rw kid_kept (rw (← level) at behind);
@@ -155,12 +159,12 @@ module _ {T : Type 0} {s t : Heap T} {b n : ℕ} (i : ℕ) (list : List T) (inne
 
 -- an item of a leaf goes
 pub leaf_shrinks : {T : Type 0} {s t : Heap T} {n : ℕ} (q : ℕ) → ShapedBut 1 CAPACITY s 0 n
-    → Owned s 1 n → q < length (items_of (node_of s n))
-    → Writes s t n (remove (items_of (node_of s n)) q) (children_of (node_of s n))
+    → Owned s 1 n → q < length (node_items s n)
+    → Writes s t n (remove (node_items s n) q) (node_children s n)
     → Shrinks s t 0 n (remove (items_below s 1 n) q)
 leaf_shrinks {T} {s} {t} {n} q shaped owned within written =
-    let less = length-remove (items_of (node_of s n)) q within in
-    let content : IsContent s 0 n (remove (items_of (node_of s n)) q) (children_of (node_of s n)) =
+    let less = length-remove (node_items s n) q within in
+    let content : IsContent s 0 n (remove (node_items s n) q) (node_children s n) =
     record {
       present = shaped.node.present;
       shaped = shaped.children;
@@ -169,13 +173,13 @@ leaf_shrinks {T} {s} {t} {n} q shaped owned within written =
           λ k. omega (arith, owned k, ap (occurrences k) (used_is s 0 n));
     } in
     let holds = written_holds t content written in
-    let none = nil_from_length (children_of (node_of s n)) shaped.node.branches in
+    let none = nil_from_length (node_children s n) shaped.node.branches in
     record {
       listed = held_items_below holds
-          ∙ ap (λ zs. weave (remove (items_of (node_of s n)) q) (map (items_below s 0) zs)) none
+          ∙ ap (λ zs. weave (remove (node_items s n) q) (map (items_below s 0) zs)) none
           ∙ ap (λ zs. remove zs q) (sym (items_below_leaf s n shaped.node.branches));
       moved = rw (used_is s 0 n, held_used holds)
-          (Writes-moves (flat_map (used s 0) (children_of (node_of s n))) written);
+          (Writes-moves (flat_map (used s 0) (node_children s n)) written);
       shape = λ least more. held_shape holds least (omega (arith, less, more)) (omega (
         arith,
         less,
@@ -183,44 +187,38 @@ leaf_shrinks {T} {s} {t} {n} q shaped owned within written =
       )) shaped.node.branches shaped.children;
     }
 
--- an item below a child went, and the child was rebalanced
-module _ {T : Type 0} {s t u : Heap T} {b n : ℕ} (i q : ℕ) (inner : b ≢ 0)
-    (shaped : ShapedBut 1 CAPACITY s b n) (owned : Owned s (suc b) n)
-    (low : i ≤ length (items_of (node_of s n)))
-    (within : q < length (items_below s b (get_or (children_of (node_of s n)) i 0))) (child :
-    Shrinks s t (b - 1) (get_or (children_of (node_of s n)) i 0)
-    (remove (items_below s (suc (b - 1)) (get_or (children_of (node_of s n)) i 0)) q))
-    (rebalanced : Shrinks t u (suc (b - 1)) n (items_below t (suc (suc (b - 1))) n)) where
-  back : suc (b - 1) ≡ b
-  back = omega arith
+-- an item below a child went
+pub lists_shorter : {T : Type 0} {s t : Heap T} {b n i : ℕ} {list : List T} → b ≢ 0
+    → ShapedBut 1 CAPACITY s b n → Owned s (suc b) n → i ≤ length (node_items s n)
+    → Shrinks s t (b - 1) (node_child s n i) list → ListsAnew s t b n i list
+lists_shorter {T} {s} {t} {b} inner shaped owned low child =
+    let back : suc (b - 1) ≡ b = omega arith in
+    record {
+      inner = inner;
+      shaped = shaped;
+      owned = owned;
+      low = low;
+      listed = rw back at child.listed;
+      moved = rw back at child.moved;
+    }
 
-  listed' : items_below t b (get_or (children_of (node_of s n)) i 0)
-      ≡ remove (items_below s b (get_or (children_of (node_of s n)) i 0)) q
-  listed' = rw back at child.listed
-
-  moved' : Moves s t (used s b (get_or (children_of (node_of s n)) i 0))
-      (used t b (get_or (children_of (node_of s n)) i 0))
-  moved' = rw back at child.moved
-
-  pub shorter_child_shrinks_node : Shrinks s u b n
-      (remove (items_below s (suc b) n)
-      (length (before (items_of (node_of s n))
-      (map (items_below s b) (children_of (node_of s n))) i) + q))
-  shorter_child_shrinks_node =
-      let kept = kid_kept i _ inner shaped owned low listed' moved' in
-      record {
-        listed =
-            (rw back at rebalanced.listed)
-            ∙ kid_listed i _ inner shaped owned low listed' moved'
-            ∙ sym
-            (remove_middle (before (items_of (node_of s n))
-            (map (items_below s b) (children_of (node_of s n))) i)
-            (items_below s b (get_or (children_of (node_of s n)) i 0))
-            (after (items_of (node_of s n))
-            (map (items_below s b) (children_of (node_of s n))) i) q within)
-            ∙ ap (λ zs. remove zs (length (before (items_of (node_of s n)) (map (items_below s b)
-            (children_of (node_of s n))) i) + q)) (sym (items_below_at (omega arith) shaped i low));
-        moved = Moves-then (kid_moved i _ inner shaped owned low listed' moved')
-            (rw back at rebalanced.moved);
-        shape = λ least more. rw back at (rebalanced.shape least (rw kept more));
-      }
+-- and the child was rebalanced
+pub shorter_child_shrinks_node : {T : Type 0} {s t u : Heap T} {b n i : ℕ} (q : ℕ)
+    → ListsAnew s t b n i (remove (items_below s (suc (b - 1)) (node_child s n i)) q)
+    → q < length (items_below s b (node_child s n i))
+    → Shrinks t u (suc (b - 1)) n (items_below t (suc (suc (b - 1))) n)
+    → Shrinks s u b n (remove (items_below s (suc b) n) (length (before_child s b n i) + q))
+shorter_child_shrinks_node {T} {s} {t} {u} {b} {n} {i} q anew within rebalanced =
+    let back : suc (b - 1) ≡ b = omega arith in
+    let lists = child_lists s b n in
+    let fore = before (node_items s n) lists i in
+    let kept = kid_kept anew in
+    record {
+      listed =
+          (rw back at rebalanced.listed) ∙ (rw back at (kid_listed anew))
+          ∙ sym (remove_middle fore (items_below s b (node_child s n i))
+          (after (node_items s n) lists i) q within) ∙ ap (λ zs. remove zs (length fore + q))
+          (sym (items_below_at (omega arith) anew.shaped i anew.low));
+      moved = Moves-then (kid_moved anew) (rw back at rebalanced.moved);
+      shape = λ least more. rw back at (rebalanced.shape least (rw kept more));
+    }

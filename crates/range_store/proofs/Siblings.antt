@@ -5,7 +5,7 @@ use Rattle.std.specs.List.{insert, remove}
 use Rattle.std.proofs.lemmas.List.{append-nil, drop_all, drop_more, take_all, take_more, nil_from_length}
 use Rattle.std.proofs.lemmas.List.Edits.{insert_end}
 use Rattle.std.proofs.lemmas.Option.{slice_get-get_or}
-use Rattle.range_store.specs.Heap.{Heap, node_of, items_of, children_of, child_count, with_child, with_item, FitsChild, Writes, HasPair, RotatesLeft, RotatesRight, Merges, Absorbs, left_child, right_child, left_items, right_items, left_children, right_children}
+use Rattle.range_store.specs.Heap.{Heap, node_of, items_of, children_of, child_count, with_child, with_item, FitsChild, Writes, HasPair, RotatesLeft, RotatesRight, Merges, Absorbs, left_items, right_items, left_children, right_children, node_items, node_children, node_child}
 use Rattle.range_store.proofs.Heaps.{item_other, write_first, remove_first, remove_last}
 
 module _ {X : Type 0} where
@@ -77,35 +77,35 @@ few_children (suc below) k m many = omega (arith, many)
 
 -- the other child is as it was
 module _ {T : Type 0} (s t u : Heap T) (n i : ℕ) (pair : HasPair s n i) (up : T) (l r : ℕ)
-    (left_is : l ≡ left_child s n i) (right_is : r ≡ right_child s n i)
+    (left_is : l ≡ node_child s n i) (right_is : r ≡ node_child s n (i + 1))
     (after : u ≡ with_item t n i up) (xs : List T) (ks : List ℕ) where
-  pub left_kept : Writes s t r xs ks → node_of u l ≡ node_of s (left_child s n i)
+  pub left_kept : Writes s t r xs ks → node_of u l ≡ node_of s (node_child s n i)
   left_kept writes =
       let one = subst (λ k. Writes s t k xs ks) right_is writes in
       ap (λ h. node_of h l) after ∙ ap (node_of (with_item t n i up)) left_is
-      ∙ item_other t n i (left_child s n i) up pair.left_apart
-      ∙ one.others (left_child s n i) pair.apart
+      ∙ item_other t n i (node_child s n i) up pair.left_apart
+      ∙ one.others (node_child s n i) pair.apart
 
-  pub right_kept : Writes s t l xs ks → node_of u r ≡ node_of s (right_child s n i)
+  pub right_kept : Writes s t l xs ks → node_of u r ≡ node_of s (node_child s n (i + 1))
   right_kept writes =
       let one = subst (λ k. Writes s t k xs ks) left_is writes in
       ap (λ h. node_of h r) after ∙ ap (node_of (with_item t n i up)) right_is
-      ∙ item_other t n i (right_child s n i) up pair.right_apart
-      ∙ one.others (right_child s n i) (λ e. pair.apart (sym e))
+      ∙ item_other t n i (node_child s n (i + 1)) up pair.right_apart
+      ∙ one.others (node_child s n (i + 1)) (λ e. pair.apart (sym e))
 
 module _ {T : Type 0} {s : Heap T} (t u v : Heap T) {n i : ℕ} (pair : HasPair s n i) (down up : T) where
   abbrev l : ℕ
-  l = left_child s n i
+  l = node_child s n i
 
   abbrev r : ℕ
-  r = right_child s n i
+  r = node_child s n (i + 1)
 
   pub rotated_left : up ≡ get_or (right_items s n i) 0 up → 0 < length (right_items s n i)
-      → down ≡ get_or (items_of (node_of t n)) i down
+      → down ≡ get_or (node_items t n) i down
       → Writes s t r (remove (right_items s n i) 0) (remove (right_children s n i) 0)
-      → Writes t u n (set (items_of (node_of t n)) i up) (children_of (node_of t n))
-      → Writes u v l (insert (items_of (node_of u l)) (length (items_of (node_of u l))) down)
-      (with_child (children_of (node_of u l)) (length (items_of (node_of u l)) + 1)
+      → Writes t u n (set (node_items t n) i up) (node_children t n)
+      → Writes u v l (insert (node_items u l) (length (node_items u l)) down)
+      (with_child (node_children u l) (length (node_items u l) + 1)
       (slice_get (right_children s n i) 0))
       → RotatesLeft s v n i
   rotated_left up_is some down_is one two three =
@@ -114,18 +114,18 @@ module _ {T : Type 0} {s : Heap T} (t u v : Heap T) {n i : ℕ} (pair : HasPair 
       two in
       let left : node_of u l ≡ node_of s l = two.others l pair.left_apart
       ∙ one.others l pair.apart in
-      let items : insert (items_of (node_of u l)) (length (items_of (node_of u l))) down
+      let items : insert (node_items u l) (length (node_items u l)) down
       ≡ left_items s n i ++ down ∷ [] =
-      insert_end (items_of (node_of u l)) down ∙ ap (λ node. items_of node ++ down ∷ []) left in
-      let children : with_child (children_of (node_of u l)) (length (items_of (node_of u l)) + 1)
+      insert_end (node_items u l) down ∙ ap (λ node. items_of node ++ down ∷ []) left in
+      let children : with_child (node_children u l) (length (node_items u l) + 1)
       (slice_get (right_children s n i) 0) ≡ left_children s n i ++ take 1
       (right_children s n i) =
       ap (λ node. with_child (children_of node) (length (items_of node) + 1)
       (slice_get (right_children s n i) 0)) left
       ∙ end_child pair.below (left_items s n i) (left_children s n i) (right_items s n i)
       (right_children s n i) pair.left_branches pair.right_branches in
-      let swapped = write_first t u v n l (set (items_of (node_of s n)) i up)
-      (children_of (node_of s n)) pair.left_apart here (rw (items, children) at three) in
+      let swapped = write_first t u v n l (set (node_items s n) i up)
+      (node_children s n) pair.left_apart here (rw (items, children) at three) in
       let moved = write_first s t swapped.between r l (drop 1 (right_items s n i))
       (drop 1 (right_children s n i)) pair.apart one swapped.first in
       record {
@@ -143,12 +143,11 @@ module _ {T : Type 0} {s : Heap T} (t u v : Heap T) {n i : ℕ} (pair : HasPair 
       }
 
   pub rotated_right : up ≡ get_or (left_items s n i) (length (left_items s n i) - 1) up
-      → 0 < length (left_items s n i) → down ≡ get_or (items_of (node_of t n)) i down
+      → 0 < length (left_items s n i) → down ≡ get_or (node_items t n) i down
       → Writes s t l (remove (left_items s n i) (length (left_items s n i) - 1))
       (remove (left_children s n i) (length (left_items s n i)))
-      → Writes t u n (set (items_of (node_of t n)) i up) (children_of (node_of t n))
-      → Writes u v r (insert (items_of (node_of u r)) 0 down)
-      (with_child (children_of (node_of u r)) 0
+      → Writes t u n (set (node_items t n) i up) (node_children t n)
+      → Writes u v r (insert (node_items u r) 0 down) (with_child (node_children u r) 0
       (slice_get (left_children s n i) (length (left_items s n i))))
       → RotatesRight s v n i
   rotated_right up_is some down_is one two three =
@@ -164,14 +163,14 @@ module _ {T : Type 0} {s : Heap T} (t u v : Heap T) {n i : ℕ} (pair : HasPair 
       two in
       let right : node_of u r ≡ node_of s r = two.others r pair.right_apart
       ∙ one.others r (λ e. pair.apart (sym e)) in
-      let items : insert (items_of (node_of u r)) 0 down ≡ down ∷ right_items s n i
+      let items : insert (node_items u r) 0 down ≡ down ∷ right_items s n i
       = ap (λ node. down ∷ items_of node) right in
-      let children : with_child (children_of (node_of u r)) 0 (slice_get ks (length xs)) ≡ drop
+      let children : with_child (node_children u r) 0 (slice_get ks (length xs)) ≡ drop
       (length xs) ks ++ right_children s n i =
       ap (λ node. with_child (children_of node) 0 (slice_get ks (length xs))) right
       ∙ front_child pair.below (right_children s n i) xs ks pair.left_branches in
-      let swapped = write_first t u v n r (set (items_of (node_of s n)) i up)
-      (children_of (node_of s n)) pair.right_apart here (rw (items, children) at three) in
+      let swapped = write_first t u v n r (set (node_items s n) i up)
+      (node_children s n) pair.right_apart here (rw (items, children) at three) in
       record {
         down = down;
         down_is = down_is ∙ ap (λ node. get_or (items_of node) i down) parent;
@@ -187,13 +186,12 @@ module _ {T : Type 0} {s : Heap T} (t u v : Heap T) {n i : ℕ} (pair : HasPair 
       }
 
 module _ {T : Type 0} (s t u : Heap T) (n i : ℕ) (pair : HasPair s n i) (down : T) where
-  pub merged : down ≡ get_or (items_of (node_of s n)) i down
-      → Writes s t n (remove (items_of (node_of s n)) i)
-      (remove (children_of (node_of s n)) (i + 1))
-      → Absorbs t u (left_child s n i) down (right_child s n i) → Merges s u n i
+  pub merged : down ≡ get_or (node_items s n) i down → Writes s t n (remove (node_items s n) i)
+      (remove (node_children s n) (i + 1))
+      → Absorbs t u (node_child s n i) down (node_child s n (i + 1)) → Merges s u n i
   merged down_is one two =
-      let l = left_child s n i in
-      let r = right_child s n i in
+      let l = node_child s n i in
+      let r = node_child s n (i + 1) in
       let left : node_of t l ≡ node_of s l = one.others l pair.left_apart in
       let right : node_of t r ≡ node_of s r = one.others r pair.right_apart in
       let written = rw (left, right) at two.left in
@@ -201,10 +199,10 @@ module _ {T : Type 0} (s t u : Heap T) (n i : ℕ) (pair : HasPair s n i) (down 
       let ks = left_children s n i ++ right_children s n i in
       let last = remove_last t two.between u l r xs ks (λ e. pair.apart (sym e)) two.right
       written in
-      let lower = write_first s t last.between n l (remove (items_of (node_of s n)) i)
-      (remove (children_of (node_of s n)) (i + 1)) pair.left_apart one last.first in
-      let upper = remove_first lower.between last.between u n r (remove (items_of (node_of s n)) i)
-      (remove (children_of (node_of s n)) (i + 1)) pair.right_apart lower.second last.second in
+      let lower = write_first s t last.between n l (remove (node_items s n) i)
+      (remove (node_children s n) (i + 1)) pair.left_apart one last.first in
+      let upper = remove_first lower.between last.between u n r (remove (node_items s n) i)
+      (remove (node_children s n) (i + 1)) pair.right_apart lower.second last.second in
       record {
         down = down;
         down_is = down_is;

@@ -1,12 +1,14 @@
 -- What is left of a list of slots, and of a slab of nodes, but for its spares.
 use Rattle.std.proofs.Common.{◌≡◌, ◌≢◌, ℕ, zero, suc, ◌+◌, ◌<◌, ◌≤◌, List, [], ◌∷◌, ◌++◌, length, get_or, cond, Option, Some, None, is_some, IsSome, count_by, refl, sym, ap, ◌∙◌, inl, inr, arith, length-append}
 use Rattle.std.proofs.Math.ListN.{set, length-set}
+use Rattle.std.specs.List.{insert, remove}
+use Rattle.std.proofs.lemmas.List.Edits.{length-insert, length-remove}
 use Rattle.std.proofs.lemmas.Bool.{cases_eq, cases_lt, false≢true}
 use Rattle.std.proofs.lemmas.List.{get_or-set_other, get_or-set_same, get_or_past, set_comm}
 use Rattle.std.proofs.lemmas.List.Sums.{sum_by-cons}
 use Rattle.slab.specs.Slab.{Slab, get, slab_len, with_value, Updates}
 use Rattle.range_store.specs.declared.btree.node.Node.{Node}
-use Rattle.range_store.specs.Heap.{Heap, Content, node_of, HasNode, HasRoomFor, SameNodes, items_of, children_of, node_count, with_item, FitsChild, Writes, Stores, Removes}
+use Rattle.range_store.specs.Heap.{Heap, Content, node_of, HasNode, HasRoomFor, SameNodes, items_of, children_of, node_count, with_item, FitsChild, Writes, Stores, Removes, Absorbs, node_items, node_children}
 use Rattle.range_store.specs.Occurrences.{occurrences, occurrences-append, occurrences-cons, occurrences-nil, occurrences_here, occurrences_itself, occurrences_other}
 use Rattle.range_store.specs.Rows.{row_of}
 use Rattle.range_store.specs.Spares.{without, len_of, content_of, contents, nothing, heap_of, FitsCount, IsWhole}
@@ -148,16 +150,16 @@ module _ {T : Type 0} (slab : Slab Node) (rows : List (List T)) (spares : List �
   abbrev heap : Heap T
   heap = heap_of slab rows spares
 
-  pub spare_read : (k : ℕ) → 0 < occurrences k spares → node_of heap k ≡ None
+  spare_read : (k : ℕ) → 0 < occurrences k spares → node_of heap k ≡ None
   spare_read k among = without_here spares (contents rows slab.slots) k among
 
-  pub slot_seen : (k : ℕ) → occurrences k spares ≡ 0
+  slot_seen : (k : ℕ) → occurrences k spares ≡ 0
       → node_of heap k ≡ content_of (row_of rows k) (get slab k)
   slot_seen k none =
       without_other spares (contents rows slab.slots) k none ∙ contents_read rows slab.slots k
 
   -- a node that is seen is no spare
-  pub in_use : (k : ℕ) → HasNode heap k → occurrences k spares ≡ 0
+  in_use : (k : ℕ) → HasNode heap k → occurrences k spares ≡ 0
   in_use k present =
       elim (cases_eq (occurrences k spares) 0) [
         | inl none ↦ none
@@ -165,47 +167,54 @@ module _ {T : Type 0} (slab : Slab Node) (rows : List (List T)) (spares : List �
             absurd (false≢true (rw (spare_read k (omega (arith, some))) at present))
       ]
 
-  pub found : (k : ℕ) → HasNode heap k → IsSome (get slab k)
-  found k present =
-      content_some (row_of rows k) (get slab k) (rw (slot_seen k (in_use k present)) at present)
+-- a node that is seen has what its slot and its row have
+pub record IsSeen {T : Type 0} (slab : Slab Node) (rows : List (List T)) (spares : List ℕ) (n : ℕ)
+    (node : Node) : Type 0 where
+  pub items : node_items (heap_of slab rows spares) n ≡ row_of rows n
+  pub children : node_children (heap_of slab rows spares) n ≡ node.children.items
+  pub len : node.len ≡ length (node_items (heap_of slab rows spares) n)
 
-  -- what it has
-  pub items_seen : (k : ℕ) → HasNode heap k → items_of (node_of heap k) ≡ row_of rows k
+module _ {T : Type 0} {slab : Slab Node} {rows : List (List T)} {spares : List ℕ}
+    (whole : IsWhole slab rows spares) where
+  pub found : (k : ℕ) → HasNode (heap_of slab rows spares) k → IsSome (get slab k)
+  found k present = content_some (row_of rows k) (get slab k)
+      (rw (slot_seen slab rows spares k (in_use slab rows spares k present)) at present)
+
+  pub items_seen : (k : ℕ) → HasNode (heap_of slab rows spares) k
+      → node_items (heap_of slab rows spares) k ≡ row_of rows k
   items_seen k present =
-      let read = slot_seen k (in_use k present) in
+      let read = slot_seen slab rows spares k (in_use slab rows spares k present) in
       ap items_of read ∙ content_items (row_of rows k) (get slab k) (rw read at present)
 
-  pub children_seen : (k : ℕ) (node : Node) → HasNode heap k → get slab k ≡ Some node
-      → children_of (node_of heap k) ≡ node.children.items
-  children_seen k node present is =
-      ap children_of (slot_seen k (in_use k present) ∙ ap (content_of (row_of rows k)) is)
+  pub row_there : (k : ℕ) → HasNode (heap_of slab rows spares) k → k < length rows
+  row_there k present = whole.there k (found k present)
 
-  module _ (whole : IsWhole slab rows spares) where
-    pub row_there : (k : ℕ) → HasNode heap k → k < length rows
-    row_there k present = whole.there k (found k present)
+  pub row_len : (k : ℕ) {node : Node} → get slab k ≡ Some node → node.len ≡ length (row_of rows k)
+  row_len k is = sym (whole.lens k ∙ ap len_of is)
 
-    -- how many items it has
-    pub len_seen : (k : ℕ) (node : Node) → HasNode heap k → get slab k ≡ Some node
-        → node.len ≡ length (items_of (node_of heap k))
-    len_seen k node present is =
-        sym (ap length (items_seen k present) ∙ whole.lens k ∙ ap len_of is)
+  pub seen : (k : ℕ) → HasNode (heap_of slab rows spares) k → {node : Node}
+      → get slab k ≡ Some node → IsSeen slab rows spares k node
+  seen k present is = record {
+    items = items_seen k present;
+    children = ap children_of (slot_seen slab rows spares k (in_use slab rows spares k present)
+        ∙ ap (content_of (row_of rows k)) is);
+    len = row_len k is ∙ sym (ap length (items_seen k present));
+  }
 
-    pub row_len : (k : ℕ) (node : Node) → get slab k ≡ Some node
-        → node.len ≡ length (row_of rows k)
-    row_len k node is = sym (whole.lens k ∙ ap len_of is)
+  pub counted : node_count (heap_of slab rows spares) + length spares ≡ slab_len slab
+  counted =
+      without_count spares (contents rows slab.slots) whole.once
+      (λ k among. rw (contents_read rows slab.slots k, whole.empty k among) refl)
+      ∙ count_contents rows slab.slots
 
-    pub counted : node_count heap + length spares ≡ slab_len slab
-    counted =
-        without_count spares (contents rows slab.slots) whole.once
-        (λ k among. rw (contents_read rows slab.slots k, whole.empty k among) refl)
-        ∙ count_contents rows slab.slots
+  pub spares_left : (more : ℕ) → HasRoomFor (heap_of slab rows spares) more → more ≤ length spares
+  spares_left more room = omega (arith, room, counted)
 
-    pub spares_left : (more : ℕ) → HasRoomFor heap more → more ≤ length spares
-    spares_left more room = omega (arith, room, counted)
-
-    -- a node that is seen leaves fewer spares than nodes
-    pub fewer_spares : (k : ℕ) → HasNode heap k → length spares + 1 ≤ slab_len slab
-    fewer_spares k present = omega (arith, counted, slot_count heap.slots k present None)
+  -- a node that is seen leaves fewer spares than nodes
+  pub fewer_spares : (k : ℕ) → HasNode (heap_of slab rows spares) k
+      → length spares + 1 ≤ slab_len slab
+  fewer_spares k present =
+      omega (arith, counted, slot_count (heap_of slab rows spares).slots k present None)
 
 -- the number n has this node and these items, and each other number what it had
 pub record Changes {T : Type 0} (old new : Slab Node) (was now : List (List T)) (n : ℕ)
@@ -299,13 +308,7 @@ module _ {T : Type 0} (old new : Slab Node) (was now : List (List T)) (spares : 
           items_are = ap items_of read;
           children_are = ap children_of read;
           others = elsewhere spares (λ k differs. refl);
-          len =
-              omega (
-                arith,
-                counted old was spares whole,
-                counted new now spares (written_whole apart),
-                len,
-              );
+          len = omega (arith, counted whole, counted (written_whole apart), len);
           capacity = len;
         }
 
@@ -331,13 +334,7 @@ module _ {T : Type 0} (old new : Slab Node) (was now : List (List T)) (spares : 
             children_are = ap children_of read;
             others = elsewhere left
                 (λ k differs. omega (arith, told k, occurrences_other k n (λ e. differs (sym e))));
-            len = omega (
-              arith,
-              counted old was spares whole,
-              counted new now left stored_whole,
-              len,
-              ap length parts,
-            );
+            len = omega (arith, counted whole, counted stored_whole, len, ap length parts);
             capacity = len;
           }
 
@@ -391,12 +388,7 @@ module _ {T : Type 0} (old new : Slab Node) (was now : List (List T)) (spares : 
             (omega (arith, longer n, occurrences_itself n));
         others = elsewhere (n ∷ spares)
             (λ k differs. omega (arith, longer k, occurrences_other k n (λ e. differs (sym e))));
-        len = omega (
-          arith,
-          counted old was spares whole,
-          counted new now (n ∷ spares) freed_whole,
-          len,
-        );
+        len = omega (arith, counted whole, counted freed_whole, len);
         capacity = len;
       }
 
@@ -469,13 +461,7 @@ module _ {T : Type 0} (old new : Slab Node) (was now : List (List T)) (spares : 
                       ∙ sym (spare_read old was spares k (omega (arith, some)))
                 ]
           ];
-      len = omega (
-        arith,
-        counted old was spares whole,
-        counted new now (spares ++ n ∷ []) added_whole,
-        len,
-        length-append spares (n ∷ []),
-      );
+      len = omega (arith, counted whole, counted added_whole, len, length-append spares (n ∷ []));
     }
 
 -- rows that grew, but have what they had
@@ -490,11 +476,11 @@ grown_whole {T} {slab} now whole long kept = record {
   once = whole.once;
 }
 
-pub grown : {T : Type 0} (slab : Slab Node) (was now : List (List T)) (spares : List ℕ)
-    → IsWhole slab was spares → length was ≤ length now
+pub grown : {T : Type 0} {slab : Slab Node} {was : List (List T)} (now : List (List T))
+    {spares : List ℕ} → IsWhole slab was spares → length was ≤ length now
     → ((k : ℕ) → row_of now k ≡ row_of was k)
     → SameNodes (heap_of slab was spares) (heap_of slab now spares)
-grown slab was now spares whole long kept = record {
+grown {T} {slab} {was} now {spares} whole long kept = record {
   nodes = λ k.
       elim (cases_eq (occurrences k spares) 0) [
         | inl none ↦
@@ -505,17 +491,21 @@ grown slab was now spares whole long kept = record {
             spare_read slab now spares k (omega (arith, some))
             ∙ sym (spare_read slab was spares k (omega (arith, some)))
       ];
-  len = omega (
-    arith,
-    counted slab was spares whole,
-    counted slab now spares (grown_whole now whole long kept),
-  );
+  len = omega (arith, counted whole, counted (grown_whole now whole long kept));
 }
 
--- a node and its row that were written
-module _ {T : Type 0} (slab : Slab Node) (rows : List (List T)) (spares : List ℕ)
-    (whole : IsWhole slab rows spares) (n : ℕ) (was node : Node) (at : get slab n ≡ Some was)
-    (items : List T) (len_is : node.len ≡ length items) (ks : List ℕ)
+-- a node and its row were written, which left these spares, and made this of the nodes
+pub record Leaves {T : Type 0} (slab : Slab Node) (rows : List (List T)) (spares : List ℕ) (n : ℕ)
+    (node : Node) (items : List T) (left : List ℕ) (Became : Heap T → Heap T → Type 0) : Type 0
+  where
+    pub whole : IsWhole (with_value slab n node) (set rows n items) left
+    pub nodes : Became (heap_of slab rows spares)
+        (heap_of (with_value slab n node) (set rows n items) left)
+    pub len : slab_len (with_value slab n node) ≡ slab_len slab
+
+module _ {T : Type 0} {slab : Slab Node} {rows : List (List T)} {spares : List ℕ}
+    (whole : IsWhole slab rows spares) (n : ℕ) {was : Node} (at : get slab n ≡ Some was)
+    (node : Node) (items : List T) (len_is : node.len ≡ length items) {ks : List ℕ}
     (children_are : node.children.items ≡ ks) where
   there : IsSome (get slab n)
   there = rw at refl
@@ -531,51 +521,119 @@ module _ {T : Type 0} (slab : Slab Node) (rows : List (List T)) (spares : List �
         len_is = len_is;
       }
 
-  pub edited_len : slab_len (with_value slab n node) ≡ slab_len slab
-  edited_len = value_len slab n there node
-
-  pub edited_whole : HasNode (heap_of slab rows spares) n
-      → IsWhole (with_value slab n node) (set rows n items) spares
-  edited_whole present = written_whole slab (with_value slab n node) rows (set rows n items) spares
-      whole n node items edit edited_len (in_use slab rows spares n present)
+  same_len : slab_len (with_value slab n node) ≡ slab_len slab
+  same_len = value_len slab n there node
 
   -- a node was written
   pub edited : HasNode (heap_of slab rows spares) n
-      → Writes (heap_of slab rows spares)
-      (heap_of (with_value slab n node) (set rows n items) spares) n items ks
-  edited present =
-      rw (← children_are) (written slab (with_value slab n node) rows (set rows n items) spares whole
-      n node items edit edited_len present)
+      → Leaves slab rows spares n node items spares (λ old new. Writes old new n items ks)
+  edited present = record {
+    whole = written_whole slab (with_value slab n node) rows (set rows n items) spares whole n node
+        items edit same_len (in_use slab rows spares n present);
+    nodes = rw (← children_are) (written slab (with_value slab n node) rows (set rows n items)
+        spares whole n node items edit same_len present);
+    len = same_len;
+  }
 
   -- a spare got what a new node has
-  module _ (left : List ℕ) (parts : spares ≡ n ∷ left) where
-    pub filled_whole : IsWhole (with_value slab n node) (set rows n items) left
-    filled_whole = stored_whole slab (with_value slab n node) rows (set rows n items) spares whole n
-        node items edit edited_len left parts
-
-    pub filled : Stores (heap_of slab rows spares)
-        (heap_of (with_value slab n node) (set rows n items) left) n items ks
-    filled = rw (← children_are) (stored slab (with_value slab n node) rows (set rows n items) spares
-        whole n node items edit edited_len left parts)
+  pub filled : {left : List ℕ} → spares ≡ n ∷ left
+      → Leaves slab rows spares n node items left (λ old new. Stores old new n items ks)
+  filled {left} parts = record {
+    whole = stored_whole slab (with_value slab n node) rows (set rows n items) spares whole n node
+        items edit same_len left parts;
+    nodes = rw (← children_are) (stored slab (with_value slab n node) rows (set rows n items)
+        spares whole n node items edit same_len left parts);
+    len = same_len;
+  }
 
   -- a node became a spare
-  module _ (present : HasNode (heap_of slab rows spares) n) (no_items : items ≡ [])
-      (none : ks ≡ []) where
-    no_children : node.children.items ≡ []
-    no_children = children_are ∙ none
+  pub emptied : HasNode (heap_of slab rows spares) n → items ≡ [] → ks ≡ []
+      → Leaves slab rows spares n node items (n ∷ spares) (λ old new. Removes old new n)
+  emptied present no_items none = record {
+    whole = freed_whole slab (with_value slab n node) rows (set rows n items) spares whole n node
+        items edit same_len present no_items (children_are ∙ none);
+    nodes = removed slab (with_value slab n node) rows (set rows n items) spares whole n node items
+        edit same_len present no_items (children_are ∙ none);
+    len = same_len;
+  }
 
-    pub emptied_whole : IsWhole (with_value slab n node) (set rows n items) (n ∷ spares)
-    emptied_whole = freed_whole slab (with_value slab n node) rows (set rows n items) spares whole n
-        node items edit edited_len present no_items no_children
+-- an item was put among those of a node, or taken out
+module _ {T : Type 0} {slab : Slab Node} {rows : List (List T)} {spares : List ℕ}
+    (whole : IsWhole slab rows spares) (n : ℕ) {was : Node} (at : get slab n ≡ Some was)
+    (present : HasNode (heap_of slab rows spares) n) (node : Node) (i : ℕ) where
+  pub put_among : (x : T) → i ≤ length (node_items (heap_of slab rows spares) n)
+      → node.len ≡ was.len + 1 → {ks : List ℕ} → node.children.items ≡ ks
+      → Leaves slab rows spares n node (insert (row_of rows n) i x) spares
+      (λ old new. Writes old new n (insert (node_items (heap_of slab rows spares) n) i x) ks)
+  put_among x within more children =
+      let items = items_seen whole n present in
+      rw items (edited whole n at node (insert (row_of rows n) i x) (omega (
+        arith,
+        more,
+        row_len whole n at,
+        length-insert (row_of rows n) i x (rw items at within),
+      )) children present)
 
-    pub emptied : Removes (heap_of slab rows spares)
-        (heap_of (with_value slab n node) (set rows n items) (n ∷ spares)) n
-    emptied = removed slab (with_value slab n node) rows (set rows n items) spares whole n node
-        items edit edited_len present no_items no_children
+  pub taken_out : i < length (node_items (heap_of slab rows spares) n) → node.len + 1 ≡ was.len
+      → {ks : List ℕ} → node.children.items ≡ ks
+      → Leaves slab rows spares n node (remove (row_of rows n) i) spares
+      (λ old new. Writes old new n (remove (node_items (heap_of slab rows spares) n) i) ks)
+  taken_out within less children =
+      let items = items_seen whole n present in
+      rw items (edited whole n at node (remove (row_of rows n) i) (omega (
+        arith,
+        less,
+        row_len whole n at,
+        length-remove (row_of rows n) i (rw items at within),
+      )) children present)
+
+-- a node went to the end of another, with an item between
+module _ {T : Type 0} {slab : Slab Node} {rows : List (List T)} {spares : List ℕ}
+    (whole : IsWhole slab rows spares) (l r : ℕ) (apart : l ≢ r) {lower upper : Node}
+    (left_at : get slab l ≡ Some lower) (right_at : get slab r ≡ Some upper)
+    (left : HasNode (heap_of slab rows spares) l) (right : HasNode (heap_of slab rows spares) r)
+    (blank : Node) (no_len : blank.len ≡ 0) (no_children : blank.children.items ≡ [])
+    (node : Node) (x : T) (len_is : node.len ≡ lower.len + 1 + upper.len)
+    (children_are : node.children.items ≡ lower.children.items ++ upper.children.items) where
+  gone : Leaves slab rows spares r blank [] (r ∷ spares) (λ old new. Removes old new r)
+  gone = emptied whole r right_at blank [] no_len no_children right refl refl
+
+  grew : Leaves (with_value slab r blank) (set rows r []) (r ∷ spares) l node
+      (row_of rows l ++ x ∷ row_of rows r) (r ∷ spares)
+      (λ old new. Writes old new l (row_of rows l ++ x ∷ row_of rows r)
+      (lower.children.items ++ upper.children.items))
+  grew = edited gone.whole l
+      (get_or-set_other slab.slots r l (Some blank) None apart ∙ left_at) node
+      (row_of rows l ++ x ∷ row_of rows r) (omega (
+        arith,
+        len_is,
+        row_len whole l left_at,
+        row_len whole r right_at,
+        length-append (row_of rows l) (x ∷ row_of rows r),
+      )) children_are (rw (gone.nodes.others l apart) left)
+
+  pub absorbs : Leaves (with_value slab r blank) (set rows r []) (r ∷ spares) l node
+      (row_of rows l ++ x ∷ row_of rows r) (r ∷ spares)
+      (λ old new. Absorbs (heap_of slab rows spares) new l x r)
+  absorbs =
+      let lefts = seen whole l left left_at in
+      let rights = seen whole r right right_at in
+      record {
+        whole = grew.whole;
+        nodes = record {
+          between = heap_of (with_value slab r blank) (set rows r []) (r ∷ spares);
+          right = gone.nodes;
+          left = rw (lefts.items, rights.items, lefts.children, rights.children) grew.nodes;
+        };
+        len = grew.len;
+      }
+
+  pub absorbed_len : slab_len (with_value (with_value slab r blank) l node) ≡ slab_len slab
+  absorbed_len = grew.len ∙ gone.len
 
 -- a spare has nothing
-module _ {T : Type 0} {slab : Slab Node} {rows : List (List T)} {spares : List ℕ} (left : List ℕ)
-    (whole : IsWhole slab rows spares) (n : ℕ) (parts : spares ≡ n ∷ left) where
+module _ {T : Type 0} {slab : Slab Node} {rows : List (List T)} {spares : List ℕ}
+    (whole : IsWhole slab rows spares) {n : ℕ} {left : List ℕ} (parts : spares ≡ n ∷ left) where
   among : 0 < occurrences n spares
   among = omega (
     arith,
@@ -595,9 +653,14 @@ module _ {T : Type 0} {slab : Slab Node} {rows : List (List T)} {spares : List �
       sym (content_items (row_of rows n) (get slab n) (rw (whole.empty n among) refl))
       ∙ ap items_of (whole.empty n among)
 
-  pub bare_children : (was : Node) → get slab n ≡ Some was → was.children.items ≡ []
-  bare_children was at =
+  pub bare_children : {was : Node} → get slab n ≡ Some was → was.children.items ≡ []
+  bare_children at =
       ap children_of (sym (ap (content_of (row_of rows n)) at) ∙ whole.empty n among)
+
+  -- a node in use is no spare
+  pub apart_from_spare : (k : ℕ) → HasNode (heap_of slab rows spares) k → k ≢ n
+  apart_from_spare k present same =
+      omega (arith, in_use slab rows spares k present, among, ap (λ m. occurrences m spares) same)
 
 -- no node at all
 pub none_whole : {T : Type 0} (slab : Slab Node) (rows : List (List T)) (spares : List ℕ)
@@ -619,7 +682,7 @@ module _ {T : Type 0} {slab : Slab Node} {rows : List (List T)} {spares : List �
   pub item_whole : IsWhole slab (set rows n (set (row_of rows n) i x)) spares
   item_whole =
       let xs = set (row_of rows n) i x in
-      let within = row_there slab rows spares whole n present in
+      let within = row_there whole n present in
       record {
         there = λ k some. omega (arith, length-set rows n xs, whole.there k some);
         lens = λ k.
@@ -650,36 +713,22 @@ module _ {T : Type 0} {slab : Slab Node} {rows : List (List T)} {spares : List �
       let slots : without spares (contents (set rows n xs) slab.slots)
       ≡ set (heap_of slab rows spares).slots n (content_of xs (get slab n)) =
       ap (without spares)
-      (contents_set rows slab.slots n xs (row_there slab rows spares whole n present))
+      (contents_set rows slab.slots n xs (row_there whole n present))
       ∙ without_set spares (contents rows slab.slots) n (content_of xs (get slab n)) apart in
       ap (λ zs. record { slots = zs; capacity = slab_len slab })
       (slots ∙ ap (set (heap_of slab rows spares).slots n)
-      (content_is (get slab n) (found slab rows spares n present)
+      (content_is (get slab n) (found whole n present)
       (slot_seen slab rows spares n apart)))
     where
       content_is : (slot : Option Node) → IsSome slot
           → node_of (heap_of slab rows spares) n ≡ content_of (row_of rows n) slot
           → content_of (set (row_of rows n) i x) slot
           ≡ Some (record {
-            items = set (items_of (node_of (heap_of slab rows spares) n)) i x;
-            children = children_of (node_of (heap_of slab rows spares) n);
+            items = set (node_items (heap_of slab rows spares) n) i x;
+            children = node_children (heap_of slab rows spares) n;
           })
       content_is None some read = absurd (cc)
       content_is (Some node) some read = rw read refl
-
--- a node in use is no spare
-pub apart_from_spare : {T : Type 0} (slab : Slab Node) (rows : List (List T))
-    (spares left : List ℕ) (spare : ℕ) → spares ≡ spare ∷ left → (n : ℕ)
-    → HasNode (heap_of slab rows spares) n → n ≢ spare
-apart_from_spare slab rows spares left spare parts n present same =
-    omega (
-      arith,
-      in_use slab rows spares n present,
-      ap (occurrences n) parts,
-      occurrences-cons n spare left,
-      ap (λ m. occurrences m (spare ∷ [])) same,
-      occurrences_itself spare,
-    )
 
 -- what fits a node fits its numbers
 pub fits_count : {T : Type 0} (child : Option ℕ) (xs : List T) (ks : List ℕ) (many : ℕ)

@@ -4,7 +4,7 @@ use Rattle.std.specs.List.{remove}
 use Rattle.std.specs.Prelude.{min}
 use Rattle.std.proofs.Math.ListN.{set}
 use Rattle.std.proofs.lemmas.List.Edits.{length-remove, get_or-remove_below}
-use Rattle.range_store.specs.Heap.{Heap, node_of, items_of, with_item}
+use Rattle.range_store.specs.Heap.{Heap, with_item, node_items}
 use Rattle.range_store.specs.Edges.{IsEdge, place}
 use Rattle.range_store.specs.Holding.{box_items, box_room, IsBoxEdge, box_place, box_home, IsGood, good_item, good_then, written_items, with_good_item}
 use Rattle.range_store.specs.Nodes.{items_below, IsRoomy}
@@ -97,7 +97,7 @@ module _ {T : Type 0} (s t : BoxStorage T) (g behind left : Edge) (some : 0 < bo
       })
 
   pub replaced_item : (r : T) (h : Home) → h ≡ box_home t left
-      → r ≡ get_or (items_of (node_of t.nodes h.node)) h.index r
+      → r ≡ get_or (node_items t.nodes h.node) h.index r
       → r ≡ get_or (box_items s) (box_place s g - 1) r
   replaced_item r h at_home was =
       let listed = rw back at list in

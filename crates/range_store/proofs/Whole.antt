@@ -2,7 +2,7 @@
 use Rattle.std.proofs.Common.{◌≡◌, ℕ, zero, suc, ◌+◌, ◌-◌, ◌*◌, ◌^◌, ◌<◌, ◌≤◌, length, get_or, refl, ap, ◌∙◌, inl, inr, arith}
 use Rattle.std.proofs.Math.Nat.{pow-le-pow_right}
 use Rattle.std.proofs.lemmas.Bool.{cases_lt}
-use Rattle.range_store.specs.Heap.{Heap, node_of, items_of}
+use Rattle.range_store.specs.Heap.{Heap, node_items}
 use Rattle.range_store.specs.declared.btree.nodes.TheConstants.{CAPACITY, MAX_LEN, MIN_LEN}
 use Rattle.range_store.specs.declared.btree.path.TheConstants.{MAX_LEVELS}
 use Rattle.range_store.specs.declared.btree.BoxStorage.{BoxStorage}
@@ -47,7 +47,7 @@ module _ {T : Type 0} {t : BoxStorage T} {g : Edge} (is : IsBoxEdge t g) where
   tree_leaf = leaf_of_edge (t.levels - 1) g shaped is.edge
 
   pub tree_beside : (h : Edge) → h.leaf ≡ g.leaf → h.path ≡ g.path
-      → h.index ≤ length (items_of (node_of t.nodes g.leaf))
+      → h.index ≤ length (node_items t.nodes g.leaf)
       → IsBoxEdge t h × (box_place t h + g.index ≡ box_place t g + h.index)
   tree_beside h leaf path index =
       let other = leaf_beside t.nodes (t.levels - 1) t.root g h leaf path index is.edge in
@@ -66,13 +66,12 @@ module _ {T : Type 0} {t : BoxStorage T} {g : Edge} (is : IsBoxEdge t g) where
   -- the item before an edge that has one in its leaf
   pub leaf_item : (e : T) → 0 < g.index
       → get_or (box_items t) (box_place t g - 1) e
-      ≡ get_or (items_of (node_of t.nodes g.leaf)) (g.index - 1) e
+      ≡ get_or (node_items t.nodes g.leaf) (g.index - 1) e
   leaf_item e some =
       let good : IsGood t g =
       record {
         is = is;
         some = omega (arith, place_index t.nodes (t.levels - 1) t.root g, some);
       } in
-      good_item t g good e
-      ∙ ap (λ h. get_or (items_of (node_of t.nodes h.node)) h.index e)
+      good_item t g good e ∙ ap (λ h. get_or (node_items t.nodes h.node) h.index e)
       (leaf_home t.nodes (t.levels - 1) t.root g is.edge some)

@@ -1,6 +1,6 @@
 -- What a subtree is that was built of new nodes.
 use Rattle.std.specs.Prelude.{◌≡◌, ℕ, suc, ◌+◌, ◌*◌, ◌≤◌, [], length}
-use Rattle.range_store.specs.Heap.{Heap, node_of, node_count, items_of}
+use Rattle.range_store.specs.Heap.{Heap, node_count, node_items}
 use Rattle.range_store.specs.Nodes.{used, ShapedBut, Moves}
 use Rattle.range_store.specs.declared.btree.nodes.TheConstants.{CAPACITY, MIN_LEN}
 
@@ -8,7 +8,7 @@ module _ {T : Type 0} where
   -- a node with so many items, over d levels, was built of new nodes; nothing else changed
   pub record IsBuilt (old new : Heap T) (d n many : ℕ) : Type 0 where
     pub shape : ShapedBut 0 CAPACITY new d n
-    pub items : length (items_of (node_of new n)) ≡ many
+    pub items : length (node_items new n) ≡ many
     pub moved : Moves old new [] (used new (suc d) n)
 
   -- there is capacity for the nodes that so many items need, of which so many stand in the top one

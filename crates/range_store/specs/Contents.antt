@@ -1,7 +1,7 @@
 -- What a node is to hold, before it is written, and what the heap is once it was.
-use Rattle.std.specs.Prelude.{◌≡◌, ℕ, suc, ◌+◌, ◌-◌, ◌≤◌, List, ◌∷◌, ◌++◌, length, map, Option, IsSome}
+use Rattle.std.specs.Prelude.{◌≡◌, ℕ, suc, ◌≤◌, List, ◌∷◌, length, map, Option, IsSome}
 use Rattle.std.specs.List.{All, flat_map}
-use Rattle.range_store.specs.Heap.{Heap, node_of, items_of, child_count}
+use Rattle.range_store.specs.Heap.{Heap, node_of, child_count}
 use Rattle.range_store.specs.Occurrences.{occurrences}
 use Rattle.range_store.specs.declared.btree.nodes.Split.{Split}
 use Rattle.range_store.specs.declared.btree.nodes.TheConstants.{CAPACITY, MIN_LEN}
@@ -24,29 +24,3 @@ module _ {T : Type 0} where
         (flat_map (used new (suc d)) (tops n split))
     pub shape : (least : ℕ) → least ≤ MIN_LEN → EnoughFor least split (length xs)
         → All (ShapedBut least CAPACITY new d) (tops n split)
-
-  -- the subtree of n has another list, and the same nodes
-  pub record IsRewritten (old new : Heap T) (d n : ℕ) (list : List T) : Type 0 where
-    pub listed : items_below new (suc d) n ≡ list
-    pub moved : Moves old new (used old (suc d) n) (used new (suc d) n)
-    pub shape : (least : ℕ) → least ≤ MIN_LEN → ShapedBut least CAPACITY old d n
-        → ShapedBut least CAPACITY new d n
-
-  -- two nodes over d levels, of which one may lack an item
-  pub record IsPair (s : Heap T) (d l r : ℕ) : Type 0 where
-    pub left : ShapedBut (MIN_LEN - 1) CAPACITY s d l
-    pub right : ShapedBut (MIN_LEN - 1) CAPACITY s d r
-    pub owned : (k : ℕ) → occurrences k (used s (suc d) l ++ used s (suc d) r) ≤ here s k
-    pub enough : MIN_LEN + MIN_LEN
-        ≤ length (items_of (node_of s l)) + 1 + length (items_of (node_of s r))
-    pub fits : length (items_of (node_of s l)) + 1 + length (items_of (node_of s r))
-        ≤ CAPACITY + MIN_LEN
-
-  -- they became one or two, with the item x between what they held
-  pub record Rejoins (old new : Heap T) (d l : ℕ) (x : T) (r : ℕ)
-      (split : Option (Split T)) : Type 0 where
-    pub listed : weave (separators split) (map (items_below new (suc d)) (tops l split))
-        ≡ items_below old (suc d) l ++ (x ∷ items_below old (suc d) r)
-    pub moved : Moves old new (used old (suc d) l ++ used old (suc d) r)
-        (flat_map (used new (suc d)) (tops l split))
-    pub shaped : All (Shaped new (suc d)) (tops l split)

@@ -1,11 +1,11 @@
 -- Edges between the items below a node, how many items stand before one, and where the last of them
 -- stands.
 use Rattle.std.specs.Prelude.{◌≡◌, ℕ, zero, suc, ◌+◌, ◌-◌, ◌/◌, ◌%◌, ◌<◌, ◌≤◌, ◌==◌, ◌&&◌, if◌then◌else◌, Bool, List, length, map, slice_index}
-use Rattle.range_store.specs.Heap.{Heap, node_of, items_of, children_of}
+use Rattle.range_store.specs.Heap.{Heap, node_items, node_children, node_child}
 use Rattle.range_store.specs.declared.btree.path.Edge.{Edge}
 use Rattle.range_store.specs.declared.btree.path.Home.{Home}
 use Rattle.range_store.specs.declared.btree.path.TheConstants.{PATH_BASE}
-use Rattle.range_store.specs.Nodes.{items_below, before}
+use Rattle.range_store.specs.Nodes.{items_below, before, before_child}
 
 -- the child through which the path to an edge goes first, and the edge as that child sees it
 abbrev pub turn : Edge → ℕ
@@ -27,19 +27,17 @@ is_start edge = (edge.path == 0) && (edge.index == 0)
 module _ {T : Type 0} where
   -- the path leads from the node n, over d levels, to a leaf with such an edge
   unfoldable pub IsEdge : Heap T → ℕ → ℕ → Edge → Type 0
-  IsEdge s zero n edge =
-      (edge.leaf ≡ n) × (edge.path ≡ 0) × (edge.index ≤ length (items_of (node_of s n)))
+  IsEdge s zero n edge = (edge.leaf ≡ n) × (edge.path ≡ 0) × (edge.index ≤ length (node_items s n))
   IsEdge s (suc d) n edge =
-      (turn edge < length (children_of (node_of s n)))
-      × IsEdge s d (slice_index (children_of (node_of s n)) (turn edge)) (inside edge)
+      (turn edge < length (node_children s n))
+      × IsEdge s d (node_child s n (turn edge)) (inside edge)
 
   -- how many items below the node stand before the edge
   unfoldable pub place : Heap T → ℕ → ℕ → Edge → ℕ
   place s zero n edge = edge.index
   place s (suc d) n edge =
-      length (before (items_of (node_of s n))
-      (map (items_below s (suc d)) (children_of (node_of s n))) (turn edge))
-      + place s d (slice_index (children_of (node_of s n)) (turn edge)) (inside edge)
+      length (before_child s (suc d) n (turn edge))
+      + place s d (node_child s n (turn edge)) (inside edge)
 
   -- where the item before the edge stands
   unfoldable pub home_of : Heap T → ℕ → ℕ → Edge → Home
@@ -47,7 +45,7 @@ module _ {T : Type 0} where
   home_of s (suc d) n edge =
       if is_start (inside edge)
       then record { node = n; index = turn edge - 1 }
-      else home_of s d (slice_index (children_of (node_of s n)) (turn edge)) (inside edge)
+      else home_of s d (node_child s n (turn edge)) (inside edge)
 
   -- the same in a node that is to have these items and children, for an edge in a leaf's list of
   -- items or below the child at i

@@ -2,7 +2,7 @@
 use Rattle.std.proofs.Common.{◌≡◌, ℕ, zero, suc, ◌<◌, ◌≤◌, get_or, length, List, [], ◌∷◌, ◌++◌, map, refl, arith}
 use Rattle.std.specs.List.{All, flat_map}
 use Rattle.std.proofs.lemmas.List.Elements.{All-nil, All-cons, All-head, All-tail}
-use Rattle.range_store.specs.Heap.{Heap, node_of, children_of}
+use Rattle.range_store.specs.Heap.{Heap, node_of, node_children}
 use Rattle.range_store.specs.declared.btree.nodes.TheConstants.{CAPACITY, MIN_LEN}
 use Rattle.range_store.specs.Nodes.{items_below, used, Shaped, IsNode}
 use Rattle.range_store.specs.Occurrences.{occurrences, occurrences-append, occurrences_here}
@@ -67,10 +67,10 @@ same_below s t zero n agree =
     record { items_below_same = refl; used_same = refl; shaped_same = λ h. h }
 same_below s t (suc d) n agree =
     let here : node_of t n ≡ node_of s n =
-    agree n (occurrences_here n (flat_map (used s d) (children_of (node_of s n)))) in
+    agree n (occurrences_here n (flat_map (used s d) (node_children s n))) in
     let children =
-    same_children_from s t d (same_below s t d) (children_of (node_of s n))
-    (AgreeAt-right s t (n ∷ []) (flat_map (used s d) (children_of (node_of s n))) agree) in
+    same_children_from s t d (same_below s t d) (node_children s n)
+    (AgreeAt-right s t (n ∷ []) (flat_map (used s d) (node_children s n)) agree) in
     record {
       items_below_same = rw (here, children.items_below_same);
       used_same = rw (here, children.used_same);

@@ -59,6 +59,17 @@ module _ {T : Type 0} where
   children_of None = []
   children_of (Some node) = node.children
 
+  -- the items of the node under a number, and the numbers of its children
+  abbrev pub node_items : Heap T → ℕ → List T
+  node_items s n = items_of (node_of s n)
+
+  abbrev pub node_children : Heap T → ℕ → List ℕ
+  node_children s n = children_of (node_of s n)
+
+  -- its child at an index
+  abbrev pub node_child : Heap T → ℕ → ℕ → ℕ
+  node_child s n i = slice_index (node_children s n) i
+
   abbrev pub node_count : Heap T → ℕ
   node_count s = count_by is_some s.slots
 
@@ -77,9 +88,8 @@ module _ {T : Type 0} where
       record s {
         slots = slice_set s.slots n (Some
             (record {
-              items = slice_set (items_of (node_of s n)) i x;
-              children = children_of
-                  (node_of s n);
+              items = slice_set (node_items s n) i x;
+              children = node_children s n;
             }));
       }
 
@@ -92,8 +102,8 @@ module _ {T : Type 0} where
   pub record Writes (old new : Heap T) (n : ℕ) (items : List T) (children : List ℕ) : Type 0 where
     pub was : HasNode old n
     pub present : HasNode new n
-    pub items_are : items_of (node_of new n) ≡ items
-    pub children_are : children_of (node_of new n) ≡ children
+    pub items_are : node_items new n ≡ items
+    pub children_are : node_children new n ≡ children
     pub others : (k : ℕ) → k ≢ n → node_of new k ≡ node_of old k
     pub len : node_count new ≡ node_count old
     pub capacity : new.capacity ≡ old.capacity
@@ -102,8 +112,8 @@ module _ {T : Type 0} where
   pub record Stores (old new : Heap T) (n : ℕ) (items : List T) (children : List ℕ) : Type 0 where
     pub fresh : node_of old n ≡ None
     pub present : HasNode new n
-    pub items_are : items_of (node_of new n) ≡ items
-    pub children_are : children_of (node_of new n) ≡ children
+    pub items_are : node_items new n ≡ items
+    pub children_are : node_children new n ≡ children
     pub others : (k : ℕ) → k ≢ n → node_of new k ≡ node_of old k
     pub len : node_count new ≡ node_count old + 1
     pub capacity : new.capacity ≡ old.capacity
@@ -124,37 +134,30 @@ module _ {T : Type 0} where
     pub first : Writes old between n (take half items) (take (half + 1) children)
     pub second : Stores between new right (drop (half + 1) items) (drop (half + 1) children)
 
-  -- the child before the item at i of n, and the one after it
-  abbrev pub left_child : Heap T → ℕ → ℕ → ℕ
-  left_child s n i = slice_index (children_of (node_of s n)) i
-
-  abbrev pub right_child : Heap T → ℕ → ℕ → ℕ
-  right_child s n i = slice_index (children_of (node_of s n)) (i + 1)
-
-  -- the items and the children of either
+  -- the items and the children of the child before the item at i of n, and of the one after it
   abbrev pub left_items : Heap T → ℕ → ℕ → List T
-  left_items s n i = items_of (node_of s (left_child s n i))
+  left_items s n i = node_items s (node_child s n i)
 
   abbrev pub right_items : Heap T → ℕ → ℕ → List T
-  right_items s n i = items_of (node_of s (right_child s n i))
+  right_items s n i = node_items s (node_child s n (i + 1))
 
   abbrev pub left_children : Heap T → ℕ → ℕ → List ℕ
-  left_children s n i = children_of (node_of s (left_child s n i))
+  left_children s n i = node_children s (node_child s n i)
 
   abbrev pub right_children : Heap T → ℕ → ℕ → List ℕ
-  right_children s n i = children_of (node_of s (right_child s n i))
+  right_children s n i = node_children s (node_child s n (i + 1))
 
   -- n has an item at i, and a child on either side of it: three nodes, and the children over as
   -- many levels
   pub record HasPair (s : Heap T) (n i : ℕ) : Type 0 where
     pub parent : HasNode s n
-    pub item : i < length (items_of (node_of s n))
-    pub child : i + 1 < length (children_of (node_of s n))
-    pub left : HasNode s (left_child s n i)
-    pub right : HasNode s (right_child s n i)
-    pub left_apart : left_child s n i ≢ n
-    pub right_apart : right_child s n i ≢ n
-    pub apart : left_child s n i ≢ right_child s n i
+    pub item : i < length (node_items s n)
+    pub child : i + 1 < length (node_children s n)
+    pub left : HasNode s (node_child s n i)
+    pub right : HasNode s (node_child s n (i + 1))
+    pub left_apart : node_child s n i ≢ n
+    pub right_apart : node_child s n (i + 1) ≢ n
+    pub apart : node_child s n i ≢ node_child s n (i + 1)
     pub below : ℕ
     pub left_branches : length (left_children s n i) ≡ child_count below (length (left_items s n i))
     pub right_branches : length (right_children s n i) ≡ child_count below
@@ -165,31 +168,31 @@ module _ {T : Type 0} where
       (left_kids right_kids : List ℕ) : Type 0 where
     pub first : Heap T
     pub second : Heap T
-    pub left : Writes old first (left_child old n i) lefts left_kids
-    pub right : Writes first second (right_child old n i) rights right_kids
-    pub parent : Writes second new n items (children_of (node_of old n))
+    pub left : Writes old first (node_child old n i) lefts left_kids
+    pub right : Writes first second (node_child old n (i + 1)) rights right_kids
+    pub parent : Writes second new n items (node_children old n)
 
   -- the first item of the right child went up to n, and that of n at i to the end of the left
   -- child, with the right child's first child
   pub record RotatesLeft (old new : Heap T) (n i : ℕ) : Type 0 where
     pub down : T
-    pub down_is : down ≡ slice_index_or (items_of (node_of old n)) i down
+    pub down_is : down ≡ slice_index_or (node_items old n) i down
     pub up : T
     pub up_is : right_items old n i ≡ up ∷ drop 1 (right_items old n i)
     pub rotates : Rotates old new n i (left_items old n i ++ down ∷ [])
-        (drop 1 (right_items old n i)) (slice_set (items_of (node_of old n)) i up)
+        (drop 1 (right_items old n i)) (slice_set (node_items old n) i up)
         (left_children old n i ++ take 1 (right_children old n i)) (drop 1 (right_children old n i))
 
   -- the last item of the left child went up to n, and that of n at i to the front of the right
   -- child, with the left child's last child
   pub record RotatesRight (old new : Heap T) (n i : ℕ) : Type 0 where
     pub down : T
-    pub down_is : down ≡ slice_index_or (items_of (node_of old n)) i down
+    pub down_is : down ≡ slice_index_or (node_items old n) i down
     pub up : T
     pub up_is : left_items old n i ≡ take (length (left_items old n i) - 1) (left_items old n i)
         ++ up ∷ []
     pub rotates : Rotates old new n i (take (length (left_items old n i) - 1) (left_items old n i))
-        (down ∷ right_items old n i) (slice_set (items_of (node_of old n)) i up)
+        (down ∷ right_items old n i) (slice_set (node_items old n) i up)
         (take (length (left_items old n i)) (left_children old n i))
         (drop (length (left_items old n i)) (left_children old n i) ++ right_children old n i)
 
@@ -197,19 +200,19 @@ module _ {T : Type 0} where
   -- and n has that item and the right child no more
   pub record Merges (old new : Heap T) (n i : ℕ) : Type 0 where
     pub down : T
-    pub down_is : down ≡ slice_index_or (items_of (node_of old n)) i down
+    pub down_is : down ≡ slice_index_or (node_items old n) i down
     pub first : Heap T
     pub second : Heap T
-    pub left : Writes old first (left_child old n i)
+    pub left : Writes old first (node_child old n i)
         (left_items old n i ++ down ∷ right_items old n i)
         (left_children old n i ++ right_children old n i)
-    pub right : Removes first second (right_child old n i)
-    pub parent : Writes second new n (remove (items_of (node_of old n)) i)
-        (remove (children_of (node_of old n)) (i + 1))
+    pub right : Removes first second (node_child old n (i + 1))
+    pub parent : Writes second new n (remove (node_items old n) i)
+        (remove (node_children old n) (i + 1))
 
   -- the node r went, and l has what r had too, with an item between
   pub record Absorbs (old new : Heap T) (l : ℕ) (middle : T) (r : ℕ) : Type 0 where
     pub between : Heap T
     pub right : Removes old between r
-    pub left : Writes between new l (items_of (node_of old l) ++ middle ∷ items_of (node_of old r))
-        (children_of (node_of old l) ++ children_of (node_of old r))
+    pub left : Writes between new l (node_items old l ++ middle ∷ node_items old r)
+        (node_children old l ++ node_children old r)

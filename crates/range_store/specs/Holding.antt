@@ -4,7 +4,7 @@ use Rattle.std.proofs.Common.{get_or, sym, ap, ◌∙◌, inl, inr, arith}
 use Rattle.std.proofs.Math.ListN.{set, length-set}
 use Rattle.std.proofs.lemmas.Bool.{cases_lt, cases_eq}
 use Rattle.std.proofs.lemmas.List.{set_past}
-use Rattle.range_store.specs.Heap.{Heap, node_of, items_of, children_of, with_item}
+use Rattle.range_store.specs.Heap.{Heap, with_item, node_items, node_children}
 use Rattle.range_store.specs.Nodes.{items_below, IsRoomy}
 use Rattle.range_store.specs.Edges.{turn, inside, IsEdge, place, home_of}
 use Rattle.range_store.specs.ListPlaces.{place_before, IsAt}
@@ -71,14 +71,14 @@ module _ {T : Type 0} where
             elim (cases_eq g.path 0) [
               | inr other ↦ inr (λ is. other is.1)
               | inl path ↦
-                  elim (cases_lt (length (items_of (node_of s n))) g.index) [
+                  elim (cases_lt (length (node_items s n)) g.index) [
                     | inl past ↦ inr (λ is. omega (arith, past, is.2))
                     | inr within ↦ inl (leaf, path, within)
                   ]
             ]
       ]
   edge_or_not s (suc d) n g =
-      elim (cases_lt (turn g) (length (children_of (node_of s n)))) [
+      elim (cases_lt (turn g) (length (node_children s n))) [
         | inr past ↦ inr (λ is. omega (arith, past, is.0))
         | inl within ↦
             elim (edge_or_not s d _ (inside g)) [
@@ -169,7 +169,7 @@ module _ {T : Type 0} (s : BoxStorage T) (edge : Edge) (good : IsGood s edge) wh
   -- the item before the edge
   pub good_item : (e : T)
       → get_or (box_items s) (box_place s edge - 1) e
-      ≡ get_or (items_of (node_of s.nodes (box_home s edge).node)) (box_home s edge).index e
+      ≡ get_or (node_items s.nodes (box_home s edge).node) (box_home s edge).index e
   good_item e = rw level at (home_item s.nodes (good_home good) e)
 
   pub written_roomy : (x : T) → IsRoomy (now x) s.levels s.root

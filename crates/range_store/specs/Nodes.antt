@@ -1,10 +1,10 @@
 -- What a heap of nodes means: the items in order, the nodes in use, and the shape.
-use Rattle.std.specs.Prelude.{◌≡◌, ◌⊎◌, ℕ, zero, suc, ◌+◌, ◌-◌, ◌*◌, ◌<◌, ◌≤◌, List, [], ◌∷◌, ◌++◌, length, map, take, drop, Option, Some, None, IsSome, is_some, cond, slice_index}
+use Rattle.std.specs.Prelude.{◌≡◌, ◌⊎◌, ℕ, zero, suc, ◌+◌, ◌-◌, ◌*◌, ◌<◌, ◌≤◌, List, [], ◌∷◌, ◌++◌, length, map, take, drop, Option, Some, None, IsSome, is_some, cond}
 use Rattle.std.specs.Coded.{×_prop, Unit-prop, le_prop}
 use Rattle.std.proofs.Math.Nat.{ℕ_set}
 use mathlib.Core.Bool.{Bool-set}
 use Rattle.std.specs.List.{All, flat_map}
-use Rattle.range_store.specs.Heap.{Heap, node_of, node_count, items_of, children_of, child_count}
+use Rattle.range_store.specs.Heap.{Heap, node_of, node_count, child_count, node_items, node_children, node_child}
 use Rattle.range_store.specs.Occurrences.{occurrences}
 use Rattle.range_store.specs.declared.btree.nodes.Split.{Split}
 use Rattle.range_store.specs.declared.btree.nodes.TheConstants.{CAPACITY, MAX_LEN, MIN_LEN}
@@ -42,31 +42,39 @@ module _ {T : Type 0} where
   -- the items below a node, in order, where so many levels are left
   unfoldable pub items_below : Heap T → ℕ → ℕ → List T
   items_below s zero n = []
-  items_below s (suc d) n =
-      weave (items_of (node_of s n)) (map (items_below s d) (children_of (node_of s n)))
+  items_below s (suc d) n = weave (node_items s n) (map (items_below s d) (node_children s n))
+
+  -- the lists below the children of a node, and what stands before the one at i, and after it
+  abbrev pub child_lists : Heap T → ℕ → ℕ → List (List T)
+  child_lists s d n = map (items_below s d) (node_children s n)
+
+  abbrev pub before_child : Heap T → ℕ → ℕ → ℕ → List T
+  before_child s d n i = before (node_items s n) (child_lists s d n) i
+
+  abbrev pub after_child : Heap T → ℕ → ℕ → ℕ → List T
+  after_child s d n i = after (node_items s n) (child_lists s d n) i
 
   -- the nodes of the tree below a node, and itself
   unfoldable pub used : Heap T → ℕ → ℕ → List ℕ
   used s zero n = []
-  used s (suc d) n = n ∷ flat_map (used s d) (children_of (node_of s n))
+  used s (suc d) n = n ∷ flat_map (used s d) (node_children s n)
 
   -- a node with at least so many items, where d levels are below it
   pub record IsNode (least most : ℕ) (s : Heap T) (d n : ℕ) : Type 0 where
     pub present : IsSome (node_of s n)
-    pub enough : least ≤ length (items_of (node_of s n))
-    pub fits : length (items_of (node_of s n)) ≤ most
-    pub branches : length (children_of (node_of s n))
-        ≡ child_count d (length (items_of (node_of s n)))
+    pub enough : least ≤ length (node_items s n)
+    pub fits : length (node_items s n) ≤ most
+    pub branches : length (node_children s n) ≡ child_count d (length (node_items s n))
 
   -- each node has from MIN_LEN to CAPACITY items, and all leaves are at one depth
   unfoldable pub Shaped : Heap T → ℕ → ℕ → Type 0
   Shaped s zero n = Unit {0}
-  Shaped s (suc d) n = IsNode MIN_LEN CAPACITY s d n × All (Shaped s d) (children_of (node_of s n))
+  Shaped s (suc d) n = IsNode MIN_LEN CAPACITY s d n × All (Shaped s d) (node_children s n)
 
   -- a node with from least to most items, over d levels of nodes that have from MIN_LEN to CAPACITY
   pub record ShapedBut (least most : ℕ) (s : Heap T) (d n : ℕ) : Type 0 where
     pub node : IsNode least most s d n
-    pub children : All (Shaped s d) (children_of (node_of s n))
+    pub children : All (Shaped s d) (node_children s n)
 
   -- 1 where the heap has a node under k
   abbrev pub here : Heap T → ℕ → ℕ
@@ -93,10 +101,6 @@ module _ {T : Type 0} where
   separators None = []
   separators (Some split) = split.middle ∷ []
 
-  abbrev pub rights : Option (Split T) → List ℕ
-  rights None = []
-  rights (Some split) = split.right ∷ []
-
   -- a node that was not cut has so many items; halves always have enough
   abbrev pub EnoughFor : ℕ → Option (Split T) → ℕ → Type 0
   EnoughFor least None count = least ≤ count
@@ -107,8 +111,7 @@ module _ {T : Type 0} where
       (list : List T) : Type 0 where
     pub listed : weave (separators split) (map (items_below new (suc d)) (tops n split)) ≡ list
     pub moved : Moves old new (used old (suc d) n) (flat_map (used new (suc d)) (tops n split))
-    pub shape : (least : ℕ) → least ≤ MIN_LEN
-        → EnoughFor least split (length (items_of (node_of old n)))
+    pub shape : (least : ℕ) → least ≤ MIN_LEN → EnoughFor least split (length (node_items old n))
         → All (ShapedBut least CAPACITY new d) (tops n split)
 
   -- with the nodes outside the subtree there is capacity for the nodes that it needs for so many
@@ -117,13 +120,13 @@ module _ {T : Type 0} where
     pub filled : MIN_LEN * node_count s + (length (items_below s d n) + more) + 1
         ≤ MIN_LEN * s.capacity + MIN_LEN * length (used s d n) + MIN_LEN
     pub few : MIN_LEN * node_count s + (length (items_below s d n) + more) + 1
-        ≤ MIN_LEN * s.capacity + MIN_LEN * length (used s d n) + length (items_of (node_of s n))
+        ≤ MIN_LEN * s.capacity + MIN_LEN * length (used s d n) + length (node_items s n)
 
   -- the subtree of n, over d levels, became one with this list, at most one item shorter
   pub record Shrinks (old new : Heap T) (d n : ℕ) (list : List T) : Type 0 where
     pub listed : items_below new (suc d) n ≡ list
     pub moved : Moves old new (used old (suc d) n) (used new (suc d) n)
-    pub shape : (least : ℕ) → least + 1 ≤ length (items_of (node_of old n))
+    pub shape : (least : ℕ) → least + 1 ≤ length (node_items old n)
         → ShapedBut least CAPACITY new d n
 
   -- a root, over the levels below it; the empty tree has none
@@ -148,37 +151,34 @@ module _ {T : Type 0} where
   pub record MayBeRebalanced (s : Heap T) (low n i : ℕ) : Type 0 where
     pub node : IsNode 1 CAPACITY s (suc low) n
     pub owned : Owned s (suc (suc low)) n
-    pub within : i ≤ length (items_of (node_of s n))
-    pub before : All (Shaped s (suc low)) (take i (children_of (node_of s n)))
-    pub child : ShapedBut (MIN_LEN - 1) CAPACITY s low (slice_index (children_of (node_of s n)) i)
-    pub behind : All (Shaped s (suc low)) (drop (i + 1) (children_of (node_of s n)))
+    pub within : i ≤ length (node_items s n)
+    pub before : All (Shaped s (suc low)) (take i (node_children s n))
+    pub child : ShapedBut (MIN_LEN - 1) CAPACITY s low (node_child s n i)
+    pub behind : All (Shaped s (suc low)) (drop (i + 1) (node_children s n))
 
   -- a node over `suc low` levels, of whose children one of the two at j and after it may lack an
   -- item
   pub record IsLevelled (s : Heap T) (low n j : ℕ) : Type 0 where
     pub node : IsNode 1 CAPACITY s (suc low) n
     pub owned : Owned s (suc (suc low)) n
-    pub within : j < length (items_of (node_of s n))
-    pub before : All (Shaped s (suc low)) (take j (children_of (node_of s n)))
-    pub left : ShapedBut (MIN_LEN - 1) CAPACITY s low (slice_index (children_of (node_of s n)) j)
-    pub right : ShapedBut (MIN_LEN - 1) CAPACITY s low
-        (slice_index (children_of (node_of s n)) (j + 1))
-    pub behind : All (Shaped s (suc low)) (drop (j + 2) (children_of (node_of s n)))
-    pub enough : MIN_LEN + MIN_LEN
-        ≤ length (items_of (node_of s (slice_index (children_of (node_of s n)) j))) + 1 + length
-        (items_of (node_of s (slice_index (children_of (node_of s n)) (j + 1))))
-    pub fits : length (items_of (node_of s (slice_index (children_of (node_of s n)) j))) + 1 +
-        length (items_of (node_of s (slice_index (children_of (node_of s n)) (j + 1))))
-        ≤ CAPACITY + MIN_LEN
+    pub within : j < length (node_items s n)
+    pub before : All (Shaped s (suc low)) (take j (node_children s n))
+    pub left : ShapedBut (MIN_LEN - 1) CAPACITY s low (node_child s n j)
+    pub right : ShapedBut (MIN_LEN - 1) CAPACITY s low (node_child s n (j + 1))
+    pub behind : All (Shaped s (suc low)) (drop (j + 2) (node_children s n))
+    pub enough : MIN_LEN + MIN_LEN ≤ length (node_items s (node_child s n j)) + 1 + length
+        (node_items s (node_child s n (j + 1)))
+    pub fits : length (node_items s (node_child s n j)) + 1 +
+        length (node_items s (node_child s n (j + 1))) ≤ CAPACITY + MIN_LEN
 
   -- how many items the child of n at k has
   abbrev pub child_size : Heap T → ℕ → ℕ → ℕ
-  child_size s n k = length (items_of (node_of s (slice_index (children_of (node_of s n)) k)))
+  child_size s n k = length (node_items s (node_child s n k))
 
   -- the child at k stands beside the one at i, and has an item to spare
   pub record IsLender (s : Heap T) (n i k : ℕ) : Type 0 where
     pub beside : (k + 1 ≡ i) ⊎ (k ≡ i + 1)
-    pub within : k ≤ length (items_of (node_of s n))
+    pub within : k ≤ length (node_items s n)
     pub spare : MIN_LEN < child_size s n k
 
   -- a tree with no more items than its capacity is counted for, and than a tree may have
@@ -196,13 +196,13 @@ module _ {T : Type 0} where
   Shaped-prop s zero n = Unit-prop
   Shaped-prop s (suc d) n =
       ×_prop (IsNode-prop MIN_LEN CAPACITY s d n)
-      (All_of-prop (Shaped s d) (Shaped-prop s d) (children_of (node_of s n)))
+      (All_of-prop (Shaped s d) (Shaped-prop s d) (node_children s n))
 
   pub ShapedBut-prop : (least most : ℕ) (s : Heap T) (d n : ℕ) → IsProp (ShapedBut least most s d n)
   ShapedBut-prop least most s d n =
       hlevel (
         IsNode-prop least most s d n,
-        All_of-prop (Shaped s d) (Shaped-prop s d) (children_of (node_of s n)),
+        All_of-prop (Shaped s d) (Shaped-prop s d) (node_children s n),
       )
 
   pub IsRoot-prop : (s : Heap T) (d n : ℕ) → IsProp (IsRoot s d n)

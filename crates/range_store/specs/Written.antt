@@ -8,12 +8,12 @@ use Rattle.std.proofs.lemmas.Bool.{cases_eq, cases_lt, eq-eqb, eqb-true, and_par
 use Rattle.std.proofs.lemmas.List.Concat.{flat_map-append}
 use Rattle.std.proofs.lemmas.List.Sums.{sum_by-set}
 use mathlib.Core.Path.{fun_ext}
-use Rattle.range_store.specs.Heap.{Heap, HasNode, node_of, node_count, items_of, children_of, with_item, Writes}
+use Rattle.range_store.specs.Heap.{Heap, HasNode, node_of, node_count, with_item, Writes, node_items, node_children, node_child}
 use Rattle.range_store.specs.Occurrences.{occurrences, occurrences-append, occurrences-cons, occurrences_itself, occurrences_here}
 use Rattle.range_store.specs.declared.btree.path.Edge.{Edge}
 use Rattle.range_store.specs.declared.btree.path.Home.{Home}
 use Rattle.range_store.specs.declared.btree.nodes.TheConstants.{CAPACITY, MIN_LEN}
-use Rattle.range_store.specs.Nodes.{weave, rest_of, before, after, items_below, used, IsNode, Shaped, ShapedBut, IsRoot, IsTree, here}
+use Rattle.range_store.specs.Nodes.{weave, rest_of, before, after, items_below, used, IsNode, Shaped, ShapedBut, IsRoot, IsTree, here, child_lists}
 use Rattle.range_store.specs.Edges.{turn, inside, is_start, IsEdge, place, home_of}
 use Rattle.range_store.specs.Frame.{AgreeAt, same_children, used_kid, used_kid_le}
 use Rattle.range_store.specs.Weave.{weave_at, weave_cut, length-weave, length-before, list_splits_at, regroup}
@@ -80,8 +80,8 @@ module _ {T : Type 0} where
   -- both have the same nodes, with as many items and the same children
   pub record SameShape (s t : Heap T) : Type 0 where
     pub present : (k : ℕ) → is_some (node_of t k) ≡ is_some (node_of s k)
-    pub sizes : (k : ℕ) → length (items_of (node_of t k)) ≡ length (items_of (node_of s k))
-    pub children : (k : ℕ) → children_of (node_of t k) ≡ children_of (node_of s k)
+    pub sizes : (k : ℕ) → length (node_items t k) ≡ length (node_items s k)
+    pub children : (k : ℕ) → node_children t k ≡ node_children s k
     pub len : node_count t ≡ node_count s
 
   pub same_nodes : (s t : Heap T) → ((k : ℕ) → node_of t k ≡ node_of s k)
@@ -118,10 +118,9 @@ module _ {T : Type 0} {s t : Heap T} (same : SameShape s t) where
   unfolding items_below
   length_same zero n = refl
   length_same (suc d) n =
-      rw (same.children n) (weave_length (items_of (node_of t n)) (items_of (node_of s n))
-      (map (items_below t d) (children_of (node_of s n)))
-      (map (items_below s d) (children_of (node_of s n))) (same.sizes n)
-      (lists_length_from d (length_same d) (children_of (node_of s n))))
+      rw (same.children n) (weave_length (node_items t n) (node_items s n)
+      (map (items_below t d) (node_children s n)) (child_lists s d n) (same.sizes n)
+      (lists_length_from d (length_same d) (node_children s n)))
 
   node_same : {least most d n : ℕ} → IsNode least most s d n → IsNode least most t d n
   node_same {least} {most} {d} {n} node =
@@ -166,9 +165,9 @@ module _ {T : Type 0} {s t : Heap T} (same : SameShape s t) where
   unfolding place
   place_same zero n g = refl
   place_same (suc d) n g =
-      let ks = children_of (node_of s n) in
+      let ks = node_children s n in
       let front =
-      before_length (turn g) (items_of (node_of t n)) (items_of (node_of s n))
+      before_length (turn g) (node_items t n) (node_items s n)
       (map (items_below t (suc d)) ks) (map (items_below s (suc d)) ks) (same.sizes n)
       (lists_length_from (suc d) (length_same (suc d)) ks) in
       rw (same.children n) (omega (arith, front, place_same d (get_or ks (turn g) 0) (inside g)))
@@ -177,14 +176,13 @@ module _ {T : Type 0} where
   -- the heaps differ in the node m at most, and there in the item at i, which is y in the second
   pub record Aside (s u : Heap T) (m i : ℕ) (y : T) : Type 0 where
     pub others : (k : ℕ) → k ≢ m → node_of u k ≡ node_of s k
-    pub items_are : items_of (node_of u m) ≡ take i (items_of (node_of s m))
-        ++ (y ∷ drop (i + 1) (items_of (node_of s m)))
-    pub children_are : children_of (node_of u m) ≡ children_of (node_of s m)
+    pub items_are : node_items u m ≡ take i (node_items s m) ++ (y ∷ drop (i + 1) (node_items s m))
+    pub children_are : node_children u m ≡ node_children s m
 
   -- an item of the tree below n has its home at i in m, with these before and after it
   pub record IsHome (s : Heap T) (d n m i rank : ℕ) : Type 0 where
     pub present : IsSome (node_of s m)
-    pub within : i < length (items_of (node_of s m))
+    pub within : i < length (node_items s m)
     pub among : 0 < occurrences m (used s (suc d) n)
     pub front : List T
     pub back : List T
@@ -228,8 +226,7 @@ not_start (suc n) some = omega arith
 
 module _ {T : Type 0} (s : Heap T) where
   pub shaped_kid : {least most : ℕ} (d : ℕ) {n : ℕ} (i : ℕ) → ShapedBut least most s (suc d) n
-      → i < length (children_of (node_of s n))
-      → ShapedBut MIN_LEN CAPACITY s d (get_or (children_of (node_of s n)) i 0)
+      → i < length (node_children s n) → ShapedBut MIN_LEN CAPACITY s d (node_child s n i)
   unfolding Shaped
   shaped_kid d i shaped within =
       let kid = shaped.children i 0 within in
@@ -242,8 +239,7 @@ module _ {T : Type 0} (s : Heap T) where
   place_of_start (suc d) n g path index =
       let first : turn g ≡ 0 = omega (arith, path) in
       let below =
-      place_of_start d (get_or (children_of (node_of s n)) 0 0) (inside g)
-      (omega (arith, path)) index in
+      place_of_start d (node_child s n 0) (inside g) (omega (arith, path)) index in
       rw first (omega (arith, below))
 
   pub start_of_place : (least most d n : ℕ) (g : Edge) → ShapedBut least most s d n → IsEdge s d n g
@@ -251,33 +247,33 @@ module _ {T : Type 0} (s : Heap T) where
   unfolding IsEdge place
   start_of_place least most zero n g shaped is none = (is.1, none)
   start_of_place least most (suc d) n g shaped is none =
-      let xs = items_of (node_of s n) in
-      let lists = map (items_below s (suc d)) (children_of (node_of s n)) in
+      let xs = node_items s n in
+      let lists = child_lists s (suc d) n in
       let front =
       length-before xs lists (turn g) (omega (arith, is.0, shaped.node.branches))
-      (omega (arith, is.0, length-map (children_of (node_of s n)) (items_below s (suc d))))
+      (omega (arith, is.0, length-map (node_children s n) (items_below s (suc d))))
       in
       let below = start_of_place MIN_LEN CAPACITY d _ (inside g) (shaped_kid d (turn g) shaped is.0)
       is.1 (omega (arith, none)) in
       (omega (arith, below.0, front, none), below.1)
 
   module _ (d n : ℕ) (g : Edge) (once : (k : ℕ) → occurrences k (used s (suc (suc d)) n) ≤ 1)
-      (branches : length (children_of (node_of s n)) ≡ length (items_of (node_of s n)) + 1)
-      (low : turn g < length (children_of (node_of s n))) (some : 0 < place s (suc d) n g) where
+      (branches : length (node_children s n) ≡ length (node_items s n) + 1)
+      (low : turn g < length (node_children s n)) (some : 0 < place s (suc d) n g) where
     abbrev xs : List T
-    xs = items_of (node_of s n)
+    xs = node_items s n
 
     abbrev ks : List ℕ
-    ks = children_of (node_of s n)
+    ks = node_children s n
 
     abbrev lists : List (List T)
-    lists = map (items_below s (suc d)) (children_of (node_of s n))
+    lists = child_lists s (suc d) n
 
     abbrev i : ℕ
     i = turn g
 
     abbrev kid : ℕ
-    kid = get_or (children_of (node_of s n)) (turn g) 0
+    kid = node_child s n (turn g)
 
     used_once : (k : ℕ) → occurrences k (n ∷ []) + occurrences k (flat_map (used s (suc d)) ks) ≤ 1
     unfolding used
@@ -414,50 +410,48 @@ module _ {T : Type 0} (s : Heap T) where
   home_is least most zero n g shaped once is some = record {
     present = shaped.node.present;
     within = omega (arith, is.2, some);
-    among = occurrences_here n (flat_map (used s zero) (children_of (node_of s n)));
-    front = take (g.index - 1) (items_of (node_of s n));
-    back = drop (g.index - 1 + 1) (items_of (node_of s n));
-    many = length-take-le (g.index - 1) (items_of (node_of s n)) (omega (arith, is.2));
+    among = occurrences_here n (flat_map (used s zero) (node_children s n));
+    front = take (g.index - 1) (node_items s n);
+    back = drop (g.index - 1 + 1) (node_items s n);
+    many = length-take-le (g.index - 1) (node_items s n) (omega (arith, is.2));
     parts = λ u y aside. let none =
-        aside.children_are
-        ∙ nil_from_length (children_of (node_of s n)) shaped.node.branches in rw none
+        aside.children_are ∙ nil_from_length (node_children s n) shaped.node.branches in rw none
         aside.items_are;
   }
   home_is least most (suc d) n g shaped once is some =
-      pick (λ more. home_is MIN_LEN CAPACITY d (get_or (children_of (node_of s n)) (turn g) 0)
+      pick (λ more. home_is MIN_LEN CAPACITY d (node_child s n (turn g))
       (inside g) kid_shaped kid_once is.1 more) (is_start (inside g)) refl
       (home_of s (suc d) n g) refl
     where
-      kid_shaped : ShapedBut MIN_LEN CAPACITY s d (get_or (children_of (node_of s n)) (turn g) 0)
+      kid_shaped : ShapedBut MIN_LEN CAPACITY s d (node_child s n (turn g))
       kid_shaped = shaped_kid d (turn g) shaped is.0
 
-      kid_once : (k : ℕ)
-          → occurrences k (used s (suc d) (get_or (children_of (node_of s n)) (turn g) 0)) ≤ 1
+      kid_once : (k : ℕ) → occurrences k (used s (suc d) (node_child s n (turn g))) ≤ 1
       kid_once k =
           omega (
             arith,
             once k,
-            occurrences-cons k n (flat_map (used s (suc d)) (children_of (node_of s n))),
-            used_kid_le s (suc d) (turn g) (children_of (node_of s n)) k is.0,
+            occurrences-cons k n (flat_map (used s (suc d)) (node_children s n)),
+            used_kid_le s (suc d) (turn g) (node_children s n) k is.0,
           )
 
-      pick : (0 < place s d (get_or (children_of (node_of s n)) (turn g) 0) (inside g)
-          → IsHome s d (get_or (children_of (node_of s n)) (turn g) 0)
-          (home_of s d (get_or (children_of (node_of s n)) (turn g) 0) (inside g)).node
-          (home_of s d (get_or (children_of (node_of s n)) (turn g) 0) (inside g)).index
-          (place s d (get_or (children_of (node_of s n)) (turn g) 0) (inside g) - 1)) → (b : Bool)
+      pick : (0 < place s d (node_child s n (turn g)) (inside g)
+          → IsHome s d (node_child s n (turn g))
+          (home_of s d (node_child s n (turn g)) (inside g)).node
+          (home_of s d (node_child s n (turn g)) (inside g)).index
+          (place s d (node_child s n (turn g)) (inside g) - 1)) → (b : Bool)
           → is_start (inside g) ≡ b → (h : Home)
           → h ≡ cond b (record { node = n; index = turn g - 1 })
-          (home_of s d (get_or (children_of (node_of s n)) (turn g) 0) (inside g))
+          (home_of s d (node_child s n (turn g)) (inside g))
           → IsHome s (suc d) n h.node h.index (place s (suc d) n g - 1)
       pick further true start h at =
           let none = and_parts ((inside g).path == 0) ((inside g).index == 0) start in
           let first =
-          place_of_start d (get_or (children_of (node_of s n)) (turn g) 0) (inside g)
+          place_of_start d (node_child s n (turn g)) (inside g)
           (eqb-true _ _ none.0) (eqb-true _ _ none.1) in
           rw at (home_here d n g once shaped.node.branches is.0 some shaped.node.present first)
       pick further false later h at =
-          let below = get_or (children_of (node_of s n)) (turn g) 0 in
+          let below = node_child s n (turn g) in
           let more : 0 < place s d below (inside g) =
           not_start (place s d below (inside g)) (λ none.
           let start = start_of_place MIN_LEN CAPACITY d below (inside g) kid_shaped is.1 none in
@@ -465,48 +459,44 @@ module _ {T : Type 0} (s : Heap T) where
           rw at (home_below d n g once shaped.node.branches is.0 some more (further more))
 
   module _ {d n m i rank : ℕ} (home : IsHome s d n m i rank) where
-    itself : (e : T) → Aside s s m i (get_or (items_of (node_of s m)) i e)
+    itself : (e : T) → Aside s s m i (get_or (node_items s m) i e)
     itself e =
         record {
           others = λ k other. refl;
-          items_are = list_splits_at (items_of (node_of s m)) i e home.within;
+          items_are = list_splits_at (node_items s m) i e home.within;
           children_are = refl;
         }
 
-    pub home_item : (e : T)
-        → get_or (items_below s (suc d) n) rank e ≡ get_or (items_of (node_of s m)) i e
+    pub home_item : (e : T) → get_or (items_below s (suc d) n) rank e ≡ get_or (node_items s m) i e
     home_item e =
         ap (λ zs. get_or zs rank e) (home.parts s _ (itself e))
-        ∙ rw (← home.many) (item_behind home.front
-        (get_or (items_of (node_of s m)) i e) home.back e)
+        ∙ rw (← home.many) (item_behind home.front (get_or (node_items s m) i e) home.back e)
 
     pub home_set : {t : Heap T} (x : T)
-        → Writes s t m (set (items_of (node_of s m)) i x) (children_of (node_of s m))
+        → Writes s t m (set (node_items s m) i x) (node_children s m)
         → items_below t (suc d) n ≡ set (items_below s (suc d) n) rank x
     home_set {t} x written =
         home.parts t x (record {
           others = written.others;
-          items_are = written.items_are ∙ set_parts (items_of (node_of s m)) i x home.within;
+          items_are = written.items_are ∙ set_parts (node_items s m) i x home.within;
           children_are = written.children_are;
         })
         ∙ sym (ap (λ zs. set zs rank x) (home.parts s _ (itself x))
-        ∙ rw (← home.many) (set_behind home.front
-        (get_or (items_of (node_of s m)) i x) home.back x))
+        ∙ rw (← home.many) (set_behind home.front (get_or (node_items s m) i x) home.back x))
 
     pub home_within : rank < length (items_below s (suc d) n)
     home_within =
-        let e = some_of (items_of (node_of s m)) i home.within in
+        let e = some_of (node_items s m) i home.within in
         omega (
           arith,
           ap length (home.parts s _ (itself e)),
-          length-append home.front (get_or (items_of (node_of s m)) i e ∷ home.back),
+          length-append home.front (get_or (node_items s m) i e ∷ home.back),
           home.many,
         )
 
   -- a heap in which a node was written with as many items
   pub written_shape : {t : Heap T} {m : ℕ} {xs : List T}
-      → length xs ≡ length (items_of (node_of s m)) → Writes s t m xs (children_of (node_of s m))
-      → SameShape s t
+      → length xs ≡ length (node_items s m) → Writes s t m xs (node_children s m) → SameShape s t
   written_shape {t} {m} many written = record {
     present =
         λ k.
@@ -538,13 +528,12 @@ module _ {T : Type 0} (s : Heap T) where
               get_or_past s.slots m None past in absurd (both_ways _ (rw none refl) present)
         ]
 
-    pub item_written : Writes s (with_item s m i x) m (set (items_of (node_of s m)) i x)
-        (children_of (node_of s m))
+    pub item_written : Writes s (with_item s m i x) m (set (node_items s m) i x) (node_children s m)
     item_written =
         let now : node_of (with_item s m i x) m
         ≡ Some (record {
-          items = set (items_of (node_of s m)) i x;
-          children = children_of (node_of s m);
+          items = set (node_items s m) i x;
+          children = node_children s m;
         }) = get_or-set_same s.slots m _ None stored in
         let one : ◌≡◌ {A = ℕ} (cond (is_some (node_of s m)) 1 0) 1 = rw present refl in
         record {
@@ -558,8 +547,8 @@ module _ {T : Type 0} (s : Heap T) where
                 arith,
                 sum_by-set (λ o. cond (is_some o) 1 0) s.slots m
                     (Some (record {
-                      items = set (items_of (node_of s m)) i x;
-                      children = children_of (node_of s m);
+                      items = set (node_items s m) i x;
+                      children = node_children s m;
                     })) None stored,
                 one,
               );

@@ -1,6 +1,6 @@
 //! The insertion of an item at an edge below a node, with the cuts that it causes.
 ghost use Rattle.std.specs.Prelude.{◌≡◌, ℕ, suc, ◌+◌, ◌-◌, ◌*◌, ◌<◌, ◌≤◌, ◌^◌, length, insert, None, Some};
-ghost use Rattle.range_store.specs.Heap.{node_of, FitsChild, HasNode, HasRoomFor, items_of, children_of, with_child};
+ghost use Rattle.range_store.specs.Heap.{FitsChild, HasNode, HasRoomFor, with_child, node_items, node_children};
 ghost use Rattle.range_store.specs.Nodes.{items_below, tops, separators, ShapedBut, Replaces, Owned, HasTreeRoom};
 ghost use Rattle.range_store.specs.Edges.{IsEdge, place, IsSeat, seat_place};
 ghost use Rattle.range_store.specs.Contents.{IsContent, Settles};
@@ -30,30 +30,27 @@ pub fn put_or_cut<T: Drop>(
     inner: Edge,
 ) -> Insertion<T>
     requires present { HasNode nodes.old number }
-    requires within { index ≤ length (items_of (node_of nodes.old number)) }
-    requires fits { length (items_of (node_of nodes.old number)) ≤ CAPACITY }
-    requires child { FitsChild child (items_of (node_of nodes.old number))
-        (children_of (node_of nodes.old number)) }
+    requires within { index ≤ length (node_items nodes.old number) }
+    requires fits { length (node_items nodes.old number) ≤ CAPACITY }
+    requires child { FitsChild child (node_items nodes.old number)
+        (node_children nodes.old number) }
     requires content { IsContent nodes.old below number
-        (insert (items_of (node_of nodes.old number)) index item)
-        (with_child (children_of (node_of nodes.old number)) (index + 1) child) }
-    requires room { CAPACITY ≤ length (items_of (node_of nodes.old number))
-        → HasRoomFor nodes.old 1 }
+        (insert (node_items nodes.old number) index item)
+        (with_child (node_children nodes.old number) (index + 1) child) }
+    requires room { CAPACITY ≤ length (node_items nodes.old number) → HasRoomFor nodes.old 1 }
     requires deep { below < MAX_LEVELS }
-    requires seat { IsSeat nodes.old below
-        (insert (items_of (node_of nodes.old number)) index item)
-        (with_child (children_of (node_of nodes.old number)) (index + 1) child) seat inner }
+    requires seat { IsSeat nodes.old below (insert (node_items nodes.old number) index item)
+        (with_child (node_children nodes.old number) (index + 1) child) seat inner }
     ensures settles { Settles nodes.old nodes.new below number
-        (insert (items_of (node_of nodes.old number)) index item)
-        (with_child (children_of (node_of nodes.old number)) (index + 1) child) result.split }
-    ensures left_whole { length (items_of (node_of nodes.old number)) < CAPACITY
-        → result.split ≡ None }
+        (insert (node_items nodes.old number) index item)
+        (with_child (node_children nodes.old number) (index + 1) child) result.split }
+    ensures left_whole { length (node_items nodes.old number) < CAPACITY → result.split ≡ None }
     ensures edge { IsSeat nodes.new (suc below) (separators result.split) (tops number result.split)
         result.side result.edge }
     ensures place { seat_place nodes.new (suc below) (separators result.split)
         (tops number result.split) result.side result.edge
-        ≡ seat_place nodes.old below (insert (items_of (node_of nodes.old number)) index item)
-        (with_child (children_of (node_of nodes.old number)) (index + 1) child) seat inner }
+        ≡ seat_place nodes.old below (insert (node_items nodes.old number) index item)
+        (with_child (node_children nodes.old number) (index + 1) child) seat inner }
 {
     if nodes.item_count(number) < CAPACITY {
         nodes.put(number, index, item, child);
@@ -95,8 +92,7 @@ pub fn insert_below<T: Drop>(
     ensures replaces { Replaces nodes.old nodes.new below number result.split
         (insert (items_below nodes.old (suc below) number) (place nodes.old below number edge)
         item) }
-    ensures left_whole { length (items_of (node_of nodes.old number)) < CAPACITY
-        → result.split ≡ None }
+    ensures left_whole { length (node_items nodes.old number) < CAPACITY → result.split ≡ None }
     ensures edge { IsSeat nodes.new (suc below) (separators result.split) (tops number result.split)
         result.side result.edge }
     ensures place { seat_place nodes.new (suc below) (separators result.split)

@@ -1,10 +1,10 @@
 //! The nodes of a tree under numbers, each with its items and its children.
-ghost use Rattle.std.specs.Prelude.{◌≡◌, ◌≢◌, ◌⊎◌, ◌+◌, ◌-◌, ◌<◌, ◌≤◌, [], ◌∷◌, length, take, drop, slice_get, slice_index, slice_index_or, insert, remove, IsOk, OnOk};
+ghost use Rattle.std.specs.Prelude.{◌≡◌, ◌≢◌, ◌⊎◌, ◌+◌, ◌-◌, ◌<◌, ◌≤◌, [], ◌∷◌, length, take, drop, slice_get, slice_index_or, insert, remove, IsOk, OnOk};
 ghost use Rattle.std.specs.Borrow.{Lends, sem};
 ghost use Rattle.std.specs.Vec.Iter.{into_iter_items};
 ghost use Rattle.std.specs.VecDeque.{deque_capacity};
 ghost use Rattle.range_store.specs.Rows.{HoldsItems};
-ghost use Rattle.range_store.specs.Heap.{node_of, HasNode, items_of, children_of, node_count, HasRoomFor, SameNodes, with_child, with_item, FitsChild, Writes, Stores, Removes, Divides, left_items, right_items, HasPair, RotatesLeft, RotatesRight, Merges, Absorbs};
+ghost use Rattle.range_store.specs.Heap.{HasNode, node_count, HasRoomFor, SameNodes, with_child, with_item, FitsChild, Writes, Stores, Removes, Divides, left_items, right_items, HasPair, RotatesLeft, RotatesRight, Merges, Absorbs, node_items, node_children, node_child};
 
 use crate::btree::node::Node;
 use crate::btree::rows::Rows;
@@ -40,7 +40,7 @@ pub struct Nodes<T> {
 }
 
 impl<T> Model for Nodes<T> {
-    ghost use Rattle.range_store.specs.Heap.{Heap, heap_code};
+    ghost use Rattle.range_store.specs.Heap.{Heap, heap_code, node_items, node_children, node_child};
 
     ghost Value = { Heap T };
 
@@ -143,7 +143,7 @@ impl<T: Drop> Nodes<T> {
     /// How many items a node has.
     pub fn item_count(&self, number: usize) -> usize
         requires { HasNode self.now number }
-        ensures { result ≡ length (items_of (node_of self.now number)) }
+        ensures { result ≡ length (node_items self.now number) }
     {
         self.slab[number].len
     }
@@ -152,8 +152,8 @@ impl<T: Drop> Nodes<T> {
     #[inline(always)]
     pub fn cells(&self, number: usize) -> &[Option<T>]
         requires present { HasNode self.now number }
-        requires some { 0 < length (items_of (node_of self.now number)) }
-        ensures { HoldsItems result.now (items_of (node_of self.now number)) }
+        requires some { 0 < length (node_items self.now number) }
+        ensures { HoldsItems result.now (node_items self.now number) }
     {
         self.rows.cells(number)
     }
@@ -161,7 +161,7 @@ impl<T: Drop> Nodes<T> {
     /// The children of a node, by their numbers.
     pub fn children(&self, number: usize) -> &[usize]
         requires { HasNode self.now number }
-        ensures { result.now ≡ children_of (node_of self.now number) }
+        ensures { result.now ≡ node_children self.now number }
     {
         self.slab[number].children.as_slice()
     }
@@ -169,9 +169,8 @@ impl<T: Drop> Nodes<T> {
     /// The item of a node at an index.
     pub fn item_at(&self, number: usize, index: usize) -> &T
         requires present { HasNode self.now number }
-        requires within { index < length (items_of (node_of self.now number)) }
-        ensures { result.now
-            ≡ slice_index_or (items_of (node_of self.now number)) index result.now }
+        requires within { index < length (node_items self.now number) }
+        ensures { result.now ≡ slice_index_or (node_items self.now number) index result.now }
     {
         self.rows.item_at(number, index)
     }
@@ -179,8 +178,8 @@ impl<T: Drop> Nodes<T> {
     /// The child of a node at an index.
     pub fn child_at(&self, number: usize, index: usize) -> usize
         requires present { HasNode self.now number }
-        requires within { index < length (children_of (node_of self.now number)) }
-        ensures { result ≡ slice_index (children_of (node_of self.now number)) index }
+        requires within { index < length (node_children self.now number) }
+        ensures { result ≡ node_child self.now number index }
     {
         self.children(number)[index]
     }
@@ -188,11 +187,10 @@ impl<T: Drop> Nodes<T> {
     /// The item of a node at an index, to be changed where it stands.
     pub fn item_mut(&mut self, number: usize, index: usize) -> &mut T
         requires present { HasNode self.old number }
-        requires within { index < length (items_of (node_of self.old number)) }
+        requires within { index < length (node_items self.old number) }
         ensures* writes_back { sem 𝓛
             (Lends (the_row T.row) T.row self.entry result (with_item self.old number index)) }
-        ensures value { result.now
-            ≡ slice_index_or (items_of (node_of self.old number)) index result.now }
+        ensures value { result.now ≡ slice_index_or (node_items self.old number) index result.now }
     {
         self.rows.item_mut(number, index)
     }
@@ -200,8 +198,8 @@ impl<T: Drop> Nodes<T> {
     /// Replaces the item at an index, and returns it.
     pub fn replace_item(&mut self, number: usize, index: usize, item: T) -> T
         requires present { HasNode self.old number }
-        requires within { index < length (items_of (node_of self.old number)) }
-        ensures before { result ≡ slice_index_or (items_of (node_of self.old number)) index result }
+        requires within { index < length (node_items self.old number) }
+        ensures before { result ≡ slice_index_or (node_items self.old number) index result }
         ensures after { self.new ≡ with_item self.old number index item }
     {
         mem::replace(self.item_mut(number, index), item)
@@ -211,13 +209,12 @@ impl<T: Drop> Nodes<T> {
     /// child after the one at `index`.
     pub fn put(&mut self, number: usize, index: usize, item: T, child: Option<usize>)
         requires present { HasNode self.old number }
-        requires within { index ≤ length (items_of (node_of self.old number)) }
-        requires room { length (items_of (node_of self.old number)) < CAPACITY }
-        requires child { FitsChild child (items_of (node_of self.old number))
-            (children_of (node_of self.old number)) }
-        ensures { Writes self.old self.new number
-            (insert (items_of (node_of self.old number)) index item)
-            (with_child (children_of (node_of self.old number)) (index + 1) child) }
+        requires within { index ≤ length (node_items self.old number) }
+        requires room { length (node_items self.old number) < CAPACITY }
+        requires child { FitsChild child (node_items self.old number)
+            (node_children self.old number) }
+        ensures { Writes self.old self.new number (insert (node_items self.old number) index item)
+            (with_child (node_children self.old number) (index + 1) child) }
     {
         self.put_beside(number, index, item, index + 1, child);
     }
@@ -225,14 +222,14 @@ impl<T: Drop> Nodes<T> {
     /// Puts an item into a full node, and a child with it, as `put` does, and cuts the node in two.
     pub fn split(&mut self, number: usize, index: usize, item: T, child: Option<usize>) -> Split<T>
         requires present { HasNode self.old number }
-        requires within { index ≤ length (items_of (node_of self.old number)) }
-        requires full { length (items_of (node_of self.old number)) ≡ CAPACITY }
-        requires child { FitsChild child (items_of (node_of self.old number))
-            (children_of (node_of self.old number)) }
+        requires within { index ≤ length (node_items self.old number) }
+        requires full { length (node_items self.old number) ≡ CAPACITY }
+        requires child { FitsChild child (node_items self.old number)
+            (node_children self.old number) }
         requires room { HasRoomFor self.old 1 }
         ensures { Divides self.old self.new number HALF
-            (insert (items_of (node_of self.old number)) index item)
-            (with_child (children_of (node_of self.old number)) (index + 1) child) result.middle
+            (insert (node_items self.old number) index item)
+            (with_child (node_children self.old number) (index + 1) child) result.middle
             result.right }
     {
         let right = next_spare(&mut self.spares);
@@ -245,11 +242,10 @@ impl<T: Drop> Nodes<T> {
     /// Takes the item at an index out of a node.
     pub fn take_item(&mut self, number: usize, index: usize) -> T
         requires present { HasNode self.old number }
-        requires within { index < length (items_of (node_of self.old number)) }
-        ensures value { result ≡ slice_index_or (items_of (node_of self.old number)) index result }
-        ensures rest { Writes self.old self.new number
-            (remove (items_of (node_of self.old number)) index)
-            (children_of (node_of self.old number)) }
+        requires within { index < length (node_items self.old number) }
+        ensures value { result ≡ slice_index_or (node_items self.old number) index result }
+        ensures rest { Writes self.old self.new number (remove (node_items self.old number) index)
+            (node_children self.old number) }
     {
         let len = self.item_count(number);
         self.slab[number].len = len - 1;
@@ -287,12 +283,8 @@ impl<T: Drop> Nodes<T> {
         requires { HasRoomFor self.old 1 }
         ensures { Stores self.old self.new result (middle ∷ []) (left ∷ right ∷ []) }
     {
-        let number = next_spare(&mut self.spares);
-        let node = &mut self.slab[number];
-        node.len = 1;
-        node.children.push(left);
-        node.children.push(right);
-        self.rows.put(number, 0, 0, middle);
+        let number = self.store_above(left);
+        self.put(number, 0, middle, Some(right));
         number
     }
 
@@ -377,14 +369,13 @@ impl<T: Drop> Nodes<T> {
         child: Option<usize>,
     )
         requires present { HasNode self.old number }
-        requires within { index ≤ length (items_of (node_of self.old number)) }
-        requires near { place ≤ length (items_of (node_of self.old number)) + 1 }
-        requires room { length (items_of (node_of self.old number)) < CAPACITY }
-        requires child { FitsChild child (items_of (node_of self.old number))
-            (children_of (node_of self.old number)) }
-        ensures { Writes self.old self.new number
-            (insert (items_of (node_of self.old number)) index item)
-            (with_child (children_of (node_of self.old number)) place child) }
+        requires within { index ≤ length (node_items self.old number) }
+        requires near { place ≤ length (node_items self.old number) + 1 }
+        requires room { length (node_items self.old number) < CAPACITY }
+        requires child { FitsChild child (node_items self.old number)
+            (node_children self.old number) }
+        ensures { Writes self.old self.new number (insert (node_items self.old number) index item)
+            (with_child (node_children self.old number) place child) }
     {
         let len = self.slab[number].add(place, child);
         self.rows.put(number, len, index, item);
@@ -393,13 +384,11 @@ impl<T: Drop> Nodes<T> {
     // Takes the item at an index out of a node, and the child at `place`, if there is one.
     fn take_beside(&mut self, number: usize, index: usize, place: usize) -> (T, Option<usize>)
         requires present { HasNode self.old number }
-        requires within { index < length (items_of (node_of self.old number)) }
-        ensures item { result.0
-            ≡ slice_index_or (items_of (node_of self.old number)) index result.0 }
-        ensures child { result.1 ≡ slice_get (children_of (node_of self.old number)) place }
-        ensures rest { Writes self.old self.new number
-            (remove (items_of (node_of self.old number)) index)
-            (remove (children_of (node_of self.old number)) place) }
+        requires within { index < length (node_items self.old number) }
+        ensures item { result.0 ≡ slice_index_or (node_items self.old number) index result.0 }
+        ensures child { result.1 ≡ slice_get (node_children self.old number) place }
+        ensures rest { Writes self.old self.new number (remove (node_items self.old number) index)
+            (remove (node_children self.old number) place) }
     {
         let len = self.item_count(number);
         let child = self.slab[number].take(place);
@@ -411,12 +400,12 @@ impl<T: Drop> Nodes<T> {
         requires left { HasNode self.old left }
         requires right { HasNode self.old right }
         requires apart { left ≢ right }
-        requires room { length (items_of (node_of self.old left)) + 1
-            + length (items_of (node_of self.old right)) ≤ CAPACITY }
-        requires children { (length (children_of (node_of self.old right)) ≡ 0)
-            ⊎ (0 < length (children_of (node_of self.old left))) }
-        requires places { length (children_of (node_of self.old left))
-            + length (children_of (node_of self.old right)) ≤ CHILD_PLACES }
+        requires room { length (node_items self.old left) + 1
+            + length (node_items self.old right) ≤ CAPACITY }
+        requires children { (length (node_children self.old right) ≡ 0)
+            ⊎ (0 < length (node_children self.old left)) }
+        requires places { length (node_children self.old left)
+            + length (node_children self.old right) ≤ CHILD_PLACES }
         ensures { Absorbs self.old self.new left middle right }
     {
         let upper = mem::replace(&mut self.slab[right], Node::new());

@@ -1,7 +1,7 @@
 //! Edges between the items of the tree, each with the path to it, and the steps from one to the
 //! next.
 ghost use Rattle.std.specs.Prelude.{◌≡◌, ℕ, suc, ◌+◌, ◌-◌, ◌*◌, ◌%◌, ◌/◌, ◌^◌, ◌<◌, ◌≤◌, length, MatchOption};
-ghost use Rattle.range_store.specs.Heap.{node_of, items_of};
+ghost use Rattle.range_store.specs.Heap.{node_items};
 ghost use Rattle.range_store.specs.Nodes.{items_below, ShapedBut};
 ghost use Rattle.range_store.specs.Edges.{turn, inside, seat_of, is_start, IsEdge, place, home_of};
 
@@ -179,7 +179,7 @@ fn edge_behind<T: Drop>(nodes: &Nodes<T>, below: usize, number: usize, edge: Edg
     requires shaped { ShapedBut 1 CAPACITY nodes.now below number }
     requires deep { below < MAX_LEVELS }
     requires edge { IsEdge nodes.now below number edge }
-    requires last { length (items_of (node_of nodes.now edge.leaf)) ≤ edge.index }
+    requires last { length (node_items nodes.now edge.leaf) ≤ edge.index }
     ensures { MatchOption result
         (place nodes.now below number edge ≡ length (items_below nodes.now (suc below) number))
         (λ h. IsEdge nodes.now below number h

@@ -1,6 +1,6 @@
 //! The removal of an item below a node, with the rebalancing of nodes that it leaves short.
-ghost use Rattle.std.specs.Prelude.{◌≡◌, ◌⊎◌, ℕ, suc, ◌+◌, ◌-◌, ◌*◌, ◌<◌, ◌≤◌, ◌^◌, length, slice_index, slice_index_or, remove};
-ghost use Rattle.range_store.specs.Heap.{node_of, items_of, children_of};
+ghost use Rattle.std.specs.Prelude.{◌≡◌, ◌⊎◌, ℕ, suc, ◌+◌, ◌-◌, ◌*◌, ◌<◌, ◌≤◌, ◌^◌, length, slice_index_or, remove};
+ghost use Rattle.range_store.specs.Heap.{node_items, node_children, node_child};
 ghost use Rattle.range_store.specs.Nodes.{items_below, ShapedBut, Owned, Shrinks, MayBeRebalanced, IsLevelled, IsTree, IsLooseTree, IsLender, child_size};
 ghost use Rattle.range_store.specs.Edges.{IsEdge, place, seat_of, seat_place};
 
@@ -26,16 +26,14 @@ pub fn borrow_from_left<T: Drop>(
     requires levelled { IsLevelled nodes.old low number index }
     requires spare { MIN_LEN < child_size nodes.old number index }
     requires deep { low + 1 < MAX_LEVELS }
-    requires edge { IsEdge nodes.old low
-        (slice_index (children_of (node_of nodes.old number)) (index + 1)) edge }
+    requires edge { IsEdge nodes.old low (node_child nodes.old number (index + 1)) edge }
     ensures shrinks { Shrinks nodes.old nodes.new (suc low) number
         (items_below nodes.old (suc (suc low)) number) }
-    ensures kept { length (items_of (node_of nodes.new number))
-        ≡ length (items_of (node_of nodes.old number)) }
+    ensures kept { length (node_items nodes.new number) ≡ length (node_items nodes.old number) }
     ensures edge { IsEdge nodes.new (suc low) number result }
     ensures place { place nodes.new (suc low) number result
-        ≡ seat_place nodes.old (suc low) (items_of (node_of nodes.old number))
-        (children_of (node_of nodes.old number)) (index + 1) edge }
+        ≡ seat_place nodes.old (suc low) (node_items nodes.old number)
+        (node_children nodes.old number) (index + 1) edge }
 {
     let right = nodes.child_at(number, index + 1);
     nodes.rotate_right(number, index);
@@ -55,16 +53,14 @@ pub fn borrow_from_right<T: Drop>(
     requires levelled { IsLevelled nodes.old low number index }
     requires spare { MIN_LEN < child_size nodes.old number (index + 1) }
     requires deep { low + 1 < MAX_LEVELS }
-    requires edge { IsEdge nodes.old low
-        (slice_index (children_of (node_of nodes.old number)) index) edge }
+    requires edge { IsEdge nodes.old low (node_child nodes.old number index) edge }
     ensures shrinks { Shrinks nodes.old nodes.new (suc low) number
         (items_below nodes.old (suc (suc low)) number) }
-    ensures kept { length (items_of (node_of nodes.new number))
-        ≡ length (items_of (node_of nodes.old number)) }
+    ensures kept { length (node_items nodes.new number) ≡ length (node_items nodes.old number) }
     ensures edge { IsEdge nodes.new (suc low) number result }
     ensures place { place nodes.new (suc low) number result
-        ≡ seat_place nodes.old (suc low) (items_of (node_of nodes.old number))
-        (children_of (node_of nodes.old number)) index edge }
+        ≡ seat_place nodes.old (suc low) (node_items nodes.old number)
+        (node_children nodes.old number) index edge }
 {
     nodes.rotate_left(number, index);
     seen_above(edge, index)
@@ -99,14 +95,13 @@ pub fn join<T: Drop>(
         ≤ CAPACITY }
     requires deep { low + 1 < MAX_LEVELS }
     requires near { (turn ≡ index) ⊎ (turn ≡ index + 1) }
-    requires edge { IsEdge nodes.old low (slice_index (children_of (node_of nodes.old number)) turn)
-        edge }
+    requires edge { IsEdge nodes.old low (node_child nodes.old number turn) edge }
     ensures shrinks { Shrinks nodes.old nodes.new (suc low) number
         (items_below nodes.old (suc (suc low)) number) }
     ensures edge { IsEdge nodes.new (suc low) number result }
     ensures place { place nodes.new (suc low) number result
-        ≡ seat_place nodes.old (suc low) (items_of (node_of nodes.old number))
-        (children_of (node_of nodes.old number)) turn edge }
+        ≡ seat_place nodes.old (suc low) (node_items nodes.old number)
+        (node_children nodes.old number) turn edge }
 {
     let left = nodes.child_at(number, index);
     let many = nodes.item_count(left);
@@ -127,17 +122,16 @@ pub fn rebalance<T: Drop>(
 ) -> Edge
     requires short { MayBeRebalanced nodes.old low number index }
     requires deep { low + 1 < MAX_LEVELS }
-    requires edge { IsEdge nodes.old low
-        (slice_index (children_of (node_of nodes.old number)) index) edge }
+    requires edge { IsEdge nodes.old low (node_child nodes.old number index) edge }
     ensures shrinks { Shrinks nodes.old nodes.new (suc low) number
         (items_below nodes.old (suc (suc low)) number) }
     ensures lent { (k : ℕ) → IsLender nodes.old number index k
-        → length (items_of (node_of nodes.new number))
-        ≡ length (items_of (node_of nodes.old number)) }
+        → length (node_items nodes.new number)
+        ≡ length (node_items nodes.old number) }
     ensures edge { IsEdge nodes.new (suc low) number result }
     ensures place { place nodes.new (suc low) number result
-        ≡ seat_place nodes.old (suc low) (items_of (node_of nodes.old number))
-        (children_of (node_of nodes.old number)) index edge }
+        ≡ seat_place nodes.old (suc low) (node_items nodes.old number)
+        (node_children nodes.old number) index edge }
 {
     let child = nodes.child_at(number, index);
     if nodes.item_count(child) >= MIN_LEN {
@@ -171,7 +165,7 @@ pub fn remove_below<T: Drop>(
     requires deep { below < MAX_LEVELS }
     requires edge { IsEdge nodes.old below number edge }
     requires in_leaf { 0 < edge.index }
-    ensures item { result.item ≡ slice_index_or (items_of (node_of nodes.old edge.leaf))
+    ensures item { result.item ≡ slice_index_or (node_items nodes.old edge.leaf)
         (edge.index - 1) result.item }
     ensures shrinks { Shrinks nodes.old nodes.new below number
         (remove (items_below nodes.old (suc below) number)

@@ -34,10 +34,7 @@ returns-in-None-clause-following g c =
 
 pub following-requires : goal.following-requires
 following-requires g c =
-    let left : IsBoxEdge c.take_in_leaf-item.new.self c.in-Some.left
-    × (box_place c.take_in_leaf-item.new.self c.in-Some.left + 1
-    ≡ box_place c.args.self.now c.args.edge) =
-    rw c.in-Some.is at c.take_in_leaf-item.ensures.edge in
+    let left = rw c.in-Some.is at c.take_in_leaf-item.ensures.edge in
     left.0
 
 pub returns-in-Some-clause-space : goal.returns-in-Some-clause-space
@@ -49,10 +46,7 @@ returns-in-Some-clause-space g c =
 
 pub returns-in-Some-clause-following : goal.returns-in-Some-clause-following
 returns-in-Some-clause-following g c =
-    let left : IsBoxEdge c.take_in_leaf-item.new.self c.in-Some.left
-    × (box_place c.take_in_leaf-item.new.self c.in-Some.left + 1
-    ≡ box_place c.args.self.now c.args.edge) =
-    rw c.in-Some.is at c.take_in_leaf-item.ensures.edge in
+    let left = rw c.in-Some.is at c.take_in_leaf-item.ensures.edge in
     let same : box_place c.take_in_leaf-item.new.self c.in-Some.left
     ≡ box_place c.args.self.now c.args.edge - 1 = omega (arith, left.1) in
     rw same at c.following.ensures
@@ -85,23 +79,14 @@ unreachable-requires g c =
 pub home-home-requires : goal.home-home-requires
 home-home-requires g c =
     let behind = tree_behind c.requires.edge (omega (arith, c.if-edge-gt0.false)) in
-    let left : IsBoxEdge c.take_in_leaf-next.new.self c.in-Some-left.left
-    × (box_place c.take_in_leaf-next.new.self c.in-Some-left.left + 1
-    ≡ box_place c.args.self.now
-    (record { leaf = c.args.edge.leaf; path = c.args.edge.path; index = 1 })) =
-    rw c.in-Some-left.is at c.take_in_leaf-next.ensures.edge in
+    let left = rw c.in-Some-left.is at c.take_in_leaf-next.ensures.edge in
     record { edge = left.0; some = omega (arith, left.1, behind.1, c.requires.some) }
 
 pub replace_item-item-requires : goal.replace_item-item-requires
 replace_item-item-requires g c =
-    let s = c.args.self.now in
     let t = c.take_in_leaf-next.new.self in
     let behind = tree_behind c.requires.edge (omega (arith, c.if-edge-gt0.false)) in
-    let left : IsBoxEdge c.take_in_leaf-next.new.self c.in-Some-left.left
-    × (box_place c.take_in_leaf-next.new.self c.in-Some-left.left + 1
-    ≡ box_place c.args.self.now
-    (record { leaf = c.args.edge.leaf; path = c.args.edge.path; index = 1 })) =
-    rw c.in-Some-left.is at c.take_in_leaf-next.ensures.edge in
+    let left = rw c.in-Some-left.is at c.take_in_leaf-next.ensures.edge in
     let good : IsGood t c.in-Some-left.left =
     record { is = left.0; some = omega (arith, left.1, behind.1, c.requires.some) } in
     let home = good_home good in
@@ -112,11 +97,7 @@ replaced_so : (g : Over) (c : After-replace_item-item g)
     c.replace_item-item.new.self c.in-Some-left.left
 replaced_so g c =
     let behind = tree_behind c.requires.edge (omega (arith, c.if-edge-gt0.false)) in
-    let left : IsBoxEdge c.take_in_leaf-next.new.self c.in-Some-left.left
-    × (box_place c.take_in_leaf-next.new.self c.in-Some-left.left + 1
-    ≡ box_place c.args.self.now
-    (record { leaf = c.args.edge.leaf; path = c.args.edge.path; index = 1 })) =
-    rw c.in-Some-left.is at c.take_in_leaf-next.ensures.edge in
+    let left = rw c.in-Some-left.is at c.take_in_leaf-next.ensures.edge in
     replaced c.args.self.now c.take_in_leaf-next.new.self c.args.edge
     (record { leaf = c.args.edge.leaf; path = c.args.edge.path; index = 1 }) c.in-Some-left.left
     c.requires.some (edge_within behind.0) behind.1 c.take_in_leaf-next.ensures.list left.0 left.1
@@ -132,11 +113,7 @@ invariant_of-self g c =
 pub returns-clause-removed : goal.returns-clause-removed
 returns-clause-removed g c =
     let behind = tree_behind c.requires.edge (omega (arith, c.if-edge-gt0.false)) in
-    let left : IsBoxEdge c.take_in_leaf-next.new.self c.in-Some-left.left
-    × (box_place c.take_in_leaf-next.new.self c.in-Some-left.left + 1
-    ≡ box_place c.args.self.now
-    (record { leaf = c.args.edge.leaf; path = c.args.edge.path; index = 1 })) =
-    rw c.in-Some-left.is at c.take_in_leaf-next.ensures.edge in
+    let left = rw c.in-Some-left.is at c.take_in_leaf-next.ensures.edge in
     replaced_item c.args.self.now c.take_in_leaf-next.new.self c.args.edge
     (record { leaf = c.args.edge.leaf; path = c.args.edge.path; index = 1 }) c.in-Some-left.left
     c.requires.some (edge_within behind.0) behind.1 c.take_in_leaf-next.ensures.list left.0 left.1
@@ -159,9 +136,5 @@ returns-clause-space g c =
 pub returns-clause-following : goal.returns-clause-following
 returns-clause-following g c =
     let so = replaced_so g (goal.at.returns-clause-following g c).After-replace_item-item in
-    let left : IsBoxEdge c.take_in_leaf-next.new.self c.in-Some-left.left
-    × (box_place c.take_in_leaf-next.new.self c.in-Some-left.left + 1
-    ≡ box_place c.args.self.now
-    (record { leaf = c.args.edge.leaf; path = c.args.edge.path; index = 1 })) =
-    rw c.in-Some-left.is at c.take_in_leaf-next.ensures.edge in
+    let left = rw c.in-Some-left.is at c.take_in_leaf-next.ensures.edge in
     (record { some = left.0.some; edge = so.edge }, so.place_is)

@@ -204,7 +204,6 @@ returns-clause-capacity g c =
 
 pub returns-clause-edge : goal.returns-clause-edge
 returns-clause-edge g c =
-    let s = c.args.self.now in
     let some : 0 < c.shrink_root.result.root.levels = omega (arith, c.if-self-eq0.false) in (
       record { some = some; edge = c.shrink_root.ensures.edge some },
       omega (arith, c.shrink_root.ensures.place some, c.remove_below-taken.ensures.place),

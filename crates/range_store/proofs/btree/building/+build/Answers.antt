@@ -3,15 +3,14 @@ use Rattle.std.specs.Vec.Iter.{into_iter_items}
 use Rattle.range_store.specs.Building.{IsBuilt}
 use Rattle.range_store.specs.Nodes.{items_below}
 use Rattle.range_store.specs.declared.btree.nodes.TheConstants.{CAPACITY}
-use Rattle.range_store.proofs.Building.{begun_above, built_child, child_level, child_listed, child_more, listed_above, node_fits, node_items, node_there, taken_more}
+use Rattle.range_store.proofs.Building.{begun_above, built_child, child_level, child_listed, child_more, listed_above, node_fits, node_length, node_there, taken_more}
 use Rattle.range_store.proofs.Shares.{all_shared, branch_is, cut_enough, first_share, leaf_cut, leaf_width, next_share}
 use Rattle.range_store.proofs.btree.building.+build.Goals as goal
 
 pub build_leaf-requires : goal.build_leaf-requires
 build_leaf-requires g t c =
-    let one = leaf_width c.args.width c.args.below c.if-below-eq0.true c.requires.width in
-    let cut = leaf_cut c.args.width c.args.below c.args.count c.if-below-eq0.true c.requires.width
-    in
+    let one = leaf_width c.if-below-eq0.true c.requires.width in
+    let cut = leaf_cut c.args.count c.if-below-eq0.true c.requires.width in
     record {
       least = omega (arith, one, c.requires.least);
       most = omega (arith, one, c.requires.most);
@@ -21,8 +20,7 @@ build_leaf-requires g t c =
 
 pub returns-then-below-eq0-clause-built : goal.returns-then-below-eq0-clause-built
 returns-then-below-eq0-clause-built g t c =
-    let cut = leaf_cut c.args.width c.args.below c.args.count c.if-below-eq0.true c.requires.width
-    in
+    let cut = leaf_cut c.args.count c.if-below-eq0.true c.requires.width in
     rw (cut, c.if-below-eq0.true) c.build_leaf.ensures.built
 
 pub returns-then-below-eq0-clause-list : goal.returns-then-below-eq0-clause-list
@@ -34,11 +32,9 @@ returns-then-below-eq0-clause-size g t c = rw c.if-below-eq0.true c.build_leaf.e
 pub build-first-requires : goal.build-first-requires
 build-first-requires g t c κs inside =
     let some : 0 < c.args.below = omega (arith, c.if-below-eq0.false) in
-    let branch =
-    branch_is c.args.width c.args.below c.args.count some c.requires.width c.requires.least
-    c.requires.most in
+    let branch = branch_is some c.requires.width c.requires.least c.requires.most in
     let share = first_share branch in
-    let enough = cut_enough _ _ branch.some share.enough in (
+    let enough = cut_enough branch.some share.enough in (
       omega (arith, some),
       (
         inside,
@@ -61,33 +57,22 @@ build-first-requires g t c κs inside =
 pub store_above-number-requires : goal.store_above-number-requires
 store_above-number-requires g t c =
     let some : 0 < c.args.below = omega (arith, c.if-below-eq0.false) in
-    let branch =
-    branch_is c.args.width c.args.below c.args.count some c.requires.width c.requires.least
-    c.requires.most in
+    let branch = branch_is some c.requires.width c.requires.least c.requires.most in
     let share = first_share branch in
-    let child = built_child c.args.below _ some c.build-first.ensures.built
-    (cut_enough _ _ branch.some share.enough) c.build-first.ensures.size in
-    omega (
-      arith,
-      child.few,
-      child.moved.capacity,
-      c.requires.room,
-      share.within,
-      branch.within,
-    )
+    let enough = cut_enough branch.some share.enough in
+    let child = built_child c.args.below some c.build-first.ensures.built enough
+    c.build-first.ensures.size in
+    omega (arith, child.few, child.moved.capacity, c.requires.room, share.within, branch.within)
 
 pub loop-index-init : goal.loop-index-init
 loop-index-init g t c =
     let some : 0 < c.args.below = omega (arith, c.if-below-eq0.false) in
-    let branch =
-    branch_is c.args.width c.args.below c.args.count some c.requires.width c.requires.least
-    c.requires.most in
+    let branch = branch_is some c.requires.width c.requires.least c.requires.most in
     let share = first_share branch in
-    let old = c.args.nodes.now in
     let first = c.build-first.new.nodes in
-    let new = c.store_above-number.new.self in
-    let child = built_child c.args.below _ some c.build-first.ensures.built
-    (cut_enough _ _ branch.some share.enough) c.build-first.ensures.size in
+    let enough = cut_enough branch.some share.enough in
+    let child = built_child c.args.below some c.build-first.ensures.built enough
+    c.build-first.ensures.size in
     let listed = listed_above c.args.below c.build-first.result some child.moved child.shaped
     c.store_above-number.ensures in
     let none : c.args.count / c.args.width - 0 ≡ c.args.count / c.args.width = omega arith in
@@ -98,8 +83,7 @@ loop-index-init g t c =
           c.build-first.ensures.list
           ∙ ap (λ zs. zs ++ into_iter_items c.build-first.new.items)
           (child_level first c.args.below c.build-first.result some ∙ sym listed);
-      size =
-          omega (arith, ap length listed, child.size, share.within, branch.within);
+      size = omega (arith, ap length listed, child.size, share.within, branch.within);
       shares = rw none share.others_can;
       room =
           omega (
@@ -131,10 +115,8 @@ pub build-child-requires : goal.build-child-requires
 build-child-requires g t c κs inside =
     let some : 0 < c.args.below = omega (arith, c.if-below-eq0.false) in
     let was = c.loop-index.invariant in
-    let branch =
-    branch_is c.args.width c.args.below c.args.count some c.requires.width c.requires.least
-    c.requires.most in
-    let share = next_share _ c.loop-index.index c.loop-index-test.true was.shares in (
+    let branch = branch_is some c.requires.width c.requires.least c.requires.most in
+    let share = next_share c.loop-index.index c.loop-index-test.true was.shares in (
       omega (arith, some),
       (
         inside,
@@ -156,12 +138,7 @@ build-child-requires g t c κs inside =
                   share.within,
                   c.loop-index-test.true,
                 ),
-                omega (
-                  arith,
-                  was.room,
-                  share.within,
-                  cut_enough _ _ branch.some share.enough,
-                ),
+                omega (arith, was.room, share.within, cut_enough branch.some share.enough),
               ),
             ),
           ),
@@ -173,17 +150,12 @@ pub put-requires : goal.put-requires
 put-requires g t c =
     let some : 0 < c.args.below = omega (arith, c.if-below-eq0.false) in
     let was = c.loop-index.invariant in
-    let branch =
-    branch_is c.args.width c.args.below c.args.count some c.requires.width c.requires.least
-    c.requires.most in
-    let share = next_share _ c.loop-index.index c.loop-index-test.true was.shares in
-    let old = c.args.nodes.now in
-    let now = c.loop-index.nodes in
-    let new = c.build-child.new.nodes in
-    let child = built_child c.args.below _ some c.build-child.ensures.built
-    (cut_enough _ _ branch.some share.enough) c.build-child.ensures.size in
-    let number = c.store_above-number.result in
-    let items = node_items c.build-child.result some was.built child.moved in
+    let branch = branch_is some c.requires.width c.requires.least c.requires.most in
+    let share = next_share c.loop-index.index c.loop-index-test.true was.shares in
+    let enough = cut_enough branch.some share.enough in
+    let child = built_child c.args.below some c.build-child.ensures.built enough
+    c.build-child.ensures.size in
+    let items = node_length c.build-child.result some was.built child.moved in
     record {
       present = node_there c.build-child.result some was.built child.moved;
       within = omega (arith, items);
@@ -193,22 +165,20 @@ put-requires g t c =
 
 pub overflow_sub-rest : goal.overflow_sub-rest
 overflow_sub-rest g t c =
-    (branch_is c.args.width c.args.below c.args.count (omega (arith, c.if-below-eq0.false))
-    c.requires.width c.requires.least c.requires.most).within
+    let some : 0 < c.args.below = omega (arith, c.if-below-eq0.false) in
+    (branch_is some c.requires.width c.requires.least c.requires.most).within
 
 pub loop-index-preserved : goal.loop-index-preserved
 loop-index-preserved g t c =
     let some : 0 < c.args.below = omega (arith, c.if-below-eq0.false) in
     let was = c.loop-index.invariant in
-    let branch =
-    branch_is c.args.width c.args.below c.args.count some c.requires.width c.requires.least
-    c.requires.most in
-    let share = next_share _ c.loop-index.index c.loop-index-test.true was.shares in
-    let old = c.args.nodes.now in
+    let branch = branch_is some c.requires.width c.requires.least c.requires.most in
+    let share = next_share c.loop-index.index c.loop-index-test.true was.shares in
     let now = c.loop-index.nodes in
     let new = c.build-child.new.nodes in
-    let child = built_child c.args.below _ some c.build-child.ensures.built
-    (cut_enough _ _ branch.some share.enough) c.build-child.ensures.size in
+    let enough = cut_enough branch.some share.enough in
+    let child = built_child c.args.below some c.build-child.ensures.built enough
+    c.build-child.ensures.size in
     let number = c.store_above-number.result in
     let room : c.loop-index.index < CAPACITY =
     omega (arith, branch.cut.few, c.loop-index-test.true) in
@@ -256,7 +226,7 @@ returns g t c =
     let was = c.loop-index.invariant in
     let all : c.loop-index.index ≡ c.args.count / c.args.width =
     omega (arith, c.loop-index-test.false) in
-    let nothing = all_shared _ c.loop-index.index all was.shares in
+    let nothing = all_shared c.loop-index.index all was.shares in
     record {
       built =
           subst (IsBuilt c.args.nodes.now c.loop-index.nodes c.args.below

@@ -1,16 +1,16 @@
-use Rattle.std.proofs.Common.{◌≡◌, ℕ, ◌<◌, ◌≤◌, ◌+◌, ◌-◌, length, get_or, refl, ap, ◌∙◌, arith, Some, None}
+use Rattle.std.proofs.Common.{◌≡◌, ℕ, ◌<◌, ◌≤◌, ◌+◌, ◌-◌, length, refl, ap, ◌∙◌, arith, Some, None}
 use Rattle.std.specs.List.{insert}
 use Rattle.std.proofs.lemmas.List.Edits.{length-insert}
-use Rattle.range_store.specs.Heap.{node_of, items_of, children_of}
+use Rattle.range_store.specs.Heap.{items_of, node_items, node_child}
 use Rattle.range_store.specs.declared.btree.nodes.TheConstants.{CAPACITY}
 use Rattle.range_store.specs.Edges.{turn, inside, place}
 use Rattle.range_store.proofs.Edges.{path_small, leaf_index, leaf_place}
 use Rattle.range_store.proofs.Below.{children_length}
 use Rattle.range_store.proofs.Room.{HasTreeRoom-child}
 use Rattle.range_store.proofs.Seats.{seat_alone, seat_inside, seat_side}
-use Rattle.range_store.proofs.Paths.{level_of_children, child_within, below_kid, below_turn, below_inside, below_here, below_most}
+use Rattle.range_store.proofs.Paths.{level_of_children, child_within, below_kid, below_turn, below_inside, below_here}
 use Rattle.range_store.proofs.Leaves.{leaf_content, leaf_moved, leaf_listed, leaf_longer, leaf_seat, leaf_seat_place}
-use Rattle.range_store.proofs.Growing.{kid_owned, none_replaces, none_edge, some_items, some_children, grown_kept, grown_moved, grown_content, grown_listed, grown_longer, grown_seat, content_room, settled_replaces}
+use Rattle.range_store.proofs.Growing.{kid_owned, grows_below, none_replaces, none_edge, some_items, some_children, grown_kept, grown_moved, grown_content, grown_listed, grown_longer, grown_seat, content_room, settled_replaces}
 use Rattle.range_store.proofs.btree.insertion.+insert_below.Goals as goal
 
 pub overflow_add-edge : goal.overflow_add-edge
@@ -28,8 +28,7 @@ put_or_cut-requires g t c =
     let shaped = rw c.if-below-eq0.true at c.requires.shaped in
     let owned = rw c.if-below-eq0.true at c.requires.owned in
     let low = leaf_index s c.args.number c.args.edge (rw c.if-below-eq0.true at c.requires.edge) in
-    let long =
-    length-insert (items_of (node_of s c.args.number)) c.args.edge.index c.args.item low in
+    let long = length-insert (node_items s c.args.number) c.args.edge.index c.args.item low in
     let content = leaf_content c.args.edge.index c.args.item shaped owned in
     let seat = leaf_seat s _ _ (c.args.edge.index + 1) c.args.edge (omega (arith, low, long)) in
     record {
@@ -48,12 +47,9 @@ put_or_cut-requires g t c =
 pub returns-then-below-eq0-clause-replaces : goal.returns-then-below-eq0-clause-replaces
 returns-then-below-eq0-clause-replaces g t c =
     let shaped = rw c.if-below-eq0.true at c.requires.shaped in
-    let low =
-    leaf_index c.args.nodes.now c.args.number c.args.edge
-    (rw c.if-below-eq0.true at c.requires.edge) in
-    let long =
-    length-insert (items_of (node_of c.args.nodes.now c.args.number)) c.args.edge.index
-    c.args.item low in
+    let s = c.args.nodes.now in
+    let low = leaf_index s c.args.number c.args.edge (rw c.if-below-eq0.true at c.requires.edge) in
+    let long = length-insert (node_items s c.args.number) c.args.edge.index c.args.item low in
     rw (c.if-below-eq0.true, leaf_place c.args.nodes.now c.args.number c.args.edge)
     (settled_replaces _ (leaf_moved c.args.edge.index c.args.item shaped)
     (leaf_listed c.args.edge.index c.args.item shaped) (omega (arith, long))
@@ -67,10 +63,11 @@ returns-then-below-eq0-clause-place g t c =
 
 pub child_at-child-requires : goal.child_at-child-requires
 child_at-child-requires g t c =
+    let low = below_turn c.if-below-eq0.false c.requires.shaped c.args.edge c.requires.edge in
+    let within = child_within c.if-below-eq0.false c.requires.shaped _ low in
     record {
       present = c.requires.shaped.node.present;
-      within = rw c.first_turn-index.ensures (child_within c.if-below-eq0.false c.requires.shaped _
-          (below_turn c.if-below-eq0.false c.requires.shaped c.args.edge c.requires.edge));
+      within = rw c.first_turn-index.ensures within;
     }
 
 pub insert_below-inserted-requires : goal.insert_below-inserted-requires
@@ -95,52 +92,30 @@ insert_below-inserted-requires g t c κs inside =
 
 pub seen_above-requires-clause-index : goal.seen_above-requires-clause-index
 seen_above-requires-clause-index g t c =
-    omega (
-      arith,
-      c.first_turn-index.ensures,
-      below_turn c.if-below-eq0.false c.requires.shaped c.args.edge c.requires.edge,
-      c.requires.shaped.node.fits,
-    )
+    let low = below_turn c.if-below-eq0.false c.requires.shaped c.args.edge c.requires.edge in
+    omega (arith, c.first_turn-index.ensures, low, c.requires.shaped.node.fits)
 
 pub returns-in-None : goal.returns-in-None
 returns-in-None g t c =
-    let i = turn c.args.edge in
-    let low = below_turn c.if-below-eq0.false c.requires.shaped c.args.edge c.requires.edge in
-    let rest =
-    place c.args.nodes.now (c.args.below - 1)
-    (get_or (children_of (node_of c.args.nodes.now c.args.number)) (turn c.args.edge) 0)
-    (inside c.args.edge) in
-    let within = below_most c.if-below-eq0.false c.requires.shaped i (inside c.args.edge) low
-    (below_inside c.if-below-eq0.false c.requires.shaped c.args.edge c.requires.edge) in
-    let child =
-    rw c.in-None.is at
-    (rw (c.child_at-child.ensures, c.first_turn-index.ensures, c.seen_inside.ensures) at
-    c.insert_below-inserted.ensures.replaces) in
-    let seat =
-    rw c.in-None.is at (rw (c.child_at-child.ensures, c.first_turn-index.ensures) at
-    c.insert_below-inserted.ensures.edge) in
-    let at =
-    rw c.in-None.is at
-    (rw (c.child_at-child.ensures, c.first_turn-index.ensures, c.seen_inside.ensures) at
-    c.insert_below-inserted.ensures.place) in
-    let edge = none_edge i rest c.args.item c.if-below-eq0.false c.requires.shaped c.requires.owned
-    low within child c.insert_below-inserted.result.side c.insert_below-inserted.result.edge
-    c.seen_above.result (c.seen_above.ensures.turn ∙ c.first_turn-index.ensures)
-    c.seen_above.ensures.inside seat in
+    let child = rw (c.child_at-child.ensures, c.first_turn-index.ensures, c.seen_inside.ensures) at
+    (rw c.in-None.is at c.insert_below-inserted.ensures.replaces) in
+    let grows = grows_below c.if-below-eq0.false c.requires.shaped c.requires.owned c.args.edge
+    c.requires.edge child in
+    let seat = rw (c.child_at-child.ensures, c.first_turn-index.ensures, c.in-None.is) at
+    c.insert_below-inserted.ensures.edge in
+    let at = rw (c.child_at-child.ensures, c.first_turn-index.ensures, c.seen_inside.ensures) at
+    (rw c.in-None.is at c.insert_below-inserted.ensures.place) in
+    let here = below_here c.if-below-eq0.false c.requires.shaped c.args.edge in
+    let edge = none_edge grows c.insert_below-inserted.result.side
+    c.insert_below-inserted.result.edge c.seen_above.result
+    (c.seen_above.ensures.turn ∙ c.first_turn-index.ensures) c.seen_above.ensures.inside seat in
     let alone = seat_alone c.insert_below-inserted.new.nodes c.args.below c.args.number
     c.seen_above.result None edge.0 in
     record {
-      replaces = rw (below_here c.if-below-eq0.false c.requires.shaped c.args.edge) (none_replaces i rest
-          c.args.item c.if-below-eq0.false c.requires.shaped c.requires.owned low within child);
+      replaces = rw here (none_replaces grows);
       left_whole = λ few. refl;
       edge = alone.0;
-      place = omega (
-        arith,
-        alone.1,
-        edge.1,
-        at,
-        below_here c.if-below-eq0.false c.requires.shaped c.args.edge,
-      );
+      place = omega (arith, alone.1, edge.1, at, here);
     }
 
 pub seen_above-requires-clause-path : goal.seen_above-requires-clause-path
@@ -168,133 +143,65 @@ over now was more full longer same = omega arith
 
 pub put_or_cut-requires-in-Some : goal.put_or_cut-requires-in-Some
 put_or_cut-requires-in-Some g t c =
-    let inner : 0 < c.args.below = omega (arith, c.if-below-eq0.false) in
-    let s = c.args.nodes.now in
-    let u = c.insert_below-inserted.new.nodes in
     let i = turn c.args.edge in
-    let low = below_turn c.if-below-eq0.false c.requires.shaped c.args.edge c.requires.edge in
-    let rest =
-    place s (c.args.below - 1)
-    (get_or (children_of (node_of s c.args.number)) (turn c.args.edge) 0)
-    (inside c.args.edge) in
-    let within = below_most c.if-below-eq0.false c.requires.shaped i (inside c.args.edge) low
-    (below_inside c.if-below-eq0.false c.requires.shaped c.args.edge c.requires.edge) in
-    let child =
-    rw c.in-Some.is at
-    (rw (c.child_at-child.ensures, c.first_turn-index.ensures, c.seen_inside.ensures) at
-    c.insert_below-inserted.ensures.replaces) in
-    let kept = grown_kept i rest c.args.item c.if-below-eq0.false c.requires.shaped c.requires.owned
-    low within child in
-    let items = some_items i rest c.args.item c.in-Some.cut c.if-below-eq0.false c.requires.shaped
-    c.requires.owned low within child in
-    let children = some_children i rest c.args.item c.in-Some.cut c.if-below-eq0.false
-    c.requires.shaped c.requires.owned low within child in
-    let content = grown_content i rest c.args.item c.if-below-eq0.false c.requires.shaped
-    c.requires.owned low within child in
-    let long = length-insert (items_of (node_of s c.args.number)) i c.in-Some.cut.middle low in
-    let moved = grown_moved i rest c.args.item c.if-below-eq0.false c.requires.shaped
-    c.requires.owned low within child in
-    let longer = grown_longer i rest c.args.item c.if-below-eq0.false c.requires.shaped
-    c.requires.owned low within child in
-    let seat =
-    rw c.in-Some.is at (rw (c.child_at-child.ensures, c.first_turn-index.ensures) at
-    c.insert_below-inserted.ensures.edge) in
-    let up = (grown_seat i rest c.args.item c.if-below-eq0.false c.requires.shaped c.requires.owned
-    low within child c.insert_below-inserted.result.side c.insert_below-inserted.result.edge seat).0
-    in
+    let child = rw (c.child_at-child.ensures, c.first_turn-index.ensures, c.seen_inside.ensures) at
+    (rw c.in-Some.is at c.insert_below-inserted.ensures.replaces) in
+    let grows = grows_below c.if-below-eq0.false c.requires.shaped c.requires.owned c.args.edge
+    c.requires.edge child in
+    let seat = rw (c.child_at-child.ensures, c.first_turn-index.ensures, c.in-Some.is) at
+    c.insert_below-inserted.ensures.edge in
+    let kept = grown_kept grows in
+    let long = length-insert (node_items c.args.nodes.now c.args.number) i c.in-Some.cut.middle
+    grows.low in
+    let up = grown_seat grows c.insert_below-inserted.result.side
+    c.insert_below-inserted.result.edge seat in
     record {
       present = rw kept c.requires.shaped.node.present;
-      within = rw kept (omega (arith, low, c.first_turn-index.ensures));
+      within = rw kept (omega (arith, grows.low, c.first_turn-index.ensures));
       fits = rw kept c.requires.shaped.node.fits;
-      child = rw kept (children_length inner c.requires.shaped);
-      content = rw (c.first_turn-index.ensures, ← items, ← children) content;
-      room = (λ full. content_room moved content longer c.requires.room
-          (over _ _ _ full long (ap (λ node. length (items_of node)) kept)));
+      child = rw kept (children_length (omega (arith, c.if-below-eq0.false)) c.requires.shaped);
+      content = rw (c.first_turn-index.ensures, ← some_items grows, ← some_children grows)
+          (grown_content grows);
+      room = (λ full. content_room (grown_moved grows) (grown_content grows) (grown_longer grows)
+          c.requires.room (over _ _ _ full long (ap (λ node. length (items_of node)) kept)));
       deep = c.requires.deep;
-      seat = rw (c.first_turn-index.ensures, ← items, ← children) up;
+      seat = rw (c.first_turn-index.ensures, ← some_items grows, ← some_children grows) up.0;
     }
 
 pub returns-in-Some-clause-replaces : goal.returns-in-Some-clause-replaces
 returns-in-Some-clause-replaces g t c =
     let i = turn c.args.edge in
-    let low = below_turn c.if-below-eq0.false c.requires.shaped c.args.edge c.requires.edge in
-    let rest =
-    place c.args.nodes.now (c.args.below - 1)
-    (get_or (children_of (node_of c.args.nodes.now c.args.number)) (turn c.args.edge) 0)
-    (inside c.args.edge) in
-    let within = below_most c.if-below-eq0.false c.requires.shaped i (inside c.args.edge) low
-    (below_inside c.if-below-eq0.false c.requires.shaped c.args.edge c.requires.edge) in
-    let child =
-    rw c.in-Some.is at
-    (rw (c.child_at-child.ensures, c.first_turn-index.ensures, c.seen_inside.ensures) at
-    c.insert_below-inserted.ensures.replaces) in
-    let items = some_items i rest c.args.item c.in-Some.cut c.if-below-eq0.false c.requires.shaped
-    c.requires.owned low within child in
-    let children = some_children i rest c.args.item c.in-Some.cut c.if-below-eq0.false
-    c.requires.shaped c.requires.owned low within child in
-    let long =
-    length-insert (items_of (node_of c.args.nodes.now c.args.number)) i c.in-Some.cut.middle
-    low in
-    let settles =
-    rw (c.first_turn-index.ensures, ← items, ← children) at
+    let child = rw (c.child_at-child.ensures, c.first_turn-index.ensures, c.seen_inside.ensures) at
+    (rw c.in-Some.is at c.insert_below-inserted.ensures.replaces) in
+    let grows = grows_below c.if-below-eq0.false c.requires.shaped c.requires.owned c.args.edge
+    c.requires.edge child in
+    let long = length-insert (node_items c.args.nodes.now c.args.number) i c.in-Some.cut.middle
+    grows.low in
+    let settles = rw (c.first_turn-index.ensures, ← some_items grows, ← some_children grows) at
     c.put_or_cut-in-Some.ensures.settles in
     rw (below_here c.if-below-eq0.false c.requires.shaped c.args.edge) (settled_replaces _
-    (grown_moved i rest c.args.item c.if-below-eq0.false c.requires.shaped c.requires.owned low
-    within child) (grown_listed i rest c.args.item c.if-below-eq0.false c.requires.shaped
-    c.requires.owned low within child) (omega (arith, long)) settles)
+    (grown_moved grows) (grown_listed grows) (omega (arith, long)) settles)
 
 pub returns-in-Some-clause-left_whole : goal.returns-in-Some-clause-left_whole
 returns-in-Some-clause-left_whole g t c =
-    let i = turn c.args.edge in
-    let low = below_turn c.if-below-eq0.false c.requires.shaped c.args.edge c.requires.edge in
-    let rest =
-    place c.args.nodes.now (c.args.below - 1)
-    (get_or (children_of (node_of c.args.nodes.now c.args.number)) (turn c.args.edge) 0)
-    (inside c.args.edge) in
-    let within = below_most c.if-below-eq0.false c.requires.shaped i (inside c.args.edge) low
-    (below_inside c.if-below-eq0.false c.requires.shaped c.args.edge c.requires.edge) in
-    let child =
-    rw c.in-Some.is at
-    (rw (c.child_at-child.ensures, c.first_turn-index.ensures, c.seen_inside.ensures) at
-    c.insert_below-inserted.ensures.replaces) in
-    λ few. c.put_or_cut-in-Some.ensures.left_whole (rw (grown_kept i rest c.args.item
-    c.if-below-eq0.false c.requires.shaped c.requires.owned low within child) few)
+    let child = rw (c.child_at-child.ensures, c.first_turn-index.ensures, c.seen_inside.ensures) at
+    (rw c.in-Some.is at c.insert_below-inserted.ensures.replaces) in
+    let grows = grows_below c.if-below-eq0.false c.requires.shaped c.requires.owned c.args.edge
+    c.requires.edge child in
+    λ few. c.put_or_cut-in-Some.ensures.left_whole (rw (grown_kept grows) few)
 
 pub returns-in-Some-clause-place : goal.returns-in-Some-clause-place
 returns-in-Some-clause-place g t c =
-    let i = turn c.args.edge in
-    let low = below_turn c.if-below-eq0.false c.requires.shaped c.args.edge c.requires.edge in
-    let rest =
-    place c.args.nodes.now (c.args.below - 1)
-    (get_or (children_of (node_of c.args.nodes.now c.args.number)) (turn c.args.edge) 0)
-    (inside c.args.edge) in
-    let within = below_most c.if-below-eq0.false c.requires.shaped i (inside c.args.edge) low
-    (below_inside c.if-below-eq0.false c.requires.shaped c.args.edge c.requires.edge) in
-    let child =
-    rw c.in-Some.is at
-    (rw (c.child_at-child.ensures, c.first_turn-index.ensures, c.seen_inside.ensures) at
-    c.insert_below-inserted.ensures.replaces) in
-    let items = some_items i rest c.args.item c.in-Some.cut c.if-below-eq0.false c.requires.shaped
-    c.requires.owned low within child in
-    let children = some_children i rest c.args.item c.in-Some.cut c.if-below-eq0.false
-    c.requires.shaped c.requires.owned low within child in
-    let seat =
-    rw c.in-Some.is at (rw (c.child_at-child.ensures, c.first_turn-index.ensures) at
-    c.insert_below-inserted.ensures.edge) in
-    let at =
-    rw c.in-Some.is at
-    (rw (c.child_at-child.ensures, c.first_turn-index.ensures, c.seen_inside.ensures) at
-    c.insert_below-inserted.ensures.place) in
-    let up = (grown_seat i rest c.args.item c.if-below-eq0.false c.requires.shaped c.requires.owned
-    low within child c.insert_below-inserted.result.side c.insert_below-inserted.result.edge seat).1
-    in
-    let here =
-    rw (c.first_turn-index.ensures, ← items, ← children) at
+    let child = rw (c.child_at-child.ensures, c.first_turn-index.ensures, c.seen_inside.ensures) at
+    (rw c.in-Some.is at c.insert_below-inserted.ensures.replaces) in
+    let grows = grows_below c.if-below-eq0.false c.requires.shaped c.requires.owned c.args.edge
+    c.requires.edge child in
+    let seat = rw (c.child_at-child.ensures, c.first_turn-index.ensures, c.in-Some.is) at
+    c.insert_below-inserted.ensures.edge in
+    let at = rw (c.child_at-child.ensures, c.first_turn-index.ensures, c.seen_inside.ensures) at
+    (rw c.in-Some.is at c.insert_below-inserted.ensures.place) in
+    let up = grown_seat grows c.insert_below-inserted.result.side
+    c.insert_below-inserted.result.edge seat in
+    let here = rw (c.first_turn-index.ensures, ← some_items grows, ← some_children grows) at
     c.put_or_cut-in-Some.ensures.place in
-    here
-    ∙ omega (
-      arith,
-      up,
-      at,
-      below_here c.if-below-eq0.false c.requires.shaped c.args.edge,
-    )
+    here ∙ omega (arith, up.1, at, below_here c.if-below-eq0.false c.requires.shaped c.args.edge)

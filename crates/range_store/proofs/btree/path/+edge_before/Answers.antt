@@ -1,6 +1,6 @@
-use Rattle.std.proofs.Common.{◌≡◌, ◌+◌, ◌-◌, ◌<◌, length, map, refl, ◌∙◌, arith}
-use Rattle.range_store.specs.Heap.{node_of, items_of, children_of}
-use Rattle.range_store.specs.Nodes.{before, items_below}
+use Rattle.std.proofs.Common.{◌≡◌, ◌+◌, ◌-◌, ◌<◌, length, refl, ◌∙◌, arith}
+use Rattle.range_store.specs.Heap.{node_items}
+use Rattle.range_store.specs.Nodes.{before_child}
 use Rattle.range_store.specs.Edges.{turn}
 use Rattle.range_store.proofs.Edges.{leaf_edge, leaf_place, leaf_index, path_small}
 use Rattle.range_store.proofs.Paths.{level_of_children, child_within, below_kid, below_turn, below_inside, below_edge, below_place, below_here, before_next}
@@ -8,10 +8,11 @@ use Rattle.range_store.proofs.btree.path.+edge_before.Goals as goal
 
 pub child_at-child-requires : goal.child_at-child-requires
 child_at-child-requires g t c =
+    let low = below_turn c.if-below-eq0.false c.requires.shaped c.args.edge c.requires.edge in
+    let within = child_within c.if-below-eq0.false c.requires.shaped _ low in
     record {
       present = c.requires.shaped.node.present;
-      within = rw c.first_turn-index.ensures (child_within c.if-below-eq0.false c.requires.shaped _
-          (below_turn c.if-below-eq0.false c.requires.shaped c.args.edge c.requires.edge));
+      within = rw c.first_turn-index.ensures within;
     }
 
 pub edge_before-requires : goal.edge_before-requires
@@ -29,12 +30,8 @@ edge_before-requires g t c κs within =
 
 pub seen_above-requires-clause-index : goal.seen_above-requires-clause-index
 seen_above-requires-clause-index g t c =
-    omega (
-      arith,
-      c.first_turn-index.ensures,
-      below_turn c.if-below-eq0.false c.requires.shaped c.args.edge c.requires.edge,
-      c.requires.shaped.node.fits,
-    )
+    let low = below_turn c.if-below-eq0.false c.requires.shaped c.args.edge c.requires.edge in
+    omega (arith, c.first_turn-index.ensures, low, c.requires.shaped.node.fits)
 
 pub seen_above-requires-clause-path : goal.seen_above-requires-clause-path
 seen_above-requires-clause-path g t c =
@@ -43,13 +40,8 @@ seen_above-requires-clause-path g t c =
 
 pub returns-in-Some : goal.returns-in-Some
 returns-in-Some g t c =
-    let found =
-    rw (
-      c.in-Some.is,
-      c.child_at-child.ensures,
-      c.first_turn-index.ensures,
-      c.seen_inside.ensures,
-    ) at c.edge_before.ensures in
+    let found = rw (c.child_at-child.ensures, c.first_turn-index.ensures, c.seen_inside.ensures) at
+    (rw c.in-Some.is at c.edge_before.ensures) in
     let low = below_turn c.if-below-eq0.false c.requires.shaped c.args.edge c.requires.edge in
     let at = c.seen_above.ensures.turn ∙ c.first_turn-index.ensures in
     let place = below_place c.if-below-eq0.false c.requires.shaped (turn c.args.edge)
@@ -57,12 +49,7 @@ returns-in-Some g t c =
     in (
       below_edge c.if-below-eq0.false c.requires.shaped (turn c.args.edge) c.in-Some.earlier _ at
           c.seen_above.ensures.inside low found.0,
-      omega (
-        arith,
-        place,
-        below_here c.if-below-eq0.false c.requires.shaped c.args.edge,
-        found.1,
-      ),
+      omega (arith, place, below_here c.if-below-eq0.false c.requires.shaped c.args.edge, found.1),
     )
 
 pub returns-then-edge-eq0 : goal.returns-then-edge-eq0
@@ -88,57 +75,37 @@ returns-then-below-eq0 g t c =
 
 pub returns-then-index-eq0 : goal.returns-then-index-eq0
 returns-then-index-eq0 g t c =
-    let none =
-    rw (
-      c.in_default.is,
-      c.child_at-child.ensures,
-      c.first_turn-index.ensures,
-      c.seen_inside.ensures,
-    ) at c.edge_before.ensures in
+    let none = rw (c.child_at-child.ensures, c.first_turn-index.ensures, c.seen_inside.ensures) at
+    (rw c.in_default.is at c.edge_before.ensures) in
     let first : turn c.args.edge ≡ 0 =
     omega (arith, c.first_turn-index.ensures, c.if-index-eq0.true) in
-    let start : length (before (items_of (node_of c.args.nodes.now c.args.number))
-    (map (items_below c.args.nodes.now c.args.below)
-    (children_of (node_of c.args.nodes.now c.args.number))) (turn c.args.edge))
-    ≡ 0 = rw first refl in
-    omega (
-      arith,
-      below_here c.if-below-eq0.false c.requires.shaped c.args.edge,
-      none,
-      start,
-    )
+    let s = c.args.nodes.now in
+    let start : length (before_child s c.args.below c.args.number (turn c.args.edge)) ≡ 0 =
+    rw first refl in
+    omega (arith, below_here c.if-below-eq0.false c.requires.shaped c.args.edge, none, start)
 
 pub child_at-last-requires : goal.child_at-last-requires
 child_at-last-requires g t c =
+    let low = below_turn c.if-below-eq0.false c.requires.shaped c.args.edge c.requires.edge in
     record {
       present = c.requires.shaped.node.present;
-      within = child_within c.if-below-eq0.false c.requires.shaped _ (omega (
-        arith,
-        c.first_turn-index.ensures,
-        below_turn c.if-below-eq0.false c.requires.shaped c.args.edge c.requires.edge,
-      ));
+      within = child_within c.if-below-eq0.false c.requires.shaped _
+          (omega (arith, c.first_turn-index.ensures, low));
     }
 
 pub end_edge-requires : goal.end_edge-requires
 end_edge-requires g t c =
+    let low = below_turn c.if-below-eq0.false c.requires.shaped c.args.edge c.requires.edge in
     record {
-      shaped = rw c.child_at-last.ensures
-          (below_kid c.if-below-eq0.false c.requires.shaped (c.first_turn-index.result - 1) (omega (
-            arith,
-            c.first_turn-index.ensures,
-            below_turn c.if-below-eq0.false c.requires.shaped c.args.edge c.requires.edge,
-          )));
+      shaped = rw c.child_at-last.ensures (below_kid c.if-below-eq0.false c.requires.shaped
+          (c.first_turn-index.result - 1) (omega (arith, c.first_turn-index.ensures, low)));
       deep = omega (arith, c.requires.deep);
     }
 
 pub seen_above-requires-2-clause-index : goal.seen_above-requires-2-clause-index
 seen_above-requires-2-clause-index g t c =
-    omega (
-      arith,
-      c.first_turn-index.ensures,
-      below_turn c.if-below-eq0.false c.requires.shaped c.args.edge c.requires.edge,
-      c.requires.shaped.node.fits,
-    )
+    let low = below_turn c.if-below-eq0.false c.requires.shaped c.args.edge c.requires.edge in
+    omega (arith, c.first_turn-index.ensures, low, c.requires.shaped.node.fits)
 
 pub seen_above-requires-2-clause-path : goal.seen_above-requires-2-clause-path
 seen_above-requires-2-clause-path g t c =
@@ -148,22 +115,13 @@ seen_above-requires-2-clause-path g t c =
 pub returns : goal.returns
 returns g t c =
     let i = c.first_turn-index.result - 1 in
-    let low : i < length (items_of (node_of c.args.nodes.now c.args.number)) =
-    omega (
-      arith,
-      c.first_turn-index.ensures,
-      below_turn c.if-below-eq0.false c.requires.shaped c.args.edge c.requires.edge,
-      c.if-index-eq0.false,
-    ) in
+    let most = below_turn c.if-below-eq0.false c.requires.shaped c.args.edge c.requires.edge in
+    let low : i < length (node_items c.args.nodes.now c.args.number) =
+    omega (arith, c.first_turn-index.ensures, most, c.if-index-eq0.false) in
     let next : i + 1 ≡ turn c.args.edge =
     omega (arith, c.first_turn-index.ensures, c.if-index-eq0.false) in
-    let none =
-    rw (
-      c.in_default.is,
-      c.child_at-child.ensures,
-      c.first_turn-index.ensures,
-      c.seen_inside.ensures,
-    ) at c.edge_before.ensures in
+    let none = rw (c.child_at-child.ensures, c.first_turn-index.ensures, c.seen_inside.ensures) at
+    (rw c.in_default.is at c.edge_before.ensures) in
     let is = rw c.child_at-last.ensures at c.end_edge.ensures.edge in
     let end = rw (level_of_children c.if-below-eq0.false c.requires.shaped) at
     (rw c.child_at-last.ensures at c.end_edge.ensures.place) in

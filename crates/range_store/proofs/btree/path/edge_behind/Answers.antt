@@ -1,6 +1,6 @@
 use Rattle.std.proofs.Common.{◌≤◌, length, arith}
 use Rattle.std.proofs.Math.Nat.{mul-le-mul_left}
-use Rattle.range_store.specs.Heap.{items_of, node_of}
+use Rattle.range_store.specs.Heap.{node_items}
 use Rattle.range_store.specs.declared.btree.nodes.TheConstants.{CAPACITY}
 use Rattle.range_store.proofs.Behind.{sets_out, turn_low, goes_by_another, goes_by_the_last, comes_to_the_end}
 use Rattle.range_store.proofs.Paths.{child_within}
@@ -13,7 +13,7 @@ pub down-init : goal.down-init
 down-init g c = sets_out c.args.nodes.now c.args.edge c.requires.shaped c.requires.edge
 
 low : (g : Over) (c : After-first_turn-index g)
-    → c.first_turn-index.result ≤ length (items_of (node_of c.args.nodes.now c.down.at))
+    → c.first_turn-index.result ≤ length (node_items c.args.nodes.now c.down.at)
 low g c = turn_low c.args.nodes.now (omega (arith, c.down-test.true)) c.down.invariant
     c.first_turn-index.result c.first_turn-index.ensures
 

@@ -1,6 +1,6 @@
 use Rattle.std.proofs.Common.{◌≤◌, true, sym, ◌∙◌, arith}
 use Rattle.std.proofs.Math.Nat.{mul-le-mul_left}
-use Rattle.range_store.specs.Heap.{items_of, node_of}
+use Rattle.range_store.specs.Heap.{node_items}
 use Rattle.range_store.specs.Nodes.{items_below}
 use Rattle.range_store.specs.declared.btree.nodes.TheConstants.{CAPACITY}
 use Rattle.range_store.proofs.Descending.{begins, descends, descent_ends}
@@ -51,17 +51,17 @@ pub down-preserved : goal.down-preserved
 down-preserved g c = rw c.child_at-leaf.ensures (descends (λ _. true) c.args.nodes.now c.down.leaf
     c.down.path c.down.weight (omega (arith, c.down-test.true)) c.down.invariant
     c.item_count-last.result
-    (c.item_count-last.ensures ∙ sym (count_all (items_of (node_of c.args.nodes.now c.down.leaf)))))
+    (c.item_count-last.ensures ∙ sym (count_all (node_items c.args.nodes.now c.down.leaf))))
 
 pub returns-clause-edge : goal.returns-clause-edge
 returns-clause-edge g c = (descent_ends (λ _. true) c.args.nodes.now c.down.left c.down.leaf
     c.down.path c.down.weight (omega (arith, c.down-test.false)) c.down.invariant
     c.item_count.result (c.item_count.ensures
-    ∙ sym (count_all (items_of (node_of c.args.nodes.now c.down.leaf))))).edge
+    ∙ sym (count_all (node_items c.args.nodes.now c.down.leaf)))).edge
 
 pub returns-clause-place : goal.returns-clause-place
 returns-clause-place g c = (descent_ends (λ _. true) c.args.nodes.now c.down.left c.down.leaf
     c.down.path c.down.weight (omega (arith, c.down-test.false)) c.down.invariant
     c.item_count.result (c.item_count.ensures
-    ∙ sym (count_all (items_of (node_of c.args.nodes.now c.down.leaf))))).count
+    ∙ sym (count_all (node_items c.args.nodes.now c.down.leaf)))).count
     ∙ count_all (items_below c.args.nodes.now _ c.args.number)

@@ -38,7 +38,6 @@ returns-then-stands_first g c =
 
 pub child_at-at-requires : goal.child_at-at-requires
 child_at-at-requires g c =
-    let s = c.args.nodes.now in
     let d = c.down.invariant in
     let above : c.down.left ≢ 0 = omega (arith, c.down-test.true) in
     record {
@@ -49,7 +48,6 @@ child_at-at-requires g c =
 
 pub down-preserved : goal.down-preserved
 down-preserved g c =
-    let s = c.args.nodes.now in
     let d = c.down.invariant in
     let above : c.down.left ≢ 0 = omega (arith, c.down-test.true) in
     let low = below_turn above d.shaped c.down.inner d.edge in

@@ -1,5 +1,5 @@
 use Rattle.std.proofs.Common.{◌≡◌, ◌+◌, ◌-◌, ◌*◌, ◌^◌, false, sym, ◌∙◌, arith, subst}
-use Rattle.range_store.specs.Heap.{items_of, node_of}
+use Rattle.range_store.specs.Heap.{node_items}
 use Rattle.range_store.specs.Nodes.{items_below}
 use Rattle.range_store.specs.declared.btree.path.TheConstants.{PATH_BASE}
 use Rattle.range_store.proofs.Descending.{Descent, begins, descends, descent_ends}
@@ -21,17 +21,17 @@ down-preserved g c =
     let left = c.down.left in
     let weight = PATH_BASE ^ (below - left) in
     let down = descends (λ _. false) s c.down.leaf 0 weight (omega (arith, c.down-test.true))
-    c.down.invariant 0 (sym (count_none (items_of (node_of s c.down.leaf)))) in
+    c.down.invariant 0 (sym (count_none (node_items s c.down.leaf))) in
     let path : 0 + weight * 0 ≡ 0 = omega arith in
     rw (c.child_at-leaf.ensures, ← down.lies.weight_is) (rw path at down)
 
 pub returns-clause-edge : goal.returns-clause-edge
 returns-clause-edge g c = (descent_ends (λ _. false) c.args.nodes.now c.down.left c.down.leaf 0 _
     (omega (arith, c.down-test.false)) c.down.invariant 0
-    (sym (count_none (items_of (node_of c.args.nodes.now c.down.leaf))))).edge
+    (sym (count_none (node_items c.args.nodes.now c.down.leaf)))).edge
 
 pub returns-clause-place : goal.returns-clause-place
 returns-clause-place g c = (descent_ends (λ _. false) c.args.nodes.now c.down.left c.down.leaf 0 _
     (omega (arith, c.down-test.false)) c.down.invariant 0
-    (sym (count_none (items_of (node_of c.args.nodes.now c.down.leaf))))).count
+    (sym (count_none (node_items c.args.nodes.now c.down.leaf)))).count
     ∙ count_none (items_below c.args.nodes.now _ c.args.number)

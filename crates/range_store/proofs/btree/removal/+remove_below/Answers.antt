@@ -1,14 +1,14 @@
-use Rattle.std.proofs.Common.{◌≡◌, ◌+◌, ◌-◌, length, get_or, map, refl, ap, ◌∙◌, arith, rules}
+use Rattle.std.proofs.Common.{◌≡◌, ◌+◌, ◌-◌, length, refl, ap, ◌∙◌, arith, rules}
 use Rattle.std.proofs.lemmas.List.Edits.{length-remove}
-use Rattle.range_store.specs.Heap.{node_of, items_of, children_of}
+use Rattle.range_store.specs.Heap.{node_items, node_child}
 use Rattle.range_store.specs.declared.btree.nodes.TheConstants.{CAPACITY, MIN_LEN}
-use Rattle.range_store.specs.Nodes.{before, items_below}
+use Rattle.range_store.specs.Nodes.{before_child}
 use Rattle.range_store.specs.Edges.{turn, inside, place}
 use Rattle.range_store.proofs.Edges.{leaf_is, leaf_edge, leaf_index, leaf_place}
 use Rattle.range_store.proofs.Growing.{kid_owned}
 use Rattle.range_store.proofs.Rank.{kid_shaped}
 use Rattle.range_store.proofs.Seats.{seat_place_inner}
-use Rattle.range_store.proofs.Shortening.{leaf_shrinks, kid_kept, kid_front, kid_may_be_rebalanced, shorter_child_shrinks_node}
+use Rattle.range_store.proofs.Shortening.{leaf_shrinks, kid_kept, kid_front, kid_may_be_rebalanced, lists_shorter, shorter_child_shrinks_node}
 use Rattle.range_store.proofs.Paths.{level_of_children, child_within, below_kid, below_turn, below_inside, below_here, below_most}
 use Rattle.range_store.proofs.btree.removal.+remove_below.Goals as goal
 
@@ -55,7 +55,7 @@ returns-then-below-eq0-clause-edge g t c =
       index,
       c.requires.in_leaf,
       ap length c.take_item-item.ensures.rest.items_are,
-      length-remove (items_of (node_of c.args.nodes.now c.args.number)) (c.args.edge.index - 1)
+      length-remove (node_items c.args.nodes.now c.args.number) (c.args.edge.index - 1)
           (omega (arith, index, c.requires.in_leaf)),
     )))
 
@@ -100,29 +100,21 @@ remove_below-taken-requires g t c κs inside =
 
 pub rebalance-edge-requires : goal.rebalance-edge-requires
 rebalance-edge-requires g t c =
-    let s = c.args.nodes.now in
     let i = turn c.args.edge in
     let low = below_turn c.if-below-eq0.false c.requires.shaped c.args.edge c.requires.edge in
     let back = level_of_children c.if-below-eq0.false c.requires.shaped in
-    let child =
-    rw (c.child_at-child.ensures, c.first_turn-index.ensures, c.seen_inside.ensures) at
+    let child = rw (c.child_at-child.ensures, c.first_turn-index.ensures, c.seen_inside.ensures) at
     c.remove_below-taken.ensures.shrinks in
-    let listed = rw back at child.listed in
-    let moved = rw back at child.moved in
+    let anew = lists_shorter c.if-below-eq0.false c.requires.shaped c.requires.owned low child in
     let enough =
     (kid_shaped (c.args.below - 1) i (rw (← back) at c.requires.shaped) low).node.enough in
-    let short = kid_may_be_rebalanced i _ c.if-below-eq0.false c.requires.shaped c.requires.owned
-    low listed moved (child.shape (MIN_LEN - 1) (omega (arith, enough))) in
-    let edge =
-    rw (c.child_at-child.ensures, c.first_turn-index.ensures) at
+    let short = kid_may_be_rebalanced anew (child.shape (MIN_LEN - 1) (omega (arith, enough))) in
+    let edge = rw (c.child_at-child.ensures, c.first_turn-index.ensures) at
     c.remove_below-taken.ensures.edge in
     record {
       short = rw c.first_turn-index.ensures short;
       deep = omega (arith, c.requires.deep, c.if-below-eq0.false);
-      edge = rw (
-        c.first_turn-index.ensures,
-        kid_kept i _ c.if-below-eq0.false c.requires.shaped c.requires.owned low listed moved,
-      ) edge;
+      edge = rw (c.first_turn-index.ensures, kid_kept anew) edge;
     }
 
 pub returns : goal.returns
@@ -130,52 +122,31 @@ returns g t c =
     let i = turn c.args.edge in
     let low = below_turn c.if-below-eq0.false c.requires.shaped c.args.edge c.requires.edge in
     let back = level_of_children c.if-below-eq0.false c.requires.shaped in
-    let child =
-    rw (c.child_at-child.ensures, c.first_turn-index.ensures, c.seen_inside.ensures) at
+    let child = rw (c.child_at-child.ensures, c.first_turn-index.ensures, c.seen_inside.ensures) at
     c.remove_below-taken.ensures.shrinks in
-    let listed = rw back at child.listed in
-    let moved = rw back at child.moved in
-    let at =
-    rw (c.child_at-child.ensures, c.first_turn-index.ensures, c.seen_inside.ensures) at
+    let anew = lists_shorter c.if-below-eq0.false c.requires.shaped c.requires.owned low child in
+    let at = rw (c.child_at-child.ensures, c.first_turn-index.ensures, c.seen_inside.ensures) at
     c.remove_below-taken.ensures.place in
-    let q =
-    place c.args.nodes.now (c.args.below - 1)
-    (get_or (children_of (node_of c.args.nodes.now c.args.number)) (turn c.args.edge) 0)
-    (inside c.args.edge) in
     let within = below_most c.if-below-eq0.false c.requires.shaped i (inside c.args.edge) low
     (below_inside c.if-below-eq0.false c.requires.shaped c.args.edge c.requires.edge) in
+    let here = below_here c.if-below-eq0.false c.requires.shaped c.args.edge in
     let place' = rw c.first_turn-index.ensures at c.rebalance-edge.ensures.place in
     let seat =
     rw back at (place'
     ∙ seat_place_inner c.remove_below-taken.new.nodes
     (c.args.below - 1) _ _ i c.remove_below-taken.result.edge) in
-    let front = kid_front i _ c.if-below-eq0.false c.requires.shaped c.requires.owned low listed
-    moved in
-    let kid = rw
-    (kid_kept i _ c.if-below-eq0.false c.requires.shaped c.requires.owned low listed moved) at seat
-    in
-    let front' = rw
-    (kid_kept i _ c.if-below-eq0.false c.requires.shaped c.requires.owned low listed moved) at front
-    in
-    let same : length (before (items_of (node_of c.args.nodes.now c.args.number))
-    (map (items_below c.args.nodes.now c.args.below)
-    (children_of (node_of c.args.nodes.now c.args.number))) i) + (q - 1)
+    let kid = rw (kid_kept anew) at seat in
+    let front = rw (kid_kept anew) at (kid_front anew) in
+    let q =
+    place c.args.nodes.now (c.args.below - 1)
+    (node_child c.args.nodes.now c.args.number (turn c.args.edge)) (inside c.args.edge) in
+    let same : length (before_child c.args.nodes.now c.args.below c.args.number i) + (q - 1)
     ≡ place c.args.nodes.now c.args.below c.args.number c.args.edge - 1 =
-    omega (
-      arith,
-      below_here c.if-below-eq0.false c.requires.shaped c.args.edge,
-      at,
-    ) in
+    omega (arith, here, at) in
     record {
       item = search rules;
-      shrinks = rw (← same) (shorter_child_shrinks_node i (q - 1) c.if-below-eq0.false c.requires.shaped
-          c.requires.owned low (omega (arith, within, at)) child c.rebalance-edge.ensures.shrinks);
+      shrinks = rw (← same) (shorter_child_shrinks_node (q - 1) anew (omega (arith, within, at))
+          c.rebalance-edge.ensures.shrinks);
       edge = rw back at c.rebalance-edge.ensures.edge;
-      place = omega (
-        arith,
-        kid,
-        front',
-        at,
-        below_here c.if-below-eq0.false c.requires.shaped c.args.edge,
-      );
+      place = omega (arith, kid, front, at, here);
     }

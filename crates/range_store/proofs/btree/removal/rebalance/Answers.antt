@@ -1,7 +1,7 @@
 use Rattle.std.proofs.Common.{◌≡◌, ◌+◌, ◌-◌, ◌<◌, ◌≤◌, length, refl, sym, ap, ◌∙◌, inl, inr, arith}
 use Rattle.std.proofs.lemmas.Bool.{cases_lt}
 use Rattle.range_store.specs.Nodes.{child_size}
-use Rattle.range_store.specs.Heap.{node_of, items_of}
+use Rattle.range_store.specs.Heap.{node_items}
 use Rattle.range_store.specs.declared.btree.nodes.TheConstants.{MIN_LEN}
 use Rattle.range_store.proofs.Edges.{path_small, edge_above, place_above}
 use Rattle.range_store.proofs.Seats.{seat_place_inner}
@@ -22,7 +22,7 @@ seen_above-requires-clause-path g c =
 pub returns-then-item_count-ge-MIN_LEN-clause-shrinks :
     goal.returns-then-item_count-ge-MIN_LEN-clause-shrinks
 returns-then-item_count-ge-MIN_LEN-clause-shrinks g c =
-    let enough : MIN_LEN ≤ length (items_of (node_of c.args.nodes.now c.child_at-child.result)) =
+    let enough : MIN_LEN ≤ length (node_items c.args.nodes.now c.child_at-child.result) =
     omega (arith, c.item_count.ensures) in
     stays_balanced c.args.nodes.now c.args.low c.args.number c.args.index c.requires.short
     (rw c.child_at-child.ensures at enough)
@@ -50,7 +50,7 @@ short_child g c =
       arith,
       c.if-item_count-ge-MIN_LEN.false,
       c.item_count.ensures,
-      ap (λ k. length (items_of (node_of c.args.nodes.now k))) c.child_at-child.ensures,
+      ap (λ k. length (node_items c.args.nodes.now k)) c.child_at-child.ensures,
     )
 
 pub item_count-requires-then-index-gt0 : goal.item_count-requires-then-index-gt0
@@ -83,7 +83,7 @@ borrow_from_left-requires g c =
         arith,
         c.if-item_count-gt-MIN_LEN.true,
         c.item_count-then-index-gt0.ensures,
-        ap (λ k. length (items_of (node_of c.args.nodes.now k))) c.child_at-before.ensures,
+        ap (λ k. length (node_items c.args.nodes.now k)) c.child_at-before.ensures,
       );
       deep = c.requires.deep;
       edge = rw next c.requires.edge;
@@ -102,7 +102,7 @@ borrow_from_right-requires g c =
         arith,
         c.if-item_count-gt-MIN_LEN-2.true,
         c.item_count-then-index-item_count.ensures,
-        ap (λ k. length (items_of (node_of c.args.nodes.now k))) c.child_at-behind.ensures,
+        ap (λ k. length (node_items c.args.nodes.now k)) c.child_at-behind.ensures,
       );
       deep = c.requires.deep;
       edge = c.requires.edge;
@@ -118,13 +118,13 @@ none_before g c some =
             arith,
             w.if-item_count-gt-MIN_LEN.false,
             w.item_count-then-index-gt0.ensures,
-            ap (λ k. length (items_of (node_of c.args.nodes.now k))) w.child_at-before.ensures,
+            ap (λ k. length (node_items c.args.nodes.now k)) w.child_at-before.ensures,
           )
       | else-index-gt0 w ↦ omega (arith, w.if-index-gt0.false, some)
     ]
 
 none_behind : (g : Over) (c : After-saturating_sub g)
-    → c.args.index < length (items_of (node_of c.args.nodes.now c.args.number))
+    → c.args.index < length (node_items c.args.nodes.now c.args.number)
     → child_size c.args.nodes.now c.args.number (c.args.index + 1) ≤ MIN_LEN
 none_behind g c low =
     elim c.if-index-item_count.branch [
@@ -133,7 +133,7 @@ none_behind g c low =
             arith,
             w.if-item_count-gt-MIN_LEN-2.false,
             w.item_count-then-index-item_count.ensures,
-            ap (λ k. length (items_of (node_of c.args.nodes.now k))) w.child_at-behind.ensures,
+            ap (λ k. length (node_items c.args.nodes.now k)) w.child_at-behind.ensures,
           )
       | else-index-item_count w ↦
           omega (arith, w.if-index-item_count.false, c.item_count-2.ensures, low)
@@ -162,7 +162,7 @@ join-requires g c =
       | inr first ↦
           let start : c.args.index ≡ 0 = omega (arith, first) in
           let same : c.saturating_sub.result ≡ c.args.index = omega (arith, less, start) in
-          let within : c.args.index < length (items_of (node_of c.args.nodes.now c.args.number)) =
+          let within : c.args.index < length (node_items c.args.nodes.now c.args.number) =
           omega (arith, start, m.node.enough) in
           let levelled =
           pair_levelled c.args.nodes.now c.args.low c.args.number c.args.index m

@@ -1,7 +1,7 @@
 use Rattle.std.proofs.Common.{◌≡◌, ◌≤◌, length, refl, ◌∙◌, arith, count_by}
 use Rattle.std.proofs.Math.Nat.{mul-le-mul_left}
 use Rattle.std.proofs.lemmas.List.Sums.{count_by-le-length}
-use Rattle.range_store.specs.Heap.{items_of, node_of}
+use Rattle.range_store.specs.Heap.{node_items}
 use Rattle.range_store.specs.declared.btree.nodes.TheConstants.{CAPACITY}
 use Rattle.range_store.proofs.Descending.{adds_more, adds_none, begins, descends, descent_ends}
 use Rattle.range_store.proofs.Searching.{node_falls}
@@ -39,7 +39,7 @@ count_passing-index-requires-clause-some g c = rw (items_held c.cells.ensures) (
 -- how many of the node's items pass
 counted : (g : Over) (c : After-count_passing-index g)
     → c.count_passing-index.result ≡ count_by (g.P.Probe.test c.args.probe.now)
-    (items_of (node_of c.args.nodes.now c.down.at))
+    (node_items c.args.nodes.now c.down.at)
 counted g c = rw (
   c.down.invariant.1,
   items_held c.cells.ensures,
@@ -52,8 +52,7 @@ few g c =
     omega (
       arith,
       counted g c,
-      count_by-le-length (g.P.Probe.test c.args.probe.now)
-          (items_of (node_of c.args.nodes.now c.down.at)),
+      count_by-le-length (g.P.Probe.test c.args.probe.now) (node_items c.args.nodes.now c.down.at),
       d.lies.shaped.node.fits,
     )
 
@@ -128,11 +127,11 @@ pub child_at-at-requires-clause-within : goal.child_at-at-requires-clause-within
 child_at-at-requires-clause-within g c =
     let a = (goal.at.child_at-at-requires-clause-within g c).After-count_passing-index in
     let s = c.args.nodes.now in
-    let low : c.count_passing-index.result ≤ length (items_of (node_of s c.down.at)) =
+    let low : c.count_passing-index.result ≤ length (node_items s c.down.at) =
     omega (
       arith,
       counted g a,
-      count_by-le-length (g.P.Probe.test c.args.probe.now) (items_of (node_of s c.down.at)),
+      count_by-le-length (g.P.Probe.test c.args.probe.now) (node_items s c.down.at),
     ) in
     child_within (omega (arith, c.if-left-eq0.false)) c.down.invariant.0.lies.shaped
     c.count_passing-index.result low

@@ -4,28 +4,21 @@ use Rattle.range_store.proofs.btree.nodes.Nodes.item_mut.Goals as goal
 
 pub item_mut-requires-clause-number : goal.item_mut-requires-clause-number
 item_mut-requires-clause-number g c =
-    let s = c.self.inside in
-    let present = rw (← c.self.view_is) at c.requires.present in
-    row_there s.slab s.rows s.spares.items c.self.invariant.0 c.args.number present
+    row_there c.self.invariant.0 c.args.number (rw (← c.self.view_is) at c.requires.present)
 
 pub item_mut-requires-clause-within : goal.item_mut-requires-clause-within
 item_mut-requires-clause-within g c =
-    let s = c.self.inside in
-    let present = rw (← c.self.view_is) at c.requires.present in
-    let items = items_seen s.slab s.rows s.spares.items c.args.number present in
-    rw (← items) (rw (← c.self.view_is) at c.requires.within)
+    rw (← items_seen c.self.invariant.0 c.args.number (rw (← c.self.view_is) at c.requires.present))
+    (rw (← c.self.view_is) at c.requires.within)
 
 pub invariant_of-self-lent : goal.invariant_of-self-lent
 invariant_of-self-lent g c w =
-    let s = c.self.inside in
     let present = rw (← c.self.view_is) at c.requires.present in
     (item_whole c.self.invariant.0 c.args.number c.args.index w present, c.self.invariant.1)
 
 pub returns : goal.returns
 returns g c =
-    let s = c.self.inside in
-    let present = rw (← c.self.view_is) at c.requires.present in
-    let items = items_seen s.slab s.rows s.spares.items c.args.number present in (
+    let present = rw (← c.self.view_is) at c.requires.present in (
       (
         refl,
         λ w. rw (← c.self.view_is)
@@ -33,6 +26,7 @@ returns g c =
       ),
       record {
         writes_back = tt;
-        value = rw (← c.self.view_is) (rw items c.item_mut.ensures.value);
+        value = rw (← c.self.view_is)
+            (rw (items_seen c.self.invariant.0 c.args.number present) c.item_mut.ensures.value);
       },
     )

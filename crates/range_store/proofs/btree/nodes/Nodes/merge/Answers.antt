@@ -10,10 +10,6 @@ overflow_add-index-2 g c = omega (arith, c.requires.pair.item, c.item_count-many
 
 pub append-requires : goal.append-requires
 append-requires g c =
-    let s = c.args.self.now in
-    let t = c.take_beside-down.new.self in
-    let n = c.args.number in
-    let i = c.args.index in
     let pair = c.requires.pair in
     let left = c.take_beside-down.ensures.rest.others _ pair.left_apart in
     let right = c.take_beside-down.ensures.rest.others _ pair.right_apart in

@@ -10,7 +10,7 @@ returns-then-missing-eq0-clause-room g c =
     let s = c.self.inside in
     rw (← c.self.view_is) (omega (
       arith,
-      counted s.slab s.rows s.spares.items c.self.invariant.0,
+      counted c.self.invariant.0,
       s.spares.ok.0,
       c.len.ensures,
       c.saturating_sub-missing.ensures,
@@ -22,8 +22,7 @@ returns-in_err-reserve-clause-succeeds g c room =
     let s = c.self.inside in
     absurd (omega (
       arith,
-      spares_left s.slab s.rows s.spares.items c.self.invariant.0 c.args.additional
-          (rw (← c.self.view_is) at room),
+      spares_left c.self.invariant.0 c.args.additional (rw (← c.self.view_is) at room),
       s.spares.ok.0,
       c.len.ensures,
       c.saturating_sub-missing.ensures,
@@ -35,8 +34,7 @@ returns-in_err-add_spare-clause-succeeds g c room =
     let s = c.self.inside in
     absurd (omega (
       arith,
-      spares_left s.slab s.rows s.spares.items c.self.invariant.0 c.args.additional
-          (rw (← c.self.view_is) at room),
+      spares_left c.self.invariant.0 c.args.additional (rw (← c.self.view_is) at room),
       s.spares.ok.0,
       c.len.ensures,
       c.saturating_sub-missing.ensures,
@@ -52,7 +50,7 @@ returns-clause-room g c =
       arith,
       nodes,
       ap slab_len c.reserve.ensures.rest_kept,
-      counted s.slab s.rows s.spares.items c.self.invariant.0,
+      counted c.self.invariant.0,
       s.spares.ok.0,
       c.len.ensures,
       c.saturating_sub-missing.ensures,

@@ -1,6 +1,6 @@
 use Rattle.std.proofs.Common.{sym, subst, arith}
 use Rattle.std.proofs.Math.ListN.{set}
-use Rattle.range_store.specs.Heap.{HasNode, node_of, items_of, children_of, Writes, left_items, left_children, right_items, right_children}
+use Rattle.range_store.specs.Heap.{HasNode, Writes, left_items, left_children, right_items, right_children, node_items, node_children}
 use Rattle.range_store.proofs.Heaps.{writes_item}
 use Rattle.range_store.proofs.Siblings.{fits_last, right_kept, rotated_right}
 use Rattle.range_store.proofs.btree.nodes.Nodes.rotate_right.Goals as goal
@@ -17,7 +17,6 @@ replace_item-down-requires g c =
 
 pub returns : goal.returns
 returns g c =
-    let s = c.args.self.now in
     let t = c.take_beside-up.new.self in
     let u = c.replace_item-down.new.self in
     let n = c.args.number in
@@ -27,9 +26,8 @@ returns g c =
     let one = rw (c.item_count-end.ensures, c.child_at-left.ensures) at
     c.take_beside-up.ensures.rest in
     let present : HasNode t n = rw (one.others n (λ e. pair.left_apart (sym e))) pair.parent in
-    let two = subst (λ h. Writes t h n (set (items_of (node_of t n)) i up)
-    (children_of (node_of t n))) (sym c.replace_item-down.ensures.after)
-    (writes_item t n i up present) in
+    let two = subst (λ h. Writes t h n (set (node_items t n) i up)
+    (node_children t n)) (sym c.replace_item-down.ensures.after) (writes_item t n i up present) in
     let three = rw (
       c.take_beside-up.ensures.child,
       c.item_count-end.ensures,

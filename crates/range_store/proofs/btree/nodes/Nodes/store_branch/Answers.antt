@@ -1,87 +1,16 @@
-use Rattle.std.proofs.Common.{[], ◌∷◌, ◌++◌, length, arith, refl, sym, ap, ◌∙◌, length-append}
-use Rattle.std.specs.List.{insert}
-use Rattle.range_store.proofs.Spares.{bare_children, bare_row, edited_len, filled, filled_whole, spare_found, spare_there, spares_left}
+use Rattle.std.proofs.Common.{length, arith, ap}
+use Rattle.range_store.proofs.Heaps.{stored_written}
 use Rattle.range_store.proofs.btree.nodes.Nodes.store_branch.Goals as goal
 
-pub next_spare-number-requires : goal.next_spare-number-requires
-next_spare-number-requires g c =
-    let s = c.self.inside in
-    omega (
-      arith,
-      spares_left s.slab s.rows s.spares.items c.self.invariant.0 1 (rw (← c.self.view_is) at c.requires),
-      s.spares.ok.0,
-    )
+pub put-requires-clause-room : goal.put-requires-clause-room
+put-requires-clause-room g c = omega (arith, ap length c.store_above-number.ensures.items_are)
 
-pub index_mut-node-requires : goal.index_mut-node-requires
-index_mut-node-requires g c =
-    let s = c.self.inside in
-    spare_found c.next_spare-number.new.spares.items c.self.invariant.0 c.next_spare-number.result
-    c.next_spare-number.ensures.items
-
-pub put-requires-clause-number : goal.put-requires-clause-number
-put-requires-clause-number g c =
-    let s = c.self.inside in
-    spare_there c.next_spare-number.new.spares.items c.self.invariant.0 c.next_spare-number.result
-    c.next_spare-number.ensures.items
-
-pub put-requires-clause-len : goal.put-requires-clause-len
-put-requires-clause-len g c =
-    let s = c.self.inside in
-    sym (ap length (bare_row c.next_spare-number.new.spares.items c.self.invariant.0
-    c.next_spare-number.result c.next_spare-number.ensures.items))
-
-pub push-requires : goal.push-requires
-push-requires g c =
-    let s = c.self.inside in
-    let bare = bare_children c.next_spare-number.new.spares.items c.self.invariant.0
-    c.next_spare-number.result c.next_spare-number.ensures.items c.index_mut-node.result.now
-    c.index_mut-node.ensures.value in
-    (omega arith, omega (arith, ap length bare))
-
-pub push-requires-2 : goal.push-requires-2
-push-requires-2 g c =
-    let s = c.self.inside in
-    let bare = bare_children c.next_spare-number.new.spares.items c.self.invariant.0
-    c.next_spare-number.result c.next_spare-number.ensures.items c.index_mut-node.result.now
-    c.index_mut-node.ensures.value in (
-      omega arith,
-      omega (
-        arith,
-        ap length c.push.ensures.items,
-        length-append c.index_mut-node.result.now.children.items (c.args.left ∷ []),
-        ap length bare,
-      ),
-    )
-
-pub invariant_of-self : goal.invariant_of-self
-invariant_of-self g c =
-    let s = c.self.inside in
-    let blank = bare_row c.next_spare-number.new.spares.items c.self.invariant.0
-    c.next_spare-number.result c.next_spare-number.ensures.items in
-    let bare = bare_children c.next_spare-number.new.spares.items c.self.invariant.0
-    c.next_spare-number.result c.next_spare-number.ensures.items c.index_mut-node.result.now
-    c.index_mut-node.ensures.value in (
-      rw (c.put.ensures, ap (λ xs. insert xs 0 c.args.middle) blank) (filled_whole s.slab s.rows s.spares.items c.self.invariant.0 c.next_spare-number.result c.index_mut-node.result.now (record c.index_mut-node.result.now { len = 1; children = c.push-2.new.self })
-          c.index_mut-node.ensures.value (c.args.middle ∷ []) (refl) (c.args.left ∷ c.args.right ∷ []) (c.push-2.ensures.items ∙ ap (λ ks. ks ++ c.args.right ∷ [])
-          (c.push.ensures.items ∙ ap (λ ks. ks ++ c.args.left ∷ []) bare)) c.next_spare-number.new.spares.items c.next_spare-number.ensures.items),
-      omega (
-        arith,
-        c.self.invariant.1,
-        c.next_spare-number.ensures.capacity,
-        edited_len s.slab s.rows s.spares.items c.self.invariant.0 c.next_spare-number.result c.index_mut-node.result.now (record c.index_mut-node.result.now { len = 1; children = c.push-2.new.self })
-            c.index_mut-node.ensures.value (c.args.middle ∷ []) (refl) (c.args.left ∷ c.args.right ∷ []) (c.push-2.ensures.items ∙ ap (λ ks. ks ++ c.args.right ∷ [])
-            (c.push.ensures.items ∙ ap (λ ks. ks ++ c.args.left ∷ []) bare)),
-      ),
-    )
+pub put-requires-clause-child : goal.put-requires-clause-child
+put-requires-clause-child g c =
+    let stored = c.store_above-number.ensures in
+    omega (arith, ap length stored.items_are, ap length stored.children_are)
 
 pub returns : goal.returns
 returns g c =
-    let s = c.self.inside in
-    let blank = bare_row c.next_spare-number.new.spares.items c.self.invariant.0
-    c.next_spare-number.result c.next_spare-number.ensures.items in
-    let bare = bare_children c.next_spare-number.new.spares.items c.self.invariant.0
-    c.next_spare-number.result c.next_spare-number.ensures.items c.index_mut-node.result.now
-    c.index_mut-node.ensures.value in
-    rw (← c.self.view_is, c.put.ensures, ap (λ xs. insert xs 0 c.args.middle) blank) (filled s.slab s.rows s.spares.items c.self.invariant.0 c.next_spare-number.result c.index_mut-node.result.now (record c.index_mut-node.result.now { len = 1; children = c.push-2.new.self })
-    c.index_mut-node.ensures.value (c.args.middle ∷ []) (refl) (c.args.left ∷ c.args.right ∷ []) (c.push-2.ensures.items ∙ ap (λ ks. ks ++ c.args.right ∷ [])
-    (c.push.ensures.items ∙ ap (λ ks. ks ++ c.args.left ∷ []) bare)) c.next_spare-number.new.spares.items c.next_spare-number.ensures.items)
+    let stored = c.store_above-number.ensures in
+    stored_written stored (rw (stored.items_are, stored.children_are) at c.put.ensures)

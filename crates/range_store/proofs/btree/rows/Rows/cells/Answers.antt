@@ -1,54 +1,40 @@
 use Rattle.std.proofs.Common.{◌≡◌, ◌≤◌, ◌+◌, ◌-◌, ◌*◌, length, rules, arith, ap}
 use Rattle.range_store.specs.declared.btree.nodes.TheConstants.{CAPACITY}
-use Rattle.range_store.proofs.Rows.{room, row_held}
+use Rattle.range_store.proofs.Rows.{length-rows, room, row_held}
 use Rattle.range_store.proofs.btree.rows.Rows.cells.Goals as goal
 
 pub overflow_mul-start : goal.overflow_mul-start
 overflow_mul-start g c =
-    let s = c.self.inside in
-    omega (
-      arith,
-      room s.many s.cells.items c.self.invariant.0 c.args.number
-          (rw (← c.self.view_is) at c.requires.number) (rw (← c.self.view_is) at c.requires.some),
-      s.cells.ok,
-    )
+    let less = rw (← c.self.view_is, length-rows) at c.requires.number in
+    let some = rw (← c.self.view_is) at c.requires.some in
+    omega (arith, room c.self.invariant.0 c.args.number less some, c.self.inside.cells.ok)
 
 pub overflow_add-result : goal.overflow_add-result
 overflow_add-result g c =
-    let s = c.self.inside in
-    omega (
-      arith,
-      room s.many s.cells.items c.self.invariant.0 c.args.number
-          (rw (← c.self.view_is) at c.requires.number) (rw (← c.self.view_is) at c.requires.some),
-      s.cells.ok,
-    )
+    let less = rw (← c.self.view_is, length-rows) at c.requires.number in
+    let some = rw (← c.self.view_is) at c.requires.some in
+    omega (arith, room c.self.invariant.0 c.args.number less some, c.self.inside.cells.ok)
 
 pub offset_bounds-cells-start : goal.offset_bounds-cells-start
 offset_bounds-cells-start g c =
-    let s = c.self.inside in
-    omega (
-      arith,
-      room s.many s.cells.items c.self.invariant.0 c.args.number
-          (rw (← c.self.view_is) at c.requires.number) (rw (← c.self.view_is) at c.requires.some),
-      ap length c.as_slice-cells.ensures.value,
-    )
+    let less = rw (← c.self.view_is, length-rows) at c.requires.number in
+    let room = room c.self.invariant.0 c.args.number less (rw (← c.self.view_is) at c.requires.some)
+    in
+    omega (arith, room, ap length c.as_slice-cells.ensures.value)
 
 pub slice_bounds-result-end : goal.slice_bounds-result-end
 slice_bounds-result-end g c =
-    let s = c.self.inside in
+    let less = rw (← c.self.view_is, length-rows) at c.requires.number in
+    let room = room c.self.invariant.0 c.args.number less (rw (← c.self.view_is) at c.requires.some)
+    in
     let end : CAPACITY * c.args.number + CAPACITY ≤ length c.as_slice-cells.result.now =
-    omega (
-      arith,
-      room s.many s.cells.items c.self.invariant.0 c.args.number
-          (rw (← c.self.view_is) at c.requires.number) (rw (← c.self.view_is) at c.requires.some),
-      ap length c.as_slice-cells.ensures.value,
-    ) in
+    omega (arith, room, ap length c.as_slice-cells.ensures.value) in
     search rules
 
 pub returns : goal.returns
 returns g c =
-    let s = c.self.inside in
     let start = CAPACITY * c.args.number in
     let long : start + CAPACITY - start ≡ CAPACITY = omega arith in
-    rw (← c.self.view_is, c.as_slice-cells.ensures.value, long) (row_held s.many s.cells.items
-    c.self.invariant.0 c.args.number (rw (← c.self.view_is) at c.requires.number) (rw (← c.self.view_is) at c.requires.some))
+    let less = rw (← c.self.view_is, length-rows) at c.requires.number in
+    rw (← c.self.view_is, c.as_slice-cells.ensures.value, long)
+    (row_held c.self.invariant.0 c.args.number less (rw (← c.self.view_is) at c.requires.some))

@@ -1,80 +1,56 @@
-use Rattle.std.proofs.Common.{◌<◌, arith, refl, sym, ◌∙◌}
-use Rattle.range_store.proofs.Rows.{cell_in, cell_written, rewritten, rewritten_rows, room, row_held, length-rows}
-use Rattle.range_store.proofs.btree.rows.Rows.item_mut.Goals as goal
+use Rattle.std.proofs.Common.{arith, refl, sym, ◌∙◌}
 use Rattle.std.proofs.lemmas.Option.{same_Some}
 use Rattle.range_store.specs.Rows.{row_of, rows_in}
 use Rattle.range_store.proofs.Cells.{standing}
+use Rattle.range_store.proofs.Rows.{cell_in, cell_written, length-rows, room, row_held}
+use Rattle.range_store.proofs.btree.rows.Rows.item_mut.Goals as goal
 
 pub overflow_mul-number : goal.overflow_mul-number
 overflow_mul-number g c =
-    let s = c.self.inside in
-    omega (
-      arith,
-      room s.many s.cells.items c.self.invariant.0 c.args.number
-          (rw (← c.self.view_is) at c.requires.number) (omega (arith, rw (← c.self.view_is) at c.requires.within)),
-      s.cells.ok,
-    )
+    let less = rw (← c.self.view_is, length-rows) at c.requires.number in
+    let within = rw (← c.self.view_is) at c.requires.within in
+    omega (arith, room c.self.invariant.0 c.args.number less within, c.self.inside.cells.ok)
 
 pub overflow_add-number : goal.overflow_add-number
 overflow_add-number g c =
-    let s = c.self.inside in
-    let there = rw (← c.self.view_is) at c.requires.number in
-    omega (
-      arith,
-      room s.many s.cells.items c.self.invariant.0 c.args.number there (omega (arith, rw (← c.self.view_is) at c.requires.within)),
-      (row_held s.many s.cells.items c.self.invariant.0 c.args.number there (omega (arith, rw (← c.self.view_is) at c.requires.within))).fits,
-      rw (← c.self.view_is) at c.requires.within,
-      s.cells.ok,
-    )
+    let less = rw (← c.self.view_is, length-rows) at c.requires.number in
+    let within = rw (← c.self.view_is) at c.requires.within in
+    let held = row_held c.self.invariant.0 c.args.number less within in
+    let room = room c.self.invariant.0 c.args.number less within in
+    omega (arith, room, held.fits, within, c.self.inside.cells.ok)
 
 pub index_mut-requires : goal.index_mut-requires
 index_mut-requires g c =
-    let s = c.self.inside in
-    let there = rw (← c.self.view_is) at c.requires.number in
-    omega (
-      arith,
-      room s.many s.cells.items c.self.invariant.0 c.args.number there (omega (arith, rw (← c.self.view_is) at c.requires.within)),
-      (row_held s.many s.cells.items c.self.invariant.0 c.args.number there (omega (arith, rw (← c.self.view_is) at c.requires.within))).fits,
-      rw (← c.self.view_is) at c.requires.within,
-      s.cells.ok,
-    )
+    let less = rw (← c.self.view_is, length-rows) at c.requires.number in
+    let within = rw (← c.self.view_is) at c.requires.within in
+    let held = row_held c.self.invariant.0 c.args.number less within in
+    let room = room c.self.invariant.0 c.args.number less within in
+    omega (arith, room, held.fits, within, c.self.inside.cells.ok)
 
 pub filled-requires : goal.filled-requires
 filled-requires g c =
-    let s = c.self.inside in
-    let there = rw (← c.self.view_is) at c.requires.number in
+    let less = rw (← c.self.view_is, length-rows) at c.requires.number in
     let within = rw (← c.self.view_is) at c.requires.within in
-    rw (c.index_mut.ensures.value ∙ cell_in c.self.invariant.0 c.args.number c.args.index there
-    within (standing (row_of (rows_in s.many s.cells.items) c.args.number) c.args.index within) _)
+    let stands = standing (row_of (rows_in c.self.inside.many c.self.inside.cells.items)
+    c.args.number) c.args.index within in
+    rw (c.index_mut.ensures.value ∙ cell_in c.self.invariant.0 c.args.number less within stands _)
     refl
 
 pub invariant_of-self-lent : goal.invariant_of-self-lent
 invariant_of-self-lent g c w =
-    let s = c.self.inside in
-    let there = rw (← c.self.view_is) at c.requires.number in
-    let within = rw (← c.self.view_is) at c.requires.within in (
-      rewritten_rows c.self.invariant.0 (cell_written c.args.number c.args.index s.cells.items w
-          within (row_held s.many s.cells.items c.self.invariant.0 c.args.number there (omega
-          (arith, within)))),
-      c.self.invariant.1,
-    )
+    let less = rw (← c.self.view_is, length-rows) at c.requires.number in
+    let within = rw (← c.self.view_is) at c.requires.within in
+    ((cell_written c.self.invariant.0 less within w).rows, c.self.invariant.1)
 
 pub returns : goal.returns
 returns g c =
-    let s = c.self.inside in
-    let there = rw (← c.self.view_is) at c.requires.number in
+    let less = rw (← c.self.view_is, length-rows) at c.requires.number in
     let within = rw (← c.self.view_is) at c.requires.within in
-    let less : c.args.number < s.many = omega (arith, length-rows s.many s.cells.items, there) in
-    let stands = standing (row_of (rows_in s.many s.cells.items) c.args.number) c.args.index
-    within in
+    let stands = standing (row_of (rows_in c.self.inside.many c.self.inside.cells.items)
+    c.args.number) c.args.index within in
     let read = c.index_mut.ensures.value
-    ∙ cell_in c.self.invariant.0 c.args.number c.args.index there within stands _ in (
-      (
-        refl,
-        λ w. rw (← c.self.view_is) (rewritten c.self.invariant.0 (cell_written c.args.number
-            c.args.index s.cells.items w within (row_held s.many s.cells.items c.self.invariant.0
-            c.args.number there (omega (arith, rw (← c.self.view_is) at c.requires.within)))) less),
-      ),
+    ∙ cell_in c.self.invariant.0 c.args.number less within stands _ in (
+      (refl, λ w. rw (← c.self.view_is) (cell_written c.self.invariant.0 less within w).is),
       record {
         writes_back = tt;
         value = rw (← c.self.view_is) (same_Some c.filled.result.now stands.item
