@@ -46,6 +46,7 @@ fn count_full<T>(cells: &[Option<T>]) -> usize
 }
 
 // How many of fewer than `MIN_LEN` items pass, as only a root has so few.
+#[inline(always)]
 fn count_few<T, P: Probe<T>>(cells: &[Option<T>], len: usize, probe: &mut P) -> usize
     requires held { HoldsItems cells.now (items_in cells.now) }
     requires falls { Falls (P.test probe.old) (items_in cells.now) }
