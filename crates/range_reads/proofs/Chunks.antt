@@ -87,6 +87,29 @@ module _ {T P : Type 0} {items : List T} {is_good : P → Type 0} {rank : P → 
       }
 
 module _ {T P : Type 0} (items : List T) (is_good : P → Type 0) (rank : P → ℕ) where
+  behind_last : (back : Option P)
+      → MatchOption back (items ≡ []) (λ p. is_good p × (rank p + 1 ≡ length items))
+      → ForSome back is_good × (place_behind rank back ≡ length items)
+  behind_last None none = (λ q is. absurd (false≢true (ap is_some is)), sym (ap length none))
+  behind_last (Some p) last =
+      (λ q is. subst is_good (ap (λ o. unwrap_or o p) is) last.0, last.1)
+
+  -- all items of a container
+  pub whole_iterator : (front back : Option P) (left : ℕ)
+      → IsAt is_good rank (length items) front 0
+      → MatchOption back (items ≡ []) (λ p. is_good p × (rank p + 1 ≡ length items))
+      → left ≡ length items → IsIterator items is_good rank [] front back left
+  whole_iterator front back left first last many =
+      let behind = behind_last back last in
+      let start : 0 ≡ place_behind rank back - left + 0 = omega (arith, behind.1, many) in
+      record {
+        last = behind.0;
+        in_range = omega (arith, behind.1);
+        enough = omega (arith, behind.1, many);
+        run_is = refl;
+        front_at = subst (IsAt is_good rank (length items) front) start first;
+      }
+
   -- a position before another, or none before the first item
   pub place_of_prev : (p : P) (prev : Option P)
       → MatchOption prev (rank p ≡ 0) (λ q. is_good q × (rank q + 1 ≡ rank p))

@@ -7,7 +7,7 @@ ghost use Rattle.range_store.specs.declared.storage.Item.{Item};
 ghost use Rattle.range_reads.specs.Iteration.{shown_item};
 
 use range_algebra::any::AnyRange;
-use range_store::storage::{Item, Storage};
+use range_store::storage::{Item, Run, Storage};
 use std::alloc::AllocError;
 use std::marker::{Model, PhantomData};
 
@@ -16,7 +16,7 @@ use std::marker::{Model, PhantomData};
 pub struct Iter<'a, K: 'a, V: 'a, C: Storage<Item<AnyRange<K>, V>> + 'a> {
     stored: &'a C,
     // The next items, and the position after them.
-    run: &'a [Item<AnyRange<K>, V>],
+    run: Run<'a, Item<AnyRange<K>, V>>,
     front: Option<C::Position>,
     back: Option<C::Position>,
     left: usize,
@@ -35,7 +35,7 @@ impl<'a, K: 'a, V: 'a, C: Storage<Item<AnyRange<K>, V>> + 'a> Model for Iter<'a,
         (drop (place_behind (C.rank i.stored.now) i.back - i.left) (C.items i.stored.now)) };
 
     ghost invariant = { λ i. IsIterator (C.items i.stored.now) (C.is_good i.stored.now)
-        (C.rank i.stored.now) i.run.now i.front i.back i.left };
+        (C.rank i.stored.now) i.run i.front i.back i.left };
 }
 
 impl<'a, K: 'a, V: 'a, C: Storage<Item<AnyRange<K>, V>> + 'a> Iter<'a, K, V, C> {
@@ -45,7 +45,7 @@ impl<'a, K: 'a, V: 'a, C: Storage<Item<AnyRange<K>, V>> + 'a> Iter<'a, K, V, C> 
     {
         Iter {
             stored,
-            run: &[],
+            run: Run::of_items(&[]),
             front: stored.first(),
             back: stored.last(),
             left: stored.len(),
@@ -63,7 +63,7 @@ impl<'a, K: 'a, V: 'a, C: Storage<Item<AnyRange<K>, V>> + 'a> Clone for Iter<'a,
     fn clone(&self) -> Result<Self, AllocError> {
         Ok(Iter {
             stored: self.stored,
-            run: self.run,
+            run: self.run.clone()?,
             front: self.front,
             back: self.back,
             left: self.left,
@@ -84,11 +84,8 @@ impl<'a, K: 'a, V: 'a, C: Storage<Item<AnyRange<K>, V>> + 'a> Iterator for Iter<
         if self.left == 0 {
             return None;
         }
-        let item = match self.run.split_first() {
-            Some((first, rest)) => {
-                self.run = rest;
-                first
-            }
+        let item = match self.run.next() {
+            Some(item) => item,
             None => {
                 let Some(p) = self.front else { unreachable!() };
                 let chunk = self.stored.chunk_from(p);

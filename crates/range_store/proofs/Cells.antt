@@ -34,7 +34,7 @@ module _ {A : Type 0} where
   without_between (x ∷ xs) ys y = ap (λ zs. x ∷ zs) (without_between xs ys y)
 
 module _ {T : Type 0} where
-  items_in_full : (xs : List T) → items_in (full_cells xs) ≡ xs
+  pub items_in_full : (xs : List T) → items_in (full_cells xs) ≡ xs
   items_in_full [] = refl
   items_in_full (x ∷ xs) = ap (λ zs. x ∷ zs) (items_in_full xs)
 

@@ -1,4 +1,5 @@
 pub mod Building
+pub mod Cells
 pub mod Contents
 pub mod Counting
 pub mod Depth

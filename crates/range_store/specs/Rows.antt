@@ -1,8 +1,9 @@
 -- How `Rows` keeps the items of each number: in cells that follow each other, so many for each
 -- number, of which the first have an item. The last numbers may have no cells yet, and no item.
 -- No public clause cites this file.
-use Rattle.std.specs.Prelude.{◌≡◌, ℕ, zero, suc, ◌-◌, ◌*◌, ◌<◌, ◌≤◌, List, [], ◌∷◌, ◌++◌, length, map, take, drop, replicate, Option, Some, None, filter_map, slice_index_or}
+use Rattle.std.specs.Prelude.{◌≡◌, ℕ, zero, suc, ◌-◌, ◌*◌, ◌<◌, ◌≤◌, List, [], ◌∷◌, ◌++◌, length, map, take, drop, replicate, Option, Some, None, slice_index_or}
 use Rattle.range_store.specs.declared.btree.nodes.TheConstants.{CAPACITY}
+pub use Rattle.range_store.specs.Cells.{items_in}
 
 module _ {T : Type 0} where
   -- the items under a number, none where there is no row
@@ -12,10 +13,6 @@ module _ {T : Type 0} where
   -- cells with these items
   abbrev pub full_cells : List T → List (Option T)
   full_cells xs = map (λ x. Some x) xs
-
-  -- the items in cells
-  abbrev pub items_in : List (Option T) → List T
-  items_in cells = filter_map (λ cell. cell) cells
 
   -- the first cells of a row have these items, and the others none
   pub record HoldsItems (row : List (Option T)) (items : List T) : Type 0 where

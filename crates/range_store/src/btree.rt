@@ -19,7 +19,7 @@ pub use crate::btree::nodes::{CAPACITY, MAX_LEN, MIN_LEN};
 pub use crate::btree::path::Edge;
 use crate::btree::path::stands_first;
 use crate::btree::searching::MAX_ASKS;
-use crate::storage::{Chunk, Probe, Storage};
+use crate::storage::{Chunk, Probe, Run, Storage};
 use std::alloc::{AllocError, Global};
 
 /// Items in a B-tree: insertion, removal and search take steps in the logarithm of their number.
@@ -128,12 +128,22 @@ impl<T: Drop> Storage<T> for BoxStorage<T> {
         self.nodes.item_at(home.node, home.index)
     }
 
-    #[inline(always)]
+    // Lends the rest of the edge's leaf, also where the item stands above the leaves. Out of line,
+    // so that an iterator takes the next item of a leaf without a call.
+    #[inline(never)]
     fn chunk_from(&self, p: Edge) -> Chunk<'_, T, Edge> {
+        let home = self.home(p);
+        let len = self.nodes.item_count(p.leaf);
+        let cells = self.nodes.cells(p.leaf);
+        let end = Edge {
+            leaf: p.leaf,
+            path: p.path,
+            index: len,
+        };
         Chunk {
-            first: self.get(p),
-            rest: &[],
-            after: self.next(p),
+            first: self.nodes.item_at(home.node, home.index),
+            rest: Run::of_cells(&cells[p.index..len]),
+            after: self.following(end),
         }
     }
 

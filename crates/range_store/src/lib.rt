@@ -15,8 +15,8 @@
 //! - an edge between two items, as std's B-tree calls it, with the path to it, the steps along
 //!   the list, and where the item before it stands: `src/btree/path.rt`, `specs/Edges.antt`,
 //!   `proofs/Behind.antt`
-//! - the items after a position that lie together: `chunk_from` in `src/storage.rt`; the iterator
-//!   itself `range_map/src/map/iter.rt`, `specs/Iteration.antt`, `proofs/Chunks.antt`
+//! - the items after a position that lie together: `Run` and `chunk_from` in `src/storage.rt`,
+//!   `specs/Cells.antt`; in a leaf `proofs/LeafItems.antt`; the iterator `range_reads/src/iter.rt`
 //! - how a search goes down: `src/btree/searching.rt`, `proofs/{Ways,Descending}.antt`
 //! - what a node is to hold before it is written or cut: `src/btree/insertion.rt`,
 //!   `specs/Contents.antt`

@@ -1,10 +1,11 @@
 //! An ordered container, seen as a list of items with capacity to spare, and a probe that searches
 //! it.
-ghost use Rattle.std.specs.Prelude.{◌≡◌, ℕ, ◌+◌, ◌-◌, ◌^◌, ◌<◌, ◌≤◌, List, Bool, true, false, [], ◌∷◌, ◌++◌, length, map, take, drop, slice_index_or, slice_set, insert, remove, IsTrue, IsSome, Some, IfSome, IfNone, IsOk, OnOk, OnErr, IfOk, MatchOption, All, min, Option};
+ghost use Rattle.std.specs.Prelude.{◌≡◌, ℕ, ◌+◌, ◌-◌, ◌^◌, ◌<◌, ◌≤◌, List, Bool, true, false, [], ◌∷◌, ◌++◌, length, map, take, drop, slice_index_or, slice_set, insert, remove, IsTrue, IsSome, Some, IfSome, IfNone, IsOk, OnOk, OnErr, IfOk, MatchOption, All, min, Option, ⊤};
 ghost use Rattle.std.specs.List.Sorted.{IsPartitionedBy, IsPartitionPoint};
 ghost use Rattle.std.specs.List.{AllZip};
 ghost use Rattle.std.specs.Option.{ForSome};
 ghost use Rattle.std.specs.Borrow.{Lends, sem};
+ghost use Rattle.range_store.specs.Cells.{items_in, AreFull};
 ghost use Rattle.range_store.specs.Counting.{one_step_after, AddsSteps, greatest_count};
 ghost use Rattle.range_store.specs.ListPlaces.{place_before, IsAt, IsFrontOf};
 
@@ -80,13 +81,82 @@ impl<K, V> Item<K, V> {
     }
 }
 
+/// Items that lie together, in a slice of items or of full cells, of which the next can be taken.
+/// A contract sees their list.
+#[derive(Drop)]
+pub struct Run<'a, T> {
+    // Full cells, whose items come first, and items.
+    cells: &'a [Option<T>],
+    items: &'a [T],
+}
+
+impl<'a, T> Model for Run<'a, T> {
+    ghost use Rattle.std.specs.Prelude.{List, ◌++◌};
+    ghost use Rattle.range_store.specs.Cells.{items_in, AreFull};
+
+    ghost Value = { List T };
+
+    ghost view = { λ run. items_in run.cells.now ++ run.items.now };
+
+    ghost invariant = { λ run. AreFull run.cells.now };
+}
+
+impl<'a, T> Run<'a, T> {
+    /// The items of a slice. Allocates nothing.
+    pub fn of_items(items: &'a [T]) -> Self
+        ensures { result ≡ items.now }
+    {
+        Run { cells: &[], items }
+    }
+
+    /// The items in cells, each of which has one. Allocates nothing.
+    pub fn of_cells(cells: &'a [Option<T>]) -> Self
+        requires { AreFull cells.now }
+        ensures { result ≡ items_in cells.now }
+    {
+        Run { cells, items: &[] }
+    }
+
+    /// The first item, which is taken from the run, or none where no item is left.
+    #[inline(always)]
+    pub fn next(&mut self) -> Option<&'a T>
+        ensures { MatchOption result ((self.old ≡ []) × (self.new ≡ []))
+            (λ item. self.old ≡ item.now ∷ self.new) }
+    {
+        if let Some((cell, rest)) = self.cells.split_first() {
+            self.cells = rest;
+            return match cell {
+                Some(item) => Some(item),
+                None => unreachable!(),
+            };
+        }
+        let (item, rest) = self.items.split_first()?;
+        self.items = rest;
+        Some(item)
+    }
+}
+
+/// A copy has the same items left.
+impl<'a, T> Clone for Run<'a, T> {
+    ghost is_clone = { λ run copy. copy ≡ run };
+
+    ghost is_infallible = { λ _. ⊤ };
+
+    fn clone(&self) -> Result<Self, AllocError> {
+        Ok(Run {
+            cells: self.cells,
+            items: self.items,
+        })
+    }
+}
+
 /// An item of a container, those after it that lie together, and the position after these.
 #[derive(Drop)]
 pub struct Chunk<'a, T, P: Copy> {
     /// The first item.
     pub first: &'a T,
     /// The items after it, perhaps none.
-    pub rest: &'a [T],
+    pub rest: Run<'a, T>,
     /// The position after these, or none after the last item.
     pub after: Option<P>,
 }
@@ -172,19 +242,19 @@ pub trait Storage<T>: Drop {
     /// The item at a position, the items after it that lie together, and the position after these.
     /// Allocates nothing.
     ///
-    /// The default gives one item, as a B-tree does.
+    /// The default gives one item.
     fn chunk_from(&self, p: Self::Position) -> Chunk<'_, T, Self::Position>
         requires { is_good self.now p }
         ensures first { result.first.now
             ≡ slice_index_or (items self.now) (rank self.now p) result.first.now }
-        ensures rest { result.rest.now ≡ take (length result.rest.now)
+        ensures rest { result.rest ≡ take (length result.rest)
             (drop (rank self.now p + 1) (items self.now)) }
         ensures after { IsAt (is_good self.now) (rank self.now) (length (items self.now))
-            result.after (rank self.now p + 1 + length result.rest.now) }
+            result.after (rank self.now p + 1 + length result.rest) }
     {
         Chunk {
             first: self.get(p),
-            rest: &[],
+            rest: Run::of_items(&[]),
             after: self.next(p),
         }
     }

@@ -5,7 +5,7 @@ ghost use Rattle.std.proofs.Common.{arith, refl};
 ghost use Rattle.range_store.specs.Rewriting.{with_vec_item, good_with};
 ghost use Rattle.range_store.specs.ListPlaces.{place_before};
 
-use crate::storage::{Probe, Storage};
+use crate::storage::{Chunk, Probe, Run, Storage};
 use std::alloc::{AllocError, Global};
 use std::mem;
 
@@ -82,6 +82,14 @@ impl<T: Drop> Storage<T> for VecStorage<T> {
 
     fn get(&self, p: VecPosition) -> &T {
         &self.stored[p.0]
+    }
+
+    fn chunk_from(&self, p: VecPosition) -> Chunk<'_, T, VecPosition> {
+        Chunk {
+            first: self.get(p),
+            rest: Run::of_items(&self.stored[p.0 + 1..]),
+            after: None,
+        }
     }
 
     fn get_mut(&mut self, p: VecPosition) -> &mut T {

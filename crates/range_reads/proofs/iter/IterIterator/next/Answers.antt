@@ -6,15 +6,15 @@ use Rattle.range_reads.proofs.iter.IterIterator.next.Goals.{in-Some, in-None+in-
 pub invariant_of-self : goal.invariant_of-self
 invariant_of-self g c =
     let some : 0 < c.self.inside.left = omega (arith, c.if-self-eq0.false) in
-    elim c.match-split_first.branch [
+    elim c.match-next.branch [
       | in-Some w ↦
           rw w.self-inside-is
           (next_iterator c.self.invariant some _ _ _
-          (from_run c.self.invariant some _ _ w.in-Some.ensures.cases.0))
+          (from_run c.self.invariant some _ _ w.in-Some.ensures))
       | in-None+in-Some-front w ↦
           rw w.self-inside-is
           (next_iterator c.self.invariant some _ _ _
-          (from_chunk c.self.invariant some w.in-Some-front.p _ _ _ w.in-None.ensures.cases
+          (from_chunk c.self.invariant some w.in-Some-front.p _ _ _ (ap length w.in-None.ensures.0)
           w.in-Some-front.is w.chunk_from-chunk.ensures.first w.chunk_from-chunk.ensures.rest
           w.chunk_from-chunk.ensures.after))
     ]
@@ -22,15 +22,15 @@ invariant_of-self g c =
 pub returns-clause-steps : goal.returns-clause-steps
 returns-clause-steps g c =
     let some : 0 < c.self.inside.left = omega (arith, c.if-self-eq0.false) in
-    elim c.match-split_first.branch [
+    elim c.match-next.branch [
       | in-Some w ↦
           rw (w.self-inside-is, w.item-is)
           (sym c.self.view_is ∙ next_steps c.self.invariant some _ _ _
-          (from_run c.self.invariant some _ _ w.in-Some.ensures.cases.0))
+          (from_run c.self.invariant some _ _ w.in-Some.ensures))
       | in-None+in-Some-front w ↦
           rw (w.self-inside-is, w.item-is)
           (sym c.self.view_is ∙ next_steps c.self.invariant some _ _ _
-          (from_chunk c.self.invariant some w.in-Some-front.p _ _ _ w.in-None.ensures.cases
+          (from_chunk c.self.invariant some w.in-Some-front.p _ _ _ (ap length w.in-None.ensures.0)
           w.in-Some-front.is w.chunk_from-chunk.ensures.first w.chunk_from-chunk.ensures.rest
           w.chunk_from-chunk.ensures.after))
     ]
@@ -38,11 +38,11 @@ returns-clause-steps g c =
 pub returns-clause-goes : goal.returns-clause-goes
 returns-clause-goes g c =
     let some : 0 < c.self.inside.left = omega (arith, c.if-self-eq0.false) in
-    elim c.match-split_first.branch [
+    elim c.match-next.branch [
       | in-Some w ↦
           let steps =
           next_steps c.self.invariant some _ _ _
-          (from_run c.self.invariant some _ _ w.in-Some.ensures.cases.0)
+          (from_run c.self.invariant some _ _ w.in-Some.ensures)
           in
           rw (w.self-inside-is, ← c.self.view_is) (record {
             on = λ _. (tt, tt, omega (arith, ap length steps));
@@ -52,7 +52,7 @@ returns-clause-goes g c =
       | in-None+in-Some-front w ↦
           let steps =
           next_steps c.self.invariant some _ _ _
-          (from_chunk c.self.invariant some w.in-Some-front.p _ _ _ w.in-None.ensures.cases
+          (from_chunk c.self.invariant some w.in-Some-front.p _ _ _ (ap length w.in-None.ensures.0)
           w.in-Some-front.is w.chunk_from-chunk.ensures.first w.chunk_from-chunk.ensures.rest
           w.chunk_from-chunk.ensures.after) in
           rw (w.self-inside-is, ← c.self.view_is) (record {

@@ -1,0 +1,78 @@
+-- The items after an edge in its leaf, and the cells that have them.
+use Rattle.std.proofs.Common.{◌≡◌, ℕ, ◌+◌, ◌-◌, ◌<◌, ◌≤◌, List, length, get_or, take, drop, replicate, Option, Some, None, refl, ap, sym, ◌∙◌, arith}
+use Rattle.std.proofs.lemmas.List.{get_or-drop, get_or-take, length-drop, length-take, same_lists, take_all, take-append-le, drop-append-le, drop-map}
+use Rattle.std.specs.Prelude.{is_some}
+use Rattle.range_store.specs.Cells.{items_in, AreFull}
+use Rattle.range_store.specs.Heap.{node_of, items_of}
+use Rattle.range_store.specs.Holding.{box_items, box_place, IsBoxEdge}
+use Rattle.range_store.specs.Rows.{full_cells, HoldsItems}
+use Rattle.range_store.specs.declared.btree.BoxStorage.{BoxStorage}
+use Rattle.range_store.specs.declared.btree.nodes.TheConstants.{CAPACITY}
+use Rattle.range_store.specs.declared.btree.path.Edge.{Edge}
+use Rattle.range_store.proofs.Cells.{items_in_full, length-full, standing}
+use Rattle.range_store.proofs.Whole.{edge_within, leaf_item, tree_beside, tree_leaf}
+
+module _ {T : Type 0} where
+  full_cells_full : (xs : List T) → AreFull (full_cells xs)
+  full_cells_full xs = λ k cell within.
+      ap is_some ((standing xs k (omega (arith, within, length-full xs))).cell_is cell)
+
+  -- the cells of a row from an index on that have items
+  module _ {row : List (Option T)} {xs : List T} (h : HoldsItems row xs) (i : ℕ)
+      (within : i ≤ length xs) where
+    rest_cells : take (length xs - i) (drop i row) ≡ full_cells (drop i xs)
+    rest_cells =
+        let none : List (Option T) = replicate (CAPACITY - length xs) None in
+        let many : length (drop i (full_cells xs)) ≡ length xs - i =
+        length-drop i (full_cells xs) ∙ ap (λ n. n - i) (length-full xs) in
+        ap (λ cells. take (length xs - i) (drop i cells)) h.cells_are
+        ∙ ap (take (length xs - i))
+        (drop-append-le i (full_cells xs) none (omega (arith, length-full xs)))
+        ∙ take-append-le (length xs - i) (drop i (full_cells xs)) none (omega (arith, many))
+        ∙ take_all (length xs - i) (drop i (full_cells xs)) (omega (arith, many))
+        ∙ drop-map (λ x. Some x) i xs
+
+    pub rest_full : AreFull (take (length xs - i) (drop i row))
+    rest_full = rw rest_cells (full_cells_full (drop i xs))
+
+    pub rest_items : items_in (take (length xs - i) (drop i row)) ≡ drop i xs
+    rest_items = ap items_in rest_cells ∙ items_in_full (drop i xs)
+
+module _ {T : Type 0} {t : BoxStorage T} {g : Edge} (is : IsBoxEdge t g) where
+  abbrev leaf_items : List T
+  leaf_items = items_of (node_of t.nodes g.leaf)
+
+  -- the edge at another index of the leaf
+  pub at_index : (index : ℕ) → index ≤ length leaf_items
+      → IsBoxEdge t (record g { index = index })
+      × (box_place t (record g { index = index }) + g.index ≡ box_place t g + index)
+  at_index index low = tree_beside is (record g { index = index }) refl refl low
+
+  pub leaf_rest : drop g.index leaf_items
+      ≡ take (length leaf_items - g.index) (drop (box_place t g) (box_items t))
+  leaf_rest =
+      let leaf = tree_leaf is in
+      let end = at_index (length leaf_items) (omega arith) in
+      let most = edge_within end.0 in
+      same_lists _ _
+      (omega (
+        arith,
+        length-drop g.index leaf_items,
+        length-take (length leaf_items - g.index) (drop (box_place t g) (box_items t)),
+        length-drop (box_place t g) (box_items t),
+        end.1,
+        most,
+        leaf.within,
+      ))
+      (λ k d low.
+      let here : g.index + k < length leaf_items =
+      omega (arith, low, length-drop g.index leaf_items) in
+      let next = at_index (g.index + k + 1) (omega (arith, here)) in
+      let at : box_place t (record g { index = g.index + k + 1 }) - 1 ≡ box_place t g + k =
+      omega (arith, next.1) in
+      get_or-drop g.index leaf_items k d
+      ∙ ap (λ i. get_or leaf_items i d) (omega arith)
+      ∙ sym (leaf_item next.0 d (omega arith))
+      ∙ ap (λ i. get_or (box_items t) i d) at
+      ∙ sym (get_or-drop (box_place t g) (box_items t) k d)
+      ∙ sym (get_or-take (length leaf_items - g.index) _ k d (omega (arith, here))))

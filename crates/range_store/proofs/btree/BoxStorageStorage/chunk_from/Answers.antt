@@ -1,0 +1,78 @@
+use Rattle.std.proofs.Common.{◌≡◌, ◌≤◌, ◌+◌, ◌-◌, length, ap, arith, rules, sym, subst, ◌∙◌, drop, take}
+use Rattle.std.proofs.lemmas.List.{length-drop}
+use Rattle.range_store.specs.Heap.{items_of, node_of}
+use Rattle.range_store.specs.Holding.{box_items, box_place, box_rank, good_home, next_at, rank_is, IsGood}
+use Rattle.range_store.specs.ListPlaces.{IsAt}
+use Rattle.range_store.proofs.Cells.{row_length}
+use Rattle.range_store.proofs.LeafItems.{at_index, leaf_rest, rest_full, rest_items}
+use Rattle.range_store.proofs.Lent.{item_home}
+use Rattle.range_store.proofs.Whole.{tree_leaf}
+use Rattle.range_store.proofs.btree.BoxStorageStorage.chunk_from.Goals as goal
+
+pub item_count-len-requires : goal.item_count-len-requires
+item_count-len-requires g c = (tree_leaf c.requires.is).present
+
+pub cells-cells-requires : goal.cells-cells-requires
+cells-cells-requires g c =
+    let leaf = tree_leaf c.requires.is in record { present = leaf.present; some = leaf.some }
+
+pub offset_bounds-cells-p : goal.offset_bounds-cells-p
+offset_bounds-cells-p g c =
+    omega (
+      arith,
+      (tree_leaf c.requires.is).within,
+      c.cells-cells.ensures.fits,
+      row_length c.cells-cells.ensures,
+    )
+
+pub slice_bounds-of_cells-count : goal.slice_bounds-of_cells-count
+slice_bounds-of_cells-count g c =
+    omega (arith, (tree_leaf c.requires.is).within, c.item_count-len.ensures)
+
+pub slice_bounds-of_cells-start : goal.slice_bounds-of_cells-start
+slice_bounds-of_cells-start g c =
+    let low : c.args.p.index ≤ c.item_count-len.result =
+    omega (arith, (tree_leaf c.requires.is).within, c.item_count-len.ensures) in
+    search rules
+
+pub item_at-requires : goal.item_at-requires
+item_at-requires g c =
+    let home = good_home c.requires in
+    rw c.home-home.ensures (record { present = home.present; within = home.within })
+
+pub of_cells-requires : goal.of_cells-requires
+of_cells-requires g c =
+    rw c.item_count-len.ensures
+    (rest_full c.cells-cells.ensures c.args.p.index (tree_leaf c.requires.is).within)
+
+pub following-requires : goal.following-requires
+following-requires g c =
+    (at_index c.requires.is c.item_count-len.result (omega (arith, c.item_count-len.ensures))).0
+
+pub returns : goal.returns
+returns g c =
+    let s = c.args.self.now in
+    let p = c.args.p in
+    let items = items_of (node_of s.nodes p.leaf) in
+    let low = (tree_leaf c.requires.is).within in
+    let run : c.of_cells.result ≡ drop p.index items =
+    rw c.item_count-len.ensures at c.of_cells.ensures
+    ∙ rest_items c.cells-cells.ensures p.index low in
+    let many : length c.of_cells.result ≡ length items - p.index =
+    ap length run ∙ length-drop p.index items in
+    let behind : box_place s p ≡ box_rank s p + 1 =
+    omega (arith, rank_is c.requires, c.requires.some) in
+    let end = at_index c.requires.is (length items) (omega arith) in
+    let place : box_place s (record p { index = length items })
+    ≡ box_rank s p + 1 + length c.of_cells.result =
+    omega (arith, end.1, behind, low, many) in
+    record {
+      first = item_home c.requires c.home-home.result c.home-home.ensures
+          c.item_at.result.now c.item_at.ensures;
+      rest = run ∙ leaf_rest c.requires.is
+          ∙ ap (λ n. take n (drop (box_place s p) (box_items s))) (sym many)
+          ∙ ap (λ n. take (length c.of_cells.result) (drop n (box_items s))) behind;
+      after = subst (IsAt (IsGood s) (box_rank s) (length (box_items s)) c.following.result) place
+          (next_at s c.following.result _
+          (rw c.item_count-len.ensures at c.following.ensures));
+    }
