@@ -78,7 +78,7 @@ pub fn build<T: Drop>(
         let share = rest / (many - index);
         let item = next_item(items);
         let child = build(nodes, below - 1, inner, share, items);
-        nodes.put(number, index, item, Some(child));
+        nodes.put(number, index, item, index + 1, Some(child));
         rest -= share;
     }
     number

@@ -195,17 +195,12 @@ pub fn remove_below<T: Drop>(
     }
 }
 
-// The topmost node of a tree, and how many levels it has.
-#[derive(Clone, Copy)]
-pub struct Root {
-    pub number: usize,
-    pub levels: usize,
-}
-
-// A tree after a removal, and where an edge then lies, if it has a level.
+// A tree after a removal: its topmost node, how many levels it has, and where an edge then lies, if
+// it has one.
 #[derive(Clone, Copy)]
 pub struct Shrunk {
-    pub root: Root,
+    pub root: usize,
+    pub levels: usize,
     pub edge: Edge,
 }
 
@@ -214,42 +209,32 @@ pub struct Shrunk {
 pub fn shrink_root<T: Drop>(nodes: &mut Nodes<T>, levels: usize, root: usize, edge: Edge) -> Shrunk
     requires tree { IsLooseTree nodes.old levels root }
     requires edge { IsEdge nodes.old (levels - 1) root edge }
-    ensures tree { IsTree nodes.new result.root.levels result.root.number }
-    ensures items { items_below nodes.new result.root.levels result.root.number
+    ensures tree { IsTree nodes.new result.levels result.root }
+    ensures items { items_below nodes.new result.levels result.root
         ≡ items_below nodes.old levels root }
     ensures capacity { nodes.new.capacity ≡ nodes.old.capacity }
-    ensures edge { 0 < result.root.levels
-        → IsEdge nodes.new (result.root.levels - 1) result.root.number result.edge }
-    ensures place { 0 < result.root.levels
-        → place nodes.new (result.root.levels - 1) result.root.number result.edge
+    ensures edge { 0 < result.levels
+        → IsEdge nodes.new (result.levels - 1) result.root result.edge }
+    ensures place { 0 < result.levels
+        → place nodes.new (result.levels - 1) result.root result.edge
         ≡ place nodes.old (levels - 1) root edge }
 {
     if nodes.item_count(root) > 0 {
-        return Shrunk {
-            root: Root {
-                number: root,
-                levels,
-            },
-            edge,
-        };
+        return Shrunk { root, levels, edge };
     }
     if levels == 1 {
         nodes.remove_node(root);
         return Shrunk {
-            root: Root {
-                number: 0,
-                levels: 0,
-            },
+            root: 0,
+            levels: 0,
             edge,
         };
     }
     let child = nodes.child_at(root, 0);
     nodes.remove_node(root);
     Shrunk {
-        root: Root {
-            number: child,
-            levels: levels - 1,
-        },
+        root: child,
+        levels: levels - 1,
         edge: seen_inside(edge),
     }
 }

@@ -159,6 +159,7 @@ put-requires g t c =
     record {
       present = node_there c.build-child.result some was.built child.moved;
       within = omega (arith, items);
+      near = omega (arith, items);
       room = omega (arith, items, branch.cut.few, c.loop-index-test.true);
       child = node_fits c.build-child.result some was.built child.moved;
     }

@@ -13,8 +13,8 @@ use Rattle.range_store.proofs.Leaves.{leaf_content, leaf_moved, leaf_listed, lea
 use Rattle.range_store.proofs.Growing.{kid_owned, grows_below, none_replaces, none_edge, some_items, some_children, grown_kept, grown_moved, grown_content, grown_listed, grown_longer, grown_seat, content_room, settled_replaces}
 use Rattle.range_store.proofs.btree.insertion.+insert_below.Goals as goal
 
-pub overflow_add-edge : goal.overflow_add-edge
-overflow_add-edge g t c =
+pub overflow_add-at : goal.overflow_add-at
+overflow_add-at g t c =
     omega (
       arith,
       leaf_index c.args.nodes.now c.args.number c.args.edge
