@@ -158,14 +158,6 @@ impl<T: Drop> Nodes<T> {
         self.rows.cells(number)
     }
 
-    /// The children of a node, by their numbers.
-    pub fn children(&self, number: usize) -> &[usize]
-        requires { HasNode self.now number }
-        ensures { result.now ≡ node_children self.now number }
-    {
-        self.slab[number].children.as_slice()
-    }
-
     /// The item of a node at an index.
     pub fn item_at(&self, number: usize, index: usize) -> &T
         requires present { HasNode self.now number }
@@ -181,7 +173,7 @@ impl<T: Drop> Nodes<T> {
         requires within { index < length (node_children self.now number) }
         ensures { result ≡ node_child self.now number index }
     {
-        self.children(number)[index]
+        self.slab[number].children.as_slice()[index]
     }
 
     /// The item of a node at an index, to be changed where it stands.
