@@ -1,4 +1,4 @@
-use Rattle.std.proofs.Common.{◌≡◌, ◌+◌, ◌-◌, ◌/◌, ◌<◌, ◌∷◌, ◌++◌, suc, length, sym, ap, subst, ◌∙◌, arith, length-append, length-take-le, take-append-drop}
+use Rattle.std.proofs.Common.{◌≡◌, ◌-◌, ◌/◌, ◌<◌, ◌∷◌, ◌++◌, suc, length, sym, ap, subst, ◌∙◌, arith, length-append, length-take-le, take-append-drop}
 use Rattle.std.specs.Vec.Iter.{into_iter_items}
 use Rattle.range_store.specs.Building.{IsBuilt}
 use Rattle.range_store.specs.Nodes.{items_below}

@@ -1,9 +1,8 @@
-use Rattle.std.proofs.Common.{◌≡◌, ℕ, ◌<◌, ◌≤◌, ◌+◌, ◌-◌, length, refl, ap, ◌∙◌, arith, Some, None}
-use Rattle.std.specs.List.{insert}
+use Rattle.std.proofs.Common.{◌≡◌, ℕ, ◌<◌, ◌≤◌, ◌+◌, ◌-◌, length, refl, ap, ◌∙◌, arith, None}
 use Rattle.std.proofs.lemmas.List.Edits.{length-insert}
-use Rattle.range_store.specs.Heap.{items_of, node_items, node_child}
+use Rattle.range_store.specs.Heap.{items_of, node_items}
 use Rattle.range_store.specs.declared.btree.nodes.TheConstants.{CAPACITY}
-use Rattle.range_store.specs.Edges.{turn, inside, place}
+use Rattle.range_store.specs.Edges.{turn, inside}
 use Rattle.range_store.proofs.Edges.{path_small, leaf_index, leaf_place}
 use Rattle.range_store.proofs.Below.{children_length}
 use Rattle.range_store.proofs.Room.{HasTreeRoom-child}

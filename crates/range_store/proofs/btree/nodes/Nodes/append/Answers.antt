@@ -1,4 +1,4 @@
-use Rattle.std.proofs.Common.{◌≡◌, length, arith, refl, sym, ◌∙◌}
+use Rattle.std.proofs.Common.{◌≡◌, arith, sym, ◌∙◌}
 use Rattle.std.specs.Prelude.{Some, None}
 use Rattle.slab.specs.Slab.{get}
 use Rattle.std.proofs.lemmas.List.{get_or-set_other}
