@@ -1,7 +1,6 @@
 -- The first and the last of a list, as parts of the list with one item more.
-use Rattle.std.proofs.Common.{◌≡◌, ℕ, suc, ◌+◌, ◌-◌, ◌<◌, ◌≤◌, List, length, get_or, take, drop, sym, ap, ◌∙◌}
+use Rattle.std.proofs.Common.{◌≡◌, ℕ, suc, ◌-◌, ◌≤◌, List, length, take, drop, sym, ap, ◌∙◌}
 use Rattle.std.specs.List.{insert}
-use Rattle.std.proofs.lemmas.List.Edits.{get_or-insert_above, get_or-insert_below}
 use Rattle.range_store.proofs.Halves.{take_insert_before, take_insert_after, drop_insert_after, drop_insert_before}
 
 module _ {T : Type 0} (xs : List T) where
@@ -11,14 +10,6 @@ module _ {T : Type 0} (xs : List T) where
 
     pub left_high : (k : ℕ) → k ≤ i → take k xs ≡ take k (insert xs i x)
     left_high k high = sym (take_insert_before xs i k x high within)
-
-    pub middle_low : (k : ℕ) (last : T) → i ≤ k → last ≡ get_or xs k last
-        → last ≡ get_or (insert xs i x) (k + 1) last
-    middle_low k last low is = is ∙ sym (get_or-insert_above xs i x last k low within)
-
-    pub middle_high : (k : ℕ) (last : T) → k < i → last ≡ get_or xs k last
-        → last ≡ get_or (insert xs i x) k last
-    middle_high k last high is = is ∙ sym (get_or-insert_below xs i x last k high within)
 
     pub right_low : (k : ℕ) → i ≤ k → drop k xs ≡ drop (suc k) (insert xs i x)
     right_low k low = sym (drop_insert_after xs i k x low within)

@@ -1,9 +1,9 @@
 -- A test that falls once along a list.
 use Rattle.std.proofs.Common.{◌≡◌, ◌⊎◌, ℕ, zero, suc, ◌+◌, ◌-◌, ◌<◌, ◌≤◌, Bool, true, false, cond, List, [], ◌∷◌, ◌++◌, length, get_or, refl, sym, ◌∙◌, inl, inr, arith, count_by, max, min}
 use Rattle.std.specs.List.Sorted.{IsPartitionedBy}
-use Rattle.std.proofs.lemmas.Bool.{cases_lt, false_from_ne_true, false≢true, both_ways}
+use Rattle.std.proofs.lemmas.Bool.{false_from_ne_true, false≢true, both_ways}
 use Rattle.std.proofs.lemmas.List.Sums.{sum_by-cons, sum_by-append, count_by-le-length}
-use Rattle.range_store.specs.Counting.{one_step_after, greatest_count}
+use Rattle.range_store.specs.Counting.{greatest_count}
 use Rattle.range_store.specs.ListPlaces.{IsFrontOf}
 use Rattle.range_store.specs.Falling.{Falls}
 
@@ -139,44 +139,6 @@ module _ {X : Type 0} (p : X → Bool) (xs : List X) where
     λ low. absurd (omega (arith, low, falls_false p xs i d falls within (sym is))),
     λ high. refl,
   )
-
-  pub narrowing : (first : ℕ) → Narrowed p xs 0 (length xs) first first
-  narrowing first = record {
-    within = omega arith;
-    at_least = omega arith;
-    at_most = omega (arith, count_by-le-length p xs);
-    few = omega arith;
-    later = omega arith;
-    begun = inr refl;
-  }
-
-  pub narrowed : {low left : ℕ} (step new : ℕ) {first now : ℕ} → 0 < step → step + step ≤ left + 1
-      → (low + step ≤ count_by p xs → new ≡ low + step) → (count_by p xs < low + step → new ≡ low)
-      → Narrowed p xs low left first now
-      → Narrowed p xs new (left - step) first (one_step_after now)
-  narrowed {low} step new some half passes fails before =
-      elim (cases_lt (count_by p xs) (low + step)) [
-        | inl less ↦
-            let is = fails less in
-            record {
-              within = omega (arith, is, before.within);
-              at_least = omega (arith, is, before.at_least);
-              at_most = omega (arith, is, less, half);
-              few = omega (arith, before.few, some, half);
-              later = omega (arith, before.later);
-              begun = inl (omega (arith, before.later));
-            }
-        | inr more ↦
-            let is = passes more in
-            record {
-              within = omega (arith, is, before.within, half, some);
-              at_least = omega (arith, is, more);
-              at_most = omega (arith, is, before.at_most, half);
-              few = omega (arith, before.few, some, half);
-              later = omega (arith, before.later);
-              begun = inl (omega (arith, before.later));
-            }
-      ]
 
 -- four answers tell how many of five to eleven items pass, where the second asks the same item
 -- whatever the first tells

@@ -4,7 +4,7 @@ use Rattle.std.specs.List.{remove}
 use Rattle.std.proofs.Math.ListN.{set}
 use Rattle.std.proofs.lemmas.Bool.{and_right, ne_eqb}
 use Rattle.range_store.specs.Heap.{Heap, node_of, node_items, node_children, node_child}
-use Rattle.range_store.specs.declared.btree.nodes.TheConstants.{CAPACITY, MIN_LEN}
+use Rattle.range_store.specs.declared.btree.nodes.TheConstants.{CAPACITY}
 use Rattle.range_store.specs.declared.btree.path.TheConstants.{PATH_BASE}
 use Rattle.range_store.specs.declared.btree.path.Edge.{Edge}
 use Rattle.range_store.specs.Nodes.{ShapedBut}

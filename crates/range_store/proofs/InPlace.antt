@@ -8,7 +8,7 @@ use Rattle.range_store.specs.declared.btree.nodes.TheConstants.{CAPACITY, MIN_LE
 use Rattle.range_store.specs.declared.btree.BoxStorage.{BoxStorage}
 use Rattle.range_store.specs.declared.btree.path.Edge.{Edge}
 use Rattle.range_store.specs.declared.btree.path.TheConstants.{PATH_BASE}
-use Rattle.range_store.specs.Nodes.{weave, before, items_below, used, Shaped, ShapedBut, Owned, IsTree, before_child, after_child}
+use Rattle.range_store.specs.Nodes.{weave, items_below, used, Shaped, ShapedBut, Owned, IsTree, before_child, after_child}
 use Rattle.range_store.specs.Edges.{turn, inside, IsEdge, place}
 use Rattle.range_store.specs.Contents.{IsContent}
 use Rattle.range_store.specs.Occurrences.{occurrences}

@@ -1,7 +1,7 @@
 -- A node above the leaves, and the edges and items below its children.
 use Rattle.std.proofs.Common.{◌≡◌, ◌≢◌, ℕ, zero, suc, ◌+◌, ◌-◌, ◌<◌, ◌≤◌, ◌++◌, length, refl, ap, ◌∙◌, arith, cond, true, false, ◌==◌, inl, inr}
 use Rattle.range_store.specs.Heap.{Heap, node_items, node_children, node_child}
-use Rattle.range_store.specs.declared.btree.nodes.TheConstants.{CAPACITY, MIN_LEN}
+use Rattle.range_store.specs.declared.btree.nodes.TheConstants.{CAPACITY}
 use Rattle.range_store.specs.declared.btree.path.Edge.{Edge}
 use Rattle.range_store.specs.declared.btree.path.Home.{Home}
 use Rattle.range_store.specs.Nodes.{items_below, before, after, ShapedBut, child_lists, before_child}

@@ -4,7 +4,7 @@ use Rattle.std.specs.List.{flat_map}
 use Rattle.std.proofs.lemmas.List.{append-nil, nil_from_length}
 use Rattle.std.proofs.lemmas.Bool.{cases_eq}
 use Rattle.range_store.specs.Heap.{Heap, Removes, node_items, node_children, node_child}
-use Rattle.range_store.specs.declared.btree.nodes.TheConstants.{CAPACITY, MIN_LEN}
+use Rattle.range_store.specs.declared.btree.nodes.TheConstants.{CAPACITY}
 use Rattle.range_store.specs.Occurrences.{occurrences, occurrences-cons, occurrences-nil, occurrences_itself, occurrences_other}
 use Rattle.range_store.specs.Nodes.{weave, before, items_below, used, here, Shaped, IsTree, IsLooseTree, Shrinks, child_lists}
 use Rattle.range_store.proofs.Contents.{IsRewritten}

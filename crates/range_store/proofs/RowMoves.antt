@@ -164,12 +164,6 @@ module _ {T : Type 0} (rows one two three : List (List T)) (l r : ℕ) (l_there 
         ∙ get_or-set_other (set rows l (take k whole)) r l (drop k whole) [] apart
         ∙ get_or-set_same rows l (take k whole) [] l_there
 
-    right_one : row_of one r ≡ drop k whole
-    right_one =
-        ap (λ zs. row_of zs r) parts
-        ∙ get_or-set_same (set rows l (take k whole)) r (drop k whole) []
-        (omega (arith, r_there, length-set rows l (take k whole)))
-
     again : (ys : List T) → set one l ys ≡ set (set rows l ys) r (drop k whole)
     again ys =
         ap (λ zs. set zs l ys) parts

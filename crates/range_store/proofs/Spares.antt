@@ -628,9 +628,6 @@ module _ {T : Type 0} {slab : Slab Node} {rows : List (List T)} {spares : List �
         len = grew.len;
       }
 
-  pub absorbed_len : slab_len (with_value (with_value slab r blank) l node) ≡ slab_len slab
-  absorbed_len = grew.len ∙ gone.len
-
 -- a spare has nothing
 module _ {T : Type 0} {slab : Slab Node} {rows : List (List T)} {spares : List ℕ}
     (whole : IsWhole slab rows spares) {n : ℕ} {left : List ℕ} (parts : spares ≡ n ∷ left) where

@@ -57,3 +57,7 @@ module _ {T : Type 0} where
   seat_place s zero xs ks i edge = i
   seat_place s (suc d) xs ks i edge =
       length (before xs (map (items_below s (suc d)) ks) i) + place s d (slice_index ks i) edge
+
+  -- how many items below n stand before an edge below its child at i
+  abbrev pub place_through : Heap T → ℕ → ℕ → ℕ → Edge → ℕ
+  place_through s d n i edge = seat_place s (suc d) (node_items s n) (node_children s n) i edge

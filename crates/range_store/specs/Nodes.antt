@@ -129,6 +129,9 @@ module _ {T : Type 0} where
     pub shape : (least : ℕ) → least + 1 ≤ length (node_items old n)
         → ShapedBut least CAPACITY new d n
 
+  abbrev pub KeepsList : Heap T → Heap T → ℕ → ℕ → Type 0
+  KeepsList old new d n = Shrinks old new d n (items_below old (suc d) n)
+
   -- a root, over the levels below it; the empty tree has none
   abbrev pub IsRoot : Heap T → ℕ → ℕ → Type 0
   IsRoot s zero n = Unit {0}

@@ -2,7 +2,6 @@
 ghost use Rattle.std.specs.Prelude.{◌≡◌, suc, ◌+◌, ◌*◌, ◌/◌, ◌^◌, ◌<◌, ◌≤◌, ◌∷◌, ◌++◌, length};
 ghost use Rattle.std.specs.Vec.Iter.{into_iter_items};
 ghost use Rattle.range_store.specs.Building.{IsBuilt, HasRoomToBuild};
-ghost use Rattle.range_store.specs.Heap.{HasRoomFor};
 ghost use Rattle.range_store.specs.Nodes.{items_below};
 
 use crate::btree::nodes::{CAPACITY, Nodes};
@@ -33,20 +32,6 @@ pub fn layout_of(count: usize) -> Layout
     Layout { below, width }
 }
 
-// Makes a leaf of the next items.
-fn build_leaf<T: Drop>(nodes: &mut Nodes<T>, count: usize, items: &mut IntoIter<T>) -> usize
-    requires least { 0 < count }
-    requires most { count ≤ CAPACITY }
-    requires enough { count ≤ length (into_iter_items items.old) }
-    requires room { HasRoomFor nodes.old 1 }
-    ensures built { IsBuilt nodes.old nodes.new 0 result count }
-    ensures list { into_iter_items items.old
-        ≡ items_below nodes.new (suc 0) result ++ into_iter_items items.new }
-    ensures size { length (items_below nodes.new (suc 0) result) ≡ count }
-{
-    nodes.store_items(count, items)
-}
-
 // Makes a node of the next items, below each of whose children there are fewer than `width`.
 pub fn build<T: Drop>(
     nodes: &mut Nodes<T>,
@@ -66,7 +51,7 @@ pub fn build<T: Drop>(
     ensures size { length (items_below nodes.new (suc below) result) ≡ count }
 {
     if below == 0 {
-        return build_leaf(nodes, count, items);
+        return nodes.store_items(count, items);
     }
     let inner = width / (CAPACITY + 1);
     let many = count / width;
@@ -78,7 +63,7 @@ pub fn build<T: Drop>(
         let share = rest / (many - index);
         let item = next_item(items);
         let child = build(nodes, below - 1, inner, share, items);
-        nodes.put(number, index, item, Some(child));
+        nodes.put(number, index, item, index + 1, Some(child));
         rest -= share;
     }
     number

@@ -53,7 +53,7 @@ pub fn put_or_cut<T: Drop>(
         (with_child (node_children nodes.old number) (index + 1) child) seat inner }
 {
     if nodes.item_count(number) < CAPACITY {
-        nodes.put(number, index, item, child);
+        nodes.put(number, index, item, index + 1, child);
         return Insertion {
             split: None,
             side: 0,
@@ -99,16 +99,8 @@ pub fn insert_below<T: Drop>(
         (tops number result.split) result.side result.edge ≡ place nodes.old below number edge + 1 }
 {
     if below == 0 {
-        return put_or_cut(
-            nodes,
-            below,
-            number,
-            edge.index,
-            item,
-            None,
-            edge.index + 1,
-            edge,
-        );
+        let at = edge.index;
+        return put_or_cut(nodes, below, number, at, item, None, at + 1, edge);
     }
     let index = first_turn(edge);
     let child = nodes.child_at(number, index);
@@ -122,16 +114,8 @@ pub fn insert_below<T: Drop>(
         },
         Some(cut) => {
             let seat = index + side;
-            put_or_cut(
-                nodes,
-                below,
-                number,
-                index,
-                cut.middle,
-                Some(cut.right),
-                seat,
-                edge,
-            )
+            let right = Some(cut.right);
+            put_or_cut(nodes, below, number, index, cut.middle, right, seat, edge)
         }
     }
 }

@@ -158,14 +158,6 @@ impl<T: Drop> Nodes<T> {
         self.rows.cells(number)
     }
 
-    /// The children of a node, by their numbers.
-    pub fn children(&self, number: usize) -> &[usize]
-        requires { HasNode self.now number }
-        ensures { result.now ≡ node_children self.now number }
-    {
-        self.slab[number].children.as_slice()
-    }
-
     /// The item of a node at an index.
     pub fn item_at(&self, number: usize, index: usize) -> &T
         requires present { HasNode self.now number }
@@ -181,7 +173,7 @@ impl<T: Drop> Nodes<T> {
         requires within { index < length (node_children self.now number) }
         ensures { result ≡ node_child self.now number index }
     {
-        self.children(number)[index]
+        self.slab[number].children.as_slice()[index]
     }
 
     /// The item of a node at an index, to be changed where it stands.
@@ -205,21 +197,24 @@ impl<T: Drop> Nodes<T> {
         mem::replace(self.item_mut(number, index), item)
     }
 
-    /// Puts an item before the one at `index` of a node that is not full, and, if there is one, a
-    /// child after the one at `index`.
-    pub fn put(&mut self, number: usize, index: usize, item: T, child: Option<usize>)
+    /// Puts an item before the one at `index` of a node that is not full, and a child, if there is
+    /// one, before the one at `place`.
+    pub fn put(&mut self, number: usize, index: usize, item: T, place: usize, child: Option<usize>)
         requires present { HasNode self.old number }
         requires within { index ≤ length (node_items self.old number) }
+        requires near { place ≤ length (node_items self.old number) + 1 }
         requires room { length (node_items self.old number) < CAPACITY }
         requires child { FitsChild child (node_items self.old number)
             (node_children self.old number) }
         ensures { Writes self.old self.new number (insert (node_items self.old number) index item)
-            (with_child (node_children self.old number) (index + 1) child) }
+            (with_child (node_children self.old number) place child) }
     {
-        self.put_beside(number, index, item, index + 1, child);
+        let len = self.slab[number].add(place, child);
+        self.rows.put(number, len, index, item);
     }
 
-    /// Puts an item into a full node, and a child with it, as `put` does, and cuts the node in two.
+    /// Puts an item before the one at `index` of a full node, and a child, if there is one, after the
+    /// one at `index`, and cuts the node in two.
     pub fn split(&mut self, number: usize, index: usize, item: T, child: Option<usize>) -> Split<T>
         requires present { HasNode self.old number }
         requires within { index ≤ length (node_items self.old number) }
@@ -284,7 +279,7 @@ impl<T: Drop> Nodes<T> {
         ensures { Stores self.old self.new result (middle ∷ []) (left ∷ right ∷ []) }
     {
         let number = self.store_above(left);
-        self.put(number, 0, middle, Some(right));
+        self.put(number, 0, middle, 1, Some(right));
         number
     }
 
@@ -323,7 +318,7 @@ impl<T: Drop> Nodes<T> {
         let (up, child) = self.take_beside(right, 0, 0);
         let down = self.replace_item(number, index, up);
         let end = self.item_count(left);
-        self.put_beside(left, end, down, end + 1, child);
+        self.put(left, end, down, end + 1, child);
     }
 
     /// Moves an item from the child before the item at `index` of a node to the one after it.
@@ -340,7 +335,7 @@ impl<T: Drop> Nodes<T> {
         let end = self.item_count(left);
         let (up, child) = self.take_beside(left, end - 1, end);
         let down = self.replace_item(number, index, up);
-        self.put_beside(right, 0, down, 0, child);
+        self.put(right, 0, down, 0, child);
     }
 
     /// Makes one node of the children around the item at `index` of a node, with that between.
@@ -356,29 +351,6 @@ impl<T: Drop> Nodes<T> {
         let right = self.child_at(number, index + 1);
         let (down, _) = self.take_beside(number, index, index + 1);
         self.append(left, down, right);
-    }
-
-    // Puts an item before the one at an index, and a child, if there is one, before the one at
-    // `place`.
-    fn put_beside(
-        &mut self,
-        number: usize,
-        index: usize,
-        item: T,
-        place: usize,
-        child: Option<usize>,
-    )
-        requires present { HasNode self.old number }
-        requires within { index ≤ length (node_items self.old number) }
-        requires near { place ≤ length (node_items self.old number) + 1 }
-        requires room { length (node_items self.old number) < CAPACITY }
-        requires child { FitsChild child (node_items self.old number)
-            (node_children self.old number) }
-        ensures { Writes self.old self.new number (insert (node_items self.old number) index item)
-            (with_child (node_children self.old number) place child) }
-    {
-        let len = self.slab[number].add(place, child);
-        self.rows.put(number, len, index, item);
     }
 
     // Takes the item at an index out of a node, and the child at `place`, if there is one.

@@ -218,12 +218,7 @@ fn edge_behind<T: Drop>(nodes: &Nodes<T>, below: usize, number: usize, edge: Edg
 }
 
 // The edge before the item before an edge below a node.
-pub fn edge_before<T: Drop>(
-    nodes: &Nodes<T>,
-    below: usize,
-    number: usize,
-    edge: Edge,
-) -> Option<Edge>
+pub fn preceding<T: Drop>(nodes: &Nodes<T>, below: usize, number: usize, edge: Edge) -> Option<Edge>
     requires shaped { ShapedBut 1 CAPACITY nodes.now below number }
     requires deep { below < MAX_LEVELS }
     requires edge { IsEdge nodes.now below number edge }
@@ -243,7 +238,7 @@ pub fn edge_before<T: Drop>(
     }
     let index = first_turn(edge);
     let child = nodes.child_at(number, index);
-    if let Some(earlier) = edge_before(nodes, below - 1, child, seen_inside(edge)) {
+    if let Some(earlier) = preceding(nodes, below - 1, child, seen_inside(edge)) {
         return Some(seen_above(earlier, index));
     }
     if index == 0 {

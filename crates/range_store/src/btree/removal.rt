@@ -1,8 +1,8 @@
 //! The removal of an item below a node, with the rebalancing of nodes that it leaves short.
 ghost use Rattle.std.specs.Prelude.{◌≡◌, ◌⊎◌, ℕ, suc, ◌+◌, ◌-◌, ◌*◌, ◌<◌, ◌≤◌, ◌^◌, length, slice_index_or, remove};
-ghost use Rattle.range_store.specs.Heap.{node_items, node_children, node_child};
-ghost use Rattle.range_store.specs.Nodes.{items_below, ShapedBut, Owned, Shrinks, MayBeRebalanced, IsLevelled, IsTree, IsLooseTree, IsLender, child_size};
-ghost use Rattle.range_store.specs.Edges.{IsEdge, place, seat_of, seat_place};
+ghost use Rattle.range_store.specs.Heap.{node_items, node_child};
+ghost use Rattle.range_store.specs.Nodes.{items_below, ShapedBut, Owned, Shrinks, MayBeRebalanced, IsLevelled, KeepsList, IsTree, IsLooseTree, IsLender, child_size};
+ghost use Rattle.range_store.specs.Edges.{IsEdge, place, seat_of, place_through};
 
 use crate::btree::nodes::{CAPACITY, MIN_LEN, Nodes};
 use crate::btree::path::{Edge, MAX_LEVELS, edge_at, first_turn, seat, seen_above, seen_inside};
@@ -27,13 +27,11 @@ pub fn borrow_from_left<T: Drop>(
     requires spare { MIN_LEN < child_size nodes.old number index }
     requires deep { low + 1 < MAX_LEVELS }
     requires edge { IsEdge nodes.old low (node_child nodes.old number (index + 1)) edge }
-    ensures shrinks { Shrinks nodes.old nodes.new (suc low) number
-        (items_below nodes.old (suc (suc low)) number) }
+    ensures shrinks { KeepsList nodes.old nodes.new (suc low) number }
     ensures kept { length (node_items nodes.new number) ≡ length (node_items nodes.old number) }
     ensures edge { IsEdge nodes.new (suc low) number result }
     ensures place { place nodes.new (suc low) number result
-        ≡ seat_place nodes.old (suc low) (node_items nodes.old number)
-        (node_children nodes.old number) (index + 1) edge }
+        ≡ place_through nodes.old low number (index + 1) edge }
 {
     let right = nodes.child_at(number, index + 1);
     nodes.rotate_right(number, index);
@@ -54,13 +52,11 @@ pub fn borrow_from_right<T: Drop>(
     requires spare { MIN_LEN < child_size nodes.old number (index + 1) }
     requires deep { low + 1 < MAX_LEVELS }
     requires edge { IsEdge nodes.old low (node_child nodes.old number index) edge }
-    ensures shrinks { Shrinks nodes.old nodes.new (suc low) number
-        (items_below nodes.old (suc (suc low)) number) }
+    ensures shrinks { KeepsList nodes.old nodes.new (suc low) number }
     ensures kept { length (node_items nodes.new number) ≡ length (node_items nodes.old number) }
     ensures edge { IsEdge nodes.new (suc low) number result }
     ensures place { place nodes.new (suc low) number result
-        ≡ seat_place nodes.old (suc low) (node_items nodes.old number)
-        (node_children nodes.old number) index edge }
+        ≡ place_through nodes.old low number index edge }
 {
     nodes.rotate_left(number, index);
     seen_above(edge, index)
@@ -96,12 +92,10 @@ pub fn join<T: Drop>(
     requires deep { low + 1 < MAX_LEVELS }
     requires near { (turn ≡ index) ⊎ (turn ≡ index + 1) }
     requires edge { IsEdge nodes.old low (node_child nodes.old number turn) edge }
-    ensures shrinks { Shrinks nodes.old nodes.new (suc low) number
-        (items_below nodes.old (suc (suc low)) number) }
+    ensures shrinks { KeepsList nodes.old nodes.new (suc low) number }
     ensures edge { IsEdge nodes.new (suc low) number result }
     ensures place { place nodes.new (suc low) number result
-        ≡ seat_place nodes.old (suc low) (node_items nodes.old number)
-        (node_children nodes.old number) turn edge }
+        ≡ place_through nodes.old low number turn edge }
 {
     let left = nodes.child_at(number, index);
     let many = nodes.item_count(left);
@@ -123,15 +117,12 @@ pub fn rebalance<T: Drop>(
     requires short { MayBeRebalanced nodes.old low number index }
     requires deep { low + 1 < MAX_LEVELS }
     requires edge { IsEdge nodes.old low (node_child nodes.old number index) edge }
-    ensures shrinks { Shrinks nodes.old nodes.new (suc low) number
-        (items_below nodes.old (suc (suc low)) number) }
+    ensures shrinks { KeepsList nodes.old nodes.new (suc low) number }
     ensures lent { (k : ℕ) → IsLender nodes.old number index k
-        → length (node_items nodes.new number)
-        ≡ length (node_items nodes.old number) }
+        → length (node_items nodes.new number) ≡ length (node_items nodes.old number) }
     ensures edge { IsEdge nodes.new (suc low) number result }
     ensures place { place nodes.new (suc low) number result
-        ≡ seat_place nodes.old (suc low) (node_items nodes.old number)
-        (node_children nodes.old number) index edge }
+        ≡ place_through nodes.old low number index edge }
 {
     let child = nodes.child_at(number, index);
     if nodes.item_count(child) >= MIN_LEN {
@@ -195,17 +186,12 @@ pub fn remove_below<T: Drop>(
     }
 }
 
-// The topmost node of a tree, and how many levels it has.
-#[derive(Clone, Copy)]
-pub struct Root {
-    pub number: usize,
-    pub levels: usize,
-}
-
-// A tree after a removal, and where an edge then lies, if it has a level.
+// A tree after a removal: its topmost node, how many levels it has, and where an edge then lies, if
+// it has one.
 #[derive(Clone, Copy)]
 pub struct Shrunk {
-    pub root: Root,
+    pub root: usize,
+    pub levels: usize,
     pub edge: Edge,
 }
 
@@ -214,42 +200,32 @@ pub struct Shrunk {
 pub fn shrink_root<T: Drop>(nodes: &mut Nodes<T>, levels: usize, root: usize, edge: Edge) -> Shrunk
     requires tree { IsLooseTree nodes.old levels root }
     requires edge { IsEdge nodes.old (levels - 1) root edge }
-    ensures tree { IsTree nodes.new result.root.levels result.root.number }
-    ensures items { items_below nodes.new result.root.levels result.root.number
+    ensures tree { IsTree nodes.new result.levels result.root }
+    ensures items { items_below nodes.new result.levels result.root
         ≡ items_below nodes.old levels root }
     ensures capacity { nodes.new.capacity ≡ nodes.old.capacity }
-    ensures edge { 0 < result.root.levels
-        → IsEdge nodes.new (result.root.levels - 1) result.root.number result.edge }
-    ensures place { 0 < result.root.levels
-        → place nodes.new (result.root.levels - 1) result.root.number result.edge
+    ensures edge { 0 < result.levels
+        → IsEdge nodes.new (result.levels - 1) result.root result.edge }
+    ensures place { 0 < result.levels
+        → place nodes.new (result.levels - 1) result.root result.edge
         ≡ place nodes.old (levels - 1) root edge }
 {
     if nodes.item_count(root) > 0 {
-        return Shrunk {
-            root: Root {
-                number: root,
-                levels,
-            },
-            edge,
-        };
+        return Shrunk { root, levels, edge };
     }
     if levels == 1 {
         nodes.remove_node(root);
         return Shrunk {
-            root: Root {
-                number: 0,
-                levels: 0,
-            },
+            root: 0,
+            levels: 0,
             edge,
         };
     }
     let child = nodes.child_at(root, 0);
     nodes.remove_node(root);
     Shrunk {
-        root: Root {
-            number: child,
-            levels: levels - 1,
-        },
+        root: child,
+        levels: levels - 1,
         edge: seen_inside(edge),
     }
 }

@@ -6,13 +6,13 @@ ghost use Rattle.range_store.specs.Falling.{Falls};
 ghost use Rattle.range_store.specs.Holding.{box_items, box_room, IsBoxEdge, box_place, box_home, edge_or_end, IsNextEdge};
 
 use crate::btree::BoxStorage;
-use crate::btree::building::{build, layout_of};
+use crate::btree::building::{Layout, build, layout_of};
 use crate::btree::insertion::{Insertion, insert_below};
 use crate::btree::nodes::{CAPACITY, MIN_LEN};
 use crate::btree::path::{
-    Edge, Home, edge_before, end_edge, find_home, first_edge, following, seen_above, stands_first,
+    Edge, Home, end_edge, find_home, first_edge, following, preceding, seen_above, stands_first,
 };
-use crate::btree::removal::{Shrunk, remove_below, shrink_root};
+use crate::btree::removal::{remove_below, shrink_root};
 use crate::btree::searching::{MAX_ASKS, search_below};
 use crate::storage::Probe;
 
@@ -60,7 +60,7 @@ impl<T: Drop> BoxStorage<T> {
                 index: edge.index - 1,
             });
         }
-        edge_before(&self.nodes, self.levels - 1, self.root, edge)
+        preceding(&self.nodes, self.levels - 1, self.root, edge)
     }
 
     // Where the item before an edge stands.
@@ -147,7 +147,7 @@ impl<T: Drop> BoxStorage<T> {
     {
         self.len += 1;
         if self.nodes.item_count(edge.leaf) < CAPACITY {
-            self.nodes.put(edge.leaf, edge.index, item, None);
+            self.nodes.put(edge.leaf, edge.index, item, 0, None);
             return Edge {
                 leaf: edge.leaf,
                 path: edge.path,
@@ -177,16 +177,10 @@ impl<T: Drop> BoxStorage<T> {
         ensures room { box_room self.old ≡ box_room self.new + length added.items }
     {
         let count = added.len();
-        let layout = layout_of(count);
+        let Layout { below, width } = layout_of(count);
         let mut items = added.into_iter();
-        self.root = build(
-            &mut self.nodes,
-            layout.below,
-            layout.width,
-            count,
-            &mut items,
-        );
-        self.levels = layout.below + 1;
+        self.root = build(&mut self.nodes, below, width, count, &mut items);
+        self.levels = below + 1;
         self.len = count;
     }
 
@@ -226,18 +220,13 @@ impl<T: Drop> BoxStorage<T> {
             return (item, Some(before));
         }
         let taken = remove_below(&mut self.nodes, self.levels - 1, self.root, edge);
-        let Shrunk { root, edge } = shrink_root(
-            &mut self.nodes,
-            self.levels,
-            self.root,
-            taken.edge,
-        );
-        self.root = root.number;
-        self.levels = root.levels;
+        let shrunk = shrink_root(&mut self.nodes, self.levels, self.root, taken.edge);
+        self.root = shrunk.root;
+        self.levels = shrunk.levels;
         if self.levels == 0 {
             return (taken.item, None);
         }
-        (taken.item, Some(edge))
+        (taken.item, Some(shrunk.edge))
     }
 
     // Takes the item before an edge out, and returns the edge after the one that followed it.

@@ -1,4 +1,4 @@
-use Rattle.std.proofs.Common.{◌≡◌, ◌+◌, ◌/◌, suc, length, ap, sym, ◌∙◌, arith}
+use Rattle.std.proofs.Common.{◌≡◌, ◌+◌, suc, length, ap, sym, ◌∙◌, arith}
 use Rattle.std.specs.Vec.Iter.{into_iter_items}
 use Rattle.range_store.specs.Nodes.{items_below, IsTree}
 use Rattle.range_store.proofs.Building.{all_taken, built_tree}
@@ -9,16 +9,16 @@ use Rattle.range_store.proofs.btree.BoxStorage.build.Goals as goal
 use Rattle.range_store.proofs.btree.BoxStorage.build.Given.{Over}
 use Rattle.range_store.proofs.btree.BoxStorage.build.Goals.{After-build-self}
 
-pub layout_of-layout-requires : goal.layout_of-layout-requires
-layout_of-layout-requires g c =
+pub layout_of-below-requires : goal.layout_of-below-requires
+layout_of-below-requires g c =
     omega (arith, c.requires.some, c.len-count.ensures, c.args.added.ok.0)
 
 pub build-self-requires : goal.build-self-requires
 build-self-requires g c =
     let s = c.args.self.now in
-    let layout = c.layout_of-layout.ensures in
+    let layout = c.layout_of-below.ensures in
     let cut =
-    cut_is c.layout_of-layout.result.width c.len-count.result (omega (arith, layout.deep))
+    cut_is c.layout_of-below.result.width c.len-count.result (omega (arith, layout.deep))
     layout.least layout.most in
     let count = ap length c.into_iter-items.ensures.rest in
     let none = ap length c.requires.empty in
@@ -42,27 +42,27 @@ build-self-requires g c =
 
 pub overflow_add-self : goal.overflow_add-self
 overflow_add-self g c =
-    omega (arith, c.layout_of-layout.ensures.deep, c.layout_of-layout.ensures.least)
+    omega (arith, c.layout_of-below.ensures.deep, c.layout_of-below.ensures.least)
 
 tree : (g : Over) (c : After-build-self g)
-    → IsTree c.build-self.new.nodes (c.layout_of-layout.result.below + 1) c.build-self.result
+    → IsTree c.build-self.new.nodes (c.layout_of-below.result.below + 1) c.build-self.result
 tree g c =
     let s = c.args.self.now in
-    let layout = c.layout_of-layout.ensures in
+    let layout = c.layout_of-below.ensures in
     let cut =
-    cut_is c.layout_of-layout.result.width c.len-count.result (omega (arith, layout.deep))
+    cut_is c.layout_of-below.result.width c.len-count.result (omega (arith, layout.deep))
     layout.least layout.most in
     built_tree s.levels (empty_levels s.whole.tree (ap length c.requires.empty)) s.whole.tree
     c.build-self.ensures.built cut.some
 
 listed : (g : Over) (c : After-build-self g)
-    → items_below c.build-self.new.nodes (c.layout_of-layout.result.below + 1)
+    → items_below c.build-self.new.nodes (c.layout_of-below.result.below + 1)
     c.build-self.result ≡ c.args.added.items
 listed g c =
-    let next : c.layout_of-layout.result.below + 1 ≡ suc c.layout_of-layout.result.below =
+    let next : c.layout_of-below.result.below + 1 ≡ suc c.layout_of-below.result.below =
     omega arith in
     rw next (all_taken c.args.added.items
-    (items_below c.build-self.new.nodes (suc c.layout_of-layout.result.below) c.build-self.result)
+    (items_below c.build-self.new.nodes (suc c.layout_of-below.result.below) c.build-self.result)
     (into_iter_items c.build-self.new.items)
     (sym c.into_iter-items.ensures.rest ∙ c.build-self.ensures.list)
     (c.build-self.ensures.size ∙ c.len-count.ensures ∙ c.args.added.ok.0))

@@ -17,8 +17,8 @@ returns-then-edge-gt0 g c =
     }) refl refl (omega (arith, (tree_leaf c.requires).within)) in
     (back.0, omega (arith, back.1, c.if-edge-gt0.true))
 
-pub edge_before-requires : goal.edge_before-requires
-edge_before-requires g c =
+pub preceding-requires : goal.preceding-requires
+preceding-requires g c =
     let s = c.args.self.now in
     record {
       shaped = root_shaped s.levels c.requires.some s.whole.tree;
@@ -34,4 +34,4 @@ box_edge s count some None none = none
 box_edge s count some (Some h) is = (record { some = some; edge = is.0 }, is.1)
 
 pub returns : goal.returns
-returns g c = box_edge c.args.self.now _ c.requires.some c.edge_before.result c.edge_before.ensures
+returns g c = box_edge c.args.self.now _ c.requires.some c.preceding.result c.preceding.ensures

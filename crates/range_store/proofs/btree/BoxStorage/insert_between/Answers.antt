@@ -29,6 +29,7 @@ put-requires g c =
     record {
       present = leaf.present;
       within = leaf.within;
+      near = omega arith;
       room = omega (arith, c.if-item_count-lt-CAPACITY.true, c.item_count.ensures);
       child = leaf.childless;
     }

@@ -12,7 +12,7 @@ use Rattle.range_store.proofs.Roots.{loosened_items, loosened_tree, tree_owned}
 use Rattle.range_store.proofs.Whole.{edge_within, leaf_item, tree_is_not_too_deep, tree_leaf}
 use Rattle.range_store.proofs.btree.BoxStorage.take_in_leaf.Goals as goal
 use Rattle.range_store.proofs.btree.BoxStorage.take_in_leaf.Given.{Over}
-use Rattle.range_store.proofs.btree.BoxStorage.take_in_leaf.Goals.{Start, After-take_item-item, After-shrink_root}
+use Rattle.range_store.proofs.btree.BoxStorage.take_in_leaf.Goals.{Start, After-take_item-item, After-shrink_root-shrunk}
 
 some_before : (g : Over) (c : Start g) → 0 < box_place c.args.self.now c.args.edge
 some_before g c =
@@ -79,8 +79,7 @@ invariant_of-self g c =
           record {
             tree = taken.tree;
             fits = omega (arith, less, back, s.whole.fits, taken.capacity);
-            counted =
-                omega (arith, less, back, s.whole.counted);
+            counted = omega (arith, less, back, s.whole.counted);
           };
       counted = many;
       levelled = rw (← many) at (has_levels taken.tree);
@@ -128,8 +127,8 @@ remove_below-taken-requires g c =
       in_leaf = c.requires.in_leaf;
     }
 
-pub shrink_root-requires : goal.shrink_root-requires
-shrink_root-requires g c =
+pub shrink_root-shrunk-requires : goal.shrink_root-shrunk-requires
+shrink_root-shrunk-requires g c =
     let s = c.args.self.now in
     record {
       tree = loosened_tree s.levels c.requires.edge.some s.whole.tree
@@ -137,15 +136,14 @@ shrink_root-requires g c =
       edge = c.remove_below-taken.ensures.edge;
     }
 
-shrunk : (g : Over) (c : After-shrink_root g)
-    → items_below c.shrink_root.new.nodes c.shrink_root.result.root.levels
-    c.shrink_root.result.root.number
+shrunk : (g : Over) (c : After-shrink_root-shrunk g)
+    → items_below c.shrink_root-shrunk.new.nodes c.shrink_root-shrunk.result.levels c.shrink_root-shrunk.result.root
     ≡ remove (box_items c.args.self.now) (box_place c.args.self.now c.args.edge - 1)
 shrunk g c =
     let s = c.args.self.now in
     let some = c.requires.edge.some in
     let level : suc (s.levels - 1) ≡ s.levels = omega (arith, some) in
-    c.shrink_root.ensures.items
+    c.shrink_root-shrunk.ensures.items
     ∙ loosened_items s.levels some c.remove_below-taken.ensures.shrinks
     ∙ ap (λ m. remove (items_below s.nodes m s.root) (box_place s c.args.edge - 1)) level
 
@@ -153,23 +151,22 @@ pub invariant_of-self-2 : goal.invariant_of-self-2
 invariant_of-self-2 g c =
     let s = c.args.self.now in
     let at = goal.at.invariant_of-self-2 g c in
-    let less = ap length (shrunk g at.After-shrink_root) in
+    let less = ap length (shrunk g at.After-shrink_root-shrunk) in
     let back = fewer g at.Start in
     let capacity =
-    c.shrink_root.ensures.capacity ∙ c.remove_below-taken.ensures.shrinks.moved.capacity in
+    c.shrink_root-shrunk.ensures.capacity ∙ c.remove_below-taken.ensures.shrinks.moved.capacity in
     let many : c.args.self.now.len - 1
-    ≡ length (items_below c.shrink_root.new.nodes c.shrink_root.result.root.levels
-    c.shrink_root.result.root.number) = omega (arith, less, back, s.counted) in
+    ≡ length (items_below c.shrink_root-shrunk.new.nodes c.shrink_root-shrunk.result.levels
+    c.shrink_root-shrunk.result.root) = omega (arith, less, back, s.counted) in
     record {
       whole =
           record {
-            tree = c.shrink_root.ensures.tree;
+            tree = c.shrink_root-shrunk.ensures.tree;
             fits = omega (arith, less, back, s.whole.fits, capacity);
-            counted =
-                omega (arith, less, back, s.whole.counted);
+            counted = omega (arith, less, back, s.whole.counted);
           };
       counted = many;
-      levelled = rw (← many) at (has_levels c.shrink_root.ensures.tree);
+      levelled = rw (← many) at (has_levels c.shrink_root-shrunk.ensures.tree);
     }
 
 pub returns-then-self-eq0-clause-removed : goal.returns-then-self-eq0-clause-removed
@@ -179,16 +176,16 @@ returns-then-self-eq0-clause-removed g c =
 
 pub returns-then-self-eq0-clause-list : goal.returns-then-self-eq0-clause-list
 returns-then-self-eq0-clause-list g c =
-    shrunk g (goal.at.returns-then-self-eq0-clause-list g c).After-shrink_root
+    shrunk g (goal.at.returns-then-self-eq0-clause-list g c).After-shrink_root-shrunk
 
 pub returns-then-self-eq0-clause-capacity : goal.returns-then-self-eq0-clause-capacity
 returns-then-self-eq0-clause-capacity g c =
-    c.shrink_root.ensures.capacity ∙ c.remove_below-taken.ensures.shrinks.moved.capacity
+    c.shrink_root-shrunk.ensures.capacity ∙ c.remove_below-taken.ensures.shrinks.moved.capacity
 
 pub returns-then-self-eq0-clause-edge : goal.returns-then-self-eq0-clause-edge
 returns-then-self-eq0-clause-edge g c =
     rw c.if-self-eq0.true
-    (items_below_none c.shrink_root.new.nodes c.shrink_root.result.root.number)
+    (items_below_none c.shrink_root-shrunk.new.nodes c.shrink_root-shrunk.result.root)
 
 pub returns-clause-removed : goal.returns-clause-removed
 returns-clause-removed g c =
@@ -196,15 +193,15 @@ returns-clause-removed g c =
     ∙ sym (leaf_item c.requires.edge c.remove_below-taken.result.item c.requires.in_leaf)
 
 pub returns-clause-list : goal.returns-clause-list
-returns-clause-list g c = shrunk g (goal.at.returns-clause-list g c).After-shrink_root
+returns-clause-list g c = shrunk g (goal.at.returns-clause-list g c).After-shrink_root-shrunk
 
 pub returns-clause-capacity : goal.returns-clause-capacity
 returns-clause-capacity g c =
-    c.shrink_root.ensures.capacity ∙ c.remove_below-taken.ensures.shrinks.moved.capacity
+    c.shrink_root-shrunk.ensures.capacity ∙ c.remove_below-taken.ensures.shrinks.moved.capacity
 
 pub returns-clause-edge : goal.returns-clause-edge
 returns-clause-edge g c =
-    let some : 0 < c.shrink_root.result.root.levels = omega (arith, c.if-self-eq0.false) in (
-      record { some = some; edge = c.shrink_root.ensures.edge some },
-      omega (arith, c.shrink_root.ensures.place some, c.remove_below-taken.ensures.place),
+    let some : 0 < c.shrink_root-shrunk.result.levels = omega (arith, c.if-self-eq0.false) in (
+      record { some = some; edge = c.shrink_root-shrunk.ensures.edge some },
+      omega (arith, c.shrink_root-shrunk.ensures.place some, c.remove_below-taken.ensures.place),
     )

@@ -1,33 +1,37 @@
-use Rattle.std.proofs.Common.{◌≡◌, ◌+◌, ◌-◌, ◌/◌, ◌<◌, ◌∷◌, ◌++◌, suc, length, sym, ap, subst, ◌∙◌, arith, length-append}
+use Rattle.std.proofs.Common.{◌≡◌, ◌-◌, ◌/◌, ◌<◌, ◌∷◌, ◌++◌, suc, length, sym, ap, subst, ◌∙◌, arith, length-append, length-take-le, take-append-drop}
 use Rattle.std.specs.Vec.Iter.{into_iter_items}
 use Rattle.range_store.specs.Building.{IsBuilt}
 use Rattle.range_store.specs.Nodes.{items_below}
 use Rattle.range_store.specs.declared.btree.nodes.TheConstants.{CAPACITY}
-use Rattle.range_store.proofs.Building.{begun_above, built_child, child_level, child_listed, child_more, listed_above, node_fits, node_length, node_there, taken_more}
+use Rattle.range_store.proofs.Building.{begun_above, built_child, built_leaf, child_level, child_listed, child_more, listed_above, node_fits, node_length, node_there, taken_more}
 use Rattle.range_store.proofs.Shares.{all_shared, branch_is, cut_enough, first_share, leaf_cut, leaf_width, next_share}
 use Rattle.range_store.proofs.btree.building.+build.Goals as goal
 
-pub build_leaf-requires : goal.build_leaf-requires
-build_leaf-requires g t c =
+pub store_items-requires : goal.store_items-requires
+store_items-requires g t c =
     let one = leaf_width c.if-below-eq0.true c.requires.width in
     let cut = leaf_cut c.args.count c.if-below-eq0.true c.requires.width in
     record {
-      least = omega (arith, one, c.requires.least);
-      most = omega (arith, one, c.requires.most);
-      enough = c.requires.enough;
       room = omega (arith, cut, c.requires.room);
+      fits = omega (arith, one, c.requires.most);
+      enough = c.requires.enough;
     }
 
-pub returns-then-below-eq0-clause-built : goal.returns-then-below-eq0-clause-built
-returns-then-below-eq0-clause-built g t c =
+pub returns-then-below-eq0 : goal.returns-then-below-eq0
+returns-then-below-eq0 g t c =
+    let one = leaf_width c.if-below-eq0.true c.requires.width in
     let cut = leaf_cut c.args.count c.if-below-eq0.true c.requires.width in
-    rw (cut, c.if-below-eq0.true) c.build_leaf.ensures.built
-
-pub returns-then-below-eq0-clause-list : goal.returns-then-below-eq0-clause-list
-returns-then-below-eq0-clause-list g t c = rw c.if-below-eq0.true c.build_leaf.ensures.list
-
-pub returns-then-below-eq0-clause-size : goal.returns-then-below-eq0-clause-size
-returns-then-below-eq0-clause-size g t c = rw c.if-below-eq0.true c.build_leaf.ensures.size
+    let all = into_iter_items c.args.items.now in
+    let many = length-take-le c.args.count all c.requires.enough in
+    let leaf = built_leaf c.store_items.ensures.stored (omega (arith, many, one, c.requires.most)) in
+    record {
+      built = rw (cut, c.if-below-eq0.true)
+          (subst (IsBuilt c.args.nodes.now c.store_items.new.self 0 c.store_items.result) many
+          leaf.0);
+      list = rw (c.if-below-eq0.true, leaf.1, c.store_items.ensures.rest)
+          (sym (take-append-drop c.args.count all));
+      size = rw c.if-below-eq0.true (ap length leaf.1 ∙ many);
+    }
 
 pub build-first-requires : goal.build-first-requires
 build-first-requires g t c κs inside =
@@ -159,6 +163,7 @@ put-requires g t c =
     record {
       present = node_there c.build-child.result some was.built child.moved;
       within = omega (arith, items);
+      near = omega (arith, items);
       room = omega (arith, items, branch.cut.few, c.loop-index-test.true);
       child = node_fits c.build-child.result some was.built child.moved;
     }

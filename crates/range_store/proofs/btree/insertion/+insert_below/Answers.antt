@@ -1,9 +1,8 @@
-use Rattle.std.proofs.Common.{◌≡◌, ℕ, ◌<◌, ◌≤◌, ◌+◌, ◌-◌, length, refl, ap, ◌∙◌, arith, Some, None}
-use Rattle.std.specs.List.{insert}
+use Rattle.std.proofs.Common.{◌≡◌, ℕ, ◌<◌, ◌≤◌, ◌+◌, ◌-◌, length, refl, ap, ◌∙◌, arith, None}
 use Rattle.std.proofs.lemmas.List.Edits.{length-insert}
-use Rattle.range_store.specs.Heap.{items_of, node_items, node_child}
+use Rattle.range_store.specs.Heap.{items_of, node_items}
 use Rattle.range_store.specs.declared.btree.nodes.TheConstants.{CAPACITY}
-use Rattle.range_store.specs.Edges.{turn, inside, place}
+use Rattle.range_store.specs.Edges.{turn, inside}
 use Rattle.range_store.proofs.Edges.{path_small, leaf_index, leaf_place}
 use Rattle.range_store.proofs.Below.{children_length}
 use Rattle.range_store.proofs.Room.{HasTreeRoom-child}
@@ -13,8 +12,8 @@ use Rattle.range_store.proofs.Leaves.{leaf_content, leaf_moved, leaf_listed, lea
 use Rattle.range_store.proofs.Growing.{kid_owned, grows_below, none_replaces, none_edge, some_items, some_children, grown_kept, grown_moved, grown_content, grown_listed, grown_longer, grown_seat, content_room, settled_replaces}
 use Rattle.range_store.proofs.btree.insertion.+insert_below.Goals as goal
 
-pub overflow_add-edge : goal.overflow_add-edge
-overflow_add-edge g t c =
+pub overflow_add-at : goal.overflow_add-at
+overflow_add-at g t c =
     omega (
       arith,
       leaf_index c.args.nodes.now c.args.number c.args.edge

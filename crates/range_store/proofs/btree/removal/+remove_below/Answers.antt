@@ -1,7 +1,7 @@
 use Rattle.std.proofs.Common.{◌≡◌, ◌+◌, ◌-◌, length, refl, ap, ◌∙◌, arith, rules}
 use Rattle.std.proofs.lemmas.List.Edits.{length-remove}
 use Rattle.range_store.specs.Heap.{node_items, node_child}
-use Rattle.range_store.specs.declared.btree.nodes.TheConstants.{CAPACITY, MIN_LEN}
+use Rattle.range_store.specs.declared.btree.nodes.TheConstants.{MIN_LEN}
 use Rattle.range_store.specs.Nodes.{before_child}
 use Rattle.range_store.specs.Edges.{turn, inside, place}
 use Rattle.range_store.proofs.Edges.{leaf_is, leaf_edge, leaf_index, leaf_place}

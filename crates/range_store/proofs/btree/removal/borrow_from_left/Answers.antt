@@ -1,7 +1,6 @@
-use Rattle.std.proofs.Common.{◌-◌, arith}
+use Rattle.std.proofs.Common.{arith}
 use Rattle.range_store.proofs.Edges.{path_low}
 use Rattle.range_store.proofs.Pairs.{seat_low}
-use Rattle.range_store.specs.declared.btree.nodes.TheConstants.{MIN_LEN}
 use Rattle.range_store.proofs.Rotating.{has_pair, moved_path, next_edge, next_kept, next_shrinks}
 use Rattle.range_store.proofs.btree.removal.borrow_from_left.Goals as goal
 

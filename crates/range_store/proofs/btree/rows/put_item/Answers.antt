@@ -1,7 +1,6 @@
 use Rattle.std.proofs.Common.{◌≡◌, ◌+◌, ◌<◌, suc, length, arith, ap, ◌∙◌}
 use Rattle.std.specs.List.{insert}
 use Rattle.std.proofs.Math.ListN.{length-set}
-use Rattle.range_store.specs.Rows.{items_in}
 use Rattle.range_store.proofs.Cells.{carried_on, held_with, row_length}
 use Rattle.range_store.proofs.btree.rows.put_item.Goals as goal
 

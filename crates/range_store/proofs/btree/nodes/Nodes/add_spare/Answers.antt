@@ -1,4 +1,4 @@
-use Rattle.std.proofs.Common.{◌<◌, [], length, arith, refl, ◌∙◌}
+use Rattle.std.proofs.Common.{[], arith, refl, ◌∙◌}
 use Rattle.range_store.proofs.Spares.{added, added_whole, counted, grown, vacant_row, Changes}
 use Rattle.range_store.proofs.btree.nodes.Nodes.add_spare.Given.{Over}
 use Rattle.range_store.proofs.btree.nodes.Nodes.add_spare.Goals as goal

@@ -1,8 +1,8 @@
-use Rattle.std.proofs.Common.{◌≡◌, length, arith, refl, sym, ◌∙◌}
+use Rattle.std.proofs.Common.{◌≡◌, arith, sym, ◌∙◌}
 use Rattle.std.specs.Prelude.{Some, None}
 use Rattle.slab.specs.Slab.{get}
 use Rattle.std.proofs.lemmas.List.{get_or-set_other}
-use Rattle.range_store.proofs.Spares.{IsSeen, absorbed_len, absorbs, fewer_spares, found, seen}
+use Rattle.range_store.proofs.Spares.{IsSeen, absorbs, fewer_spares, found, seen}
 use Rattle.range_store.proofs.btree.nodes.Nodes.append.Given.{Over}
 use Rattle.range_store.proofs.btree.nodes.Nodes.append.Goals as goal
 use Rattle.range_store.proofs.btree.nodes.Nodes.append.Goals.{After-index_mut-2}

@@ -32,9 +32,9 @@ returns g c =
       c.take_beside-up.ensures.child,
       c.child_at-left.ensures,
       c.child_at-right.ensures,
-    ) at c.put_beside.ensures in
+    ) at c.put.ensures in
     let up_is = rw (c.child_at-right.ensures) at c.take_beside-up.ensures.item in
-    rotated_left t u c.put_beside.new.self pair c.replace_item-down.result up up_is c.requires.some
+    rotated_left t u c.put.new.self pair c.replace_item-down.result up up_is c.requires.some
     c.replace_item-down.ensures.before one two three
 
 pub item_count-end-requires : goal.item_count-end-requires
@@ -58,8 +58,8 @@ overflow_add-end g c =
       c.requires.room,
     )
 
-pub put_beside-requires : goal.put_beside-requires
-put_beside-requires g c =
+pub put-requires : goal.put-requires
+put-requires g c =
     let s = c.args.self.now in
     let n = c.args.number in
     let i = c.args.index in

@@ -33,14 +33,14 @@ returns g c =
       c.item_count-end.ensures,
       c.child_at-left.ensures,
       c.child_at-right.ensures,
-    ) at c.put_beside.ensures in
+    ) at c.put.ensures in
     let up_is = rw (c.item_count-end.ensures, c.child_at-left.ensures) at
     c.take_beside-up.ensures.item in
-    rotated_right t u c.put_beside.new.self pair c.replace_item-down.result up up_is c.requires.some
+    rotated_right t u c.put.new.self pair c.replace_item-down.result up up_is c.requires.some
     c.replace_item-down.ensures.before one two three
 
-pub put_beside-requires : goal.put_beside-requires
-put_beside-requires g c =
+pub put-requires : goal.put-requires
+put-requires g c =
     let s = c.args.self.now in
     let n = c.args.number in
     let i = c.args.index in

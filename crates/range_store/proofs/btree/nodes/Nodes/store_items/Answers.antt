@@ -1,4 +1,4 @@
-use Rattle.std.proofs.Common.{[], take, arith, sym}
+use Rattle.std.proofs.Common.{take, arith, sym}
 use Rattle.std.specs.Vec.Iter.{into_iter_items}
 use Rattle.std.proofs.lemmas.List.{length-take-le}
 use Rattle.range_store.proofs.Spares.{bare_children, bare_row, filled, spare_found, spare_there, spares_left}

@@ -1,4 +1,4 @@
-use Rattle.std.proofs.Common.{◌≡◌, ◌+◌, ◌-◌, length, get_or, arith, refl, sym, ap, ◌∙◌}
+use Rattle.std.proofs.Common.{◌-◌, length, get_or, arith, refl, sym, ap, ◌∙◌}
 use Rattle.range_store.proofs.Spares.{found, items_seen, row_there, seen, taken_out}
 use Rattle.range_store.proofs.btree.nodes.Nodes.take_item.Goals as goal
 

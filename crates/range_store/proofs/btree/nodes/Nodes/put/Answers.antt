@@ -1,8 +1,8 @@
 use Rattle.std.proofs.Common.{arith}
 use Rattle.range_store.proofs.Spares.{IsSeen, fits_count, found, put_among, seen}
-use Rattle.range_store.proofs.btree.nodes.Nodes.put_beside.Given.{Over}
-use Rattle.range_store.proofs.btree.nodes.Nodes.put_beside.Goals as goal
-use Rattle.range_store.proofs.btree.nodes.Nodes.put_beside.Goals.{After-index_mut}
+use Rattle.range_store.proofs.btree.nodes.Nodes.put.Given.{Over}
+use Rattle.range_store.proofs.btree.nodes.Nodes.put.Goals as goal
+use Rattle.range_store.proofs.btree.nodes.Nodes.put.Goals.{After-index_mut}
 
 seen_node : (g : Over) (c : After-index_mut g) → IsSeen c.self.inside.slab c.self.inside.rows
     c.self.inside.spares.items c.args.number c.index_mut.result.now

@@ -4,7 +4,7 @@ use Rattle.range_store.specs.Nodes.{before_child}
 use Rattle.range_store.specs.Edges.{turn}
 use Rattle.range_store.proofs.Edges.{leaf_edge, leaf_place, leaf_index, path_small}
 use Rattle.range_store.proofs.Paths.{level_of_children, child_within, below_kid, below_turn, below_inside, below_edge, below_place, below_here, before_next}
-use Rattle.range_store.proofs.btree.path.+edge_before.Goals as goal
+use Rattle.range_store.proofs.btree.path.+preceding.Goals as goal
 
 pub child_at-child-requires : goal.child_at-child-requires
 child_at-child-requires g t c =
@@ -15,8 +15,8 @@ child_at-child-requires g t c =
       within = rw c.first_turn-index.ensures within;
     }
 
-pub edge_before-requires : goal.edge_before-requires
-edge_before-requires g t c κs within =
+pub preceding-requires : goal.preceding-requires
+preceding-requires g t c κs within =
     let low = below_turn c.if-below-eq0.false c.requires.shaped c.args.edge c.requires.edge in
     let kid = below_kid c.if-below-eq0.false c.requires.shaped (turn c.args.edge) low in
     let is = below_inside c.if-below-eq0.false c.requires.shaped c.args.edge c.requires.edge in (
@@ -35,13 +35,13 @@ seen_above-requires-clause-index g t c =
 
 pub seen_above-requires-clause-path : goal.seen_above-requires-clause-path
 seen_above-requires-clause-path g t c =
-    let found = rw c.in-Some.is at c.edge_before.ensures in
+    let found = rw c.in-Some.is at c.preceding.ensures in
     path_small c.args.nodes.now (c.args.below - 1) _ _ (omega (arith, c.requires.deep)) found.0
 
 pub returns-in-Some : goal.returns-in-Some
 returns-in-Some g t c =
     let found = rw (c.child_at-child.ensures, c.first_turn-index.ensures, c.seen_inside.ensures) at
-    (rw c.in-Some.is at c.edge_before.ensures) in
+    (rw c.in-Some.is at c.preceding.ensures) in
     let low = below_turn c.if-below-eq0.false c.requires.shaped c.args.edge c.requires.edge in
     let at = c.seen_above.ensures.turn ∙ c.first_turn-index.ensures in
     let place = below_place c.if-below-eq0.false c.requires.shaped (turn c.args.edge)
@@ -76,7 +76,7 @@ returns-then-below-eq0 g t c =
 pub returns-then-index-eq0 : goal.returns-then-index-eq0
 returns-then-index-eq0 g t c =
     let none = rw (c.child_at-child.ensures, c.first_turn-index.ensures, c.seen_inside.ensures) at
-    (rw c.in_default.is at c.edge_before.ensures) in
+    (rw c.in_default.is at c.preceding.ensures) in
     let first : turn c.args.edge ≡ 0 =
     omega (arith, c.first_turn-index.ensures, c.if-index-eq0.true) in
     let s = c.args.nodes.now in
@@ -121,7 +121,7 @@ returns g t c =
     let next : i + 1 ≡ turn c.args.edge =
     omega (arith, c.first_turn-index.ensures, c.if-index-eq0.false) in
     let none = rw (c.child_at-child.ensures, c.first_turn-index.ensures, c.seen_inside.ensures) at
-    (rw c.in_default.is at c.edge_before.ensures) in
+    (rw c.in_default.is at c.preceding.ensures) in
     let is = rw c.child_at-last.ensures at c.end_edge.ensures.edge in
     let end = rw (level_of_children c.if-below-eq0.false c.requires.shaped) at
     (rw c.child_at-last.ensures at c.end_edge.ensures.place) in
