@@ -12,7 +12,6 @@ pub mod DividedItems
 pub mod Extents
 pub mod Forms
 pub mod Found
-pub mod FreeReach
 pub mod Freeing
 pub mod InsertionFrames
 pub mod InsertionPlans

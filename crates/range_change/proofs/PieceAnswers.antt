@@ -1,6 +1,6 @@
 -- The answers to the pieces of a range, one after the other.
-use Rattle.std.proofs.Common.{ℕ, arith, ◌+◌, take, drop, ◌≡◌, refl, sym, ap, ◌∙◌, Option, Some, None, Bool, true, List, [], ◌∷◌, ◌++◌, append_assoc, inl, inr, ◌↔◌, map, Result, Ok}
-use Rattle.std.proofs.lemmas.List.{append-nil, drop-drop, length_push, map-append}
+use Rattle.std.proofs.Common.{ℕ, ◌+◌, take, drop, ◌≡◌, refl, sym, ap, ◌∙◌, Option, Some, None, Bool, true, List, [], ◌∷◌, ◌++◌, append_assoc, inl, inr, ◌↔◌, map, Result, Ok}
+use Rattle.std.proofs.lemmas.List.{append-nil, drop-drop, map-append}
 use Rattle.std.specs.Fn.{Shared}
 use denote.Ref.{Bor}
 use Rattle.std.specs.declared.ops.Bound.{Bound}
@@ -15,7 +15,7 @@ use Rattle.range_algebra.specs.Intervals.{Any, Every}
 use Rattle.range_algebra.proofs.Lists.{every_append, every_right, every_weaker, list_is_take_and_drop}
 use Rattle.range_algebra.proofs.Places.{held_between}
 use Rattle.range_store.specs.declared.storage.Item.{Item}
-use Rattle.range_change.specs.Answers.{MayAnswer, MayBeAsked, Answered, IsAsAnswered, AnswersPiece, SucceedsAtFirst, IsGathered, piece_of}
+use Rattle.range_change.specs.Answers.{MayAnswer, MayBeAsked, Answered, IsAsAnswered, AnswersPiece, IsGathered, piece_of}
 use Rattle.range_change.specs.Bindings.{Binds}
 use Rattle.range_change.specs.PieceLists.{pieces_of}
 use Rattle.range_change.specs.Put.{IsPut}
@@ -181,15 +181,18 @@ module _ {K : Type 0} {order : KeyOrder K} (lawful : IsLawful order) {V : Type 0
         → Every (λ i. MayBeAsked calls f (Some i.value)) items → MayBeAsked calls f value
     next_is_askable = askable_by value (every_right _ Done _ (rw was.list at cut.right)).0
 
+    -- the closure may answer so to the next piece, and without an error to those so far
     pub next_answered : (answer : Result (Option V) E) → MayAnswer calls f value answer
         → AnswersPiece order same calls f items r answer
     next_answered answer says =
         let are =
         pieces_are lawful equal items r window.stored window.known window.nonempty Met met in
         record {
-          piece = key;
-          value = value;
-          is_piece = (every_right _ Done _ (rw was.list at are.each)).0;
+          front = was.answers;
+          piece = record { key = key; value = value };
+          rest = rest;
+          pieces = rw was.list at are;
+          given = was.given;
           says = says;
         }
 
@@ -207,27 +210,6 @@ module _ {K : Type 0} {order : KeyOrder K} (lawful : IsLawful order) {V : Type 0
     given_more : (answer : Option V) → MayAnswer calls f value (Ok answer)
         → Every (λ a. MayAnswer calls f a.value (Ok a.answer)) (more answer)
     given_more answer says = every_append _ was.answers _ was.given (says, tt)
-
-    -- the closure may answer to the pieces so far and to the next one without an error
-    pub next_succeeds : (answer : Option V) → MayAnswer calls f value (Ok answer)
-        → SucceedsAtFirst order same calls f items r
-    next_succeeds answer says =
-        let are =
-        pieces_are lawful equal items r window.stored window.known window.nonempty Met met in
-        record {
-          front = more answer;
-          rest = rest;
-          some = omega (
-            arith,
-            length_push was.answers (record {
-              key = key;
-              value = value;
-              answer = answer;
-            }),
-          );
-          pieces = rw (list_more answer) at are;
-          given = given_more answer says;
-        }
 
     module _ (is_clone : K → K → Type 0)
         (clones : (a b : Bound K) → IsBoundClone is_clone a b → SameBound order a b)

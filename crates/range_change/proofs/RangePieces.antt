@@ -306,7 +306,7 @@ module _ {K : Type 0} (order : KeyOrder K) (lawful : IsLawful order) where
             ]
 
         -- what is right by places is a piece
-        pub a_piece : (key : AnyRange K) (value : Option V) → IsInside key → IsRight key value
+        a_piece : (key : AnyRange K) (value : Option V) → IsInside key → IsRight key value
             → IsPiece order items r key value
         a_piece key (Some v) inside h = ((nonempty_good order lawful key inside.0).1 inside.2, h)
         a_piece key None inside h = (

@@ -1,6 +1,5 @@
 -- That the closure of an update may have answered the first pieces without an error.
 use Rattle.std.proofs.Common.{◌≡◌, ◌<◌, Bool, List, [], ◌∷◌, length, map, arith, Option, Some, Result, Ok}
-use Rattle.std.proofs.lemmas.List.{append-nil}
 use Rattle.std.specs.Fn.{Shared}
 use denote.Ref.{Bor}
 use Rattle.range_keys.specs.Order.{KeyOrder}
@@ -9,24 +8,26 @@ use Rattle.range_algebra.specs.Intervals.{Any, Every}
 use Rattle.range_store.specs.declared.storage.Item.{Item}
 use Rattle.range_change.specs.Answers.{Answered, AreAnswersTo, IsGathered, MayAnswer, SucceedsAtFirst, piece_of}
 
-some_such : {X : Type 0} (P : X → Type 0) (xs : List X) → Any P xs → 0 < length xs
-some_such P [] h = absurd h
-some_such P (x ∷ xs) h = omega arith
-
 module _ {K : Type 0} (order : KeyOrder K) {V : Type 0} (same : V → V → Bool) {F E : Type 0}
     (calls : Shared F (Option (Bor V) × Unit {0}) (Result (Option V) E)) (f : F)
     (items : List (Item (AnyRange K) V)) (r : AnyRange K) where
   -- where the closure may answer to all pieces without an error, it may to the first
-  pub all_succeed : (answers : List (Answered K V)) → AreAnswersTo order items r answers
-      → Every (λ a. MayAnswer calls f a.value (Ok a.answer)) answers → 0 < length answers
+  first_succeeds : (P : Answered K V → Type 0) (answers : List (Answered K V))
+      → AreAnswersTo order items r answers
+      → Every (λ a. MayAnswer calls f a.value (Ok a.answer)) answers → Any P answers
       → SucceedsAtFirst order same calls f items r
-  all_succeed answers pieces given some = record {
-    front = answers;
-    rest = [];
-    some = some;
-    pieces = rw (append-nil (map piece_of answers)) pieces;
-    given = given;
-  }
+  first_succeeds P [] pieces given some = absurd some
+  first_succeeds P (a ∷ answers) pieces given some = (
+    a.answer,
+    record {
+      front = [];
+      piece = piece_of a;
+      rest = map piece_of answers;
+      pieces = pieces;
+      given = tt;
+      says = given.0;
+    },
+  )
 
   -- where an answer makes an item, the closure answered without an error
   pub gathered_succeeds : (middle : List (Item (AnyRange K) V))
@@ -34,5 +35,4 @@ module _ {K : Type 0} (order : KeyOrder K) {V : Type 0} (same : V → V → Bool
       → SucceedsAtFirst order same calls f items r
   gathered_succeeds [] h some = absurd (omega (arith, some))
   gathered_succeeds (j ∷ middle) h some =
-      all_succeed h.answers h.pieces h.given
-      (some_such (λ (a : Answered K V). a.answer ≡ Some j.value) h.answers h.valued.0)
+      first_succeeds (λ a. a.answer ≡ Some j.value) h.answers h.pieces h.given h.valued.0

@@ -1,7 +1,9 @@
 -- What becomes of the one item that a range meets where it surrounds the range.
-use Rattle.std.proofs.Common.{◌≡◌, ℕ, ◌+◌, ◌-◌, ◌<◌, ◌≤◌, List, [], ◌∷◌, ◌++◌, length, take, drop, get_or, refl, ap, sym, ◌∙◌, arith, Option, Some, None, Bool, true, false, IsTrue, IsSome}
+use Rattle.std.proofs.Common.{◌≡◌, ℕ, ◌+◌, ◌-◌, ◌<◌, ◌≤◌, List, [], ◌∷◌, ◌++◌, length, take, drop, get_or, refl, ap, sym, ◌∙◌, arith, Option, Some, None, Result, Bool, true, false, IsTrue, IsSome}
 use Rattle.std.specs.Cmp.{IsEquivalence}
+use Rattle.std.specs.Fn.{Shared}
 use Rattle.std.specs.Option.{ForSome}
+use denote.Ref.{Bor}
 use Rattle.range_keys.specs.Order.{KeyOrder, IsLawful}
 use Rattle.range_keys.specs.Position.{position_cmp}
 use Rattle.range_algebra.specs.Clones.{SameBound}
@@ -11,12 +13,12 @@ use Rattle.range_algebra.specs.Range.{IsKnownBound}
 use Rattle.range_algebra.specs.declared.any.AnyRange.{AnyRange}
 use Rattle.range_store.proofs.ListPlaces.{good_at}
 use Rattle.range_store.specs.declared.storage.Item.{Item}
-use Rattle.range_change.specs.Answers.{AreAnswersTo}
+use Rattle.range_change.specs.Answers.{AnswersPiece, MayAnswer}
 use Rattle.range_change.specs.Changes.{IsInserted, IsRemoved}
 use Rattle.range_change.specs.Borders.{IsDivided}
 use Rattle.range_change.specs.Edits.{flipped_bound, with_end}
 use Rattle.range_change.specs.Lookups.{Overlap, IsConnectedTo}
-use Rattle.range_change.specs.Pieces.{IsPiece}
+use Rattle.range_change.specs.Pieces.{ArePieces}
 use Rattle.range_change.specs.Reach.{ReachesBefore, ReachesAfter, IsReach, IsSurrounded}
 use Rattle.range_change.specs.Stored.{item_upper}
 use Rattle.range_change.specs.Window.{option_items}
@@ -31,7 +33,7 @@ use Rattle.range_change.proofs.Lengths.{changed_length}
 use Rattle.range_change.proofs.MergedItems.{surrounded_alone}
 use Rattle.range_change.proofs.BoundEdits.{standing_item_splits_list}
 use Rattle.range_change.proofs.InsertionPlans.{left_frame_inside, left_frame_cut, right_frame_inside, right_frame_cut, left_part, right_part}
-use Rattle.range_change.proofs.UpdatedLists.{whole_piece, whole_answer}
+use Rattle.range_change.proofs.UpdatedLists.{whole_piece}
 use Rattle.range_change.proofs.PlaceOrder.{PLt, lt_le}
 
 none_of : {P : Type 0} (o : Option P) → length (option_items o) ≤ 0 → o ≡ None
@@ -240,18 +242,24 @@ module _ {K : Type 0} {order : KeyOrder K} (lawful : IsLawful order) {V : Type 0
       (take place items) (drop (place + 1) items) x split (within.starts x here)
       (within.ends x here)
 
-  -- the whole range is one piece
-  pub piece : IsPiece order items r r (Some x.value)
-  piece =
+  -- the whole range is the one piece
+  pub only_piece : ArePieces order items r (record { key = r; value = Some x.value } ∷ [])
+  only_piece =
       whole_piece order lawful same equal items r within.window.known full chain good
       (take place items) (drop (place + 1) items) x split
       (item_at (IsFull order lawful items r) items place x full within_list here).0
       (within.starts x here) (within.ends x here)
 
-  pub answer_is_to_piece : (answer : Option V)
-      → AreAnswersTo order items r (record { key = r; value = Some x.value; answer = answer } ∷ [])
-  answer_is_to_piece answer =
-      whole_answer order lawful same equal items r within.window.known full chain good
-      (take place items) (drop (place + 1) items) x split
-      (item_at (IsFull order lawful items r) items place x full within_list here).0
-      (within.starts x here) (within.ends x here) answer
+  -- what the closure may answer to its value
+  pub only_answered : {F E : Type 0}
+      {calls : Shared F (Option (Bor V) × Unit {0}) (Result (Option V) E)} {f : F}
+      {answer : Result (Option V) E} → MayAnswer calls f (Some x.value) answer
+      → AnswersPiece order same calls f items r answer
+  only_answered says = record {
+    front = [];
+    piece = record { key = r; value = Some x.value };
+    rest = [];
+    pieces = only_piece;
+    given = tt;
+    says = says;
+  }

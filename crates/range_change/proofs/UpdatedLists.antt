@@ -17,9 +17,9 @@ use Rattle.range_change.specs.Bindings.{Binds, IsSomeOf}
 use Rattle.range_change.specs.Changes.{IsInserted, IsRemoved}
 use Rattle.range_change.specs.Frames.{IsUpdateFrame, IsMergedInto, IsMergeFrame, HasValue, JoinsOrMeets, IsNewItem, IsPart, IsInsertionFrame, IsRemovalFrame}
 use Rattle.range_change.specs.Lookups.{IsConnectedTo, Overlap}
-use Rattle.range_change.specs.Pieces.{IsCommonPart, IsPiece}
+use Rattle.range_change.specs.Pieces.{ArePieces, IsCommonPart}
 use Rattle.range_change.specs.Replaced.{IsReplaced}
-use Rattle.range_change.proofs.RangePieces.{IsFull, IsInside, IsRight, any_use, any_over, every_with, later_over, earlier_under, either_choice_holds, cut_all, a_piece}
+use Rattle.range_change.proofs.RangePieces.{IsFull, IsInside, IsRight, any_use, any_over, every_with, later_over, earlier_under, either_choice_holds, cut_all}
 use Rattle.range_change.proofs.Extents.{end_le}
 use Rattle.range_change.proofs.Forms.{Chained}
 use Rattle.range_change.proofs.MergedItems.{rest_stands, way_follows}
@@ -213,12 +213,8 @@ module _ {K : Type 0} (order : KeyOrder K) (lawful : IsLawful order) {V : Type 0
       rw list (any_right (λ i. IsCommonPart order r i.key r × (i.value ≡ x.value)) done (x ∷ rest)
       (inl (whole_common, refl)))
 
-  pub whole_piece : IsPiece order items r r (Some x.value)
-  whole_piece = a_piece order lawful items r known full r (Some x.value) whole_inside whole_right
-
-  pub whole_answer : (answer : Option V)
-      → AreAnswersTo order items r (record { key = r; value = Some x.value; answer = answer } ∷ [])
-  whole_answer answer =
+  pub whole_piece : ArePieces order items r (record { key = r; value = Some x.value } ∷ [])
+  whole_piece =
       cut_all order lawful items r known same equal full chain
       (record { key = r; value = Some x.value } ∷ []) (record {
         inside = (whole_inside, tt);

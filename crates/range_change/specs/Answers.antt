@@ -1,5 +1,5 @@
 -- What the closure of an update may be asked and may answer, and what its answers make of a list.
-use Rattle.std.specs.Prelude.{◌≡◌, ◌<◌, ◌↔◌, ◌++◌, Bool, IsTrue, List, Option, Some, None, Result, Ok, Err, length, map}
+use Rattle.std.specs.Prelude.{◌≡◌, ◌↔◌, ◌++◌, ◌∷◌, Bool, IsTrue, List, Option, Some, None, Result, Ok, Err, map}
 use Rattle.std.specs.Fn.{Shared}
 use Rattle.std.specs.Option.{option_copied}
 use denote.Ref.{Bor}
@@ -10,7 +10,7 @@ use Rattle.range_algebra.specs.declared.any.AnyRange.{AnyRange}
 use Rattle.range_store.specs.declared.storage.Item.{Item}
 use Rattle.range_change.specs.Bindings.{Binds}
 use Rattle.range_change.specs.Frames.{IsMergeFrame}
-use Rattle.range_change.specs.Pieces.{IsPiece, ArePieces, LiesIn}
+use Rattle.range_change.specs.Pieces.{ArePieces, LiesIn}
 use Rattle.range_change.specs.Stored.{IsStored}
 
 -- the closure f may answer a where it is shown the value, or none
@@ -73,15 +73,18 @@ module _ {K : Type 0} (order : KeyOrder K) {V : Type 0} (same : V → V → Bool
       pub others : (k : K) → order.is_key k → ¬ Holds order r k → (b : Option V)
           → Binds order same new k b ↔ Binds order same items k b
 
-    -- the closure may answer so to the value of a piece
+    -- the closure may answer so to the value of a piece, and without an error to each piece before
+    -- it
     pub record MayAnswerPiece (items : List (Item (AnyRange K) V)) (r : AnyRange K)
         (answer : Result (Option V) E) : Type 0 where
-      pub piece : AnyRange K
-      pub value : Option V
-      pub is_piece : IsPiece order items r piece value
-      pub says : may value answer
+      pub front : List (Answered K V)
+      pub piece : Item (AnyRange K) (Option V)
+      pub rest : List (Item (AnyRange K) (Option V))
+      pub pieces : ArePieces order items r (map piece_of front ++ piece ∷ rest)
+      pub given : Every (λ a. may a.value (Ok a.answer)) front
+      pub says : may piece.value answer
 
-    -- the closure may answer an error to the value of a piece
+    -- the closure may answer an error to the value of a piece, and none to those before it
     abbrev pub MayFail : List (Item (AnyRange K) V) → AnyRange K → E → Type 0
     MayFail items r e = MayAnswerPiece items r (Err e)
 
@@ -93,22 +96,18 @@ module _ {K : Type 0} (order : KeyOrder K) {V : Type 0} (same : V → V → Bool
       pub answered : IsAnswered (MayAnswer calls f) items new r
       pub frame : IsMergeFrame order same items new r (IsGivenBy same answered.answers)
 
-    -- f may answer so to the value of a piece
+    -- f may answer so to the value of a piece, and without an error to each piece before it
     abbrev pub AnswersPiece : List (Item (AnyRange K) V) → AnyRange K → Result (Option V) E
         → Type 0
     AnswersPiece = MayAnswerPiece (MayAnswer calls f)
 
-    -- f may answer an error to the value of a piece
+    -- f may answer an error to the value of a piece, and none to those before it
     abbrev pub FailsAt : List (Item (AnyRange K) V) → AnyRange K → E → Type 0
     FailsAt items r e = AnswersPiece items r (Err e)
 
-    -- f may answer to each of the first pieces, of one at least, without an error
-    pub record SucceedsAtFirst (items : List (Item (AnyRange K) V)) (r : AnyRange K) : Type 0 where
-      pub front : List (Answered K V)
-      pub rest : List (Item (AnyRange K) (Option V))
-      pub some : 0 < length front
-      pub pieces : ArePieces order items r (map piece_of front ++ rest)
-      pub given : Every (λ a. MayAnswer calls f a.value (Ok a.answer)) front
+    -- f may answer without an error to the value of a piece, and to those before it
+    abbrev pub SucceedsAtFirst : List (Item (AnyRange K) V) → AnyRange K → Type 0
+    SucceedsAtFirst items r = (answer : Option V) × AnswersPiece items r (Ok answer)
 
     -- a list in stored form within the range, which binds its keys as the answers to its pieces say
     pub record IsGathered (items : List (Item (AnyRange K) V)) (r : AnyRange K)

@@ -49,8 +49,10 @@ module _ {K : Type 0} (order : KeyOrder K) {V : Type 0} (same : V → V → Bool
       → MayFail order same may items r e
   fails_as items r e failed told =
       record {
+        front = failed.front;
         piece = failed.piece;
-        value = failed.value;
-        is_piece = failed.is_piece;
-        says = told failed.value (Err e) failed.says;
+        rest = failed.rest;
+        pieces = failed.pieces;
+        given = every_weaker _ _ failed.front (λ a. told a.value (Ok a.answer)) failed.given;
+        says = told failed.piece.value (Err e) failed.says;
       }

@@ -1,6 +1,6 @@
 -- A clone of a range in the place of the range.
 use Rattle.range_map.proofs.Common.{◌≡◌, refl, ◌∙◌, Option, Some, None, Bool, false, IsTrue, List, ◌⊎◌, inl, inr, Result, Shared, Bor, Bound, Included, Excluded, Unbounded, Ordering, Equal, Greater, is_gt, is_eq, tied_back, tied_itself, KeyOrder, IsLawful, start_position, end_position, position_cmp, position_total, Position, AnyRange, SameBound, same_start, same_end, starts_at_end, Holds, IsEmptyRange, every_weaker, Item, IsUpdated, later, earlier, IsCommonPart, LiesIn, IsFreePart, IsPiece, ArePieces, Overlap, eq_is_equal, not_both_greater_and_not, PLe, any_over, later_over, earlier_under, either_choice_holds, eq_le, eq_ge, le_trans, lt_le_trans, le_lt_trans, both, IsMergedInto}
-use Rattle.range_change.specs.Answers.{AnswersPiece, SucceedsAtFirst}
+use Rattle.range_change.specs.Answers.{AnswersPiece}
 use Rattle.range_merge.proofs.HeldInside.{lies_in_holds}
 use Rattle.range_change.proofs.MergedItems.{way_follows}
 
@@ -83,7 +83,7 @@ module _ {K : Type 0} {order : KeyOrder K} (lawful : IsLawful order) where
     )
 
   -- equal ranges have the same pieces
-  pub piece_too : {V : Type 0} (items : List (Item (AnyRange K) V)) (r s : AnyRange K)
+  piece_too : {V : Type 0} (items : List (Item (AnyRange K) V)) (r s : AnyRange K)
       → position_cmp order.cmp (start_position order r.start) (start_position order s.start) ≡ Equal
       → position_cmp order.cmp (end_position order r.end) (end_position order s.end) ≡ Equal
       → (part : AnyRange K) (value : Option V) → IsPiece order items r part value
@@ -181,25 +181,16 @@ module _ {K : Type 0} {order : KeyOrder K} (lawful : IsLawful order) where
     module _ {V : Type 0} (same : V → V → Bool) {F E : Type 0}
         (calls : Shared F (Option (Bor V) × Unit {0}) (Result (Option V) E)) (f : F)
         (items : List (Item (AnyRange K) V)) where
-      pub succeeds_too : SucceedsAtFirst order same calls f items s
-          → SucceedsAtFirst order same calls f items r
-      succeeds_too h =
-          record {
-            front = h.front;
-            rest = h.rest;
-            some = h.some;
-            pieces = pieces_too items _ h.pieces;
-            given = h.given;
-          }
-
       pub answers_too : (answer : Result (Option V) E)
           → AnswersPiece order same calls f items s answer
           → AnswersPiece order same calls f items r answer
       answers_too answer h =
           record {
+            front = h.front;
             piece = h.piece;
-            value = h.value;
-            is_piece = piece_too items s r starts_alike ends_alike h.piece h.value h.is_piece;
+            rest = h.rest;
+            pieces = pieces_too items _ h.pieces;
+            given = h.given;
             says = h.says;
           }
 

@@ -1,8 +1,8 @@
 -- Answers to the values of a list, put one after the other.
-use Rattle.std.proofs.Common.{◌≡◌, refl, sym, ◌∙◌, ◌↔◌, arith, inl, inr, Bool, Option, Some, None, Result, Ok, List, [], ◌∷◌, ◌++◌, append_assoc}
-use Rattle.range_map.proofs.Common.{Shared, FnReturnsAt, AllZip, IsEquivalence, Equal, Bor, KeyOrder, IsLawful, position_cmp, Position, IsRangeClone, bound_clone, range_clone, same_start, Any, Every, every_append, length_push, Holds, HoldSame, IsKnownRange, AnyRange, Item, Binds, IsBound, IsSomeOf, IsStored, item_lower, item_upper, equal_is_same, nonempty_good, binds_bound, appended, eq_le, eq_ge, le_trans, lt_le_trans, le_lt_trans}
+use Rattle.std.proofs.Common.{◌≡◌, refl, sym, ◌∙◌, ◌↔◌, inl, inr, Bool, Option, Some, None, Result, Ok, List, [], ◌∷◌, ◌++◌, append_assoc}
+use Rattle.range_map.proofs.Common.{Shared, FnReturnsAt, AllZip, IsEquivalence, Equal, Bor, KeyOrder, IsLawful, position_cmp, Position, IsRangeClone, bound_clone, range_clone, same_start, Any, Every, Holds, HoldSame, IsKnownRange, AnyRange, Item, Binds, IsBound, IsSomeOf, IsStored, item_lower, item_upper, equal_is_same, nonempty_good, binds_bound, appended, eq_le, eq_ge, le_trans, lt_le_trans, le_lt_trans}
 use Rattle.range_change.proofs.CutParts.{same_past}
-use Rattle.range_map.specs.MappedValues.{AreAnswered, AreFirstAnswered, AreMapped, IsAnsweredEach, IsMappedAt}
+use Rattle.range_map.specs.MappedValues.{AnswersItem, AreAnswered, AreMapped, IsAnsweredEach, IsMappedAt}
 use Rattle.range_map.proofs.JoinedItems.{IsBuilt, RisesFrom, built_more, first_alone, stored_rises}
 
 zip_more : {X Y : Type 0} (R : X → Y → Type 0) (xs : List X) (ys : List Y) (x : X) (y : Y)
@@ -40,19 +40,19 @@ module _ {K : Type 0} (order : KeyOrder K) {F V W E : Type 0}
     pub form : IsBuilt order same place answers built
     pub rises : RisesFrom order place left
 
-  -- the closure may answer to the values so far and to the next one without an error
-  pub next_succeeds : (i : Item (AnyRange K) V) (left : List (Item (AnyRange K) V))
-      (built : List (Item (AnyRange K) W)) (answer : W) → IsMappedUpTo (i ∷ left) built
-      → FnReturnsAt calls f i.value (Ok answer) → AreFirstAnswered calls f items
-  next_succeeds i left built answer was given = record {
-    front = was.done ++ i ∷ [];
+  -- the closure may answer so to the next value, and without an error to those so far
+  pub next_answered : {i : Item (AnyRange K) V} {left : List (Item (AnyRange K) V)}
+      {built : List (Item (AnyRange K) W)} {answer : Result W E} → IsMappedUpTo (i ∷ left) built
+      → FnReturnsAt calls f i.value answer → AnswersItem calls f items answer
+  next_answered {i} {left} was says = record {
+    front = was.done;
+    item = i;
     rest = left;
-    some = omega (arith, length_push was.done i);
-    all = sym (append_assoc was.done (i ∷ []) left ∙ was.parted);
+    all = sym was.parted;
     given =
-        every_append _ was.done (i ∷ [])
-        (zip_first _ (λ x. (a : W) × FnReturnsAt calls f x.value (Ok a)) was.done was.answers
-        was.given (λ x a h. (a.value, h.1))) ((answer, given), tt);
+        zip_first _ (λ x. (a : W) × FnReturnsAt calls f x.value (Ok a)) was.done was.answers
+        was.given (λ x a h. (a.value, h.1));
+    says = says;
   }
 
   module _ (lawful : IsLawful order) (equal : IsEquivalence same) where

@@ -1,28 +1,11 @@
 -- A stored list cut in two at a key.
-use Rattle.range_map.proofs.Common.{◌≡◌, refl, sym, ap, ◌∙◌, ◌+◌, ◌≤◌, Bool, true, IsTrue, List, [], ◌∷◌, ◌++◌, length, arith, subst, ordering_then, Ordering, Less, Equal, Greater, Bound, Included, Excluded, IsEquivalence, append_assoc, length-append, KeyOrder, IsLawful, Below, NotAbove, start_position, Position, Beside, At, SameBound, Le, Lt, Every, Holds, IsKnownBound, AnyRange, every_append, every_left, every_right, every_weaker, Item, line_of, IsLeft, IsRight, IsStored, item_lower, item_upper, held_between, same_is_symmetric, chain_before, places, Known, bound_hold, chain_stored, same_binds, stored_chain, stored_known, le_refl, lt_le, le_trans, not_lt, both}
+use Rattle.range_keys.proofs.Orderings.{any_then_equal}
+use Rattle.range_map.proofs.Common.{◌≡◌, refl, sym, ◌∙◌, ◌+◌, ◌≤◌, Bool, true, IsTrue, List, [], ◌∷◌, ◌++◌, length, arith, subst, Equal, inl, inr, Bound, Included, Excluded, Unbounded, IsEquivalence, append_assoc, length-append, KeyOrder, IsLawful, Below, NotAbove, start_position, Position, Beside, At, SameBound, Le, Lt, Every, Holds, IsKnownBound, AnyRange, MeetsSome, Overlap, before_is, unbounded_end, lt_le_trans, lt_not_le, every_append, every_left, every_right, every_weaker, Item, line_of, IsLeft, IsRight, IsStored, item_lower, item_upper, held_between, same_is_symmetric, chain_before, places, Known, bound_hold, chain_stored, same_binds, stored_chain, stored_known, le_refl, lt_le, le_trans, not_lt, both}
 use Rattle.range_change.specs.Edits.{with_start}
 use Rattle.range_map.specs.Splitting.{IsDivided}
 use Rattle.range_change.proofs.ChainSides.{left_whole, left_cut, right_whole, right_cut, none_above, none_below}
 use Rattle.range_change.proofs.CutParts.{cut_end}
-
-then_equal : (o : Ordering) → ordering_then o Equal ≡ o
-then_equal Less = refl
-then_equal Equal = refl
-then_equal Greater = refl
-
-tail_of : {X : Type 0} → List X → List X
-tail_of [] = []
-tail_of (x ∷ xs) = xs
-
--- lists that end alike have one last item
-pub last_same : {X : Type 0} (xs ys : List X) (x y : X) → xs ++ x ∷ [] ≡ ys ++ y ∷ [] → x ≡ y
-unfolding tail_of
-last_same [] [] x y e = cc
-last_same [] (z ∷ []) x y e = let rest = ap tail_of e in absurd (cc)
-last_same [] (z ∷ w ∷ ys) x y e = let rest = ap tail_of e in absurd (cc)
-last_same (z ∷ []) [] x y e = let rest = ap tail_of e in absurd (cc)
-last_same (z ∷ w ∷ xs) [] x y e = let rest = ap tail_of e in absurd (cc)
-last_same (z ∷ xs) (w ∷ ys) x y e = last_same xs ys x y (ap tail_of e)
+use Rattle.range_change.proofs.RangePieces.{IsFull, all_full}
 
 module _ {K : Type 0} {order : KeyOrder K} (lawful : IsLawful order) {V : Type 0}
     {same : V → V → Bool} (equal : IsEquivalence same) (key : K) (key_known : order.is_key key)
@@ -36,11 +19,45 @@ module _ {K : Type 0} {order : KeyOrder K} (lawful : IsLawful order) {V : Type 0
     abbrev Back : List (Item (AnyRange K) V) → Type 0
     Back items = Every (λ i. Le (places order lawful) cut (item_lower order i)) items
 
+    abbrev FromKey : AnyRange K
+    FromKey = record { start = Included key; end = Unbounded }
+
+    -- a stored range that ends after the key meets what lies from the key on
+    reaching_meets : (items : List (Item (AnyRange K) V)) (i : Item (AnyRange K) V)
+        → IsFull order lawful items FromKey i → Lt (places order lawful) cut (item_upper order i)
+        → Overlap order i.key FromKey
+    reaching_meets items i full reaches = (
+      λ before. lt_not_le lawful _ _ reaches
+          ((before_is order lawful i.key.end (Included key) full.0.1 key_known).0 before),
+      λ after. lt_not_le lawful _ _
+          (lt_le_trans lawful _ _ _ full.1 (unbounded_end order lawful i.key.end full.0.1))
+          ((before_is order lawful Unbounded i.key.start tt full.0.0).0 after),
+    )
+
+    unmet_by : (items xs : List (Item (AnyRange K) V))
+        → Every (IsFull order lawful items FromKey) xs → ¬ MeetsSome order xs FromKey
+        → Front xs × Every (λ i. Lt (places order lawful) (item_lower order i) cut) xs
+    unmet_by items [] full none = (tt, tt)
+    unmet_by items (i ∷ xs) full none =
+        let ends : Le (places order lawful) (item_upper order i) cut =
+        not_lt lawful _ _ (λ reaches. none (inl (reaching_meets items i full.0 reaches))) in
+        let rest = unmet_by items xs full.1 (λ meets. none (inr meets)) in
+        ((ends, rest.0), (lt_le_trans lawful _ _ _ full.0.1 ends, rest.1))
+
+    -- where none meets what lies from the key on, each ends and starts before the key
+    pub unmet_is_below : (items : List (Item (AnyRange K) V)) → IsStored order same items
+        → ¬ MeetsSome order items FromKey
+        → Front items × Every (λ i. Lt (places order lawful) (item_lower order i) cut) items
+    unmet_is_below items form none =
+        unmet_by items items (all_full order lawful same equal FromKey items
+        (stored_known order lawful same equal items form)
+        (stored_chain order lawful same equal items form)) none
+
     below_lies : (k : K) → Below order k key → Lt (places order lawful) (Beside k At) cut
-    below_lies k h = then_equal (order.cmp k key) ∙ h
+    below_lies k h = any_then_equal (order.cmp k key) ∙ h
 
     from_lies : (k : K) → NotAbove order key k → Le (places order lawful) cut (Beside k At)
-    from_lies k h = rw (then_equal (order.cmp key k)) h
+    from_lies k h = rw (any_then_equal (order.cmp key k)) h
 
     -- the items below the place of the key, and those from it on
     divided : (items front back : List (Item (AnyRange K) V)) → Known order lawful same equal items

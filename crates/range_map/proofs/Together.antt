@@ -210,9 +210,9 @@ module _ {K : Type 0} {order : KeyOrder K} (lawful : IsLawful order) where
 
 module _ {K V W : Type 0} {order : KeyOrder K}
     {M : List (Item (AnyRange K) V) → List (Item (AnyRange K) W) → Type 0}
-    (items : List (Item (AnyRange K) V)) (others : List (Item (AnyRange K) W))
-    (next : Option (Bor (AnyRange K) × Bor V)) (ranges : List (Item (AnyRange K) V))
-    (near : Option (Bor (AnyRange K) × Bor W)) (rest : List (Item (AnyRange K) W))
+    {items : List (Item (AnyRange K) V)} {others : List (Item (AnyRange K) W)}
+    {next : Option (Bor (AnyRange K) × Bor V)} {ranges : List (Item (AnyRange K) V)}
+    {near : Option (Bor (AnyRange K) × Bor W)} {rest : List (Item (AnyRange K) W)}
     (was : IsPass order M items others next ranges near rest) where
   pub none_left : next ≡ None → M items others ↔ M [] (ahead near rest)
   none_left e =
@@ -225,7 +225,7 @@ module _ {K V W : Type 0} {order : KeyOrder K}
       rw (e, was.second e) at was.left in end.same
 
   module _ {F : AnyRange K → AnyRange K → Type 0} (tells : Tells order M F)
-      (pair : Bor (AnyRange K) × Bor V) (other : Bor (AnyRange K) × Bor W)
+      {pair : Bor (AnyRange K) × Bor V} {other : Bor (AnyRange K) × Bor W}
       (e : next ≡ Some pair) (f : near ≡ Some other) where
     both_left : IsLeft order M items others (shown_item pair ∷ ranges) (shown_item other ∷ rest)
     both_left = rw (e, f) at was.left

@@ -1,5 +1,5 @@
 -- What a list becomes where a closure answers a new value to each of its values.
-use Rattle.std.specs.Prelude.{◌≡◌, ◌<◌, ◌↔◌, ◌++◌, Bool, List, Option, Result, Ok, length}
+use Rattle.std.specs.Prelude.{◌≡◌, ◌↔◌, ◌++◌, ◌∷◌, Bool, List, Option, Result, Ok}
 use Rattle.range_map.specs.Common.{Shared, FnReturnsAt, AllZip, Bor, KeyOrder, Any, Every, HoldSame, AnyRange, Item, BindAlike, Binds, IsBound, IsSomeOf, IsStoredFor}
 
 -- f may be called where it is shown the value of any of the items
@@ -9,14 +9,20 @@ MayBeAskedOfValues {K} {F} {V} calls f items = (shown : Bor V)
     → Any (λ i. i.value ≡ shown.now) items
     → calls.pre f (shown, tt)
 
--- f may answer to the value of each of the first items, of one at least, without an error
-pub record AreFirstAnswered {K F V W E : Type 0} (calls : Shared F (Bor V × Unit {0}) (Result W E))
-    (f : F) (items : List (Item (AnyRange K) V)) : Type 0 where
+-- f may answer so to the value of an item, and without an error to that of each item before it
+pub record AnswersItem {K F V W E : Type 0} (calls : Shared F (Bor V × Unit {0}) (Result W E))
+    (f : F) (items : List (Item (AnyRange K) V)) (answer : Result W E) : Type 0 where
   pub front : List (Item (AnyRange K) V)
+  pub item : Item (AnyRange K) V
   pub rest : List (Item (AnyRange K) V)
-  pub some : 0 < length front
-  pub all : items ≡ front ++ rest
-  pub given : Every (λ i. (answer : W) × FnReturnsAt calls f i.value (Ok answer)) front
+  pub all : items ≡ front ++ item ∷ rest
+  pub given : Every (λ i. (earlier : W) × FnReturnsAt calls f i.value (Ok earlier)) front
+  pub says : FnReturnsAt calls f item.value answer
+
+-- f may answer without an error to the value of an item, and to that of each item before it
+abbrev pub AreFirstAnswered : {K F V W E : Type 0} → Shared F (Bor V × Unit {0}) (Result W E) → F
+    → List (Item (AnyRange K) V) → Type 0
+AreFirstAnswered {W = W} calls f items = (answer : W) × AnswersItem calls f items (Ok answer)
 
 module _ {K : Type 0} (order : KeyOrder K) {F V W E : Type 0}
     (calls : Shared F (Bor V × Unit {0}) (Result W E)) (f : F) where

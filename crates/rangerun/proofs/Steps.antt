@@ -57,10 +57,14 @@ module _ {K : Type 0} (order : KeyOrder K) {V : Type 0} (same : V → V → Bool
         → MayFail order same few items r e → MayFail order same many items r e
     fails_as items r e failed =
         record {
+          front = failed.front;
           piece = failed.piece;
-          value = failed.value;
-          is_piece = failed.is_piece;
-          says = follows failed.value (Err e) failed.says;
+          rest = failed.rest;
+          pieces = failed.pieces;
+          given =
+              every_as (λ a. few a.value (Ok a.answer)) (λ a. many a.value (Ok a.answer))
+              (λ a. follows a.value (Ok a.answer)) failed.front failed.given;
+          says = follows failed.piece.value (Err e) failed.says;
         }
 
   module _ {T E : Type 0} (few many : T → Option V → Result (Option V) E → Type 0)

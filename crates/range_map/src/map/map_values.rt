@@ -3,11 +3,10 @@ ghost use Rattle.std.specs.Prelude.{◌≡◌, IfOk, Ok, Err};
 ghost use Rattle.std.specs.Fn.{FnReturnsAt};
 ghost use Rattle.range_keys.specs.Order.{IsComplete};
 ghost use Rattle.range_algebra.specs.Clones.{IsRangeClone};
-ghost use Rattle.range_algebra.specs.Intervals.{Any};
 ghost use Rattle.range_algebra.specs.Range.{ClonesAreEqual, IsKnownRange};
 ghost use Rattle.range_change.specs.Bindings.{IsCoarse, IsOnlyCoarse};
 ghost use Rattle.range_change.specs.Stored.{IsStored};
-ghost use Rattle.range_map.specs.MappedValues.{AreFirstAnswered, AreMapped, IsAnsweredEach, MayBeAskedOfValues};
+ghost use Rattle.range_map.specs.MappedValues.{AnswersItem, AreFirstAnswered, AreMapped, IsAnsweredEach, MayBeAskedOfValues};
 ghost use Rattle.range_merge.specs.Merged.{part_item};
 ghost use Rattle.range_change.specs.declared.error.UpdateError.TheVariants.{Closure as ClosureError, Memory as MemoryError};
 
@@ -64,7 +63,7 @@ fn answers_to<
         (λ new. IsAnsweredEach K.order F.Fn f.now W.eq (C.items map.now) (D.items new)) }
     ensures form { IfOk result (λ new. IsStored K.order W.eq (D.items new)) }
     ensures closure { (e : E) → result ≡ Err (ClosureError e)
-        → Any (λ i. FnReturnsAt F.Fn f.now i.value (Err e)) (C.items map.now) }
+        → AnswersItem F.Fn f.now (C.items map.now) (Err e) }
     ensures memory { result ≡ Err MemoryError
         → AreFirstAnswered F.Fn f.now (C.items map.now) }
 {
@@ -115,7 +114,7 @@ impl<K: PartialEnum + Clone, V: Eq + Drop, C: Storage<Item<AnyRange<K>, V>>> Ran
         ensures only { IsComplete K.order → IfOk result
             (λ new. IsOnlyCoarse K.order W.eq (D.items new)) }
         ensures closure { (e : E) → result ≡ Err (ClosureError e)
-            → Any (λ i. FnReturnsAt F.Fn f i.value (Err e)) (C.items self.now) }
+            → AnswersItem F.Fn f (C.items self.now) (Err e) }
         ensures memory { result ≡ Err MemoryError
             → AreFirstAnswered F.Fn f (C.items self.now) }
     {

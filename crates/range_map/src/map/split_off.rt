@@ -1,6 +1,6 @@
 //! A map cut in two at a key.
-ghost use Rattle.std.specs.Prelude.{◌≡◌, ◌+◌, ◌≤◌, ◌++◌, ◌∷◌, [], length, List, IfOk, OnOk, OnErr, IsTrue, ◌↔◌};
-ghost use Rattle.std.specs.declared.ops.Bound.TheVariants.{Included, Excluded};
+ghost use Rattle.std.specs.Prelude.{◌≡◌, ◌+◌, ◌≤◌, ◌++◌, ◌∷◌, [], length, List, IfOk, IsOk, OnOk, OnErr, IsTrue, ◌↔◌};
+ghost use Rattle.std.specs.declared.ops.Bound.TheVariants.{Included, Excluded, Unbounded};
 ghost use Rattle.range_keys.specs.Order.{IsComplete};
 ghost use Rattle.range_keys.specs.Position.{position_cmp, start_position};
 ghost use Rattle.range_algebra.specs.Clones.{SameBound};
@@ -8,8 +8,9 @@ ghost use Rattle.range_algebra.specs.Intervals.{Le, Lt, Every};
 ghost use Rattle.range_algebra.specs.Range.{ClonesAreEqual, IsKnownBound};
 ghost use Rattle.range_change.specs.Bindings.{IsCoarse, IsOnlyCoarse};
 ghost use Rattle.range_change.specs.Edits.{with_start};
+ghost use Rattle.range_change.specs.Lookups.{MeetsSome};
 ghost use Rattle.range_map.specs.Splitting.{IsDivided, IsSplitAt};
-ghost use Rattle.range_change.specs.Stored.{IsStored, item_lower};
+ghost use Rattle.range_change.specs.Stored.{IsStored, item_lower, item_upper};
 
 use crate::map::RangeMap;
 use crate::map::append::move_all;
@@ -47,6 +48,8 @@ fn move_back<K: PartialEnum, V: Eq + Drop, C: Storage<Item<AnyRange<K>, V>>>(
         → C.items stored.new ≡ front ++ last ∷ []
         → Lt (position_cmp K.order.cmp) (item_lower K.order last)
         (start_position K.order (Included key.now))) }
+    ensures succeeds { Every (λ i. Lt (position_cmp K.order.cmp) (item_lower K.order i)
+        (start_position K.order (Included key.now))) (C.items stored.old) → IsOk result }
 {
     while let Some(last) = stored.pop_last() {
         if starts_before(&last.key, key) {
@@ -124,6 +127,7 @@ fn cut_last<K: PartialEnum + Clone, V: Eq + Clone, C: Storage<Item<AnyRange<K>, 
 ) -> Result<(), AllocError>
     requires keys { ClonesAreEqual K.is_clone K.eq }
     requires values { ClonesAreEqual V.is_clone V.eq }
+    requires key { K.order.is_key key }
     requires stored { IsStored K.order V.eq (C.items stored.old ++ C.items others.old) }
     requires room { length (C.items others.old) ≤ C.room stored.old }
     requires from { Every (λ i. Le (position_cmp K.order.cmp)
@@ -137,8 +141,9 @@ fn cut_last<K: PartialEnum + Clone, V: Eq + Clone, C: Storage<Item<AnyRange<K>, 
     ensures list { OnErr result (C.items stored.new ++ C.items others.new
         ≡ C.items stored.old ++ C.items others.old) }
     ensures room { OnErr result (length (C.items others.new) ≤ C.room stored.new) }
+    ensures succeeds { Every (λ i. Le (position_cmp K.order.cmp) (item_upper K.order i)
+        (start_position K.order (Included key))) (C.items stored.old) → IsOk result }
 {
-    key.known();
     let Some(last) = stored.pop_last() else {
         return Ok(());
     };
@@ -177,7 +182,10 @@ fn divide<K: PartialEnum + Clone, V: Eq + Clone, C: Storage<Item<AnyRange<K>, V>
     ensures list { OnErr result
         (C.items stored.new ++ C.items others.new ≡ C.items stored.old) }
     ensures room { OnErr result (length (C.items others.new) ≤ C.room stored.new) }
+    ensures succeeds { ¬ MeetsSome K.order (C.items stored.old)
+        (record { start = Included key; end = Unbounded }) → IsOk result }
 {
+    key.known();
     move_back::<K, V, C>(stored, others, &key)?;
     cut_last::<K, V, C>(stored, others, key)
 }
@@ -187,8 +195,9 @@ impl<K: PartialEnum + Clone, V: Eq + Clone, C: Storage<Item<AnyRange<K>, V>>> Ra
     ///
     /// A stored range that holds the key is cut there, unless it starts there. Allocates what the
     /// new map needs, and a clone of the key and of the value of the range that is cut. After an
-    /// error the map is as it was. Costs a step for each range that is moved, and one more; over a
-    /// vector each step moves all that were moved before.
+    /// error the map is as it was. Where no stored range holds or comes after the key, it allocates
+    /// nothing and succeeds. Costs a step for each range that is moved, and one more; over a vector
+    /// each step moves all that were moved before.
     ///
     /// ```
     /// // of a map that binds 0..=5 to 1
@@ -210,6 +219,8 @@ impl<K: PartialEnum + Clone, V: Eq + Clone, C: Storage<Item<AnyRange<K>, V>>> Ra
             (λ rest. IsOnlyCoarse K.order V.eq (C.items rest)) }
         ensures few { IfOk result (λ rest. length (C.items self.new) + length (C.items rest)
             ≤ length (C.items self.old) + 1) }
+        ensures succeeds { ¬ MeetsSome K.order (C.items self.old)
+            (record { start = Included key; end = Unbounded }) → IsOk result }
         ensures refused { OnErr result (C.items self.new ≡ C.items self.old) }
     {
         self.in_form();

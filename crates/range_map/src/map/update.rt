@@ -39,14 +39,14 @@ fn clone_range<K: Clone, R: AsRange<Item = K>>(range: &R) -> Result<AnyRange<K>,
 impl<K: Measure + Clone, V: Eq + Clone, C: Storage<Item<AnyRange<K>, V>>> RangeMap<K, V, C> {
     /// Binds each piece of the range to what the closure returns for what its keys are bound to.
     ///
-    /// The closure is called once for each part that the range shares with a stored range, with its
-    /// value, and once with `None` for each gap in the range. It returns the new value, `None` to
-    /// unbind the keys, or an error, which ends the call. The map is changed only once all calls
-    /// returned; after an error it is as it was. For an empty range the closure is not called, and
-    /// nothing changes. A stored range that the range only touches keeps its bounds and its value.
-    /// It becomes one range with the keys beside it where these come to have an equal value. A
-    /// range that starts or ends where a stored one did keeps that bound as it was written: where
-    /// `0..10` is stored, `update(0..=9, f)` binds `0..10`.
+    /// The closure is called in ascending order: once for each part that the range shares with a
+    /// stored range, with its value, and once with `None` for each gap in the range. It returns the
+    /// new value, `None` to unbind the keys, or an error; the first error ends the call. The map is
+    /// changed only once all calls returned; after an error it is as it was. For an empty range the
+    /// closure is not called, and nothing changes. A stored range that the range only touches keeps
+    /// its bounds and its value. It becomes one range with the keys beside it where these come to
+    /// have an equal value. A range that starts or ends where a stored one did keeps that bound as
+    /// it was written: where `0..10` is stored, `update(0..=9, f)` binds `0..10`.
     ///
     /// Allocates a list of what the closure returns, and clones of the bounds of its pieces and of
     /// the stored ranges that are cut. It also allocates where more ranges are stored than the

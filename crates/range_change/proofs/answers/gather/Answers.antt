@@ -1,9 +1,9 @@
 use Rattle.std.proofs.lemmas.Grind.{common_steps}
-use Rattle.std.proofs.Common.{arith, sym, ◌∙◌, Err}
+use Rattle.std.proofs.Common.{arith, sym, ◌∙◌, Ok, Err}
 use Rattle.std.specs.Cmp.{Equal-is}
 use Rattle.range_keys.specs.Order.{IsLawful}
 use Rattle.range_algebra.specs.Clones.{bound_clone}
-use Rattle.range_change.proofs.PieceAnswers.{started, next_is_askable, next_answered, next_succeeds, one_more, one_more_keeps_spelling, all_gathered}
+use Rattle.range_change.proofs.PieceAnswers.{started, next_is_askable, next_answered, one_more, one_more_keeps_spelling, all_gathered}
 use Rattle.range_change.proofs.Results.{error_has_no_value}
 use Rattle.range_change.proofs.Tests.{value_is_no_error}
 use Rattle.range_change.proofs.answers.gather.Goals as goal
@@ -36,7 +36,7 @@ returns-in_err-ask g c =
       memory =
           λ failed.
           let said = c.ask.ensures.memory (grind (arith, common_steps)) in
-          next_succeeds lawful equal c.requires.window was said.0 said.1;
+          (said.0, next_answered lawful equal c.requires.window was (Ok said.0) said.1);
     }
 
 pub loop-part-preserved : goal.loop-part-preserved

@@ -1,8 +1,7 @@
-use Rattle.std.proofs.Common.{arith, rules, [], ◌∷◌, Some, None, Ok, Err}
+use Rattle.std.proofs.Common.{rules, Some, None, Ok, Err}
 use Rattle.range_change.specs.Answers.{MayAnswer}
 use Rattle.range_change.proofs.UpdatedLists.{by_insertion, by_removal}
-use Rattle.range_change.proofs.Succeeding.{all_succeed}
-use Rattle.range_change.proofs.Surrounded.{alone, piece, answer_is_to_piece}
+use Rattle.range_change.proofs.Surrounded.{alone, only_answered, only_piece}
 use Rattle.range_change.proofs.SpelledChanges.{inserted_keeps_spelling, removed_keeps_spelling}
 use Rattle.range_change.proofs.update.update_within.Goals as goal
 
@@ -18,7 +17,7 @@ returns-in_ok-bind_inside-in-Ok-Some g c =
       ok =
           by_insertion g.K.MaybeBounded.order g.V.PartialEq.eq equal g.F.Fn c.args.f.now _ _ _
           x.value v (alone lawful equal c.requires.within x c.get.ensures)
-          (answer_is_to_piece lawful equal c.requires.within x c.get.ensures (Some v)) says done;
+          (only_piece lawful equal c.requires.within x c.get.ensures) says done;
       spelled =
           inserted_keeps_spelling lawful equal c.requires.within.window.stored c.requires.within x
           c.get.ensures done;
@@ -37,8 +36,7 @@ returns-in_ok-unbind_inside-in-Ok-None g c =
     record {
       ok =
           by_removal g.K.MaybeBounded.order g.V.PartialEq.eq equal g.F.Fn c.args.f.now _ _ _ x.value
-          (answer_is_to_piece g.met.K.PartialEnum.lawful equal c.requires.within x c.get.ensures
-          None) says done;
+          (only_piece g.met.K.PartialEnum.lawful equal c.requires.within x c.get.ensures) says done;
       spelled =
           removed_keeps_spelling g.met.K.PartialEnum.lawful equal c.requires.within.window.stored
           c.requires.within x c.get.ensures done;
@@ -52,30 +50,24 @@ pub returns-in-Err-clause-closure : goal.returns-in-Err-clause-closure
 returns-in-Err-clause-closure g c = λ e failed.
     let x = c.get.result.now in
     let says : MayAnswer g.F.Fn c.args.f.now (Some x.value) (Err e) = search rules in
-    record {
-      piece = c.args.range;
-      value = Some x.value;
-      is_piece =
-          piece g.met.K.PartialEnum.lawful g.met.V.Eq.laws c.requires.within x c.get.ensures;
-      says = says;
-    }
+    only_answered g.met.K.PartialEnum.lawful g.met.V.Eq.laws c.requires.within x c.get.ensures says
 
 pub returns-in_err-bind_inside-in-Ok-Some-clause-memory :
     goal.returns-in_err-bind_inside-in-Ok-Some-clause-memory
 returns-in_err-bind_inside-in-Ok-Some-clause-memory g c = λ failed.
     let x = c.get.result.now in
-    let says : MayAnswer g.F.Fn c.args.f.now (Some x.value) (Ok (Some c.in-Ok-Some.value)) = search rules in
-    all_succeed g.K.MaybeBounded.order g.V.PartialEq.eq g.F.Fn c.args.f.now _ _
-    (record { key = c.args.range; value = Some x.value; answer = Some c.in-Ok-Some.value } ∷ [])
-    (answer_is_to_piece g.met.K.PartialEnum.lawful g.met.V.Eq.laws c.requires.within x c.get.ensures
-    (Some c.in-Ok-Some.value)) (says, tt) (omega arith)
+    let says : MayAnswer g.F.Fn c.args.f.now (Some x.value) (Ok (Some c.in-Ok-Some.value)) = search rules in (
+      Some c.in-Ok-Some.value,
+      only_answered g.met.K.PartialEnum.lawful g.met.V.Eq.laws c.requires.within x c.get.ensures
+          says,
+    )
 
 pub returns-in_err-unbind_inside-in-Ok-None-clause-memory :
     goal.returns-in_err-unbind_inside-in-Ok-None-clause-memory
 returns-in_err-unbind_inside-in-Ok-None-clause-memory g c = λ failed.
     let x = c.get.result.now in
-    let says : MayAnswer g.F.Fn c.args.f.now (Some x.value) (Ok None) = search rules in
-    all_succeed g.K.MaybeBounded.order g.V.PartialEq.eq g.F.Fn c.args.f.now _ _
-    (record { key = c.args.range; value = Some x.value; answer = None } ∷ [])
-    (answer_is_to_piece g.met.K.PartialEnum.lawful g.met.V.Eq.laws c.requires.within x c.get.ensures
-    None) (says, tt) (omega arith)
+    let says : MayAnswer g.F.Fn c.args.f.now (Some x.value) (Ok None) = search rules in (
+      None,
+      only_answered g.met.K.PartialEnum.lawful g.met.V.Eq.laws c.requires.within x c.get.ensures
+          says,
+    )

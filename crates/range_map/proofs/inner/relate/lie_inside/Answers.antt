@@ -14,9 +14,9 @@ loop-next-init g c =
 pub loop-next-preserved-then-lies_in : goal.loop-next-preserved-then-lies_in
 loop-next-preserved-then-lies_in g c =
     let next = c.next-next-then-lies_in in
-    goes_left _ _ _ c.loop-next.ranges _ c.loop-next.others c.loop-next.invariant
-    (inside_tells g.met.K.PartialEnum.lawful) _ _ c.in-Some-Some.is-0 c.in-Some-Some.is-1
-    (c.lies_in.ensures.0 c.if-lies_in.true) next.new.self next.result next.ensures.steps
+    goes_left c.loop-next.invariant (inside_tells g.met.K.PartialEnum.lawful) c.in-Some-Some.is-0
+    c.in-Some-Some.is-1 (c.lies_in.ensures.0 c.if-lies_in.true) next.new.self next.result
+    next.ensures.steps
 
 pub loop-next-smaller-then-lies_in : goal.loop-next-smaller-then-lies_in
 loop-next-smaller-then-lies_in g c =
@@ -29,9 +29,9 @@ loop-next-smaller-then-lies_in g c =
 pub loop-next-preserved : goal.loop-next-preserved
 loop-next-preserved g c =
     let near = c.next-near-then-lies_before in
-    goes_right _ _ _ c.loop-next.ranges _ c.loop-next.others c.loop-next.invariant
-    (inside_tells g.met.K.PartialEnum.lawful) _ _ c.in-Some-Some.is-0 c.in-Some-Some.is-1
-    (c.lies_before.ensures.0 c.if-lies_before.true) near.new.self near.result near.ensures.steps
+    goes_right c.loop-next.invariant (inside_tells g.met.K.PartialEnum.lawful) c.in-Some-Some.is-0
+    c.in-Some-Some.is-1 (c.lies_before.ensures.0 c.if-lies_before.true) near.new.self near.result
+    near.ensures.steps
 
 pub loop-next-smaller : goal.loop-next-smaller
 loop-next-smaller g c =
@@ -45,8 +45,7 @@ pub returns-else-lies_before : goal.returns-else-lies_before
 returns-else-lies_before g c = (
   λ e. absurd (false≢true e),
   λ h.
-      absurd (not_so _ _ _ c.loop-next.ranges _ c.loop-next.others c.loop-next.invariant
-      (inside_tells g.met.K.PartialEnum.lawful) _ _ c.in-Some-Some.is-0 c.in-Some-Some.is-1
-      (λ is. not_both c.if-lies_in.false (c.lies_in.ensures.1 is))
+      absurd (not_so c.loop-next.invariant (inside_tells g.met.K.PartialEnum.lawful)
+      c.in-Some-Some.is-0 c.in-Some-Some.is-1 (λ is. not_both c.if-lies_in.false (c.lies_in.ensures.1 is))
       (λ is. not_both c.if-lies_before.false (c.lies_before.ensures.1 is)) h),
 )

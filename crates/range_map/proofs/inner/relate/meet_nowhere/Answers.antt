@@ -14,9 +14,9 @@ loop-next-init g c =
 pub loop-next-preserved-then-lies_before : goal.loop-next-preserved-then-lies_before
 loop-next-preserved-then-lies_before g c =
     let next = c.next-next-then-lies_before in
-    goes_left _ _ _ c.loop-next.ranges _ c.loop-next.others c.loop-next.invariant
-    (apart_tells g.met.K.PartialEnum.lawful) _ _ c.in-Some-Some.is-0 c.in-Some-Some.is-1
-    (c.lies_before.ensures.0 c.if-lies_before.true) next.new.self next.result next.ensures.steps
+    goes_left c.loop-next.invariant (apart_tells g.met.K.PartialEnum.lawful) c.in-Some-Some.is-0
+    c.in-Some-Some.is-1 (c.lies_before.ensures.0 c.if-lies_before.true) next.new.self next.result
+    next.ensures.steps
 
 pub loop-next-smaller-then-lies_before : goal.loop-next-smaller-then-lies_before
 loop-next-smaller-then-lies_before g c =
@@ -29,10 +29,9 @@ loop-next-smaller-then-lies_before g c =
 pub loop-next-preserved : goal.loop-next-preserved
 loop-next-preserved g c =
     let near = c.next-near-then-lies_before-2 in
-    goes_right _ _ _ c.loop-next.ranges _ c.loop-next.others c.loop-next.invariant
-    (apart_tells g.met.K.PartialEnum.lawful) _ _ c.in-Some-Some.is-0 c.in-Some-Some.is-1
-    (c.lies_before-else-lies_before.ensures.0 c.if-lies_before-2.true) near.new.self
-    near.result near.ensures.steps
+    goes_right c.loop-next.invariant (apart_tells g.met.K.PartialEnum.lawful) c.in-Some-Some.is-0
+    c.in-Some-Some.is-1 (c.lies_before-else-lies_before.ensures.0 c.if-lies_before-2.true)
+    near.new.self near.result near.ensures.steps
 
 pub loop-next-smaller : goal.loop-next-smaller
 loop-next-smaller g c =
@@ -46,22 +45,18 @@ pub returns-else-lies_before-2 : goal.returns-else-lies_before-2
 returns-else-lies_before-2 g c = (
   λ e. absurd (false≢true e),
   λ h.
-      absurd (not_so _ _ _ c.loop-next.ranges _ c.loop-next.others c.loop-next.invariant
-      (apart_tells g.met.K.PartialEnum.lawful) _ _ c.in-Some-Some.is-0 c.in-Some-Some.is-1
-      (λ is. not_both c.if-lies_before.false (c.lies_before.ensures.1 is))
+      absurd (not_so c.loop-next.invariant (apart_tells g.met.K.PartialEnum.lawful)
+      c.in-Some-Some.is-0 c.in-Some-Some.is-1 (λ is. not_both c.if-lies_before.false (c.lies_before.ensures.1 is))
       (λ is. not_both c.if-lies_before-2.false (c.lies_before-else-lies_before.ensures.1 is)) h),
 )
 
 pub returns-in_default : goal.returns-in_default
 returns-in_default g c = (
-  λ _. (none_right _ _ _ c.loop-next.ranges _ c.loop-next.others c.loop-next.invariant
-      c.in_default.is-1).1 (none_met g.K.MaybeBounded.order g.row.W.Denot _),
+  λ _. (none_right c.loop-next.invariant c.in_default.is-1).1
+      (none_met g.K.MaybeBounded.order g.row.W.Denot _),
   λ _. refl,
 )
 
 pub returns-in_default-2 : goal.returns-in_default-2
-returns-in_default-2 g c = (
-  λ _. (none_left _ _ _ c.loop-next.ranges _ c.loop-next.others c.loop-next.invariant
-      c.in_default.is-0).1 tt,
-  λ _. refl,
-)
+returns-in_default-2 g c =
+    (λ _. (none_left c.loop-next.invariant c.in_default.is-0).1 tt, λ _. refl)

@@ -1,4 +1,5 @@
 use Rattle.std.proofs.Common.{◌∙◌}
+use Rattle.range_map.proofs.Common.{false≢true}
 use Rattle.range_map.proofs.StoredLists.{stored_coarse, stored_only}
 use Rattle.range_map.proofs.map.RangeMap.split_off.Goals as goal
 
@@ -27,3 +28,7 @@ pub returns-in-Err-clause-only : goal.returns-in-Err-clause-only
 returns-in-Err-clause-only g c complete =
     rw (c.move_all.ensures.list ∙ c.in-Err.ensures.list)
     (stored_only g.met.K.PartialEnum.lawful g.met.V.Eq.laws _ c.self.invariant complete)
+
+pub returns-in-Err-clause-succeeds : goal.returns-in-Err-clause-succeeds
+returns-in-Err-clause-succeeds g c = λ none.
+    absurd (false≢true (c.in-Err.ensures.succeeds (rw (← c.self.view_is) at none)))

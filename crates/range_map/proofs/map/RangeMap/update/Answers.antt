@@ -1,5 +1,5 @@
-use Rattle.range_map.proofs.Common.{Err, false≢true, bound_clone, IsUpdated, not_both, on_ok, updated_stands}
-use Rattle.range_map.proofs.Likeness.{clone_empty, updated_too, answers_too, succeeds_too}
+use Rattle.range_map.proofs.Common.{Ok, Err, false≢true, bound_clone, IsUpdated, not_both, on_ok, updated_stands}
+use Rattle.range_map.proofs.Likeness.{clone_empty, updated_too, answers_too}
 use Rattle.range_change.proofs.MergedItems.{unchanged_stands}
 use Rattle.range_change.proofs.SpelledChanges.{list_keeps_spelling}
 use Rattle.range_map.proofs.ReboundKeys.{update_rebinds}
@@ -50,9 +50,11 @@ returns g c =
           (answers_too lawful r s start end same g.F.Fn c.args.f items (Err e)
           (c.update_pieces.ensures.closure e failed));
       memory =
-          λ never failed. rw (← c.self.view_is)
-          (succeeds_too lawful r s start end same g.F.Fn c.args.f items
-          (c.update_pieces.ensures.memory failed));
+          λ never failed. let said = c.update_pieces.ensures.memory failed in
+          rw (← c.self.view_is) (
+            said.0,
+            answers_too lawful r s start end same g.F.Fn c.args.f items (Ok said.0) said.1,
+          );
       refused = rw (← c.self.view_is) c.update_pieces.ensures.refused;
       empty = λ e. absurd (not_both c.if-is_empty.false (c.is_empty.ensures.by_position.1 e));
       empty_unchanged =

@@ -1,8 +1,8 @@
 use Rattle.std.proofs.lemmas.Bool.{cases_lt}
-use Rattle.range_map.proofs.Common.{◌≡◌, sym, ap, arith, inl, inr, length, [], rules, false≢true, Err, FnReturnsAt, lower, full_range}
+use Rattle.range_map.proofs.Common.{◌≡◌, sym, ap, arith, inl, inr, length, [], rules, false≢true, lower, full_range}
 use Rattle.range_merge.specs.Merged.{part_item}
 use Rattle.range_map.proofs.JoinedItems.{built_none, stored_rises}
-use Rattle.range_map.proofs.MappedValues.{first_left, mapped_more, next_succeeds}
+use Rattle.range_map.proofs.MappedValues.{first_left, mapped_more, next_answered}
 use Rattle.range_map.proofs.CloneLists.{clones_tied}
 use Rattle.range_map.proofs.map.map_values.answers_to.Goals as goal
 
@@ -34,9 +34,8 @@ answered-requires g c = λ shown is.
 
 pub returns-in_err-item-clause-closure : goal.returns-in_err-item-clause-closure
 returns-in_err-item-clause-closure g c = λ e failed.
-    let was = c.loop-part.invariant.mapped in
-    first_left (λ i. FnReturnsAt g.F.Fn c.args.f.now i.value (Err e)) was.done c.next_part.new.items
-    _ (part_item c.in-Some.part) (rw (← c.in-Some.ensures.items) at was.parted)
+    next_answered g.K.MaybeBounded.order g.F.Fn c.args.f.now g.W.PartialEq.eq _
+    (rw (← c.in-Some.ensures.items) at c.loop-part.invariant.mapped)
     (c.answered.ensures.closure e (search rules))
 
 pub loop-part-preserved : goal.loop-part-preserved
@@ -52,10 +51,12 @@ loop-part-preserved g c =
           g.K.Clone.is_clone equal_keys c.in_ok-item.ensures.range
           c.in_ok-item.ensures.known c.in_ok-item.ensures.value
           (rw (← c.in-Some.ensures.items) at c.loop-part.invariant.mapped));
-      some = λ some. let was = c.loop-part.invariant.mapped in
-          next_succeeds order g.F.Fn c.args.f.now g.W.PartialEq.eq _ (part_item c.in-Some.part)
-          c.next_part.new.items _ c.in_ok-item.item.value
-          (rw (← c.in-Some.ensures.items) at was) c.in_ok-item.ensures.value;
+      some = λ _. (
+        c.in_ok-item.item.value,
+        next_answered order g.F.Fn c.args.f.now g.W.PartialEq.eq _
+            (rw (← c.in-Some.ensures.items) at c.loop-part.invariant.mapped)
+            c.in_ok-item.ensures.value,
+      );
     }
 
 pub map_of-requires : goal.map_of-requires
@@ -63,25 +64,25 @@ map_of-requires g c = c.loop-part.invariant.mapped.form.stored
 
 pub returns-in_err-item-clause-memory : goal.returns-in_err-item-clause-memory
 returns-in_err-item-clause-memory g c = λ failed.
-    let was = c.loop-part.invariant.mapped in
-    let said = c.answered.ensures.memory (search rules) in
-    next_succeeds g.K.MaybeBounded.order g.F.Fn c.args.f.now g.W.PartialEq.eq _
-    (part_item c.in-Some.part) c.next_part.new.items _ said.0
-    (rw (← c.in-Some.ensures.items) at was) said.1
+    let said = c.answered.ensures.memory (search rules) in (
+      said.0,
+      next_answered g.K.MaybeBounded.order g.F.Fn c.args.f.now g.W.PartialEq.eq _
+          (rw (← c.in-Some.ensures.items) at c.loop-part.invariant.mapped) said.1,
+    )
 
 pub returns-in_err-reserve-clause-memory : goal.returns-in_err-reserve-clause-memory
-returns-in_err-reserve-clause-memory g c = λ failed.
-    let was = c.loop-part.invariant.mapped in
-    next_succeeds g.K.MaybeBounded.order g.F.Fn c.args.f.now g.W.PartialEq.eq _
-    (part_item c.in-Some.part) c.next_part.new.items _ c.in_ok-item.item.value
-    (rw (← c.in-Some.ensures.items) at was) c.in_ok-item.ensures.value
+returns-in_err-reserve-clause-memory g c = λ failed. (
+  c.in_ok-item.item.value,
+  next_answered g.K.MaybeBounded.order g.F.Fn c.args.f.now g.W.PartialEq.eq _
+      (rw (← c.in-Some.ensures.items) at c.loop-part.invariant.mapped) c.in_ok-item.ensures.value,
+)
 
 pub returns-in_err-push-clause-memory : goal.returns-in_err-push-clause-memory
-returns-in_err-push-clause-memory g c = λ failed.
-    let was = c.loop-part.invariant.mapped in
-    next_succeeds g.K.MaybeBounded.order g.F.Fn c.args.f.now g.W.PartialEq.eq _
-    (part_item c.in-Some.part) c.next_part.new.items _ c.in_ok-item.item.value
-    (rw (← c.in-Some.ensures.items) at was) c.in_ok-item.ensures.value
+returns-in_err-push-clause-memory g c = λ failed. (
+  c.in_ok-item.item.value,
+  next_answered g.K.MaybeBounded.order g.F.Fn c.args.f.now g.W.PartialEq.eq _
+      (rw (← c.in-Some.ensures.items) at c.loop-part.invariant.mapped) c.in_ok-item.ensures.value,
+)
 
 pub returns-in_err-map_of-clause-memory : goal.returns-in_err-map_of-clause-memory
 returns-in_err-map_of-clause-memory g c = λ failed.

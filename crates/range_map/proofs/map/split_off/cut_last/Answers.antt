@@ -1,4 +1,4 @@
-use Rattle.range_map.proofs.Common.{◌≡◌, ◌∙◌, refl, ap, ◌++◌, ◌∷◌, [], length, Included, insert_end, AnyRange, Item, place_before, place_at}
+use Rattle.range_map.proofs.Common.{◌≡◌, ◌∙◌, refl, ap, ◌++◌, ◌∷◌, [], length, Included, insert_end, AnyRange, every_right, Item, place_before, held_between, lt_not_le, place_at}
 use Rattle.range_change.specs.Edits.{with_start}
 use Rattle.range_map.proofs.SplitLists.{parted, last_parted, last_cut}
 use Rattle.range_map.proofs.map.split_off.cut_last.Goals as goal
@@ -8,7 +8,7 @@ returns-in_default-clause-divided g c =
     let rest = g.C.Storage.items c.args.others.now in
     let none = c.in_default.ensures.list in
     rw (none.0, none.1) (parted g.met.K.PartialEnum.lawful
-    g.met.V.Eq.laws c.args.key c.known.ensures [] rest (rw none.0 at c.requires.stored) tt
+    g.met.V.Eq.laws c.args.key c.requires.key [] rest (rw none.0 at c.requires.stored) tt
     c.requires.from)
 
 pub returns-then-not-holds-clause-divided : goal.returns-then-not-holds-clause-divided
@@ -21,7 +21,7 @@ returns-then-not-holds-clause-divided g c =
     let whole : items c.insert_at-position.new.self ≡ front ++ last ∷ [] =
     c.insert_at-position.ensures.list ∙ insert_end front last in
     rw (list, whole) (last_parted g.met.K.PartialEnum.lawful g.met.V.Eq.laws c.args.key
-    c.known.ensures front rest last
+    c.requires.key front rest last
     (rw list at c.requires.stored) (c.requires.below front last list) c.requires.from
     (λ held. let told = c.holds.ensures.held.1 held in let not =
     c.if-not-holds.true in absurd (cc)))
@@ -49,7 +49,17 @@ returns-in-Ok-clause-divided g c =
     let moved : items c.insert_at-back.new.self ≡ with_start last (Included c.args.key) ∷ rest =
     listed ∙ rw (c.parts-front.ensures.back, c.prepare.ensures.list) refl in
     rw (list, whole, moved) (last_cut g.met.K.PartialEnum.lawful g.met.V.Eq.laws c.args.key
-    c.known.ensures front rest last
+    c.requires.key front rest last
     (rw list at c.requires.stored) (c.requires.below front last list) c.requires.from c.in-Ok.end
     c.in-Ok.value c.in-Ok.ensures.end.0 c.in-Ok.ensures.end.1 c.in-Ok.ensures.value
     (c.holds.ensures.held.0 (let not = c.if-not-holds.false in cc)))
+
+pub returns-in-Err-clause-succeeds : goal.returns-in-Err-clause-succeeds
+returns-in-Err-clause-succeeds g c = λ ends.
+    let lawful = g.met.K.PartialEnum.lawful in
+    let last = c.in-Some.last in
+    let upto = every_right _ (g.C.Storage.items c.pop_last.new.self) (last ∷ [])
+    (rw c.in-Some.ensures.list at ends) in
+    let held = c.holds.ensures.held.0 (let not = c.if-not-holds.false in cc) in
+    absurd (lt_not_le lawful _ _ ((held_between g.K.MaybeBounded.order lawful last.key c.args.key
+    c.known.ensures c.requires.key).0 held).1 upto.0)

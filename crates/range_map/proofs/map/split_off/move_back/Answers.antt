@@ -1,20 +1,20 @@
-use Rattle.range_map.proofs.Common.{rules, ◌≡◌, ◌∙◌, ℕ, ◌+◌, ◌≤◌, ◌<◌, refl, sym, ap, subst, List, length, ◌++◌, ◌∷◌, [], arith, insert, Included, append_assoc, append-nil, length-append, insert_end, start_position, Le, Lt, Every, place_before, item_lower, places, not_lt, place_at}
-use Rattle.range_map.proofs.SplitLists.{last_same}
+use Rattle.std.proofs.lemmas.List.{same_from_push}
+use Rattle.range_map.proofs.Common.{rules, ◌≡◌, ◌∙◌, ℕ, ◌+◌, ◌≤◌, refl, sym, ap, subst, List, length, ◌++◌, ◌∷◌, [], arith, insert, Included, append_assoc, append-nil, length-append, insert_end, start_position, Le, Lt, Every, every_left, every_right, place_before, item_lower, places, not_lt, place_at}
 use Rattle.range_map.proofs.map.split_off.move_back.Goals as goal
 
 -- the last item is put back
-put_back : {X : Type 0} (stored front new rest others whole : List X) (last : X)
+put_back : {X : Type 0} {stored new rest others whole : List X} (front : List X) (last : X)
     → stored ≡ front ++ last ∷ [] → new ≡ insert front (length front) last → others ≡ rest
     → stored ++ rest ≡ whole → new ++ others ≡ whole
-put_back stored front new rest others whole last split put same all =
+put_back {stored} {new} front last split put same all =
     let back : new ≡ stored = put ∙ insert_end front last ∙ sym split in
     rw (back, same) all
 
 -- the last item comes to be the first of the others
-moved : {X : Type 0} (stored front rest others new whole : List X) (last : X)
+moved : {X : Type 0} {stored rest others new whole : List X} (front : List X) (last : X)
     → stored ≡ front ++ last ∷ [] → others ≡ rest → new ≡ last ∷ others
     → stored ++ rest ≡ whole → front ++ new ≡ whole
-moved stored front rest others new whole last split same put all =
+moved {rest = rest} {new = new} front last split same put all =
     let first : new ≡ last ∷ rest = put ∙ ap (λ y. last ∷ y) same in
     rw first (sym (append_assoc front (last ∷ []) rest) ∙ (rw split at all))
 
@@ -22,32 +22,21 @@ moved stored front rest others new whole last split same put all =
 last_such : {X : Type 0} (P : X → Type 0) (front new rest : List X) (last x : X)
     → new ≡ insert front (length front) last → P last → new ≡ rest ++ x ∷ [] → P x
 last_such P front new rest last x put such ends =
-    subst P (last_same front rest last x (sym (insert_end front last) ∙ sym put ∙ ends)) such
+    subst P (same_from_push front rest last x (sym (insert_end front last) ∙ sym put ∙ ends)).1 such
 
-room_moved : {X : Type 0} (rest others new : List X) (last : X) (room less : ℕ) → others ≡ rest
+room_moved : {X : Type 0} {rest others new : List X} {last : X} (room less : ℕ) → others ≡ rest
     → new ≡ last ∷ others → length rest ≤ room → room + 1 ≤ less → length new ≤ less
-room_moved rest others new last room less same put h k = rw (put, same) (omega arith)
+room_moved room less same put h k = rw (put, same) (omega arith)
 
-first_such : {X : Type 0} (P : X → Type 0) (rest others new : List X) (last : X) → others ≡ rest
+first_such : {X : Type 0} (P : X → Type 0) {rest others new : List X} {last : X} → others ≡ rest
     → new ≡ last ∷ others → P last → Every P rest → Every P new
-first_such P rest others new last same put such all = rw (put, same) (such, all)
-
-shorter : {X : Type 0} (stored front : List X) (last : X) → stored ≡ front ++ last ∷ []
-    → length front < length stored
-shorter stored front last split = rw split (omega (arith, length-append front (last ∷ [])))
-
-none_last : {X : Type 0} (front : List X) (last : X) → [] ≡ front ++ last ∷ [] → ⊥
-none_last [] last e = cc
-none_last (x ∷ front) last e = cc
+first_such P same put such all = rw (put, same) (such, all)
 
 pub returns-then-starts_before : goal.returns-then-starts_before
 returns-then-starts_before g c =
     record {
       list =
-          let items = g.C.Storage.items in
-          put_back (items c.loop-last.stored) (items c.pop_last.new.self)
-          (items c.insert_at-position.new.self) (items c.loop-last.others)
-          (items c.loop-last.others) (items c.args.stored.now) c.in-Some.last c.in-Some.ensures.list
+          put_back (g.C.Storage.items c.pop_last.new.self) c.in-Some.last c.in-Some.ensures.list
           c.insert_at-position.ensures.list refl c.loop-last.invariant.list;
       room = omega (
         arith,
@@ -62,6 +51,7 @@ returns-then-starts_before g c =
           (item_lower order i) (start_position order (Included c.args.key.now))) _ _ rest
           c.in-Some.last x c.insert_at-position.ensures.list
           (c.starts_before.ensures.0 c.if-starts_before.true) ends;
+      succeeds = λ _. refl;
     }
 
 pub returns-then-is_err : goal.returns-then-is_err
@@ -69,10 +59,7 @@ returns-then-is_err g c =
     record {
       below = search rules;
       list =
-          let items = g.C.Storage.items in
-          put_back (items c.loop-last.stored) (items c.pop_last.new.self)
-          (items c.insert_at-position-then-is_err.new.self) (items c.loop-last.others)
-          (items c.reserve.new.self) (items c.args.stored.now) c.in-Some.last c.in-Some.ensures.list
+          put_back (g.C.Storage.items c.pop_last.new.self) c.in-Some.last c.in-Some.ensures.list
           c.insert_at-position-then-is_err.ensures.list c.reserve.ensures.list
           c.loop-last.invariant.list;
       room =
@@ -80,6 +67,17 @@ returns-then-is_err g c =
           rw c.reserve.ensures.list
           (omega (arith, c.loop-last.invariant.room, c.in-Some.ensures.space, space));
       from = rw c.reserve.ensures.list c.loop-last.invariant.from;
+      succeeds = λ all.
+          let items = g.C.Storage.items in
+          let left =
+          every_left _ (items c.loop-last.stored) (items c.loop-last.others)
+          (rw (← c.loop-last.invariant.list) at all) in
+          let own =
+          every_right _ (items c.pop_last.new.self) (c.in-Some.last ∷ [])
+          (rw c.in-Some.ensures.list at left) in
+          let told = c.starts_before.ensures.1 own.0 in
+          let not = c.if-starts_before.false in
+          absurd (cc);
     }
 
 pub loop-last-preserved : goal.loop-last-preserved
@@ -100,18 +98,13 @@ loop-last-preserved g c =
     rw start at c.insert_at-position-in-Some.ensures.list in
     record {
       list =
-          moved (items c.loop-last.stored) (items c.pop_last.new.self) (items c.loop-last.others)
-          (items others) (items c.insert_at-position-in-Some.new.self)
-          (items c.args.stored.now) last c.in-Some.ensures.list same put c.loop-last.invariant.list;
+          moved (items c.pop_last.new.self) last c.in-Some.ensures.list same put
+          c.loop-last.invariant.list;
       room =
-          room_moved (items c.loop-last.others) (items others)
-          (items c.insert_at-position-in-Some.new.self) last (storage.room c.loop-last.stored)
-          (storage.room c.pop_last.new.self) same put c.loop-last.invariant.room
-          c.in-Some.ensures.space;
+          room_moved (storage.room c.loop-last.stored) (storage.room c.pop_last.new.self) same put
+          c.loop-last.invariant.room c.in-Some.ensures.space;
       from =
-          first_such (λ i. Le (places order lawful) key (item_lower order i))
-          (items c.loop-last.others) (items others) (items c.insert_at-position-in-Some.new.self)
-          last same put (not_lt lawful _ _ (λ h. let told = c.starts_before.ensures.1 h in let not =
+          first_such (λ i. Le (places order lawful) key (item_lower order i)) same put (not_lt lawful _ _ (λ h. let told = c.starts_before.ensures.1 h in let not =
           c.if-starts_before.false in absurd (cc))) c.loop-last.invariant.from;
     }
 
@@ -124,8 +117,8 @@ loop-last-init g c = record {
 
 pub loop-last-smaller : goal.loop-last-smaller
 loop-last-smaller g c =
-    shorter (g.C.Storage.items c.loop-last.stored) (g.C.Storage.items c.pop_last.new.self)
-    c.in-Some.last c.in-Some.ensures.list
+    rw c.in-Some.ensures.list
+    (omega (arith, length-append (g.C.Storage.items c.pop_last.new.self) (c.in-Some.last ∷ [])))
 
 pub insert_at-position-requires-clause-has_room : goal.insert_at-position-requires-clause-has_room
 insert_at-position-requires-clause-has_room g c = omega (arith, c.in-Some.ensures.space)
@@ -143,5 +136,10 @@ returns g c =
       room = omega (arith, c.loop-last.invariant.room, c.in_default.ensures.space);
       from = c.loop-last.invariant.from;
       below =
-          λ front last ends. absurd (none_last front last (rw c.in_default.ensures.list.1 at ends));
+          λ front last ends. absurd (omega (
+            arith,
+            ap length (rw c.in_default.ensures.list.1 at ends),
+            length-append front (last ∷ []),
+          ));
+      succeeds = λ _. refl;
     }
