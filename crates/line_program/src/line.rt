@@ -29,12 +29,21 @@ pub fn split_at(text: &str, separator: u8) -> Option<(&str, &str)>
     Some((&text[..at], &text[at + 1..]))
 }
 
+/// Writes a number in decimal digits.
+#[inline(always)]
+pub fn write_number<I: Integer, W: Write>(number: I, out: &mut W) -> io::Result<()>
+    ensures { OnOk result (Appends (W.contents out.old) (W.contents out.new) (I.text number)) }
+{
+    let mut buffer = Buffer::new();
+    out.write_all(buffer.format(number).as_bytes())
+}
+
 /// Writes a number in decimal digits, and the end of the line.
+#[inline(always)]
 pub fn write_number_line<I: Integer, W: Write>(number: I, out: &mut W) -> io::Result<()>
     ensures { OnOk result (Appends (W.contents out.old) (W.contents out.new)
         (I.text number ++ codes "\n")) }
 {
-    let mut buffer = Buffer::new();
-    out.write_all(buffer.format(number).as_bytes())?;
+    write_number(number, out)?;
     out.write_all(b"\n")
 }

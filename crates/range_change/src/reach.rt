@@ -80,6 +80,7 @@ pub fn reaching_after<
 }
 
 /// The items that a range meets, with those that reach out of it. A step for each side of it.
+#[inline(always)]
 pub fn reaching<K: Measure, V: Eq + Drop, C: Storage<Item<AnyRange<K>, V>>, R: AsRange<Item = K>>(
     stored: &C,
     window: Window<C::Position>,

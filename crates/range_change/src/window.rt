@@ -1,4 +1,6 @@
 //! Which stored items a range meets.
+//!
+//! All of a search is in line, so that its bounds stay in registers and no window is copied.
 ghost use Rattle.std.specs.Prelude.{◌≡◌, ◌+◌, length};
 ghost use Rattle.std.specs.Option.{ForSome};
 ghost use Rattle.range_keys.specs.Directed.{reference_position};
@@ -36,6 +38,7 @@ pub struct Window<P: Copy> {
 }
 
 /// The last item that ends before a bound, and the one after it. Each item asked is a step.
+#[inline(always)]
 pub fn find<K: PartialEnum, V: Eq + Drop, C: Storage<Item<AnyRange<K>, V>>>(
     stored: &C,
     bound: &Directed<Bound<&K>>,
@@ -121,6 +124,7 @@ pub fn starts_past<K: PartialEnum, V>(
 
 /// How many items from one on start at most at a bound, the last of them and the one after it. Each
 /// item compared is a step.
+#[inline(always)]
 pub fn walk<K: PartialEnum, V: Eq + Drop, C: Storage<Item<AnyRange<K>, V>>>(
     stored: &C,
     from: Option<C::Position>,
@@ -149,6 +153,7 @@ pub fn walk<K: PartialEnum, V: Eq + Drop, C: Storage<Item<AnyRange<K>, V>>>(
 
 /// The items that a nonempty range meets. Costs one search, and a step for each of them and for the
 /// one after them.
+#[inline(always)]
 pub fn find_window<
     K: Measure,
     V: Eq + Drop,
