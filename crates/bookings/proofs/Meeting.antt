@@ -1,9 +1,9 @@
 -- The bookings that meet some minutes are among the calendar's, and have some of the minutes.
 use Rattle.std.proofs.Common.{arith, ◌≡◌, inl, inr, ℕ, List, [], ◌∷◌, ◌++◌, length, ap, refl, sym, subst}
 use Rattle.std.specs.Prelude.{Bool}
-use Rattle.std.specs.List.{AllByRecursion}
+use Rattle.std.specs.List.{AllByRecursion as Every}
 use Rattle.btree_range_map.specs.AnyRange.{AnyRange}
-use Rattle.btree_range_map.specs.Intervals.{Any, Every}
+use Rattle.btree_range_map.specs.Intervals.{Any}
 use Rattle.btree_range_map.specs.Item.{Item}
 use Rattle.btree_range_map.specs.Lookups.{Overlap}
 use Rattle.btree_range_map.specs.Names.{u32_order}
@@ -33,7 +33,7 @@ module _ {X : Type 0} where
     each_among P Q all xs (λ y among. within y (inr among)) follows later,
   )
 
-  of_all : (P : X → Type 0) (x : X) (xs : List X) → AllByRecursion P xs → Any (λ y. y ≡ x) xs → P x
+  of_all : (P : X → Type 0) (x : X) (xs : List X) → Every P xs → Any (λ y. y ≡ x) xs → P x
   of_all P x [] all among = absurd among
   of_all P x (y ∷ xs) all (inl here) = subst P here all.0
   of_all P x (y ∷ xs) all (inr later) = of_all P x xs all.1 later

@@ -1,12 +1,12 @@
 -- Which bytes the bounds of a piece hold, and that a piece that meets no stored range holds none of
 -- its bytes.
 use Rattle.std.proofs.Common.{arith, ◌≡◌, ◌≤◌, ◌<◌, ◌⊎◌, ◌↔◌, ℕ, List, [], ◌∷◌, ◌++◌, None, min, inl, inr}
+use Rattle.std.specs.List.{AllByRecursion as Every}
 use Rattle.std.specs.declared.cmp.Ordering.TheVariants.{Less, Greater}
 use Rattle.std.specs.declared.ops.Bound.{Bound}
 use Rattle.std.specs.declared.ops.Bound.TheVariants.{Included, Excluded, Unbounded}
 use Rattle.std.proofs.lemmas.Bool.Decides.{nat_tests}
 use Rattle.btree_range_map.specs.AnyRange.{AnyRange}
-use Rattle.btree_range_map.specs.Intervals.{Every}
 use Rattle.btree_range_map.specs.Item.{Item}
 use Rattle.btree_range_map.specs.KeySets.{HoldsAlso, HoldsKey, SomeHolds}
 use Rattle.btree_range_map.specs.Lookups.{BindsAllOf, Overlap}

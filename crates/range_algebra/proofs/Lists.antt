@@ -1,8 +1,8 @@
 -- Lists by parts and by index, and what some or each of their items is.
 use Rattle.std.proofs.Common.{◌≡◌, ℕ, zero, suc, ◌+◌, ◌<◌, ◌≤◌, List, [], ◌∷◌, ◌++◌, length, take, drop, get_or, ◌⊎◌, inl, inr, refl, ap, sym, ◌∙◌, arith, length-drop, take-append-drop}
-use Rattle.std.specs.List.{AllWithin, AllByRecursion}
+use Rattle.std.specs.List.{AllWithin, AllByRecursion as Every}
 use Rattle.std.proofs.lemmas.List.{get_or-drop, get_or-take, drop_more, length-take-le}
-use Rattle.range_algebra.specs.Intervals.{Any, Every}
+use Rattle.range_algebra.specs.Intervals.{Any}
 
 pub any_left : {X : Type 0} (P : X → Type 0) (xs ys : List X) → Any P xs → Any P (xs ++ ys)
 any_left P [] ys h = absurd h
@@ -44,10 +44,9 @@ every_right P [] ys h = h
 every_right P (x ∷ xs) ys h = every_right P xs ys h.1
 
 -- what holds of all and of one more
-pub all_more : {X : Type 0} (P : X → Type 0) (xs : List X) (x : X) → AllByRecursion P xs → P x
-    → AllByRecursion P (xs ++ x ∷ [])
-all_more P [] x h p = (p, tt)
-all_more P (y ∷ xs) x h p = (h.0, all_more P xs x h.1 p)
+pub every_more : {X : Type 0} (P : X → Type 0) (xs : List X) (x : X) → Every P xs → P x
+    → Every P (xs ++ x ∷ [])
+every_more P xs x h p = every_append P xs (x ∷ []) h (p, tt)
 
 pub every_all : {X : Type 0} (P : X → Type 0) (xs : List X)
     → ((k : ℕ) (d : X) → k < length xs → P (get_or xs k d)) → Every P xs

@@ -1,5 +1,6 @@
 -- Answers put one after the other, those that touch with equal values as one.
 use Rattle.std.proofs.Common.{◌≡◌, refl, sym, ap, ◌∙◌, ℕ, zero, suc, ◌+◌, ◌-◌, ◌<◌, Option, Some, None, Bool, true, List, [], ◌∷◌, ◌++◌, inl, inr, ◌↔◌, length, get_or, arith}
+use Rattle.std.specs.List.{AllByRecursion as Every}
 use Rattle.std.specs.Prelude.{slice_set}
 use Rattle.std.specs.declared.ops.Bound.{Bound}
 use Rattle.std.specs.declared.cmp.Ordering.TheVariants.{Equal}
@@ -12,7 +13,7 @@ use Rattle.range_algebra.specs.declared.any.AnyRange.{AnyRange}
 use Rattle.range_algebra.specs.Cuts.{past, lower, upper}
 use Rattle.range_algebra.specs.Clones.{IsBoundClone, SameBound, same_start}
 use Rattle.range_algebra.specs.Range.{IsKnownRange}
-use Rattle.range_algebra.specs.Intervals.{Any, Every}
+use Rattle.range_algebra.specs.Intervals.{Any}
 use Rattle.range_change.proofs.PlaceOrder.{lt_le, eq_le, eq_ge, le_trans, cases, le_lt_trans, lt_le_trans, PLe, PLt}
 use Rattle.range_algebra.proofs.Lists.{any_left, any_right, any_split, every_weaker, every_append, every_left, every_right}
 use Rattle.range_change.specs.Chains.{line_of, Leads, Respects}

@@ -1,5 +1,6 @@
 -- A range that lies apart from all stored ones, and the list with it.
 use Rattle.std.proofs.Common.{◌≡◌, ℕ, ◌+◌, ◌<◌, List, [], ◌∷◌, ◌++◌, length, take, drop, get_or, refl, ap, sym, subst, ◌∙◌, arith, Option, Some, None, Bool, true, false, ◌&&◌, IsTrue, ◌⊎◌, ◌↔◌, inl, inr}
+use Rattle.std.specs.List.{AllByRecursion as Every}
 use Rattle.std.specs.Prelude.{insert, IfSome, MatchOption}
 use Rattle.std.specs.Option.{ForSome}
 use Rattle.std.specs.Cmp.{IsEquivalence}
@@ -14,7 +15,7 @@ use Rattle.range_change.proofs.ChainSides.{left_whole, right_whole}
 use Rattle.range_change.proofs.ChainJoins.{places_between_are_bound, left_apart, right_apart}
 use Rattle.range_algebra.specs.Compared.{flipped, starts_at_end}
 use Rattle.range_algebra.specs.Cuts.{lower, upper}
-use Rattle.range_algebra.specs.Intervals.{Every, Le, Lt}
+use Rattle.range_algebra.specs.Intervals.{Le, Lt}
 use Rattle.range_change.proofs.PlaceOrder.{eq_ge, eq_le, le_lt_trans, le_refl, le_trans, lt_le, lt_le_trans, lt_not_le, lt_trans, not_le}
 use Rattle.range_algebra.specs.Range.{IsEmptyRange, IsKnownRange}
 use Rattle.range_algebra.specs.declared.any.AnyRange.{AnyRange}

@@ -1,6 +1,6 @@
 -- What one comparison of an element says of the items after it.
 use Rattle.std.proofs.Common.{◌≡◌, ℕ, zero, suc, ◌<◌, ◌≤◌, List, [], ◌∷◌, length, get_or, refl, sym, ◌∙◌, arith, Bool, true, false, not, ◌||◌, IsTrue}
-use Rattle.std.specs.List.{AllByRecursion}
+use Rattle.std.specs.List.{AllByRecursion as Every}
 use Rattle.std.specs.declared.ops.Bound.{Bound}
 use Rattle.std.specs.declared.ops.Bound.TheVariants.{Included, Excluded, Unbounded}
 use Rattle.std.specs.declared.cmp.Ordering.TheVariants.{Equal}
@@ -14,7 +14,7 @@ use Rattle.range_algebra.specs.declared.any.AnyRange.{AnyRange}
 use Rattle.range_algebra.specs.Range.{IsKnownRange, IsEmptyRange}
 use Rattle.range_algebra.specs.Compared.{starts_at_end}
 use Rattle.range_algebra.specs.Cuts.{past}
-use Rattle.range_algebra.specs.Intervals.{Lt, Every}
+use Rattle.range_algebra.specs.Intervals.{Lt}
 use Rattle.range_change.proofs.PlaceOrder.{eq_ge, lt_not_le, le_lt_trans, lt_trans}
 use Rattle.range_algebra.proofs.Lists.{every_at, every_weaker}
 use Rattle.range_algebra.proofs.Places.{flipped_bound_is_past}
@@ -90,7 +90,7 @@ module _ {K : Type 0} (order : KeyOrder K) (lawful : IsLawful order) where
 
   module _ {V : Type 0} where
     starts_rise : (i : Item (AnyRange K) V) (rest : List (Item (AnyRange K) V))
-        → AllByRecursion (λ j. IsEmptyRange order j.key → ⊥) (i ∷ rest)
+        → Every (λ j. IsEmptyRange order j.key → ⊥) (i ∷ rest)
         → EachNext (λ j k. LiesBefore order j.key k.key) (i ∷ rest)
         → Every (λ j. PLt (Start i.key) (Start j.key)) rest
     starts_rise i [] full rising = tt
@@ -106,7 +106,7 @@ module _ {K : Type 0} (order : KeyOrder K) (lawful : IsLawful order) where
     -- an element before one item is before each after it
     pub before_from : (items : List (Item (AnyRange K) V)) (e : AnyRange K) (connected : Bool)
         (m : ℕ) (x : Item (AnyRange K) V) → IsKnownRange order e → IsKnownRange order x.key
-        → AllByRecursion (λ j. IsEmptyRange order j.key → ⊥) items
+        → Every (λ j. IsEmptyRange order j.key → ⊥) items
         → EachNext (λ j k. LiesBefore order j.key k.key) items → x ≡ get_or items m x
         → ElementIsBefore order e connected x.key → (j : ℕ) (d : Item (AnyRange K) V) → m ≤ j
         → j < length items → ElementIsBefore order e connected (get_or items j d).key

@@ -1,5 +1,6 @@
 -- Which ranges meet a list in which a range was bound, by the places that the list covers.
 use Rattle.std.proofs.Common.{ℕ, refl, true, Bool, Result, Ok, Err, OnOk, List, [], ◌∷◌, ◌++◌, take, drop, ◌⊎◌, inl, inr, ◌↔◌}
+use Rattle.std.specs.List.{AllByRecursion as Every}
 use Rattle.std.specs.Prelude.{insert}
 use Rattle.std.specs.Cmp.{IsEquivalence}
 use Rattle.range_keys.specs.Order.{KeyOrder, IsLawful}
@@ -8,7 +9,7 @@ use Rattle.range_algebra.specs.declared.any.AnyRange.{AnyRange}
 use Rattle.range_algebra.specs.Range.{IsKnownRange}
 use Rattle.range_algebra.specs.Cuts.{lower, upper}
 use Rattle.range_change.specs.Chains.{line_of, IsBoundTo}
-use Rattle.range_algebra.specs.Intervals.{Any, Every}
+use Rattle.range_algebra.specs.Intervals.{Any}
 use Rattle.range_algebra.proofs.Lists.{list_is_take_and_drop, any_left, any_right, any_split}
 use Rattle.range_change.proofs.PlaceOrder.{le_refl, lt_le, le_lt_trans, lt_not_le, cases, not_le, PLe, PLt}
 use Rattle.range_store.specs.declared.storage.Item.{Item}

@@ -1,5 +1,6 @@
 -- What a search among stored items finds.
 use Rattle.std.proofs.Common.{◌≡◌, ◌↔◌, ℕ, zero, suc, ◌+◌, ◌<◌, List, [], ◌∷◌, ◌++◌, length, take, drop, get_or, refl, ap, sym, subst, arith, Option, None, Some, Bool, true, false, inl, inr}
+use Rattle.std.specs.List.{AllByRecursion as Every}
 use Rattle.std.specs.Prelude.{MatchOption}
 use Rattle.std.specs.declared.cmp.Ordering.{Ordering}
 use Rattle.std.specs.declared.cmp.Ordering.TheVariants.{Less, Equal, Greater}
@@ -19,7 +20,7 @@ use Rattle.range_algebra.proofs.Holding.{holds_by_position}
 use Rattle.range_store.specs.declared.storage.Item.{Item}
 use Rattle.range_store.specs.ListPlaces.{IsAt, IsFrontOf}
 use Rattle.range_store.proofs.ListPlaces.{place_at}
-use Rattle.range_algebra.specs.Intervals.{Any, Le, Lt, Every}
+use Rattle.range_algebra.specs.Intervals.{Any, Le, Lt}
 use Rattle.range_algebra.specs.Orders.{lt_of}
 use Rattle.range_change.proofs.PlaceOrder.{lt_le, lt_not_le, le_trans, not_le, not_lt, lt_le_trans, le_lt_trans, lt_trans, PLe, PLt}
 use Rattle.range_change.specs.Stored.{IsStored}

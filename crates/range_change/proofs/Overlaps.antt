@@ -1,7 +1,7 @@
 -- Which stored ranges a range meets, and which keys both then hold.
 use Rattle.std.proofs.Common.{◌≡◌, ℕ, zero, suc, ◌+◌, ◌<◌, Bool, List, [], ◌∷◌, ◌++◌, length, take, drop, get_or, refl, sym, arith, true, false, inl, inr, not, IsTrue, ◌↔◌, Option, Some, None}
 use Rattle.std.specs.Borrow.{Bor}
-use Rattle.std.specs.List.{AllByRecursion}
+use Rattle.std.specs.List.{AllByRecursion as Every}
 use Rattle.std.specs.Option.{option_copied, is_some}
 use Rattle.std.specs.declared.ops.Bound.{Bound}
 use Rattle.std.specs.Ordering.{is_lt}
@@ -13,7 +13,7 @@ use Rattle.range_keys.specs.declared.inner.position.Side.TheVariants.{At}
 use Rattle.range_keys.proofs.Orderings.{not_both_greater_and_not, not_greater}
 use Rattle.range_algebra.specs.declared.any.AnyRange.{AnyRange}
 use Rattle.range_algebra.specs.Range.{Holds, IsKnownBound, IsKnownRange, IsEmptyRange}
-use Rattle.range_algebra.specs.Intervals.{Le, Lt, Any, Every}
+use Rattle.range_algebra.specs.Intervals.{Le, Lt, Any}
 use Rattle.range_change.proofs.PlaceOrder.{le_refl, lt_le, le_trans, lt_not_le, cases, not_lt}
 use Rattle.range_algebra.proofs.Completeness.{nonempty_holds}
 use Rattle.range_algebra.proofs.Holding.{holds_by_position}
@@ -141,8 +141,8 @@ module _ {K : Type 0} (order : KeyOrder K) (lawful : IsLawful order) where
         (held_nonempty r k key held, bound_meets items r k key held bound)
 
     meeting_by : (items : List (Item (AnyRange K) V)) (r : AnyRange K) → IsComplete order
-        → AllByRecursion (λ i. IsKnownRange order i.key) items
-        → AllByRecursion (λ i. IsEmptyRange order i.key → ⊥) items → IsKnownRange order r
+        → Every (λ i. IsKnownRange order i.key) items
+        → Every (λ i. IsEmptyRange order i.key → ⊥) items → IsKnownRange order r
         → (IsEmptyRange order r → ⊥) → MeetsSome order items r → BindsKeyOf order items r
     meeting_by [] r complete known full others full_r h = absurd h
     meeting_by (i ∷ rest) r complete known full others full_r (inl h) =

@@ -3,6 +3,7 @@ use Rattle.std.proofs.Common.{ℕ, ◌+◌, take, drop, ◌≡◌, refl, sym, ap
 use Rattle.std.proofs.lemmas.List.{append-nil, drop-drop, map-append}
 use Rattle.std.specs.Fn.{Shared}
 use denote.Ref.{Bor}
+use Rattle.std.specs.List.{AllByRecursion as Every}
 use Rattle.std.specs.declared.ops.Bound.{Bound}
 use Rattle.std.specs.Cmp.{IsEquivalence}
 use Rattle.range_keys.specs.Order.{KeyOrder, IsLawful}
@@ -11,7 +12,7 @@ use Rattle.range_keys.specs.declared.inner.position.Position.TheVariants.{Beside
 use Rattle.range_keys.specs.declared.inner.position.Side.TheVariants.{At}
 use Rattle.range_algebra.specs.declared.any.AnyRange.{AnyRange}
 use Rattle.range_algebra.specs.Clones.{IsBoundClone, SameBound}
-use Rattle.range_algebra.specs.Intervals.{Any, Every}
+use Rattle.range_algebra.specs.Intervals.{Any}
 use Rattle.range_algebra.proofs.Lists.{every_append, every_right, every_weaker, list_is_take_and_drop}
 use Rattle.range_algebra.proofs.Places.{held_between}
 use Rattle.range_store.specs.declared.storage.Item.{Item}

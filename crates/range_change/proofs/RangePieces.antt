@@ -1,5 +1,6 @@
 -- Parts that share out a range are its pieces.
 use Rattle.std.proofs.Common.{◌≡◌, refl, sym, subst, ap, ◌∙◌, ℕ, ◌<◌, length, get_or, Option, Some, None, Bool, true, false, List, [], ◌∷◌, ◌++◌, ◌⊎◌, inl, inr, map, if◌then◌else◌}
+use Rattle.std.specs.List.{AllByRecursion as Every}
 use Rattle.std.specs.declared.cmp.Ordering.TheVariants.{Equal}
 use Rattle.std.specs.Ordering.{is_gt}
 use Rattle.std.specs.Cmp.{IsEquivalence, tied_back}
@@ -11,7 +12,7 @@ use Rattle.range_keys.proofs.Orderings.{gt_is_greater, equal_then_equal}
 use Rattle.range_algebra.specs.declared.any.AnyRange.{AnyRange}
 use Rattle.range_algebra.specs.Range.{IsKnownRange}
 use Rattle.range_algebra.specs.RangeOrder.{range_cmp}
-use Rattle.range_algebra.specs.Intervals.{Le, Lt, Any, Every}
+use Rattle.range_algebra.specs.Intervals.{Le, Lt, Any}
 use Rattle.range_change.proofs.PlaceOrder.{le_refl, lt_le, eq_le, eq_ge, le_trans, lt_not_le, cases, both, le_lt_trans, lt_le_trans}
 use Rattle.range_algebra.proofs.Lists.{every_at, every_weaker}
 use Rattle.range_change.specs.Chains.{line_of}

@@ -1,7 +1,8 @@
 -- The items that a range meets are one run of a stored list.
+use Rattle.std.specs.List.{AllByRecursion as Every}
 use Rattle.range_algebra.proofs.Lists.{any_none, any_left, any_right, any_split, every_at, every_left, every_right, list_is_take_and_drop, drop_all}
 use Rattle.range_algebra.proofs.Places.{unbounded_end}
-use Rattle.range_algebra.specs.Intervals.{Le, Lt, Every}
+use Rattle.range_algebra.specs.Intervals.{Le, Lt}
 use Rattle.range_algebra.specs.Range.{IsKnownBound, with_bounds}
 use Rattle.range_algebra.specs.declared.any.AnyRange.{AnyRange}
 use Rattle.range_change.proofs.Forms.{stored_known}

@@ -2,12 +2,12 @@
 use Rattle.std.proofs.Common.{◌≡◌, refl, sym, ap, subst, ◌∙◌, ℕ, ◌+◌, ◌-◌, ◌<◌, ◌≤◌, arith, Option, Some, None, Bool, List, [], ◌∷◌, ◌++◌, inl, inr, length, get_or, take, drop}
 use Rattle.std.proofs.lemmas.Option.{same_Some}
 use Rattle.std.specs.Cmp.{IsEquivalence}
+use Rattle.std.specs.List.{AllByRecursion as Every}
 use Rattle.std.specs.declared.ops.Bound.{Bound}
 use Rattle.range_keys.specs.Order.{KeyOrder, IsLawful}
 use Rattle.range_algebra.specs.declared.any.AnyRange.{AnyRange}
 use Rattle.range_algebra.specs.Clones.{same_itself}
 use Rattle.range_algebra.specs.Cuts.{lower, upper}
-use Rattle.range_algebra.specs.Intervals.{Every}
 use Rattle.range_change.proofs.PlaceOrder.{lt_le, eq_le, eq_ge, lt_not_le, lt_trans, PLt}
 use Rattle.range_algebra.specs.Range.{IsKnownRange}
 use Rattle.range_algebra.proofs.Lists.{every_weaker, every_append, every_left, every_right, list_is_take_and_drop}

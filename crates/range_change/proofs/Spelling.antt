@@ -1,5 +1,6 @@
 -- Which bounds are written as those of a list that lie at the same places.
 use Rattle.std.proofs.Common.{◌≡◌, refl, sym, subst, ◌∙◌, ℕ, zero, suc, ◌-◌, arith, Option, Some, None, Bool, List, [], ◌∷◌, ◌++◌, ◌⊎◌, inl, inr, length, get_or, append_assoc, if◌then◌else◌}
+use Rattle.std.specs.List.{AllByRecursion as Every}
 use Rattle.std.specs.Prelude.{slice_set}
 use Rattle.std.specs.declared.ops.Bound.{Bound}
 use Rattle.std.specs.declared.cmp.Ordering.{Ordering}
@@ -14,7 +15,6 @@ use Rattle.range_algebra.specs.declared.any.AnyRange.{AnyRange}
 use Rattle.range_algebra.specs.Clones.{IsBoundClone, SameBound, same_start, same_end, same_itself}
 use Rattle.range_algebra.specs.Combined.{common}
 use Rattle.range_algebra.specs.Cuts.{past, lower, upper}
-use Rattle.range_algebra.specs.Intervals.{Every}
 use Rattle.range_change.proofs.PlaceOrder.{le_refl, lt_le, eq_le, eq_ge, lt_not_le, lt_le_trans, le_lt_trans, PLe, PLt}
 use Rattle.range_algebra.specs.Range.{IsKnownRange}
 use Rattle.range_algebra.proofs.Commons.{gt_le}

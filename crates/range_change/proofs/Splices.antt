@@ -1,8 +1,9 @@
 -- A chain that comes to stand between two places of another, and joins what stands beside it.
 use Rattle.std.proofs.Common.{◌≡◌, sym, true, List, [], ◌∷◌, ◌++◌, inl, inr, subst, append_assoc}
 use Rattle.std.proofs.lemmas.List.{append-nil}
+use Rattle.std.specs.List.{AllByRecursion as Every}
 use Rattle.std.specs.declared.cmp.Ordering.TheVariants.{Equal}
-use Rattle.range_algebra.specs.Intervals.{Le, Lt, Every}
+use Rattle.range_algebra.specs.Intervals.{Le, Lt}
 use Rattle.range_algebra.specs.Orders.{le_refl, lt_le, eq_le, eq_ge, le_trans, lt_not_le, lt_le_trans, le_lt_trans}
 use Rattle.range_algebra.proofs.Lists.{every_weaker, every_append, every_left, every_right}
 use Rattle.range_change.specs.Chains.{Line, IsChain, Has, IsLeft, IsRight, IsLeftOf, IsRightOf, IsSpliced}

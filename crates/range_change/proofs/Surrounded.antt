@@ -4,11 +4,12 @@ use Rattle.std.specs.Cmp.{IsEquivalence}
 use Rattle.std.specs.Fn.{Shared}
 use Rattle.std.specs.Option.{ForSome}
 use denote.Ref.{Bor}
+use Rattle.std.specs.List.{AllByRecursion as Every}
 use Rattle.range_keys.specs.Order.{KeyOrder, IsLawful}
 use Rattle.range_keys.specs.Position.{position_cmp}
 use Rattle.range_algebra.specs.Clones.{SameBound}
 use Rattle.range_algebra.specs.Cuts.{lower, upper}
-use Rattle.range_algebra.specs.Intervals.{Lt, Every}
+use Rattle.range_algebra.specs.Intervals.{Lt}
 use Rattle.range_algebra.specs.Range.{IsKnownBound}
 use Rattle.range_algebra.specs.declared.any.AnyRange.{AnyRange}
 use Rattle.range_store.proofs.ListPlaces.{good_at}

@@ -2,13 +2,14 @@
 use Rattle.std.proofs.Common.{◌≡◌, refl, sym, subst, ◌∙◌, Option, Some, None, Bool, true, IsTrue, List, [], ◌∷◌, ◌++◌, ◌⊎◌, inl, inr, ◌↔◌, Result, Ok}
 use Rattle.std.specs.Fn.{Shared}
 use denote.Ref.{Bor}
+use Rattle.std.specs.List.{AllByRecursion as Every}
 use Rattle.std.specs.Ordering.{is_gt}
 use Rattle.std.specs.Cmp.{IsEquivalence}
 use Rattle.range_keys.specs.Order.{KeyOrder, IsLawful}
 use Rattle.range_keys.specs.Position.{start_position, end_position, position_cmp}
 use Rattle.range_algebra.specs.declared.any.AnyRange.{AnyRange}
 use Rattle.range_algebra.specs.Range.{Holds, IsKnownRange}
-use Rattle.range_algebra.specs.Intervals.{Any, Every}
+use Rattle.range_algebra.specs.Intervals.{Any}
 use Rattle.range_change.proofs.PlaceOrder.{le_refl, lt_le, both, PLe, PLt}
 use Rattle.range_algebra.proofs.Lists.{any_right, every_weaker, every_left, every_right}
 use Rattle.range_store.specs.declared.storage.Item.{Item}

@@ -2,6 +2,7 @@
 use Rattle.std.proofs.Common.{◌≡◌, ℕ, suc, ◌+◌, ◌-◌, ◌<◌, ◌≤◌, List, [], ◌∷◌, ◌++◌, length, take, drop, get_or, arith, ◌∙◌, sym, ap, Option, Bool, length-drop}
 use Rattle.std.specs.Cmp.{IsEquivalence}
 use Rattle.std.proofs.lemmas.List.{drop_more, take_more, get_or-drop}
+use Rattle.std.specs.List.{AllByRecursion as Every}
 use Rattle.range_keys.specs.Order.{KeyOrder, IsLawful}
 use Rattle.range_keys.specs.Position.{start_position, end_position}
 use Rattle.range_keys.specs.declared.inner.position.Position.{Position}
@@ -9,7 +10,6 @@ use Rattle.range_algebra.specs.declared.any.AnyRange.{AnyRange}
 use Rattle.range_algebra.specs.Range.{IsEmptyRange, IsKnownRange}
 use Rattle.range_store.specs.declared.storage.Item.{Item}
 use Rattle.range_store.specs.ListPlaces.{place_before}
-use Rattle.range_algebra.specs.Intervals.{Every}
 use Rattle.range_change.specs.Chains.{line_of}
 use Rattle.range_change.proofs.Chains.{chain_above, chain_right}
 use Rattle.range_algebra.specs.Cuts.{lower, upper}

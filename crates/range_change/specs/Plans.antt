@@ -1,4 +1,5 @@
 -- What is to become of the items beside a range that is bound.
+use Rattle.std.specs.List.{AllByRecursion as Every}
 use Rattle.std.specs.Prelude.{◌≡◌, ℕ, ◌+◌, ◌≤◌, Bool, IsTrue, List, [], ◌++◌, length, take, drop, Option, Some, None}
 use Rattle.std.specs.Cmp.{IsEquivalence}
 use Rattle.std.specs.declared.ops.Bound.{Bound}
@@ -10,7 +11,6 @@ use Rattle.range_store.specs.declared.storage.Item.{Item}
 use Rattle.range_store.specs.ListPlaces.{IsAt, place_before}
 use Rattle.range_change.specs.declared.borders.Border.{Border}
 use Rattle.std.specs.Option.{unwrap_or}
-use Rattle.range_algebra.specs.Intervals.{Every}
 use Rattle.range_algebra.specs.Relations.{Touches}
 use Rattle.range_change.specs.Frames.{IsStartOf, IsEndOf, IsNewItem}
 use Rattle.range_change.specs.Window.{option_items}

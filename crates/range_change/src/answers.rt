@@ -1,7 +1,7 @@
 //! What a closure returns for each piece of a range.
+ghost use Rattle.std.specs.List.{AllByRecursion as Every};
 ghost use Rattle.std.specs.Prelude.{◌≡◌, ◌<◌, ◌-◌, IsTrue, IfOk, OnOk, Option, Some, None, Ok, Err, false, length};
 ghost use Rattle.std.specs.Option.{option_copied};
-ghost use Rattle.range_algebra.specs.Intervals.{Every};
 ghost use Rattle.range_algebra.specs.Range.{ClonesAreEqual};
 ghost use Rattle.range_algebra.specs.References.{range_of};
 ghost use Rattle.range_change.specs.Answers.{MayAnswer, MayBeAsked, IsAnsweredBy, FailsAt, SucceedsAtFirst, IsGathered};

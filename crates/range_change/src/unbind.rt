@@ -1,4 +1,5 @@
 //! Unbinding a nonempty range in a container.
+ghost use Rattle.std.specs.List.{AllByRecursion as Every};
 ghost use Rattle.std.specs.Prelude.{◌≡◌, ◌+◌, ◌*◌, ◌≤◌, ◌<◌, length, None, OnOk, OnErr, IsOk};
 ghost use Rattle.range_algebra.specs.Range.{ClonesAreEqual, IsEmptyRange};
 ghost use Rattle.range_store.specs.Counting.{AddsSteps};
@@ -7,7 +8,6 @@ ghost use Rattle.range_change.specs.Clones.{ClonesNeverFail};
 ghost use Rattle.range_change.specs.Stored.{IsStored};
 ghost use Rattle.range_change.specs.Window.{IsWindowOf};
 ghost use Rattle.range_change.specs.Reach.{AreApart, IsReachOf, IsSurroundedOf};
-ghost use Rattle.range_algebra.specs.Intervals.{Every};
 ghost use Rattle.range_change.specs.Lookups.{Overlap};
 ghost use Rattle.range_change.specs.Costs.{TakesAtLeast, TakesAsChange};
 ghost use Rattle.range_change.specs.Changes.{IsRemoved};

@@ -1,6 +1,6 @@
 //! Changing what the keys of a nonempty range are bound to by a closure.
+ghost use Rattle.std.specs.List.{AllByRecursion as Every};
 ghost use Rattle.std.specs.Prelude.{◌≡◌, OnOk, OnErr, Some, None, Err};
-ghost use Rattle.range_algebra.specs.Intervals.{Every};
 ghost use Rattle.range_algebra.specs.Range.{ClonesAreEqual, IsEmptyRange};
 ghost use Rattle.range_change.specs.Answers.{MayBeAsked, FailsAt, SucceedsAtFirst, IsUpdated};
 ghost use Rattle.range_change.specs.Reach.{IsSurroundedOf};

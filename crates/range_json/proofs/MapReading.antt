@@ -8,7 +8,7 @@ use Rattle.serde_json.specs.declared.value.Value.{Value}
 use Rattle.range_keys.specs.Order.{KeyOrder, IsLawful}
 use Rattle.range_algebra.specs.declared.any.AnyRange.{AnyRange}
 use Rattle.range_algebra.specs.Range.{Holds, IsEmptyRange, IsKnownRange}
-use Rattle.range_algebra.proofs.Lists.{all_more}
+use Rattle.range_algebra.proofs.Lists.{every_more}
 use Rattle.range_algebra.proofs.Pieces.{empty_or_not}
 use Rattle.range_algebra.proofs.Meeting.{held_or_not}
 use Rattle.range_store.specs.declared.storage.Item.{Item}
@@ -250,7 +250,7 @@ module _ {K V : Type 0} (order : KeyOrder K) where
                 (read_more (IsElementRead key_is_read value_is_read) (map view vs) so_far.earlier
                 (view v) x so_far.read.read is_read);
             known =
-                all_more (λ i. IsKnownRange order i.key) so_far.earlier x so_far.read.known
+                every_more (λ i. IsKnownRange order i.key) so_far.earlier x so_far.read.known
                 put.known;
             apart = apart_more so_far.earlier x so_far.read.apart alone;
           };

@@ -9,7 +9,7 @@ use Rattle.serde_json.specs.declared.value.Value.{Value}
 use Rattle.range_keys.specs.Order.{KeyOrder, IsLawful}
 use Rattle.range_algebra.specs.declared.any.AnyRange.{AnyRange}
 use Rattle.range_algebra.specs.Range.{IsEmptyRange, IsKnownRange}
-use Rattle.range_algebra.proofs.Lists.{all_more}
+use Rattle.range_algebra.proofs.Lists.{every_more}
 use Rattle.range_store.specs.declared.storage.Item.{Item}
 use Rattle.range_change.specs.Bindings.{IsBoundAfter}
 use Rattle.range_change.specs.Frames.{IsInsertionFrame}
@@ -67,7 +67,7 @@ module _ {K V : Type 0} (order : KeyOrder K) (key_reads value_reads : Data → B
             rw (map-append view vs (v ∷ []))
             (read_more (IsElementRead key_is_read value_is_read) (map view vs) so_far.elements
             (view v) x so_far.read is_read);
-        known = all_more (λ i. IsKnownRange order i.key) so_far.elements x so_far.known known;
+        known = every_more (λ i. IsKnownRange order i.key) so_far.elements x so_far.known known;
         bound =
             one_bound_after order same [] old new so_far.elements x.key x.value so_far.bound bound;
         form = form;

@@ -24,7 +24,7 @@ use Rattle.range_json.specs.declared.error.JsonError.{JsonError}
 use Rattle.range_json.specs.MapFaults.{element_fault, IsElementRead, IsMapRead, IsFirstFault, MeetNonempty}
 use Rattle.range_json.specs.Values.{IsBoundValue, IsRangeValue, AreItemValues}
 use Rattle.range_json.proofs.Keeping.{apart_from_last, stored_front, one_between}
-use Rattle.range_algebra.proofs.Lists.{any_none, all_more}
+use Rattle.range_algebra.proofs.Lists.{any_none, every_more}
 use Rattle.range_change.specs.Frames.{JoinsOrMeets}
 use Rattle.range_json.specs.SetReadBack.{list_back}
 
@@ -246,7 +246,7 @@ module _ {K V : Type 0} (order : KeyOrder K) (shape : K → Data) (reads : Data 
               (cut.xs ++ cut.x ∷ []) (equal_items_are_copy lawful equal
               (cut.xs ++ cut.x ∷ []) (first.earlier ++ y ∷ []) copies)
               (All-from_recursion (λ i. IsKnownRange order i.key) (first.earlier ++ y ∷ [])
-              (all_more (λ i. IsKnownRange order i.key) first.earlier y first.fine.known
+              (every_more (λ i. IsKnownRange order i.key) first.earlier y first.fine.known
               met.0.1.2)) whole in
               any_none (λ i. MeetNonempty order i.key y.key)
               (λ i. ¬ JoinsOrMeets order same y.key y.value i) first.earlier

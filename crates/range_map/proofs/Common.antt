@@ -7,7 +7,7 @@ pub use Rattle.std.proofs.lemmas.List.Edits.{insert_end, length-insert, length-r
 pub use Rattle.std.proofs.lemmas.List.Elements.{All-more, recursion_from_All}
 pub use Rattle.std.specs.Cmp.{Equal-is, IsEquivalence, IsTotalOrder, alike_right, first_so, second_so, tied_back, tied_itself}
 pub use Rattle.std.specs.Fn.{FnReturnsAt, Shared}
-pub use Rattle.std.specs.List.{All, AllByRecursion, AllWithin, AllZip, fold, insert, items_where_true}
+pub use Rattle.std.specs.List.{All, AllWithin, AllZip, fold, insert, items_where_true, AllByRecursion as Every}
 pub use Rattle.std.specs.Option.{IsSomeAnd, option_map}
 pub use Rattle.std.specs.Ordering.{eq_by_cmp, is_eq, is_gt}
 pub use Rattle.std.specs.Prelude.{IsNone, IsOk, IsSome, MatchOption, if◌then◌else◌, nat_lt, remove, slice_index_or, slice_set}
@@ -31,7 +31,7 @@ pub use Rattle.range_algebra.proofs.Places.{flipped_bound_is_past, flipped_known
 pub use Rattle.range_algebra.specs.Clones.{IsBoundClone, IsRangeClone, SameBound, bound_clone, range_clone, same_end, same_start}
 pub use Rattle.range_algebra.specs.Compared.{flipped, is_before, starts_at_end, starts_past_end}
 pub use Rattle.range_algebra.specs.Cuts.{lower, past, upper}
-pub use Rattle.range_algebra.specs.Intervals.{Any, Every, Le, Lt}
+pub use Rattle.range_algebra.specs.Intervals.{Any, Le, Lt}
 pub use Rattle.range_algebra.specs.Range.{ClonesAreEqual, HoldSame, Holds, IsEmptyRange, IsKeyless, IsKnownBound, IsKnownRange}
 pub use Rattle.range_algebra.specs.RangeOrder.{range_cmp, range_total}
 pub use Rattle.range_algebra.specs.References.{range_of}

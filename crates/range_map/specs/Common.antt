@@ -1,11 +1,11 @@
 -- The names that several definitions cite, passed on from one place. Declares nothing.
 pub use Rattle.std.specs.Borrow.{Bor}
 pub use Rattle.std.specs.Fn.{Called, FnReturnsAt, Mut, Shared}
-pub use Rattle.std.specs.List.{AllZip}
+pub use Rattle.std.specs.List.{AllZip, AllByRecursion as Every}
 pub use Rattle.range_keys.specs.Order.{Below, KeyOrder, NotAbove}
 pub use Rattle.range_keys.specs.Position.{start_position}
 pub use Rattle.range_algebra.specs.Compared.{starts_at_end}
-pub use Rattle.range_algebra.specs.Intervals.{Any, Every}
+pub use Rattle.range_algebra.specs.Intervals.{Any}
 pub use Rattle.range_algebra.specs.Range.{HoldSame, Holds, IsEmptyRange}
 pub use Rattle.range_algebra.specs.Relations.{LiesBefore}
 pub use Rattle.range_algebra.specs.declared.any.AnyRange.{AnyRange}

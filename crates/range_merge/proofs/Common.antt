@@ -1,6 +1,7 @@
 -- The names that several proofs of this crate cite, passed on from one place. Declares nothing.
 pub use Rattle.std.specs.Cmp.{IsEquivalence}
 pub use Rattle.std.specs.Fn.{Shared}
+pub use Rattle.std.specs.List.{AllByRecursion as Every}
 pub use Rattle.std.specs.Option.{option_copied, option_map}
 pub use Rattle.std.specs.declared.cmp.Ordering.{Ordering}
 pub use Rattle.std.specs.declared.cmp.Ordering.TheVariants.{Equal}
@@ -13,7 +14,7 @@ pub use Rattle.range_keys.specs.declared.inner.position.Side.TheVariants.{At}
 pub use Rattle.range_algebra.proofs.Lists.{any_left, any_none, any_split, every_append, every_weaker}
 pub use Rattle.range_algebra.specs.Clones.{IsBoundClone, SameBound}
 pub use Rattle.range_algebra.specs.Cuts.{lower, upper}
-pub use Rattle.range_algebra.specs.Intervals.{Any, Every, Le, Lt}
+pub use Rattle.range_algebra.specs.Intervals.{Any, Le, Lt}
 pub use Rattle.range_algebra.specs.Range.{Holds, IsKnownRange}
 pub use Rattle.range_algebra.specs.References.{range_of}
 pub use Rattle.range_algebra.specs.Relations.{LiesBefore}

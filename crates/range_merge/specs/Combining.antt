@@ -1,11 +1,12 @@
 -- What two lists make together, where a closure answers to what binds a key in either.
+use Rattle.std.specs.List.{AllByRecursion as Every}
 use Rattle.std.specs.Prelude.{◌≡◌, ◌↔◌, ◌⊎◌, Bool, List, Option, Some, None, Result, Ok, Err}
 use Rattle.std.specs.Fn.{Shared}
 use Rattle.std.specs.Option.{option_copied}
 use Rattle.std.specs.Borrow.{Bor}
 use Rattle.std.specs.declared.cmp.Ordering.TheVariants.{Equal}
 use Rattle.range_keys.specs.Order.{KeyOrder}
-use Rattle.range_algebra.specs.Intervals.{Any, Every}
+use Rattle.range_algebra.specs.Intervals.{Any}
 use Rattle.range_algebra.specs.Range.{Holds, IsEmptyRange, IsKnownRange}
 use Rattle.range_algebra.specs.RangeOrder.{range_cmp}
 use Rattle.range_algebra.specs.Relations.{LiesBefore}

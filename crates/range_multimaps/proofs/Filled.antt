@@ -1,9 +1,9 @@
 -- No stored set is empty after a nonempty one was put in.
 use Rattle.std.proofs.Common.{◌≡◌, inl, inr, subst, sym, Bool, IsTrue, List, ◌++◌, Result, Ok, Err, OnOk, OnErr}
+use Rattle.std.specs.List.{AllByRecursion as Every}
 use Rattle.range_keys.specs.Order.{KeyOrder}
 use Rattle.range_keys.specs.Position.{start_position, end_position, position_cmp}
 use Rattle.range_algebra.proofs.Lists.{any_none, every_append, every_left, every_right, every_weaker}
-use Rattle.range_algebra.specs.Intervals.{Every}
 use Rattle.range_algebra.specs.Range.{IsEmptyRange}
 use Rattle.range_algebra.specs.declared.any.AnyRange.{AnyRange}
 use Rattle.range_store.specs.declared.storage.Item.{Item}

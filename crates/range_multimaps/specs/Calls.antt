@@ -1,8 +1,8 @@
 -- What a list of calls makes of the pairs of a multimap: the last unrefused call on a pair says
 -- whether it is there.
+use Rattle.std.specs.List.{AllByRecursion as Every}
 use Rattle.std.specs.Prelude.{◌≡◌, Bool, IsTrue, List, [], ◌∷◌, ◌⊎◌, ◌↔◌, ⊤}
 use Rattle.range_keys.specs.Order.{KeyOrder}
-use Rattle.range_algebra.specs.Intervals.{Every}
 use Rattle.range_algebra.specs.Range.{Holds}
 use Rattle.range_algebra.specs.declared.any.AnyRange.{AnyRange}
 use Rattle.range_store.specs.declared.storage.Item.{Item}

@@ -1,7 +1,8 @@
 -- Which pairs of a key and a value a list of ranges with sets has, and what becomes of them.
+use Rattle.std.specs.List.{AllByRecursion as Every}
 use Rattle.std.specs.Prelude.{Bool, IsTrue, List, ◌⊎◌, ◌↔◌, Option}
 use Rattle.range_keys.specs.Order.{KeyOrder}
-use Rattle.range_algebra.specs.Intervals.{Any, Every}
+use Rattle.range_algebra.specs.Intervals.{Any}
 use Rattle.range_algebra.specs.Range.{Holds}
 use Rattle.range_algebra.specs.declared.any.AnyRange.{AnyRange}
 use Rattle.range_store.specs.declared.storage.Item.{Item}

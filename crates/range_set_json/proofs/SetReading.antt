@@ -8,7 +8,7 @@ use Rattle.serde_json.specs.declared.value.Value.{Value}
 use Rattle.range_keys.specs.Order.{KeyOrder, IsLawful}
 use Rattle.range_algebra.specs.Range.{IsEmptyRange, IsKnownRange}
 use Rattle.range_algebra.specs.declared.any.AnyRange.{AnyRange}
-use Rattle.range_algebra.proofs.Lists.{all_more}
+use Rattle.range_algebra.proofs.Lists.{every_more}
 use Rattle.range_store.specs.declared.storage.Item.{Item}
 use Rattle.range_change.specs.Frames.{IsInsertionFrame}
 use Rattle.range_sets.specs.KeySets.{HoldsAllAlso, HoldsAlso, IsStoredSet}
@@ -53,7 +53,7 @@ module _ {K : Type 0} (key_reads : Data → Bool) (key_is_read : Data → K → 
         read =
             rw (map-append view vs (v ∷ []))
             (read_more (IsRangeRead key_is_read) (map view vs) h.ranges (view v) r h.read is_read);
-        known = all_more (λ s. IsKnownRange order s) h.ranges r h.known known;
+        known = every_more (λ s. IsKnownRange order s) h.ranges r h.known known;
         held = one_more order [] old new h.ranges r h.held added;
         form = form;
         kept = λ whole.

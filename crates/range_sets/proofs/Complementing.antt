@@ -1,14 +1,14 @@
 -- The gaps of a stored list are themselves in stored form, and so is each front of a list of clones
 -- of them.
 use Rattle.std.proofs.Common.{◌⊎◌, inl, inr, Bool, true, List, [], ◌∷◌, ◌++◌, map, None}
-use Rattle.std.specs.List.{AllByRecursion}
+use Rattle.std.specs.List.{AllByRecursion as Every}
 use Rattle.range_keys.specs.Order.{KeyOrder, IsLawful}
 use Rattle.range_keys.specs.Position.{start_position, end_position, position_cmp}
 use Rattle.range_keys.specs.PositionOrder.{position_total}
 use Rattle.range_keys.specs.declared.inner.position.Position.{Position}
 use Rattle.range_keys.proofs.Orderings.{less_or_not, not_both_greater_and_not, not_greater}
 use Rattle.range_algebra.specs.Cuts.{upper}
-use Rattle.range_algebra.specs.Intervals.{Le, Every}
+use Rattle.range_algebra.specs.Intervals.{Le}
 use Rattle.range_algebra.specs.Orders.{le_refl, lt_le, le_trans, lt_not_le}
 use Rattle.range_algebra.specs.Range.{IsKnownRange, IsEmptyRange}
 use Rattle.range_algebra.specs.Relations.{LiesBefore, Touches}
@@ -92,8 +92,8 @@ module _ {K : Type 0} (order : KeyOrder K) (lawful : IsLawful order) where
     IsFullItem i = IsKnownRange order i.key × (IsEmptyRange order i.key → ⊥)
 
     every_full : (items : List (Item (AnyRange K) V))
-        → AllByRecursion (λ i. IsKnownRange order i.key) items
-        → AllByRecursion (λ i. IsEmptyRange order i.key → ⊥) items → Every IsFullItem items
+        → Every (λ i. IsKnownRange order i.key) items
+        → Every (λ i. IsEmptyRange order i.key → ⊥) items → Every IsFullItem items
     every_full [] known full = tt
     every_full (i ∷ rest) known full = ((known.0, full.0), every_full rest known.1 full.1)
 

@@ -6,7 +6,7 @@ use Rattle.std.specs.Cmp.{IsEquivalence, tied_back}
 use Rattle.std.specs.List.{AllZip}
 use Rattle.std.specs.declared.cmp.Ordering.TheVariants.{Equal}
 use Rattle.range_keys.specs.Order.{KeyOrder, IsLawful}
-use Rattle.range_algebra.proofs.Lists.{all_more}
+use Rattle.range_algebra.proofs.Lists.{every_more}
 use Rattle.range_algebra.specs.Clones.{IsRangeClone, range_clone}
 use Rattle.range_algebra.specs.Range.{IsKnownRange}
 use Rattle.range_algebra.specs.RangeOrder.{range_cmp, range_total}
@@ -88,7 +88,7 @@ module _ {K : Type 0} (order : KeyOrder K) where
         copy_stored lawful all_equal more (set_items front)
         (as_copy more front zip)
         (All-from_recursion (λ i. IsKnownRange order i.key) more
-        (all_more (λ i. IsKnownRange order i.key) items
+        (every_more (λ i. IsKnownRange order i.key) items
         (record { key = r; value = tt }) filled.form.known known))
         (front_stored order lawful front others
         (subst (λ l. IsStoredSet order (set_items l)) (sym all) form))

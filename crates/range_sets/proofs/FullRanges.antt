@@ -1,5 +1,6 @@
 -- Ranges that are known and not empty, and where their bounds lie.
 use Rattle.std.proofs.Common.{◌≡◌, Option, Some, None, List, [], ◌∷◌}
+use Rattle.std.specs.List.{AllByRecursion as Every}
 use Rattle.std.specs.declared.cmp.Ordering.TheVariants.{Equal}
 use Rattle.std.specs.declared.ops.Bound.{Bound}
 use Rattle.std.specs.declared.ops.Bound.TheVariants.{Unbounded}
@@ -9,7 +10,7 @@ use Rattle.range_keys.specs.Position.{start_position, end_position, position_cmp
 use Rattle.range_keys.specs.PositionOrder.{position_total}
 use Rattle.range_algebra.proofs.Places.{flipped_back, flipped_bound_is_past, flipped_known, unbounded_end}
 use Rattle.range_algebra.specs.Compared.{flipped}
-use Rattle.range_algebra.specs.Intervals.{Le, Lt, Every}
+use Rattle.range_algebra.specs.Intervals.{Le, Lt}
 use Rattle.range_algebra.specs.Orders.{both, eq_ge, le_trans}
 use Rattle.range_algebra.specs.Range.{IsKnownBound, IsKnownRange}
 use Rattle.range_algebra.specs.RangeOrder.{range_cmp}

@@ -1,7 +1,7 @@
 -- Two rows of disjoint ranges, each of which lies in some range of the other row, are equal one by
 -- one.
 use Rattle.std.proofs.Common.{◌≡◌, List, [], ◌∷◌, inl, inr}
-use Rattle.std.specs.List.{AllZip}
+use Rattle.std.specs.List.{AllZip, AllByRecursion as Every}
 use Rattle.std.specs.declared.cmp.Ordering.TheVariants.{Equal}
 use Rattle.range_keys.specs.Order.{KeyOrder, IsLawful}
 use Rattle.range_keys.specs.Position.{start_position, end_position, position_cmp}
@@ -10,7 +10,7 @@ use Rattle.range_keys.specs.declared.inner.position.Position.{Position}
 use Rattle.range_keys.proofs.Orderings.{both_equal}
 use Rattle.range_algebra.specs.declared.any.AnyRange.{AnyRange}
 use Rattle.range_algebra.proofs.Lists.{every_weaker}
-use Rattle.range_algebra.specs.Intervals.{Any, Every}
+use Rattle.range_algebra.specs.Intervals.{Any}
 use Rattle.range_algebra.specs.Orders.{eq_le, eq_ge, lt_le, le_trans, lt_not_le, lt_le_trans, le_lt_trans, lt_trans}
 use Rattle.range_algebra.specs.RangeOrder.{range_cmp}
 use Rattle.range_algebra.specs.Relations.{LiesBefore}

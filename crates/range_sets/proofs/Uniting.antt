@@ -8,6 +8,7 @@ use Rattle.std.specs.declared.ops.Bound.TheVariants.{Included, Excluded, Unbound
 use Rattle.std.specs.declared.cmp.Ordering.{Ordering}
 use Rattle.std.specs.declared.cmp.Ordering.TheVariants.{Equal}
 use denote.Ref.{Bor}
+use Rattle.std.specs.List.{AllByRecursion as Every}
 use Rattle.range_keys.specs.Order.{KeyOrder, IsLawful}
 use Rattle.range_keys.specs.Position.{start_position, end_position, position_cmp}
 use Rattle.range_keys.specs.declared.inner.position.Position.{Position}
@@ -16,7 +17,7 @@ use Rattle.range_keys.specs.declared.inner.position.Side.TheVariants.{At}
 use Rattle.range_algebra.specs.Clones.{IsBoundClone, IsRangeClone, SameBound, same_start, same_end}
 use Rattle.range_algebra.specs.Compared.{flipped}
 use Rattle.range_algebra.specs.Cuts.{lower, past, upper}
-use Rattle.range_algebra.specs.Intervals.{Every, Le, Lt}
+use Rattle.range_algebra.specs.Intervals.{Le, Lt}
 use Rattle.range_algebra.specs.Range.{Holds, IsKnownBound, IsKnownRange, with_bounds}
 use Rattle.range_algebra.specs.declared.any.AnyRange.{AnyRange}
 use Rattle.range_algebra.proofs.Lists.{every_append, every_weaker}

@@ -2,13 +2,12 @@
 use Rattle.std.proofs.Common.{◌≡◌, inl, inr, List, [], ◌∷◌, ◌++◌, ap, subst}
 use Rattle.std.specs.Prelude.{Bool, Option, Result, Ok, Err, IfOk}
 use Rattle.std.specs.Fn.{Mut, Called}
-use Rattle.std.specs.List.{filter}
+use Rattle.std.specs.List.{filter, AllByRecursion as Every}
 use Rattle.std.specs.List.Retain.{IsFiltered}
 use Rattle.std.proofs.lemmas.Fn.{filter_same}
 use denote.Ref.{Bor}
 use Rattle.btree_range_map.specs.AnyRange.{AnyRange}
 use Rattle.btree_range_map.specs.Combining.{AreCombined, MayFailOnBoth}
-use Rattle.btree_range_map.specs.Intervals.{Every}
 use Rattle.btree_range_map.specs.Item.{Item}
 use Rattle.btree_range_map.specs.Lookups.{MeetsSome}
 use Rattle.btree_range_map.specs.Order.{KeyOrder}

@@ -1,11 +1,11 @@
 -- A step where the closure may answer in some ways is one where it may answer in more.
 use Rattle.std.proofs.Common.{Bool, List, [], ◌∷◌}
+use Rattle.std.specs.List.{AllByRecursion as Every}
 use Rattle.std.specs.Prelude.{Option, Result, Ok, Err}
 use Rattle.btree_range_map.specs.Answers.{IsAnswered, MayFail}
 use Rattle.btree_range_map.specs.AnyRange.{AnyRange}
 use Rattle.btree_range_map.specs.Item.{Item}
 use Rattle.btree_range_map.specs.Order.{KeyOrder}
-use Rattle.btree_range_map.specs.Intervals.{Every}
 use Rattle.btree_range_map.specs.Command.{Command}
 use Rattle.btree_range_map.specs.Command.TheVariants.{Insert, InsertDisconnected, Remove, Update, Get, Contains, Intersects, Count}
 use Rattle.btree_range_map.specs.Reply.{Reply}

@@ -1,10 +1,11 @@
 //! A map cut in two at a key.
+ghost use Rattle.std.specs.List.{AllByRecursion as Every};
 ghost use Rattle.std.specs.Prelude.{◌≡◌, ◌+◌, ◌≤◌, ◌++◌, ◌∷◌, [], length, List, IfOk, IsOk, OnOk, OnErr, IsTrue, ◌↔◌};
 ghost use Rattle.std.specs.declared.ops.Bound.TheVariants.{Included, Excluded, Unbounded};
 ghost use Rattle.range_keys.specs.Order.{IsComplete};
 ghost use Rattle.range_keys.specs.Position.{position_cmp, start_position};
 ghost use Rattle.range_algebra.specs.Clones.{SameBound};
-ghost use Rattle.range_algebra.specs.Intervals.{Le, Lt, Every};
+ghost use Rattle.range_algebra.specs.Intervals.{Le, Lt};
 ghost use Rattle.range_algebra.specs.Range.{ClonesAreEqual, IsKnownBound};
 ghost use Rattle.range_change.specs.Bindings.{IsCoarse, IsOnlyCoarse};
 ghost use Rattle.range_change.specs.Edits.{with_start};

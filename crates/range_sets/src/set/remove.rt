@@ -1,7 +1,7 @@
 //! Taking the keys of a range away.
+ghost use Rattle.std.specs.List.{AllByRecursion as Every};
 ghost use Rattle.std.specs.Prelude.{◌≡◌, ◌+◌, ◌≤◌, true, length, IsOk, OnOk, OnErr};
 ghost use Rattle.range_algebra.specs.Range.{ClonesAreEqual, IsEmptyRange};
-ghost use Rattle.range_algebra.specs.Intervals.{Every};
 ghost use Rattle.range_change.specs.Clones.{ClonesNeverFail};
 ghost use Rattle.range_change.specs.Costs.{TakesAtLeast, TakesAsChange};
 ghost use Rattle.range_change.specs.Frames.{IsRemovalFrame};

@@ -4,7 +4,7 @@ use Rattle.std.proofs.lemmas.Bool.{false≢true}
 use Rattle.std.specs.List.{AllByRecursion}
 use Rattle.std.proofs.lemmas.List.{map-append, take_more, length-take-le, take-append-drop}
 use Rattle.serde_json.specs.View.{view}
-use Rattle.range_algebra.proofs.Lists.{all_more}
+use Rattle.range_algebra.proofs.Lists.{every_more}
 use Rattle.range_json.specs.MapFaults.{MeetNonempty}
 use Rattle.range_json.specs.Meetings.{HasSoundRange, NeverMeet}
 use Rattle.range_json.proofs.FoundMeetings.{all_midst, none_met}
@@ -33,7 +33,7 @@ loop-index-preserved g c one =
     let apart : ¬ MeetNonempty order r s = λ met. let is =
     c.meet.ensures.1 met in let no = c.if-meet.false in absurd cc in
     rw more (rw (map-append view (take n vs) (v ∷ []))
-    (all_more (λ e. NeverMeet order is_read e d) (map view (take n vs)) (view v)
+    (every_more (λ e. NeverMeet order is_read e d) (map view (take n vs)) (view v)
     (c.loop-index.invariant one) (never_meet order is_read g.met.K.PartialEnum.lawful one (view v) d
     r s c.in_ok-range_again.ensures.read c.in_ok-range.ensures.read apart)))
 

@@ -1,6 +1,6 @@
 use Rattle.std.proofs.Common.{◌≡◌, ◌∷◌, subst, []}
+use Rattle.std.specs.List.{AllByRecursion as Every}
 use Rattle.std.specs.Prelude.{Bool, codes}
-use Rattle.btree_range_map.specs.Intervals.{Every}
 use Rattle.btree_range_map.specs.Range.{IsEmptyRange}
 use Rattle.btree_range_map.specs.References.{range_of}
 use Rattle.rangerun.specs.Replies.{SpellsSpan}

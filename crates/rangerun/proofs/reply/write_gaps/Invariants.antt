@@ -1,5 +1,5 @@
 use Rattle.std.proofs.Common.{length}
-use Rattle.btree_range_map.specs.Intervals.{Every}
+use Rattle.std.specs.List.{AllByRecursion as Every}
 use Rattle.btree_range_map.specs.Range.{IsEmptyRange}
 use Rattle.rangerun.specs.Replies.{SpellsSpan}
 use Rattle.line_program.proofs.Listing.{IsListing}

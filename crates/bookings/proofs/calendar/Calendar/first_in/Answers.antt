@@ -1,5 +1,5 @@
 use Rattle.std.proofs.Common.{subst}
-use Rattle.btree_range_map.specs.Intervals.{Every}
+use Rattle.std.specs.List.{AllByRecursion as Every}
 use Rattle.bookings.specs.Calendars.{IsInTheWay, minutes_of}
 use Rattle.bookings.proofs.calendar.Calendar.first_in.Goals as goal
 
