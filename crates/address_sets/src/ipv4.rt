@@ -1,10 +1,10 @@
 //! Ipv4 addresses as keys.
 
-ghost use Rattle.std.specs.Prelude.{refl};
+ghost use Rattle.std.specs.Prelude.{◌≡◌, ◌-◌, refl};
+ghost use Rattle.std.specs.Net.Addr.{IsIpv4OfBits, ipv4_bits};
 ghost use Rattle.std.specs.declared.ops.Bound.TheVariants.{Included};
 ghost use Rattle.btree_range_map.specs.Counted.{counted_complete, counted_lawful, counted_measure, measure_counts_keys};
 ghost use Rattle.address_sets.specs.Addresses.{ipv4_at, ipv4_counted, ipv4_family, ipv4_number, ipv4_order};
-ghost use Rattle.std.specs.Prelude.{◌-◌};
 ghost use Rattle.std.proofs.Common.{lit<};
 
 use crate::address::Address;
@@ -132,12 +132,16 @@ impl Address for Ipv4 {
 }
 
 impl From<Ipv4Addr> for Ipv4 {
+    ghost from_gives = { λ address key. key.0 ≡ ipv4_bits address };
+
     fn from(address: Ipv4Addr) -> Ipv4 {
         Ipv4(address.to_bits())
     }
 }
 
 impl From<Ipv4> for Ipv4Addr {
+    ghost from_gives = { λ key address. IsIpv4OfBits address key.0 };
+
     fn from(address: Ipv4) -> Ipv4Addr {
         Ipv4Addr::from_bits(address.0)
     }

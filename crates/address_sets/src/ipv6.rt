@@ -1,6 +1,7 @@
 //! Ipv6 addresses as keys.
 
-ghost use Rattle.std.specs.Prelude.{refl};
+ghost use Rattle.std.specs.Prelude.{◌≡◌, refl};
+ghost use Rattle.std.specs.Net.Addr.{IsIpv6OfBits, ipv6_bits};
 ghost use Rattle.std.specs.declared.ops.Bound.TheVariants.{Included};
 ghost use Rattle.btree_range_map.specs.Counted.{counted_complete, counted_lawful};
 ghost use Rattle.address_sets.specs.Addresses.{ipv6_at, ipv6_counted, ipv6_family, ipv6_number, ipv6_order};
@@ -126,12 +127,16 @@ impl Address for Ipv6 {
 }
 
 impl From<Ipv6Addr> for Ipv6 {
+    ghost from_gives = { λ address key. key.0 ≡ ipv6_bits address };
+
     fn from(address: Ipv6Addr) -> Ipv6 {
         Ipv6(address.to_bits())
     }
 }
 
 impl From<Ipv6> for Ipv6Addr {
+    ghost from_gives = { λ key address. IsIpv6OfBits address key.0 };
+
     fn from(address: Ipv6) -> Ipv6Addr {
         Ipv6Addr::from_bits(address.0)
     }

@@ -76,6 +76,33 @@ starts_within Unbounded (Included a) known known' some = grind (arith, nat_tests
 starts_within Unbounded (Excluded a) known known' some = grind (arith, nat_tests)
 starts_within Unbounded Unbounded known known' some = grind (arith, nat_tests)
 
+-- where an end and a start hold one minute, the one is not before the other
+pub not_before : (e s : Bound ℕ) (m : ℕ) → m ≤ 4294967295 → EndHolds u32_order e m
+    → StartHolds u32_order s m
+    → ¬ (position_cmp u32_order.cmp (end_position u32_order e) (start_position u32_order s) ≡ Less)
+not_before (Included b) (Included a) m key h h' less = grind (arith, nat_tests)
+not_before (Included b) (Excluded a) m key h h' less = grind (arith, nat_tests)
+not_before (Included b) Unbounded m key h h' less = grind (arith, nat_tests)
+not_before (Excluded b) (Included a) m key h h' less = grind (arith, nat_tests)
+not_before (Excluded b) (Excluded a) m key h h' less = grind (arith, nat_tests)
+not_before (Excluded b) Unbounded m key h h' less = grind (arith, nat_tests)
+not_before Unbounded (Included a) m key h h' less = grind (arith, nat_tests)
+not_before Unbounded (Excluded a) m key h h' less = grind (arith, nat_tests)
+not_before Unbounded Unbounded m key h h' less = grind (arith, nat_tests)
+
+-- a range that holds a minute is not empty
+pub not_empty : (s e : Bound ℕ) (m : ℕ) → m ≤ 4294967295 → StartHolds u32_order s m × EndHolds u32_order e m
+    → ¬ (position_cmp u32_order.cmp (start_position u32_order s) (end_position u32_order e) ≡ Greater)
+not_empty (Included a) (Included b) m key h more = grind (arith, nat_tests)
+not_empty (Included a) (Excluded b) m key h more = grind (arith, nat_tests)
+not_empty (Included a) Unbounded m key h more = grind (arith, nat_tests)
+not_empty (Excluded a) (Included b) m key h more = grind (arith, nat_tests)
+not_empty (Excluded a) (Excluded b) m key h more = grind (arith, nat_tests)
+not_empty (Excluded a) Unbounded m key h more = grind (arith, nat_tests)
+not_empty Unbounded (Included b) m key h more = grind (arith, nat_tests)
+not_empty Unbounded (Excluded b) m key h more = grind (arith, nat_tests)
+not_empty Unbounded Unbounded m key h more = grind (arith, nat_tests)
+
 pub share_minute : (r s : AnyRange ℕ) → IsKnownRange u32_order r → IsKnownRange u32_order s
     → ¬ IsEmptyRange u32_order r → ¬ IsEmptyRange u32_order s → Overlap u32_order r s
     → ShareKey u32_order r s

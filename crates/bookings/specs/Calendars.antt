@@ -1,11 +1,11 @@
 -- Which minutes are booked, and what is in the way of a booking.
-use Rattle.std.specs.Prelude.{◌≡◌, ℕ, ◌+◌, ◌<◌, ◌≤◌, List, Option, None, Some, String, ⊤}
+use Rattle.std.specs.List.{AllByRecursion as Every}
+use Rattle.std.specs.Prelude.{◌≡◌, ℕ, ◌+◌, ◌<◌, ◌≤◌, List, ◌∷◌, ◌++◌, Option, None, Some, String, ⊤}
 use Rattle.std.specs.String.{string_eq}
 use Rattle.std.specs.declared.alloc.Global.{Global}
 use Rattle.std.specs.declared.ops.Range.{Range}
 use Rattle.btree_range_map.specs.AnyRange.{AnyRange}
 use Rattle.btree_range_map.specs.Bindings.{IsBoundAfter, IsUnboundAfter}
-use Rattle.btree_range_map.specs.Intervals.{Any}
 use Rattle.btree_range_map.specs.Item.{Item}
 use Rattle.btree_range_map.specs.Lookups.{BindsKeyOf}
 use Rattle.btree_range_map.specs.Names.{range_from_to, u32_order}
@@ -37,15 +37,20 @@ AreBooked before after minutes name =
 abbrev pub AreCancelled : Bookings → Bookings → AnyRange ℕ → Type 0
 AreCancelled before after minutes = IsUnboundAfter u32_order string_eq before after minutes
 
--- the booking is one of the calendar, and has some of the minutes
-abbrev pub IsInTheWay : Bookings → AnyRange ℕ → Booking → Type 0
-IsInTheWay bookings minutes booking =
-    Any (λ i. i ≡ booking) bookings × ShareKey u32_order booking.key minutes
+-- the booking has some of the minutes
+abbrev pub HasSomeOf : AnyRange ℕ → Booking → Type 0
+HasSomeOf minutes booking = ShareKey u32_order booking.key minutes
 
--- why minutes are not booked: this range is, and is in their way, or there is no memory
+-- all bookings that have some of the minutes, in their order: those before and after have none
+abbrev pub AreInTheWay : Bookings → AnyRange ℕ → Bookings → Type 0
+AreInTheWay bookings minutes met = (before : Bookings) × (after : Bookings)
+    × (bookings ≡ before ++ (met ++ after)) × Every (HasSomeOf minutes) met
+    × Every (λ booking. ¬ HasSomeOf minutes booking) (before ++ after)
+
+-- why minutes are not booked: this range is the first in their way, or there is no memory
 abbrev pub IsReason : Bookings → AnyRange ℕ → NotBooked → Type 0
-IsReason bookings minutes (Taken booked) =
-    (name : String Global) × IsInTheWay bookings minutes (record { key = booked; value = name })
+IsReason bookings minutes (Taken booked) = (name : String Global) × (others : Bookings)
+    × AreInTheWay bookings minutes (record { key = booked; value = name } ∷ others)
 IsReason bookings minutes Memory = ⊤
 
 -- so many minutes from a start on are free, and lie within others

@@ -5,7 +5,7 @@ ghost use Rattle.std.specs.Prelude.{◌≡◌, ◌<◌, ℕ, [], IfErr, IfOk, If
 ghost use Rattle.btree_range_map.specs.Names.{u32_order};
 ghost use Rattle.btree_range_map.specs.Range.{EndHolds};
 ghost use Rattle.bookings.specs.declared.calendar.NotBooked.TheVariants.{Taken};
-ghost use Rattle.bookings.specs.Calendars.{AreBooked, AreCancelled, AreFree, IsCommonRoom, IsFirst, IsInTheWay, IsReason, IsRoom, minutes_of};
+ghost use Rattle.bookings.specs.Calendars.{AreBooked, AreCancelled, AreFree, AreInTheWay, IsCommonRoom, IsFirst, IsReason, IsRoom, minutes_of};
 
 use btree_range_map::generic::map::Overlapping;
 use btree_range_map::storage::Item;
@@ -42,7 +42,7 @@ pub type BookingsIn<'a> = Overlapping<
 /// Why minutes are not booked.
 #[derive(Drop)]
 pub enum NotBooked {
-    /// These are booked, and some of them are among the minutes.
+    /// The first booked range that has some of the minutes.
     Taken(AnyRange<u32>),
     /// There was not enough memory.
     Memory,
@@ -84,7 +84,7 @@ impl Calendar {
     /// The bookings that have some of the minutes, in order. Allocates nothing.
     pub fn bookings_in(&self, minutes: &Range<u32>) -> BookingsIn<'_>
         ensures none { result ≡ [] → AreFree self.now (minutes_of minutes.now) }
-        ensures each { Every (IsInTheWay self.now (minutes_of minutes.now)) result }
+        ensures met { AreInTheWay self.now (minutes_of minutes.now) result }
     {
         let _bookings = self.booked.iter(); // whose contract says that none of them is empty
         let (start, end) = (minutes.start, minutes.end);

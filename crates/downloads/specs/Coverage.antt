@@ -20,12 +20,14 @@ HasCome bytes byte = HoldsKey u64_order bytes.come byte
 abbrev pub IsWhole : Bytes → Type 0
 IsWhole bytes = (byte : ℕ) → byte < bytes.size → HasCome bytes byte
 
--- some bytes of the file, none of which has come, while all before them have
+-- some bytes of the file, none of which has come, while all before them have, and so has the byte
+-- after them
 pub record IsMissing (bytes : Bytes) (piece : Range ℕ) : Type 0 where
   pub some : piece.start < piece.end
   pub inside : piece.end ≤ bytes.size
   pub missing : (byte : ℕ) → piece.start ≤ byte → byte < piece.end → ¬ HasCome bytes byte
   pub first : (byte : ℕ) → byte < piece.start → HasCome bytes byte
+  pub whole : piece.end < bytes.size → HasCome bytes piece.end
 
 -- the first byte that a start holds
 abbrev pub first_of : Bound ℕ → ℕ

@@ -90,6 +90,7 @@ impl Coverage {
     pub fn missing(&self) -> Option<Range<u64>>
         ensures { MatchOption result (IsWhole self.now) (IsMissing self.now) }
     {
+        let _ranges = self.come.iter(); // whose contract says that none of them is empty
         let gap = self.come.gaps().next()?;
         let start = first_byte(gap.start);
         if start < self.size {

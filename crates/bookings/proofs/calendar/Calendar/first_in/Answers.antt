@@ -1,11 +1,11 @@
 use Rattle.std.proofs.Common.{subst}
-use Rattle.std.specs.List.{AllByRecursion as Every}
-use Rattle.bookings.specs.Calendars.{IsInTheWay, minutes_of}
+use Rattle.bookings.specs.Calendars.{AreInTheWay, minutes_of}
 use Rattle.bookings.proofs.calendar.Calendar.first_in.Goals as goal
 
 pub returns-in-Some : goal.returns-in-Some
 returns-in-Some c = (
   c.in-Some._name.now,
-  (subst (Every (IsInTheWay c.args.self.now (minutes_of c.args.minutes.now)))
-      c.in-Some.ensures.steps c.bookings_in.ensures.each).0,
+  _,
+  subst (AreInTheWay c.args.self.now (minutes_of c.args.minutes.now)) c.in-Some.ensures.steps
+      c.bookings_in.ensures.met,
 )

@@ -1,5 +1,7 @@
 use Rattle.std.proofs.Common.{arith, ◌≤◌, ◌<◌, ◌+◌}
 use Rattle.std.specs.declared.ops.Bound.TheVariants.{Included, Excluded}
+use Rattle.btree_range_map.specs.Names.{range_from_to}
+use Rattle.bookings.proofs.Meeting.{first_in_the_way}
 use Rattle.bookings.proofs.Minutes.{end_held, start_held}
 use Rattle.bookings.proofs.Room.{in_the_way, none_before, none_later}
 use Rattle.bookings.proofs.calendar.Calendar.free.Goals as goal
@@ -11,7 +13,10 @@ loop-start-preserved c =
     let size = c.args.length in
     let start = c.loop-start.start in
     let next = c.after-start.result in
-    let (name, (among, (m, key, holds, wanted))) = c.in-Some.ensures in
+    let (name, others, way) = c.in-Some.ensures in
+    let (among, (m, key, holds, wanted)) =
+    first_in_the_way bookings (range_from_to start (start + size))
+    (record { key = c.in-Some.booked; value = name }) others way in
     let low : start ≤ m = start_held (Included start) m wanted.0 in
     let high : m < start + size = end_held (Excluded (start + size)) m key wanted.1 in
     let later : m < next = c.after-start.ensures.past m (omega (arith, high)) holds.1 in

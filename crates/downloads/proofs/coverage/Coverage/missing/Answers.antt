@@ -28,10 +28,11 @@ returns-then-start-self c =
     c.gaps.ensures.once in
     let less = rw c.first_byte-start.ensures at c.if-start-self.true in
     rw (← c.self.view_is) (rw c.first_byte-start.ensures (rw c.end_byte.ensures
-    (is_missing bytes (range_of c.in_ok-gap.gap) _ c.self.invariant gaps once less)))
+    (is_missing bytes (range_of c.in_ok-gap.gap) _ c.self.invariant gaps once
+    c.iter-ranges.ensures.form less)))
 
-pub returns-else-start-self : goal.returns-else-start-self
-returns-else-start-self c =
+pub returns : goal.returns
+returns c =
     let come = box_items c.self.inside.come in
     let gaps = subst (AreGaps u64_order come) c.in_ok-gap.ensures.steps c.gaps.ensures.gaps in
     let once = subst (λ g. (k : ℕ) → u64_order.is_key k
