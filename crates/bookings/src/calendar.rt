@@ -1,6 +1,5 @@
 //! Which minutes are booked, and by whom.
 
-ghost use Rattle.std.specs.List.{AllByRecursion as Every};
 ghost use Rattle.std.specs.Prelude.{◌≡◌, ◌<◌, ℕ, [], IfErr, IfOk, IfSome, MatchOption, OnErr, OnOk};
 ghost use Rattle.btree_range_map.specs.Names.{u32_order};
 ghost use Rattle.btree_range_map.specs.Range.{EndHolds};
