@@ -1,5 +1,5 @@
 -- Prefixes that are printed as others of a greater length.
-use Rattle.std.specs.Prelude.{◌≡◌, ℕ, ◌-◌, ◌^◌, ◌≤◌, ◌<◌, ◌⊎◌, List, [], ◌++◌}
+use Rattle.std.specs.Prelude.{◌≡◌, ℕ, ◌-◌, ◌^◌, ◌≤◌, ◌<◌, ◌⊎◌, List, ◌++◌}
 use Rattle.btree_range_map.specs.AnyRange.{AnyRange}
 use Rattle.btree_range_map.specs.FreeRanges.{item_ranges}
 use Rattle.btree_range_map.specs.Holding.{box_items}

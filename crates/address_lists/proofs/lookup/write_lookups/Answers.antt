@@ -1,6 +1,5 @@
-use Rattle.std.proofs.Common.{◌≡◌, ◌∷◌, ◌+◌, ◌<◌, ◌≤◌, [], List, drop, length, subst, arith}
+use Rattle.std.proofs.Common.{◌+◌, drop, subst}
 use Rattle.std.proofs.lemmas.List.{drop_all}
-use Rattle.std.specs.declared.net.ip_addr.IpAddr.{IpAddr}
 use Rattle.line_program.proofs.Listing.{HasShown, shown_all, shown_more, shown_none}
 use Rattle.address_lists.specs.Lookups.{HasIp, IsLookup}
 use Rattle.address_lists.proofs.Lookups.{AreTold, item_first, told_all, told_more, told_none}

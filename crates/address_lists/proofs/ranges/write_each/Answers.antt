@@ -1,4 +1,4 @@
-use Rattle.std.proofs.Common.{◌≡◌, ℕ, ◌+◌, ◌-◌, ◌^◌, ◌≤◌, ◌<◌, refl, lit<, arith}
+use Rattle.std.proofs.Common.{◌+◌, ◌-◌, refl, lit<, arith}
 use Rattle.address_text.specs.Texts.{address_line}
 use Rattle.line_program.proofs.Listing.{on_ok_as}
 use Rattle.address_lists.proofs.Series.{all_written, none_written, one_written, within}

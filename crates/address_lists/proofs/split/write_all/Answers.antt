@@ -1,4 +1,4 @@
-use Rattle.std.proofs.Common.{◌≡◌, ℕ, List, [], ◌∷◌, subst}
+use Rattle.std.proofs.Common.{◌≡◌, ℕ, List, [], subst}
 use Rattle.std.specs.List.{AllByRecursion}
 use Rattle.line_program.proofs.Listing.{HasShown, shown_all, shown_more, shown_none}
 use Rattle.address_lists.specs.Split.{IsSplit}
