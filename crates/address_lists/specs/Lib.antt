@@ -1,6 +1,10 @@
--- What a list of addresses says, and how its prefixes are printed.
+-- What a list of addresses says, and how it is printed.
 pub mod Counted
 pub mod Lists
+pub mod Lookups
 pub mod Printed
+pub mod Ranges
 pub mod Reading
+pub mod Series
+pub mod Split
 pub mod Waiting

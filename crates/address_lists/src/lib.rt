@@ -6,17 +6,26 @@
 //!   `src/addresses.rt`, `specs/Lists.antt`
 //! - reading a list, and where it is wrong: `src/read.rt`, `specs/Reading.antt`; what is read and
 //!   not added yet: `src/waiting.rt`, `specs/Waiting.antt`
-//! - the prefixes of a list as they are printed: `src/print.rt`, `specs/Printed.antt`; how many
-//!   addresses it has: `src/count.rt`, `specs/Counted.antt`
+//! - the prefixes of a list as they are printed: `src/print.rt`, `specs/Printed.antt`; split into
+//!   longer ones: `src/split.rt`, `specs/Split.antt`
+//! - its ranges, and its addresses one by one: `src/ranges.rt`, `specs/Ranges.antt`
+//! - how many addresses it has: `src/count.rt`, `specs/Counted.antt`; where it has an address:
+//!   `src/lookup.rt`, `specs/Lookups.antt`
 #![tactic(auto)]
 
 pub mod addresses;
 pub mod count;
+pub mod lookup;
 pub mod print;
+pub mod ranges;
 pub mod read;
+pub mod split;
 mod waiting;
 
 pub use addresses::Addresses;
 pub use count::write_counts;
+pub use lookup::write_lookups;
 pub use print::write_prefixes;
+pub use ranges::{write_ranges, write_singles};
 pub use read::{BadLines, ListError, read_list};
+pub use split::write_split_prefixes;

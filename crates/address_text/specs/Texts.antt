@@ -1,5 +1,5 @@
 -- Addresses of both families as numbers, and their texts.
-use Rattle.std.specs.Prelude.{◌≡◌, ℕ, List, [], ◌∷◌, ◌++◌, codes, decimal}
+use Rattle.std.specs.Prelude.{◌≡◌, ◌==◌, if◌then◌else◌, ℕ, List, [], ◌∷◌, ◌++◌, codes, decimal}
 use Rattle.std.specs.Int.{w32, w128, to_be_bytes}
 use Rattle.std.specs.Net.Addr.{ipv4_bits, ipv6_bits, segments_of}
 use Rattle.std.specs.Net.Grammar.{IsIpv4Text, IsIpv6Text}
@@ -33,3 +33,12 @@ prefix_line family network length =
 abbrev pub range_line : Family → ℕ → ℕ → List ℕ
 range_line family first last =
     address_text family first ++ codes "-" ++ address_text family last ++ 10 ∷ []
+
+-- an address alone
+abbrev pub address_line : Family → ℕ → List ℕ
+address_line family n = address_text family n ++ 10 ∷ []
+
+-- `first-last`, or an address alone where both are the same
+abbrev pub span_line : Family → ℕ → ℕ → List ℕ
+span_line family first last =
+    if first == last then address_line family first else range_line family first last

@@ -1,23 +1,25 @@
 -- Addresses of one family alone.
-use Rattle.std.proofs.Common.{ℕ, Bool, List, Option}
+use Rattle.std.proofs.Common.{ℕ, List, Option}
 use Rattle.address_text.specs.declared.family.Family.{Family}
 use Rattle.address_lists.specs.Lists.{Has, HasJust}
 use Rattle.address_lists.specs.declared.addresses.Addresses.{Addresses}
 use Rattle.cidr.specs.Commands.{IsAnswer}
 use Rattle.cidr.specs.Shown.{Kept}
 use Rattle.cidr.specs.declared.serve.Command.{Command}
+use Rattle.cidr.specs.declared.serve.Reading.{Reading}
 use Rattle.cidr.proofs.Commands.{AreMade}
 
 -- what is kept of the answer
-pub kept_answer : (strict : Bool) (task : Command) (only : Option Family)
-    (inputs : List (Option (List ℕ))) (list new : Addresses)
-    → AreMade strict inputs (λ lists. HasJust list (IsAnswer task lists))
+pub kept_answer : (reading : Reading) (task : Command) (only : Option Family)
+    (inputs : List (Option (List ℕ))) (before now : List ℕ) (list new : Addresses)
+    → AreMade reading inputs before now (λ lists. HasJust list (IsAnswer task lists))
     → HasJust new (Kept only (Has list))
-    → AreMade strict inputs (λ lists. HasJust new (Kept only (IsAnswer task lists)))
-kept_answer strict task only inputs list new made kept files known =
-    let (lists, said, all) = made files known in (
+    → AreMade reading inputs before now (λ lists. HasJust new (Kept only (IsAnswer task lists)))
+kept_answer reading task only inputs before now list new made kept files known =
+    let (lists, said, counted, all) = made files known in (
       lists,
       said,
+      counted,
       λ family n h. let one = all family n h in
           let both = kept family n h in (
             λ has. let has_both = both.0 has in (has_both.0, one.0 has_both.1),

@@ -2,3 +2,4 @@
 mod Commands
 mod Compared
 mod Kept
+mod LookedUp

@@ -4,9 +4,12 @@ use Rattle.address_text.specs.declared.family.Family.{Family}
 use Rattle.address_text.specs.declared.family.Family.TheVariants.{V4, V6}
 use Rattle.address_lists.specs.Counted.{IsCounted}
 use Rattle.address_lists.specs.Printed.{IsPrinted}
+use Rattle.address_lists.specs.Ranges.{IsPrintedAs}
+use Rattle.address_lists.specs.Split.{IsPrintedSplit}
+use Rattle.address_lists.specs.declared.ranges.Spelling.TheVariants as Spelled
 use Rattle.address_lists.specs.declared.addresses.Addresses.{Addresses}
 use Rattle.cidr.specs.declared.serve.Form.{Form}
-use Rattle.cidr.specs.declared.serve.Form.TheVariants.{Count, Prefixes}
+use Rattle.cidr.specs.declared.serve.Form.TheVariants.{Count, Prefixes, Ranges, Singles, Split}
 
 -- addresses of this family are printed: those of one alone, or of both
 abbrev pub IsKept : Option Family → Family → Type 0
@@ -23,4 +26,7 @@ Kept only P family n = IsKept only family × P family n
 -- the text of a list in this form
 abbrev pub IsShown : Form → Addresses → List ℕ → Type 0
 IsShown Prefixes list text = IsPrinted list text
+IsShown Ranges list text = IsPrintedAs Spelled.Ends list text
+IsShown Singles list text = IsPrintedAs Spelled.Singles list text
 IsShown Count list text = IsCounted [] list text
+IsShown (Split length) list text = IsPrintedSplit length list text

@@ -1,15 +1,19 @@
 //! The command line.
 
-use crate::serve::{Command, Form};
+use crate::serve::{Command, Form, Output, Reading};
+use address_lists::BadLines;
 use address_text::Family;
 use std::alloc::{AllocError, Global};
+use std::net::IpAddr;
 
 /// How the program is called.
 pub const USAGE: &str = "\
-usage: cidr merge|common|invert|count [--strict] [--v4|--v6] FILE..
-       cidr except [--strict] [--v4|--v6] FILE.. --from FILE
-       cidr diff [--strict] [--v4|--v6] FILE FILE
-       cidr compare [--strict] FILE FILE
+usage: cidr merge|common|invert|count [OPTION].. FILE..
+       cidr except [OPTION].. FILE.. --from FILE
+       cidr diff [OPTION].. FILE FILE
+       cidr split --at LENGTH [OPTION].. FILE..
+       cidr compare [--strict] [--skip-bad] FILE FILE
+       cidr has [--strict] [--skip-bad] FILE ADDRESS..
        cidr --help
 ";
 
@@ -17,31 +21,43 @@ usage: cidr merge|common|invert|count [--strict] [--v4|--v6] FILE..
 pub const HELP: &str = "
 Puts lists of IP addresses together, and prints what comes of it in as few prefixes as can be.
 
-  merge   the addresses that are in any list
-  common  those that are in all lists
-  except  those of the list after --from that are in no other list
-  diff    those that are in just one of two lists
-  invert  those of both families that are in no list
-  count   how many addresses of each family are in any list
-  compare how the first of two lists lies to the second: equal, subset, superset, overlapping or
-          apart, and how many addresses each has
+  merge    the addresses that are in any list
+  common   those that are in all lists
+  except   those of the list after --from that are in no other list
+  diff     those that are in just one of two lists
+  invert   those of both families that are in no list
+  count    how many addresses of each family are in any list
+  split    those that are in any list, in prefixes of LENGTH where they would be shorter
+  compare  how the first of two lists lies to the second: equal, subset, superset, overlapping or
+           apart, and how many addresses each has
+  has      each address, and the range around it in the list, or - where the list does not have it;
+           then the exit status is 1
+
+  --ranges    ranges in place of prefixes
+  --single    each address on a line
+  --v4, --v6  only what is of this family is printed
+  --strict    a prefix that has bits of 1 after its length is bad
+  --skip-bad  bad lines are left out, and counted on standard error
 
 A line is an address, a prefix such as 10.0.0.0/8 or a range such as 10.0.0.0-10.0.0.5, and what
-follows # is a comment. With --strict, a prefix may have no bits of 1 after its length. With --v4
-or --v6, what is printed is of this family alone. A file named - is standard input.
+follows # is a comment. A file named - is standard input.
 
   cidr merge blocked.txt more.txt
   cidr except exceptions.txt --from blocked.txt
   cidr invert allowed.txt
+  cidr split --at 24 --v4 blocked.txt
+  cidr has blocked.txt 10.1.2.3 2001:db8::1
 ";
 
 /// What is to be done with the lists.
 #[derive(Clone, Copy, PartialEq, Eq, Debug)]
 pub enum Task {
-    /// They are put together, and printed in the form.
-    Combine(Command, Form),
+    /// They are put together, and printed.
+    Combine(Command),
     /// The first of two is compared with the second.
     Compare,
+    /// Addresses are looked up in one list.
+    LookUp,
 }
 
 /// What the arguments ask for.
@@ -50,9 +66,32 @@ pub struct Request<'a> {
     pub task: Task,
     /// The names of the lists, that of `--from` first.
     pub files: Vec<&'a str>,
-    pub strict: bool,
-    /// The family that is printed alone.
-    pub only: Option<Family>,
+    /// The addresses that are looked up.
+    pub addresses: Vec<IpAddr>,
+    pub reading: Reading,
+    pub output: Output,
+}
+
+/// An option whose value is the next word.
+#[derive(Clone, Copy)]
+enum Awaited {
+    From,
+    At,
+}
+
+/// What the words after a command say.
+#[derive(Drop)]
+struct Options<'a> {
+    /// The names, that of `--from` first.
+    names: Vec<&'a str>,
+    has_from: bool,
+    reading: Reading,
+    only: Option<Family>,
+    /// The form that is asked for; `None` for that of the command.
+    form: Option<Form>,
+    /// The length of `--at`.
+    length: Option<u8>,
+    awaited: Option<Awaited>,
 }
 
 /// Whether the words, which begin with the program's name, are `--help` alone.
@@ -63,52 +102,127 @@ pub fn asks_for_help(words: &[String]) -> bool {
     }
 }
 
-fn task_of(word: &str) -> Option<Task> {
-    match word {
-        "merge" => Some(Task::Combine(Command::Merge, Form::Prefixes)),
-        "common" => Some(Task::Combine(Command::Common, Form::Prefixes)),
-        "except" => Some(Task::Combine(Command::Except, Form::Prefixes)),
-        "diff" => Some(Task::Combine(Command::Diff, Form::Prefixes)),
-        "invert" => Some(Task::Combine(Command::Invert, Form::Prefixes)),
-        "count" => Some(Task::Combine(Command::Merge, Form::Count)),
-        "compare" => Some(Task::Compare),
+/// A length of a prefix.
+fn length_of(word: &str) -> Option<u8> {
+    match word.parse::<u8>() {
+        Ok(length) if length <= Family::V6.width() && !word.starts_with('+') => Some(length),
         _ => None,
     }
 }
 
-/// The names of the lists, whether `--strict` is among the words, and the family of `--v4` or
-/// `--v6`; `None` where there is an unknown option, or `--from` and it has no place.
-fn options<'a>(
-    alloc: Global,
-    words: &'a [String],
-    takes_from: bool,
-) -> Result<Option<(Vec<&'a str>, bool, Option<Family>)>, AllocError> {
-    let mut files = Vec::new(alloc);
-    let mut strict = false;
-    let mut only = None;
-    let mut has_from = false;
-    let mut after_from = false;
-    for word in words {
-        match word.as_str() {
-            "--strict" => strict = true,
-            "--v4" => only = Some(Family::V4),
-            "--v6" => only = Some(Family::V6),
-            "--from" if takes_from && !has_from => {
-                has_from = true;
-                after_from = true;
-            }
-            name if name.len() > 1 && name.as_bytes().first() == Some(&b'-') => return Ok(None),
-            name if after_from => {
-                files.insert(0, name)?;
-                after_from = false;
-            }
-            name => files.push(name)?,
+impl<'a> Options<'a> {
+    fn new(alloc: Global) -> Options<'a> {
+        Options {
+            names: Vec::new(alloc),
+            has_from: false,
+            reading: Reading {
+                strict: false,
+                bad_lines: BadLines::Refused,
+            },
+            only: None,
+            form: None,
+            length: None,
+            awaited: None,
         }
     }
-    if after_from || has_from != takes_from {
-        return Ok(None);
+
+    /// Takes an option, and returns whether it is known.
+    fn take_option(&mut self, word: &str) -> bool {
+        match word {
+            "--strict" => self.reading.strict = true,
+            "--skip-bad" => self.reading.bad_lines = BadLines::Skipped,
+            "--v4" => self.only = Some(Family::V4),
+            "--v6" => self.only = Some(Family::V6),
+            "--ranges" => self.form = Some(Form::Ranges),
+            "--single" => self.form = Some(Form::Singles),
+            "--from" if !self.has_from => self.awaited = Some(Awaited::From),
+            "--at" => self.awaited = Some(Awaited::At),
+            _ => return false,
+        }
+        true
     }
-    Ok(Some((files, strict, only)))
+
+    /// Takes the next word, and returns whether it can stand there.
+    fn take(&mut self, word: &'a str) -> Result<bool, AllocError> {
+        if word.len() > 1 && word.starts_with('-') {
+            return Ok(self.awaited.is_none() && self.take_option(word));
+        }
+        match self.awaited {
+            Some(Awaited::From) => {
+                self.names.insert(0, word)?;
+                self.has_from = true;
+            }
+            Some(Awaited::At) => {
+                self.length = length_of(word);
+                if self.length.is_none() {
+                    return Ok(false);
+                }
+            }
+            None => self.names.push(word)?,
+        }
+        self.awaited = None;
+        Ok(true)
+    }
+}
+
+/// What the words say, or `None` where one of them cannot stand there.
+fn read_options<'a>(alloc: Global, words: &'a [String]) -> Result<Option<Options<'a>>, AllocError> {
+    let mut options = Options::new(alloc);
+    for word in words {
+        if !options.take(word.as_str())? {
+            return Ok(None);
+        }
+    }
+    Ok(Some(options))
+}
+
+/// The task of a command.
+fn task_of(word: &str) -> Option<Task> {
+    match word {
+        "merge" | "count" | "split" => Some(Task::Combine(Command::Merge)),
+        "common" => Some(Task::Combine(Command::Common)),
+        "except" => Some(Task::Combine(Command::Except)),
+        "diff" => Some(Task::Combine(Command::Diff)),
+        "invert" => Some(Task::Combine(Command::Invert)),
+        "compare" => Some(Task::Compare),
+        "has" => Some(Task::LookUp),
+        _ => None,
+    }
+}
+
+/// The form in which a command prints, or `None` where it does not have the one that is asked for.
+fn form_of(word: &str, form: Option<Form>, length: Option<u8>) -> Option<Form> {
+    match (word, form, length) {
+        ("split", None, Some(length)) => Some(Form::Split(length)),
+        ("split", _, _) | (_, _, Some(_)) => None,
+        ("count", None, None) => Some(Form::Count),
+        ("count" | "compare" | "has", Some(_), None) => None,
+        (_, Some(form), None) => Some(form),
+        (_, None, None) => Some(Form::Prefixes),
+    }
+}
+
+/// Whether a task can be done with so many names, and of one family alone if this is asked.
+fn can_do(task: Task, names: usize, is_of_one_family: bool) -> bool {
+    match task {
+        Task::Combine(Command::Diff) => names == 2,
+        Task::Combine(Command::Except) => names >= 2,
+        Task::Combine(_) => names >= 1,
+        Task::Compare => names == 2 && !is_of_one_family,
+        Task::LookUp => names >= 2 && !is_of_one_family,
+    }
+}
+
+/// The addresses that the words are, or `None` where one of them is none.
+fn addresses_of(alloc: Global, words: &[&str]) -> Result<Option<Vec<IpAddr>>, AllocError> {
+    let mut addresses = Vec::new(alloc);
+    for word in words {
+        match word.parse::<IpAddr>() {
+            Ok(address) => addresses.push(address)?,
+            Err(_) => return Ok(None),
+        }
+    }
+    Ok(Some(addresses))
 }
 
 /// What the words ask for, which begin with the program's name; `None` where they are wrong.
@@ -116,29 +230,53 @@ pub fn read_request(alloc: Global, words: &[String]) -> Result<Option<Request<'_
     let [_, word, words @ ..] = words else {
         return Ok(None);
     };
-    let Some(task) = task_of(word.as_str()) else {
+    let word = word.as_str();
+    let Some(task) = task_of(word) else {
         return Ok(None);
     };
-    let takes_from = match task {
-        Task::Combine(Command::Except, _) => true,
-        _ => false,
-    };
-    let Some((files, strict, only)) = options(alloc, words, takes_from)? else {
+    let Some(options) = read_options(alloc, words)? else {
         return Ok(None);
     };
-    let is_known = match task {
-        Task::Combine(Command::Diff, _) => files.len() == 2,
-        Task::Compare => files.len() == 2 && only.is_none(),
-        Task::Combine(Command::Except, _) => files.len() >= 2,
-        Task::Combine(..) => !files.is_empty(),
-    };
-    if !is_known {
+    let Some(form) = form_of(word, options.form, options.length) else {
         return Ok(None);
+    };
+    if options.awaited.is_some() || options.has_from != (word == "except") {
+        return Ok(None);
+    }
+    request_of(alloc, task, form, options)
+}
+
+fn request_of<'a>(
+    alloc: Global,
+    task: Task,
+    form: Form,
+    options: Options<'a>,
+) -> Result<Option<Request<'a>>, AllocError> {
+    let Options {
+        names: mut files,
+        reading,
+        only,
+        ..
+    } = options;
+    if !can_do(task, files.len(), only.is_some()) {
+        return Ok(None);
+    }
+    let mut addresses = Vec::new(alloc);
+    if task == Task::LookUp {
+        let [_, words @ ..] = files.as_slice() else {
+            return Ok(None);
+        };
+        let Some(found) = addresses_of(alloc, words)? else {
+            return Ok(None);
+        };
+        addresses = found;
+        files.truncate(1);
     }
     Ok(Some(Request {
         task,
         files,
-        strict,
-        only,
+        addresses,
+        reading,
+        output: Output { only, form },
     }))
 }

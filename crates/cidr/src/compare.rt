@@ -1,15 +1,16 @@
 //! How two lists lie to each other.
 
-ghost use Rattle.std.specs.Prelude.{◌≡◌, ◌≢◌, ℕ, List, [], Err, IfErr, IfSome, OnErr, OnOk};
+ghost use Rattle.std.specs.Prelude.{◌≡◌, ◌≢◌, ◌++◌, ◌∷◌, ℕ, List, [], Err, IfErr, IfSome, OnErr, OnOk};
 ghost use Rattle.std.specs.Io.KnownBytes.{Appends};
 ghost use Rattle.address_text.specs.declared.line.Line.{Line};
-ghost use Rattle.address_lists.specs.Lists.{AreSaid, HasJust, IsListed};
+ghost use Rattle.address_lists.specs.Lists.{HasJust, IsListed};
 ghost use Rattle.address_lists.specs.declared.addresses.Addresses.{Addresses};
 ghost use Rattle.line_program.specs.Listing.{Writes};
+ghost use Rattle.cidr.specs.Commands.{IsList};
 ghost use Rattle.cidr.specs.Relations.{IsCompared, IsRelation, relation_text};
 ghost use Rattle.cidr.specs.declared.serve.Stop.TheVariants.{Unwritable};
 
-use crate::serve::{Source, Stop, read_source};
+use crate::serve::{Reading, Source, Stop, read_source};
 use address_lists::{Addresses, write_counts};
 use std::alloc::Global;
 use std::io::{self, BufRead, Write};
@@ -82,24 +83,27 @@ fn print<W: Write>(first: &Addresses, second: &Addresses, out: &mut W) -> Result
 ///
 /// It is a word, `equal`, `subset`, `superset`, `overlapping` or `apart`, and then how many
 /// addresses of each family each list has, such as `first IPv4 256`, a line each. `out` is
-/// flushed. Nothing is printed where a list cannot be read or an allocation fails.
+/// flushed. Nothing is printed where a list cannot be read or an allocation fails. Adds to
+/// `left_out` how many bad lines are left out of each list.
 pub fn compare<R: BufRead + Drop, W: Write>(
     alloc: Global,
     first: Source<R>,
     second: Source<R>,
-    strict: bool,
+    reading: Reading,
+    left_out: &mut Vec<u64>,
     out: &mut W,
 ) -> Result<(), Stop>
     ensures printed { OnOk result (IfSome (R.remaining first.reader)
-        (λ one. IfSome (R.remaining second.reader) (λ other. (lines : List Line)
-        × (others : List Line) × AreSaid strict one lines [] × AreSaid strict other others []
-        × (list : Addresses) × (other_list : Addresses)
-        × HasJust list (λ family n. IsListed family n lines)
-        × HasJust other_list (λ family n. IsListed family n others)
-        × Writes (W.contents out.old) (W.contents out.new) (IsCompared list other_list)))) }
+        (λ one. IfSome (R.remaining second.reader) (λ other. (list : List Line × ℕ)
+        × (other_list : List Line × ℕ) × IsList reading one list × IsList reading other other_list
+        × (left_out.new.items ≡ left_out.old.items ++ list.1 ∷ other_list.1 ∷ [])
+        × (new : Addresses) × (other_new : Addresses)
+        × HasJust new (λ family n. IsListed family n list.0)
+        × HasJust other_new (λ family n. IsListed family n other_list.0)
+        × Writes (W.contents out.old) (W.contents out.new) (IsCompared new other_new)))) }
     ensures silent { result ≢ Err Unwritable → OnErr result (out.new ≡ out.old) }
 {
-    let first = read_source(alloc, first, strict)?;
-    let second = read_source(alloc, second, strict)?;
+    let first = read_source(alloc, first, reading, left_out)?;
+    let second = read_source(alloc, second, reading, left_out)?;
     print(&first, &second, out)
 }

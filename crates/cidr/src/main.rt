@@ -5,22 +5,25 @@
 //! - the command line: `src/arguments.rt`; standard input and files: `src/inputs.rt`
 //! - the commands over any readers and writer, and what they print: `src/serve.rt`,
 //!   `specs/{Commands,Shown}.antt`, `proofs/{Commands,Kept}.antt`; of `compare`,
-//!   `src/compare.rt`, `specs/Relations.antt`, `proofs/Compared.antt`
+//!   `src/compare.rt`, `specs/Relations.antt`, `proofs/Compared.antt`; of `has`, `src/lookup.rt`,
+//!   `proofs/LookedUp.antt`
 #![tactic(auto)]
 
 mod arguments;
 mod compare;
 mod inputs;
+mod lookup;
 mod serve;
 
 use crate::arguments::{HELP, Request, Task, USAGE, asks_for_help, read_request};
 use crate::compare::compare;
 use crate::inputs::Input;
-use crate::serve::{Output, Source, Stop, serve};
+use crate::lookup::look_up;
+use crate::serve::{Source, Stop, serve};
 use anyhow::{Context, bail};
 use std::alloc::Global;
 use std::env;
-use std::io::{BufRead, BufReader, BufWriter, Write};
+use std::io::{self, BufRead, BufReader, BufWriter, Write};
 use std::process::ExitCode;
 
 const BUFFER_BYTES: usize = 65536;
@@ -39,39 +42,63 @@ fn sources(rt: &HostRuntime, names: &[&str]) -> anyhow::Result<Vec<Source<BufRea
     Ok(sources)
 }
 
-/// Does what the arguments ask with the lists.
+/// Does what the arguments ask with the lists, and returns whether they have all addresses that are
+/// looked up. Adds how many bad lines are left out of each list.
 fn answer<R: BufRead + Drop, W: Write>(
     alloc: Global,
     request: &Request<'_>,
     sources: Vec<Source<R>>,
+    left_out: &mut Vec<u64>,
     out: &mut W,
-) -> Result<(), Stop> {
-    match request.task {
-        Task::Combine(command, form) => {
-            let output = Output {
-                only: request.only,
-                form,
-            };
-            serve(alloc, command, sources, request.strict, output, out)
+) -> Result<bool, Stop> {
+    let reading = request.reading;
+    if let Task::Combine(command) = request.task {
+        serve(
+            alloc,
+            command,
+            sources,
+            reading,
+            request.output,
+            left_out,
+            out,
+        )?;
+        return Ok(true);
+    }
+    let mut sources = sources.into_iter();
+    match (request.task, sources.next(), sources.next()) {
+        (Task::Compare, Some(first), Some(second)) => {
+            compare(alloc, first, second, reading, left_out, out)?;
+            Ok(true)
         }
-        Task::Compare => {
-            let mut sources = sources.into_iter();
-            match (sources.next(), sources.next()) {
-                (Some(first), Some(second)) => compare(alloc, first, second, request.strict, out),
-                _ => Ok(()),
-            }
+        (Task::LookUp, Some(source), _) => {
+            let addresses = request.addresses.as_slice();
+            look_up(alloc, source, reading, addresses, left_out, out)
+        }
+        _ => Ok(true),
+    }
+}
+
+/// Says on standard error how many bad lines are left out of each list, where there are any.
+fn tell_left_out(rt: &HostRuntime, names: &[&str], left_out: &[u64]) -> io::Result<()> {
+    for (name, others) in names.iter().zip(left_out) {
+        if *others > 0 {
+            eprintln!(rt; "{name}: bad lines left out: {others}")?;
         }
     }
+    Ok(())
 }
 
 /// Does what the arguments ask, and returns the exit status.
 fn run(rt: &HostRuntime, request: &Request<'_>) -> anyhow::Result<ExitCode> {
     let alloc = rt.alloc();
     let sources = sources(rt, request.files.as_slice())?;
+    let mut left_out = Vec::new(alloc);
     let mut out = BufWriter::with_capacity(alloc, BUFFER_BYTES, rt.stdout())?;
-    match answer(alloc, request, sources, &mut out) {
-        Ok(()) => Ok(ExitCode::SUCCESS),
-        Err(Stop::Unwritable) => Ok(ExitCode::FAILURE),
+    let answered = answer(alloc, request, sources, &mut left_out, &mut out);
+    tell_left_out(rt, request.files.as_slice(), left_out.as_slice())?;
+    match answered {
+        Ok(true) => Ok(ExitCode::SUCCESS),
+        Ok(false) | Err(Stop::Unwritable) => Ok(ExitCode::FAILURE),
         Err(Stop::Memory) => bail!("out of memory"),
         Err(Stop::Bad(name, error)) => bail!("{name}: {error}"),
     }

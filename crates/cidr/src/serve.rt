@@ -1,16 +1,19 @@
 //! The commands, over any readers and writer.
 
-ghost use Rattle.std.specs.Prelude.{◌≡◌, ◌≢◌, ℕ, List, [], Err, length, map, IfErr, IfOk, IfSome, OnErr, OnOk};
+ghost use Rattle.std.specs.Prelude.{◌≡◌, ◌≢◌, ◌++◌, ◌∷◌, ℕ, List, [], Err, length, map, IfErr, IfOk, IfSome, OnErr, OnOk};
 ghost use Rattle.std.specs.Vec.Iter.{into_iter_items, into_iter_len};
 ghost use Rattle.address_text.specs.declared.line.Line.{Line};
-ghost use Rattle.address_lists.specs.Lists.{AreSaid, Has, HasJust, IsListed};
+ghost use Rattle.address_lists.specs.Lists.{Has, HasJust, IsListed};
 ghost use Rattle.address_lists.specs.declared.addresses.Addresses.{Addresses};
 ghost use Rattle.line_program.specs.Listing.{Writes};
-ghost use Rattle.cidr.specs.Commands.{AreKnown, AreLists, Asked, Combined, IsAnswer, Put};
+ghost use Rattle.cidr.specs.Commands.{AreKnown, AreLists, Asked, Combined, IsAnswer, IsList, Put, left_out_of};
 ghost use Rattle.cidr.specs.Shown.{IsShown, Kept};
 ghost use Rattle.cidr.specs.declared.serve.Stop.TheVariants.{Unwritable};
 
-use address_lists::{Addresses, BadLines, ListError, read_list, write_counts, write_prefixes};
+use address_lists::{
+    Addresses, BadLines, ListError, read_list, write_counts, write_prefixes, write_ranges,
+    write_singles, write_split_prefixes,
+};
 use address_sets::AddressSet;
 use address_text::Family;
 use btree_range_map::MapError;
@@ -38,8 +41,14 @@ pub enum Command {
 pub enum Form {
     /// The prefixes that have just these, as few as can be.
     Prefixes,
+    /// Their ranges, as wide as they go.
+    Ranges,
+    /// Each of them.
+    Singles,
     /// How many there are of each family.
     Count,
+    /// Those prefixes, each that is shorter than this length split into prefixes of it.
+    Split(u8),
 }
 
 /// What is printed of an answer.
@@ -48,6 +57,14 @@ pub struct Output {
     /// The family whose addresses alone are printed; `None` for both.
     pub only: Option<Family>,
     pub form: Form,
+}
+
+/// How lists are read.
+#[derive(Clone, Copy, Debug)]
+pub struct Reading {
+    /// A prefix whose address has bits of 1 after its length is bad.
+    pub strict: bool,
+    pub bad_lines: BadLines,
 }
 
 /// A list that is to be read, with its name.
@@ -68,21 +85,28 @@ pub enum Stop {
     Unwritable,
 }
 
-/// The addresses of a list.
+/// The addresses of a list. Adds how many bad lines are left out of it.
 pub fn read_source<R: BufRead + Drop>(
     alloc: Global,
     source: Source<R>,
-    strict: bool,
+    reading: Reading,
+    left_out: &mut Vec<u64>,
 ) -> Result<Addresses, Stop>
-    ensures { IfOk result (λ list. IfSome (R.remaining source.reader)
-        (λ bytes. (lines : List Line) × AreSaid strict bytes lines []
-        × HasJust list (λ family n. IsListed family n lines))) }
+    ensures { IfOk result (λ new. IfSome (R.remaining source.reader)
+        (λ bytes. (list : List Line × ℕ) × IsList reading bytes list
+        × (left_out.new.items ≡ left_out.old.items ++ list.1 ∷ [])
+        × HasJust new (λ family n. IsListed family n list.0))) }
 {
     let Source { name, mut reader } = source;
+    let Reading { strict, bad_lines } = reading;
     let mut list = Addresses::new(alloc);
-    match read_list(alloc, &mut list, &mut reader, strict, BadLines::Refused) {
-        Ok(_) => Ok(list),
-        Err(error) => Err(Stop::Bad(name, error)),
+    let others = match read_list(alloc, &mut list, &mut reader, strict, bad_lines) {
+        Ok(others) => others,
+        Err(error) => return Err(Stop::Bad(name, error)),
+    };
+    match left_out.push(others) {
+        Ok(()) => Ok(list),
+        Err(_) => Err(Stop::Memory),
     }
 }
 
@@ -107,16 +131,18 @@ fn gathered<R: BufRead + Drop>(
     command: Command,
     mut list: Addresses,
     mut sources: IntoIter<Source<R>>,
-    strict: bool,
+    reading: Reading,
+    left_out: &mut Vec<u64>,
 ) -> Result<Addresses, Stop>
     requires { into_iter_len sources ≡ length (into_iter_items sources) }
     ensures { IfOk result (λ new. (files : List (List ℕ))
         → AreKnown (map (λ s. R.remaining s.reader) (into_iter_items sources)) files
-        → (lists : List (List Line)) × AreLists strict files lists
+        → (lists : List (List Line × ℕ)) × AreLists reading files lists
+        × (left_out.new.items ≡ left_out.old.items ++ left_out_of lists)
         × HasJust new (Put command (Has list) lists)) }
 {
     while let Some(source) = sources.next() {
-        let other = read_source(alloc, source, strict)?;
+        let other = read_source(alloc, source, reading, left_out)?;
         list = match combined(command, list, &other) {
             Ok(list) => list,
             Err(_) => return Err(Stop::Memory),
@@ -130,18 +156,20 @@ fn asked<R: BufRead + Drop>(
     alloc: Global,
     command: Command,
     mut sources: IntoIter<Source<R>>,
-    strict: bool,
+    reading: Reading,
+    left_out: &mut Vec<u64>,
 ) -> Result<Addresses, Stop>
     requires { into_iter_len sources ≡ length (into_iter_items sources) }
     ensures { IfOk result (λ new. (files : List (List ℕ))
         → AreKnown (map (λ s. R.remaining s.reader) (into_iter_items sources)) files
-        → (lists : List (List Line)) × AreLists strict files lists
+        → (lists : List (List Line × ℕ)) × AreLists reading files lists
+        × (left_out.new.items ≡ left_out.old.items ++ left_out_of lists)
         × HasJust new (Asked command lists)) }
 {
     match sources.next() {
         Some(source) => {
-            let first = read_source(alloc, source, strict)?;
-            gathered(alloc, command, first, sources, strict)
+            let first = read_source(alloc, source, reading, left_out)?;
+            gathered(alloc, command, first, sources, reading, left_out)
         }
         None => Ok(Addresses::new(alloc)),
     }
@@ -152,15 +180,17 @@ fn answered<R: BufRead + Drop>(
     alloc: Global,
     command: Command,
     sources: IntoIter<Source<R>>,
-    strict: bool,
+    reading: Reading,
+    left_out: &mut Vec<u64>,
 ) -> Result<Addresses, Stop>
     requires { into_iter_len sources ≡ length (into_iter_items sources) }
     ensures { IfOk result (λ new. (files : List (List ℕ))
         → AreKnown (map (λ s. R.remaining s.reader) (into_iter_items sources)) files
-        → (lists : List (List Line)) × AreLists strict files lists
+        → (lists : List (List Line × ℕ)) × AreLists reading files lists
+        × (left_out.new.items ≡ left_out.old.items ++ left_out_of lists)
         × HasJust new (IsAnswer command lists)) }
 {
-    let list = asked(alloc, command, sources, strict)?;
+    let list = asked(alloc, command, sources, reading, left_out)?;
     match command {
         Command::Invert => match list.inverse() {
             Ok(others) => Ok(others),
@@ -194,7 +224,10 @@ fn write_list<W: Write>(form: Form, list: &Addresses, out: &mut W) -> io::Result
 {
     match form {
         Form::Prefixes => write_prefixes(list, out),
+        Form::Ranges => write_ranges(list, out),
+        Form::Singles => write_singles(list, out),
         Form::Count => write_counts("", list, out),
+        Form::Split(length) => write_split_prefixes(list, length, out),
     }
 }
 
@@ -217,22 +250,24 @@ fn print<W: Write>(form: Form, list: &Addresses, out: &mut W) -> Result<(), Stop
 ///
 /// Prefixes are as few as can be, ascending, those of IPv4 first, each on a line; `out` is
 /// flushed. Nothing is printed where a source cannot be read or an allocation fails. One list is
-/// held beside the answer.
+/// held beside the answer. Adds to `left_out` how many bad lines are left out of each source.
 pub fn serve<R: BufRead + Drop, W: Write>(
     alloc: Global,
     command: Command,
     sources: Vec<Source<R>>,
-    strict: bool,
+    reading: Reading,
     output: Output,
+    left_out: &mut Vec<u64>,
     out: &mut W,
 ) -> Result<(), Stop>
     ensures printed { OnOk result ((files : List (List ℕ))
         → AreKnown (map (λ s. R.remaining s.reader) sources.items) files
-        → (lists : List (List Line)) × (list : Addresses) × AreLists strict files lists
+        → (lists : List (List Line × ℕ)) × (list : Addresses) × AreLists reading files lists
+        × (left_out.new.items ≡ left_out.old.items ++ left_out_of lists)
         × HasJust list (Kept output.only (IsAnswer command lists))
         × Writes (W.contents out.old) (W.contents out.new) (IsShown output.form list)) }
     ensures silent { result ≢ Err Unwritable → OnErr result (out.new ≡ out.old) }
 {
-    let list = answered(alloc, command, sources.into_iter(), strict)?;
+    let list = answered(alloc, command, sources.into_iter(), reading, left_out)?;
     print(output.form, &kept(alloc, list, output.only), out)
 }

@@ -3,10 +3,11 @@ use Rattle.cidr.proofs.serve.answered.Goals as goal
 
 pub returns-in-Ok : goal.returns-in-Ok
 returns-in-Ok g c =
-    invert_answer c.args.strict c.args.command _ c.in_ok-list.list c.in-Ok.others c.in-Invert.is
+    invert_answer c.args.reading c.args.command _ c.args.left_out.now.items
+    c.asked.new.left_out.items c.in_ok-list.list c.in-Ok.others c.in-Invert.is
     c.in_ok-list.ensures c.in-Ok.ensures
 
 pub returns : goal.returns
 returns g c =
-    other_answer c.args.strict c.args.command _ c.in_ok-list.list c.in_default.not-Invert
-    c.in_ok-list.ensures
+    other_answer c.args.reading c.args.command _ c.args.left_out.now.items
+    c.asked.new.left_out.items c.in_ok-list.list c.in_default.not-Invert c.in_ok-list.ensures

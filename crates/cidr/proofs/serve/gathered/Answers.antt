@@ -1,4 +1,4 @@
-use Rattle.std.proofs.Common.{◌≡◌, [], ◌∷◌, length, ap, sym, subst, ◌∙◌, arith}
+use Rattle.std.proofs.Common.{◌≡◌, ℕ, [], ◌∷◌, List, Option, length, ap, sym, subst, ◌∙◌, arith}
 use Rattle.std.specs.Prelude.{map}
 use Rattle.std.specs.Vec.Iter.{into_iter_items}
 use Rattle.cidr.specs.declared.serve.Source.{Source}
@@ -8,23 +8,28 @@ use Rattle.cidr.proofs.serve.gathered.Goals as goal
 pub loop-source-init : goal.loop-source-init
 loop-source-init g c = (
   c.requires,
-  λ files known. put_none c.args.strict c.args.command c.args.list files _ known,
+  λ files known. put_none c.args.reading c.args.command c.args.list c.args.left_out.now.items files
+      _ known,
 )
 
 pub loop-source-preserved : goal.loop-source-preserved
 loop-source-preserved g c =
+    let numbers = c.loop-source.left_out.items in
+    let IsPut : List (List ℕ) → List (Option (List ℕ)) → Type 0 =
+    λ files inputs. IsPutTo c.args.reading c.args.command c.args.list c.args.left_out.now.items
+    files inputs numbers c.loop-source.list in
     let steps : into_iter_items c.loop-source.sources ≡ c.in-Some.source ∷ into_iter_items c.next.new.self =
     c.in-Some.ensures.items in (
       let was = c.loop-source.invariant.0 in
           let gone = c.in-Some.ensures.len in
           let short = ap length steps in
           omega arith,
-      λ files known. one_put c.args.strict c.args.command c.args.list files
-          (g.R.Read.remaining c.in-Some.source.reader)
+      λ files known. one_put c.args.reading c.args.command c.args.list c.args.left_out.now.items
+          files (g.R.Read.remaining c.in-Some.source.reader)
           (map (λ (s : Source _). g.R.Read.remaining s.reader) (into_iter_items c.next.new.self))
-          c.loop-source.list c.in_ok-other.other c.in-Ok.list
-          (subst (λ inputs. IsPutTo c.args.strict c.args.command c.args.list files inputs
-          c.loop-source.list) (ap (map (λ (s : Source _). g.R.Read.remaining s.reader)) steps)
+          numbers c.read_source.new.left_out.items c.loop-source.list c.in_ok-other.other
+          c.in-Ok.list
+          (subst (IsPut files) (ap (map (λ (s : Source _). g.R.Read.remaining s.reader)) steps)
           (c.loop-source.invariant.1 files known))
           c.in_ok-other.ensures c.in-Ok.ensures,
     )
@@ -36,9 +41,13 @@ loop-source-smaller g c =
 
 pub returns : goal.returns
 returns g c = λ files known.
+    let numbers = c.loop-source.left_out.items in
+    let IsPut : List (Option (List ℕ)) → Type 0 =
+    λ inputs. IsPutTo c.args.reading c.args.command c.args.list c.args.left_out.now.items files
+    inputs numbers c.loop-source.list in
     let ended : into_iter_items c.loop-source.sources ≡ [] =
     nothing_left _ (sym c.loop-source.invariant.0 ∙ c.in_default.ensures.cases.0) in
-    all_put c.args.strict c.args.command c.args.list files c.loop-source.list
-    (subst (λ inputs. IsPutTo c.args.strict c.args.command c.args.list files inputs
-    c.loop-source.list) (ap (map (λ (s : Source _). g.R.Read.remaining s.reader)) ended)
+    all_put c.args.reading c.args.command c.args.list c.args.left_out.now.items files numbers
+    c.loop-source.list
+    (subst IsPut (ap (map (λ (s : Source _). g.R.Read.remaining s.reader)) ended)
     (c.loop-source.invariant.1 files known))

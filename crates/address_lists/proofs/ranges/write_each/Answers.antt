@@ -1,0 +1,41 @@
+use Rattle.std.proofs.Common.{◌+◌, ◌-◌, refl, lit<, arith}
+use Rattle.address_text.specs.Texts.{address_line}
+use Rattle.line_program.proofs.Listing.{on_ok_as}
+use Rattle.address_lists.proofs.Series.{all_written, none_written, one_written, within}
+use Rattle.address_lists.proofs.ranges.write_each.Goals as goal
+
+pub loop-number-init : goal.loop-number-init
+loop-number-init g c =
+    let ordered = c.requires.ordered in
+    none_written (address_line c.args.family) 1 (c.args.last + 1 - c.args.first) c.args.first
+    c.args.last c.args.first (g.W.Write.contents c.args.out.now) refl (omega (arith, ordered))
+    (omega (arith, ordered))
+
+pub write_address_line-requires : goal.write_address_line-requires
+write_address_line-requires g c =
+    let below = within _ _ (lit< tt) _ _ _ _ _ _ c.loop-number.invariant in
+    let fits = c.requires.fits in
+    omega (arith, below, fits)
+
+pub loop-number-preserved : goal.loop-number-preserved
+loop-number-preserved g c =
+    let more = c.loop-number-test.true in
+    one_written (address_line c.args.family) 1 (lit< tt) _ _ c.args.last c.loop-number.number 0
+    (g.W.Write.contents c.args.out.now) (g.W.Write.contents c.loop-number.out)
+    (g.W.Write.contents c.write_address_line.new.out) c.loop-number.invariant refl
+    (omega (arith, more)) c.in_ok-write_address_line.ensures
+
+pub write_address_line-requires-2 : goal.write_address_line-requires-2
+write_address_line-requires-2 g c =
+    let below = within _ _ (lit< tt) _ _ _ _ _ _ c.loop-number.invariant in
+    let fits = c.requires.fits in
+    omega (arith, below, fits)
+
+pub returns : goal.returns
+returns g c =
+    let last = c.loop-number-test.false in
+    on_ok_as c.write_address_line-2.result _ _
+    (all_written (address_line c.args.family) 1 _ _ c.args.last c.loop-number.number 0
+    (g.W.Write.contents c.args.out.now) (g.W.Write.contents c.loop-number.out)
+    (g.W.Write.contents c.write_address_line-2.new.out) c.loop-number.invariant refl
+    (omega (arith, last))) c.write_address_line-2.ensures

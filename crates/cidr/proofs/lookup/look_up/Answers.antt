@@ -1,0 +1,14 @@
+use Rattle.cidr.proofs.Commands.{fails_unwritable}
+use Rattle.cidr.proofs.LookedUp.{all_looked_up}
+use Rattle.cidr.proofs.lookup.look_up.Goals as goal
+
+pub returns-clause-printed : goal.returns-clause-printed
+returns-clause-printed g c =
+    all_looked_up c.args.reading c.args.addresses.now c.args.left_out.now.items
+    c.read_source.new.left_out.items (g.W.Write.contents c.args.out.now)
+    (g.W.Write.contents c.print.new.out) (g.R.Read.remaining c.args.source.reader)
+    c.in_ok-list.list c.print.result c.in_ok-list.ensures c.print.ensures.told
+    c.print.ensures.printed
+
+pub returns-clause-silent : goal.returns-clause-silent
+returns-clause-silent g c = fails_unwritable _ c.print.result c.print.ensures.failed

@@ -1,0 +1,60 @@
+//! Addresses looked up in a list.
+
+ghost use Rattle.std.specs.Prelude.{◌≡◌, ◌≢◌, ◌↔◌, ◌++◌, ◌∷◌, ℕ, List, [], Err, IfErr, IfOk, IfSome, IsTrue, OnErr, OnOk};
+ghost use Rattle.std.specs.List.{AllByRecursion};
+ghost use Rattle.address_text.specs.declared.line.Line.{Line};
+ghost use Rattle.address_lists.specs.Lists.{HasJust, IsListed};
+ghost use Rattle.address_lists.specs.Lookups.{HasIp, IsLookup};
+ghost use Rattle.address_lists.specs.declared.addresses.Addresses.{Addresses};
+ghost use Rattle.line_program.specs.Listing.{SpellsEach, Writes};
+ghost use Rattle.cidr.specs.Commands.{IsList};
+ghost use Rattle.cidr.specs.declared.serve.Stop.TheVariants.{Unwritable};
+
+use crate::serve::{Reading, Source, Stop, read_source};
+use address_lists::{Addresses, write_lookups};
+use std::alloc::Global;
+use std::io::{BufRead, Write};
+use std::net::IpAddr;
+
+fn print<W: Write>(list: &Addresses, addresses: &[IpAddr], out: &mut W) -> Result<bool, Stop>
+    ensures told { IfOk result (λ all. IsTrue all ↔ AllByRecursion (HasIp list.now) addresses.now) }
+    ensures printed { OnOk result (Writes (W.contents out.old) (W.contents out.new)
+        (SpellsEach (IsLookup list.now) addresses.now)) }
+    ensures failed { IfErr result (λ stop. stop ≡ Unwritable) }
+{
+    let has_all = match write_lookups(list, addresses, out) {
+        Ok(has_all) => has_all,
+        Err(_) => return Err(Stop::Unwritable),
+    };
+    match out.flush() {
+        Ok(()) => Ok(has_all),
+        Err(_) => Err(Stop::Unwritable),
+    }
+}
+
+/// Reads a list, prints where it has each of the addresses, and tells whether it has them all.
+///
+/// A line for each is the address, and the first and the last of those that follow each other
+/// around it in the list, or `-` where it is not there. `out` is flushed. Nothing is printed where
+/// the list cannot be read or an allocation fails. Adds to `left_out` how many bad lines are left
+/// out of the list.
+pub fn look_up<R: BufRead + Drop, W: Write>(
+    alloc: Global,
+    source: Source<R>,
+    reading: Reading,
+    addresses: &[IpAddr],
+    left_out: &mut Vec<u64>,
+    out: &mut W,
+) -> Result<bool, Stop>
+    ensures printed { IfOk result (λ all. IfSome (R.remaining source.reader)
+        (λ bytes. (list : List Line × ℕ) × IsList reading bytes list
+        × (left_out.new.items ≡ left_out.old.items ++ list.1 ∷ [])
+        × (new : Addresses) × HasJust new (λ family n. IsListed family n list.0)
+        × (IsTrue all ↔ AllByRecursion (HasIp new) addresses.now)
+        × Writes (W.contents out.old) (W.contents out.new)
+        (SpellsEach (IsLookup new) addresses.now))) }
+    ensures silent { result ≢ Err Unwritable → OnErr result (out.new ≡ out.old) }
+{
+    let list = read_source(alloc, source, reading, left_out)?;
+    print(&list, addresses, out)
+}
