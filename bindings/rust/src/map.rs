@@ -31,7 +31,7 @@ pub struct RangeMap<K: Key, V> {
 
 const NO_MEMORY: &str = "out of memory";
 
-/// How many ranges `extend` inserts at most before it frees values.
+/// How many ranges `extend` inserts at most into a map that has some, before it frees values.
 const BATCH: usize = 1024;
 
 /// The range of the keys from the first to the last.
@@ -269,7 +269,7 @@ impl<K: Key, V: Eq + Hash> RangeMap<K, V> {
 
     #[cfg(test)]
     pub(crate) fn kept_values(&self) -> usize {
-        self.values.kept()
+        self.values.count()
     }
 
     fn shown(&self, found: Option<(Range<K>, u64)>) -> Option<(Range<K>, &V)> {
@@ -328,8 +328,9 @@ impl<K: Key, V: Eq + Hash, R: RangeBounds<K>> Extend<(R, V)> for RangeMap<K, V> 
         let mut ranges = ranges.into_iter().peekable();
         // a batch at a time, after each of which values are freed that no range has
         while ranges.peek().is_some() {
+            let batch = if self.is_empty() { BATCH.max(ranges.size_hint().0) } else { BATCH };
             let numbered =
-                ranges.by_ref().take(BATCH).map(|(range, value)| (range, self.values.number(value)));
+                ranges.by_ref().take(batch).map(|(range, value)| (range, self.values.number(value)));
             self.numbers.insert_many(numbered).expect(NO_MEMORY);
             self.free_values();
         }

@@ -88,7 +88,7 @@ impl<K: Key> NumberMap<K> {
         pairs: impl IntoIterator<Item = (R, u64)>,
     ) -> Result<(), InsertedOnly> {
         let entries = pairs.into_iter().map(|(range, value)| RawEntry { range: raw(&range), value });
-        hand_on(entries, |from, size, count| unsafe {
+        hand_on(entries, self.is_empty(), |from, size, count| unsafe {
             (K::Native::BINDS.insert_many)(self.handle.get_mut(), from, size, count)
         })
     }
@@ -295,6 +295,7 @@ pub struct Iter<'a, K: Key> {
 impl<K: Key> Iterator for Iter<'_, K> {
     type Item = (Range<K>, u64);
 
+    #[inline]
     fn next(&mut self) -> Option<(Range<K>, u64)> {
         self.batches.next().map(shown::<K>)
     }
@@ -305,6 +306,7 @@ impl<K: Key> Iterator for Iter<'_, K> {
 }
 
 impl<K: Key> DoubleEndedIterator for Iter<'_, K> {
+    #[inline]
     fn next_back(&mut self) -> Option<(Range<K>, u64)> {
         self.batches.next_back().map(shown::<K>)
     }

@@ -294,7 +294,7 @@ operators!(
 impl<K: Key, R: RangeBounds<K>> Extend<R> for RangeSet<K> {
     fn extend<I: IntoIterator<Item = R>>(&mut self, ranges: I) {
         let ranges = ranges.into_iter().map(|range| raw(&range));
-        hand_on(ranges, |from, size, count| unsafe {
+        hand_on(ranges, false, |from, size, count| unsafe {
             ffi::brm_set_u64_insert_many(self.handle.get_mut(), from, size, count)
         })
         .expect(NO_MEMORY);
