@@ -93,6 +93,7 @@ impl<K: Key, V: Eq + Hash> RangeMap<K, V> {
     }
 
     /// The stored range that holds the key, with its value.
+    #[doc(alias = "get_key_value")]
     pub fn get_range_value(&self, key: K) -> Option<(Range<K>, &V)> {
         self.shown(self.numbers.get_range_value(key))
     }
@@ -103,6 +104,7 @@ impl<K: Key, V: Eq + Hash> RangeMap<K, V> {
     }
 
     /// Whether some key of the range is bound.
+    #[doc(alias = "overlaps")]
     pub fn intersects(&self, range: impl RangeBounds<K>) -> bool {
         self.numbers.intersects(range)
     }
@@ -366,6 +368,7 @@ impl<K: Key, V> Clone for Iter<'_, K, V> {
 impl<'a, K: Key, V: Eq + Hash> Iterator for Iter<'a, K, V> {
     type Item = (Range<K>, &'a V);
 
+    #[inline]
     fn next(&mut self) -> Option<(Range<K>, &'a V)> {
         self.numbers.next().map(|(range, number)| (range, self.values.get(number)))
     }
@@ -376,6 +379,7 @@ impl<'a, K: Key, V: Eq + Hash> Iterator for Iter<'a, K, V> {
 }
 
 impl<K: Key, V: Eq + Hash> DoubleEndedIterator for Iter<'_, K, V> {
+    #[inline]
     fn next_back(&mut self) -> Option<Self::Item> {
         self.numbers.next_back().map(|(range, number)| (range, self.values.get(number)))
     }

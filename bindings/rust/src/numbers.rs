@@ -125,6 +125,7 @@ impl<K: Key> NumberMap<K> {
     }
 
     /// The stored range that holds the key, with its number.
+    #[doc(alias = "get_key_value")]
     pub fn get_range_value(&self, key: K) -> Option<(Range<K>, u64)> {
         found(|it| unsafe { (calls::<K>().get)(self.handle.get(), key.number(), it) })
     }
@@ -135,6 +136,7 @@ impl<K: Key> NumberMap<K> {
     }
 
     /// Whether some key of the range is bound.
+    #[doc(alias = "overlaps")]
     pub fn intersects(&self, range: impl RangeBounds<K>) -> bool {
         (unsafe { (calls::<K>().intersects)(self.handle.get(), &raw(&range)) }) == ffi::DONE
     }

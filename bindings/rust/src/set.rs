@@ -86,6 +86,7 @@ impl<K: Key> RangeSet<K> {
     }
 
     /// Whether some key of the range is in the set.
+    #[doc(alias = "overlaps")]
     pub fn intersects(&self, range: impl RangeBounds<K>) -> bool {
         (unsafe { (CALLS.intersects)(self.handle.get(), &raw(&range)) }) == ffi::DONE
     }
@@ -329,6 +330,7 @@ fn shown<K: Key>(raw: RawRange<u64>) -> Range<K> {
 impl<K: Key> Iterator for Iter<'_, K> {
     type Item = Range<K>;
 
+    #[inline]
     fn next(&mut self) -> Option<Range<K>> {
         self.batches.next().map(shown)
     }
@@ -339,6 +341,7 @@ impl<K: Key> Iterator for Iter<'_, K> {
 }
 
 impl<K: Key> DoubleEndedIterator for Iter<'_, K> {
+    #[inline]
     fn next_back(&mut self) -> Option<Range<K>> {
         self.batches.next_back().map(shown)
     }
