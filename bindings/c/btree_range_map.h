@@ -11,8 +11,8 @@
 
 #define BRM_VERSION_MAJOR 0
 #define BRM_VERSION_MINOR 3
-#define BRM_VERSION_PATCH 0
-#define BRM_VERSION "0.3.0"
+#define BRM_VERSION_PATCH 1
+#define BRM_VERSION "0.3.1"
 
 #ifdef __cplusplus
 extern "C" {

@@ -1,5 +1,5 @@
-/* Several threads read one map at once, and each has a map of its own that moves to it. Run under helgrind, which tells of
- * a read beside a write that nothing orders. */
+/* Several threads read one map and one set at once, and each has a map of its own that moves to it. Run under helgrind,
+ * which tells of a read beside a write that nothing orders. */
 #include "btree_range_map.h"
 
 #include <pthread.h>
@@ -9,7 +9,7 @@
 enum { THREADS = 4, RANGES = 300 };
 
 typedef struct {
-    const brm_handle *shared;
+    const brm_handle *shared, *shared_keys;
     brm_handle own;
     unsigned long wrong;
 } job;
@@ -18,6 +18,13 @@ static void fill(brm_handle *map, job *it) {
     for (uint64_t i = 0; i < RANGES; i++) {
         brm_range_u64 range = {10 * i, 10 * i + 5, BRM_END_EXCLUDED};
         it->wrong += brm_map_u64_insert(map, &range, i) != BRM_DONE;
+    }
+}
+
+static void fill_keys(brm_handle *set, job *it) {
+    for (uint64_t i = 0; i < RANGES; i++) {
+        brm_range_u64 range = {10 * i, 10 * i + 5, BRM_END_EXCLUDED};
+        it->wrong += brm_set_u64_insert(set, &range) != BRM_DONE;
     }
 }
 
@@ -55,10 +62,52 @@ static void read_all(const brm_handle *map, job *it) {
     it->wrong += brm_save(map, text, sizeof text, &size) != BRM_NO_ROOM;
 }
 
+/* The same of a set of the same keys. */
+static void read_keys(const brm_handle *set, job *it) {
+    brm_range_u64 every = {0, 0, BRM_START_UNBOUNDED | BRM_END_UNBOUNDED};
+    brm_range_u64 range = {0, 0, 0}, ranges[10];
+    brm_key_count count = {0, 0};
+    size_t read = 0;
+    for (uint64_t i = 0; i < RANGES; i++) {
+        it->wrong += brm_set_u64_get(set, 10 * i + 4, &range) != BRM_DONE || range.start != 10 * i;
+        it->wrong += brm_set_u64_contains(set, 10 * i + 5) != BRM_NONE;
+        it->wrong += brm_set_u64_next(set, 10 * i, &range) != BRM_DONE || range.start != 10 * i;
+        it->wrong += brm_set_u64_previous(set, 10 * i, &range) != BRM_DONE || range.start != 10 * i;
+    }
+    it->wrong += brm_set_u64_intersects(set, &every) != BRM_DONE || brm_count(set) != RANGES;
+    it->wrong += brm_set_u64_len(set, &count) != BRM_DONE || count.low != 5 * RANGES;
+    it->wrong += brm_set_u64_first(set, &range) != BRM_DONE || brm_set_u64_last(set, &range) != BRM_DONE;
+    memset(ranges, 0, sizeof ranges);
+    it->wrong += brm_set_u64_read(set, 0, ranges, 10, &read) != BRM_DONE || ranges[9].start != 90;
+    it->wrong += brm_set_u64_read_back(set, 99, ranges, 10, &read) != BRM_DONE || ranges[9].start != 0;
+    it->wrong += brm_set_u64_overlapping(set, &every, ranges, 10, &read) != BRM_DONE || ranges[9].start != 90;
+    it->wrong += brm_set_u64_gaps(set, &every, ranges, 10, &read) != BRM_DONE || ranges[9].start != 95;
+}
+
+typedef brm_status of_two(const brm_handle *set, const brm_handle *other, brm_handle *made);
+
+/* Each call that makes a set of two that others read too, and each that asks about two. */
+static void put_together(const brm_handle *set, job *it) {
+    of_two *calls[] = {brm_set_u64_union, brm_set_u64_intersection, brm_set_u64_difference, brm_set_u64_symmetric_difference};
+    size_t made[] = {RANGES, RANGES, 0, 0};
+    brm_handle copy = BRM_HANDLE_CLOSED, result = BRM_HANDLE_CLOSED;
+    it->wrong += brm_clone(set, &copy) != BRM_DONE || brm_equal(set, &copy) != BRM_DONE;
+    for (size_t i = 0; i < 4; i++) {
+        it->wrong += calls[i](set, &copy, &result) != BRM_DONE || brm_count(&result) != made[i];
+        brm_destroy(&result);
+    }
+    it->wrong += brm_set_u64_is_subset(set, &copy) != BRM_DONE || brm_set_u64_is_disjoint(set, &copy) != BRM_NONE;
+    brm_destroy(&copy);
+    it->wrong += brm_set_u64_complement(set, &result) != BRM_DONE || brm_count(&result) != RANGES;
+    brm_destroy(&result);
+}
+
 static void *work(void *given) {
     job *it = given;
     brm_handle copy = BRM_HANDLE_CLOSED;
     read_all(it->shared, it);
+    read_keys(it->shared_keys, it);
+    put_together(it->shared_keys, it);
     it->wrong += brm_clone(it->shared, &copy) != BRM_DONE || brm_equal(it->shared, &copy) != BRM_DONE;
     fill(&it->own, it);
     it->wrong += brm_equal(&it->own, &copy) != BRM_DONE;
@@ -67,17 +116,21 @@ static void *work(void *given) {
     brm_destroy(&copy);
     it->wrong += brm_without(it->shared, &it->own, &copy) != BRM_DONE || brm_count(&copy) != 0;
     brm_destroy(&copy);
+    it->wrong += brm_restrict(it->shared, it->shared_keys, &copy) != BRM_DONE || brm_count(&copy) != RANGES;
+    brm_destroy(&copy);
     return NULL;
 }
 
 int main(void) {
-    brm_handle map = BRM_HANDLE_CLOSED;
+    brm_handle map = BRM_HANDLE_CLOSED, set = BRM_HANDLE_CLOSED;
     pthread_t threads[THREADS];
-    job jobs[THREADS] = {{&map, BRM_HANDLE_CLOSED, 0}};
-    unsigned long wrong = brm_map_u64_create(&map) != BRM_DONE;
+    job jobs[THREADS] = {{&map, &set, BRM_HANDLE_CLOSED, 0}};
+    unsigned long wrong = brm_map_u64_create(&map) != BRM_DONE || brm_set_u64_create(&set) != BRM_DONE;
     fill(&map, &jobs[0]);
+    fill_keys(&set, &jobs[0]);
     for (int i = 0; i < THREADS; i++) {
         jobs[i].shared = &map;
+        jobs[i].shared_keys = &set;
         wrong += brm_map_u64_create(&jobs[i].own) != BRM_DONE;
         wrong += pthread_create(&threads[i], NULL, work, &jobs[i]) != 0;
     }
@@ -89,6 +142,7 @@ int main(void) {
         brm_destroy(&jobs[i].own);
     }
     brm_destroy(&map);
+    brm_destroy(&set);
     printf("threads: %s\n", wrong ? "FAILED" : "passed");
     return wrong != 0;
 }

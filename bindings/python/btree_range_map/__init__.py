@@ -26,6 +26,7 @@ import contextlib
 import copy as _copy
 import ctypes
 import json
+import operator
 import struct
 import threading
 from typing import Any, Generic, Hashable, Iterable, Iterator, TypeVar
@@ -35,11 +36,18 @@ from ._keys import KEYS, Keys, Range
 from ._library import library as _calls
 
 __all__ = ["Connected", "NotLoaded", "Range", "RangeMap", "RangeSet"]
-__version__ = "0.3.0"
+__version__ = "0.3.1"
 
 V = TypeVar("V")
 
 _SIGN = 2**63
+
+#: the flags of a range that has no start, or no end
+_UNBOUNDED = _c.START_UNBOUNDED | _c.END_UNBOUNDED
+
+#: whether a range with these flags holds its start, and whether it holds its end
+_HELD_ENDS = [(not flags & 3, not flags & 12) for flags in range(16)]
+
 _MISSING: Any = object()
 
 
@@ -80,6 +88,13 @@ def _as_range(keys: Any) -> Range:
     if keys is None:
         raise TypeError("None is no key and no range")
     return Range(keys, keys, True, True)
+
+
+def _first_and_last(ends: tuple[int, int], start: int, end: int, flags: int) -> tuple[int, int]:
+    """The numbers of the first and the last key of a range, where those of all keys lie between the ends."""
+    first = ends[0] if flags & _c.START_UNBOUNDED else start + bool(flags & _c.START_EXCLUDED)
+    last = ends[1] if flags & _c.END_UNBOUNDED else end - bool(flags & _c.END_EXCLUDED)
+    return first, last
 
 
 class _Values:
@@ -163,19 +178,17 @@ class _Collection:
         return Range(
             None if flags & _c.START_UNBOUNDED else key(start - offset),
             None if flags & _c.END_UNBOUNDED else key(end - offset),
-            not flags & (_c.START_EXCLUDED | _c.START_UNBOUNDED),
-            not flags & (_c.END_EXCLUDED | _c.END_UNBOUNDED),
+            *_HELD_ENDS[flags],
         )
 
     def _ends(self, keys: Any) -> tuple[int, int]:
         """The numbers of the first and the last key; the first is past the last where there is none."""
-        start, end, flags = self._kind.range_form.unpack(self._raw(keys))
-        first = self._keys.least + self._offset if flags & _c.START_UNBOUNDED else start + bool(flags & _c.START_EXCLUDED)
-        last = self._keys.greatest + self._offset if flags & _c.END_UNBOUNDED else end - bool(flags & _c.END_EXCLUDED)
-        return first, last
+        every = (self._keys.least + self._offset, self._keys.greatest + self._offset)
+        return _first_and_last(every, *self._kind.range_form.unpack(self._raw(keys)))
 
     def _between(self, first: int, last: int) -> Range:
-        return self._range(first, last, 0)
+        key, offset = self._keys.key, self._offset
+        return tuple.__new__(Range, (key(first - offset), key(last - offset), True, True))
 
     # calls
 
@@ -200,45 +213,54 @@ class _Collection:
     def _shown(self, *entry: int) -> Any:
         raise NotImplementedError
 
+    def _table(self) -> dict[int, Any]:
+        """The values by the numbers that the library keeps of them."""
+        return {}
+
+    def _batches(self, form: struct.Struct, backward: bool = False) -> Iterator[tuple[Iterator[tuple[int, ...]], dict[int, Any]]]:
+        """What is stored, as the form reads it, ascending or descending: a batch at a time, with the values at that time."""
+        least, greatest = self._keys.least + self._offset, self._keys.greatest + self._offset
+        key, read = (greatest, self._kind.read_back) if backward else (least, self._kind.read)
+        size, count = self._kind.form.size, ctypes.c_size_t(0)
+        buffer = ctypes.create_string_buffer(size * _c.BATCH)
+        while least <= key <= greatest:
+            with self._lock:
+                _check(read(self._handle, key, buffer, _c.BATCH, count))
+                values = self._table()
+            yield form.iter_unpack(memoryview(buffer)[: size * count.value]), values
+            if count.value < _c.BATCH:
+                return
+            start, end, flags = self._kind.range_form.unpack_from(buffer, size * (_c.BATCH - 1))
+            if flags & (_c.START_UNBOUNDED if backward else _c.END_UNBOUNDED):
+                return
+            key = start - (not flags & _c.START_EXCLUDED) if backward else end + (not flags & _c.END_EXCLUDED)
+
     def _entries(self) -> Iterator[tuple[int, ...]]:
-        """What is stored, as the library has it, ascending. Reads a batch at a time."""
-        key, last = self._keys.least + self._offset, self._keys.greatest + self._offset
-        size, count = self._kind.form.size, ctypes.c_size_t(0)
-        buffer = ctypes.create_string_buffer(size * _c.BATCH)
-        while key <= last:
-            with self._lock:
-                _check(self._kind.read(self._handle, key, buffer, _c.BATCH, count))
-            entry: tuple[int, ...] = ()
-            for entry in self._kind.form.iter_unpack(memoryview(buffer)[: size * count.value]):
-                yield entry
-            if count.value < _c.BATCH or entry[2] & _c.END_UNBOUNDED:
-                return
-            key = entry[1] + (not entry[2] & _c.END_EXCLUDED)
+        """What is stored, as the library has it, ascending."""
+        for entries, _ in self._batches(self._kind.form):
+            yield from entries
 
-    def _entries_back(self) -> Iterator[tuple[int, ...]]:
-        """What is stored, descending. Reads a batch at a time."""
-        key = self._keys.greatest + self._offset
-        size, count = self._kind.form.size, ctypes.c_size_t(0)
-        buffer = ctypes.create_string_buffer(size * _c.BATCH)
-        while key >= self._keys.least + self._offset:
-            with self._lock:
-                _check(self._kind.read_back(self._handle, key, buffer, _c.BATCH, count))
-            entry: tuple[int, ...] = ()
-            for entry in self._kind.form.iter_unpack(memoryview(buffer)[: size * count.value]):
-                yield entry
-            if count.value < _c.BATCH or entry[2] & _c.START_UNBOUNDED:
-                return
-            key = entry[0] - (not entry[2] & _c.START_EXCLUDED)
+    def _ranges(self, backward: bool = False) -> Iterator[Range]:
+        """The stored ranges, ascending or descending."""
+        is_plain, new = self._keys.is_plain and not self._offset, tuple.__new__
+        for entries, _ in self._batches(self._kind.form_of_ranges, backward):
+            for start, end, flags in entries:
+                if is_plain and not flags & _UNBOUNDED:
+                    holds_start, holds_end = _HELD_ENDS[flags]
+                    yield new(Range, (start, end, holds_start, holds_end))
+                else:
+                    yield self._range(start, end, flags)
 
-    def _within(self, call: Any, form: struct.Struct, keys: Any) -> Iterator[tuple[int, ...]]:
-        """What the call finds in the range, as the library has it, ascending. Reads a batch at a time."""
+    def _within(self, call: Any, form: struct.Struct, keys: Any) -> Iterator[tuple[list[tuple[int, ...]], dict[int, Any]]]:
+        """What the call finds in the range, as the form reads it, ascending: a batch at a time, with the values at that time."""
         raw, size, count = self._raw(keys), form.size, ctypes.c_size_t(0)
         buffer = ctypes.create_string_buffer(size * _c.BATCH)
         while True:
             with self._lock:
                 _check(call(self._handle, raw, buffer, _c.BATCH, count))
+                values = self._table()
             found = list(form.iter_unpack(memoryview(buffer)[: size * count.value]))
-            yield from found
+            yield found, values
             if len(found) < _c.BATCH or found[-1][2] & _c.END_UNBOUNDED:
                 return
             # the part of the range past the last that was found
@@ -246,15 +268,6 @@ class _Collection:
             start_flag = 0 if found[-1][2] & _c.END_EXCLUDED else _c.START_EXCLUDED
             flags = flags & (_c.END_EXCLUDED | _c.END_UNBOUNDED) | start_flag
             raw = self._kind.range_form.pack(found[-1][1], end, flags)
-
-    def _spans(self, keys: Any) -> Iterator[tuple[int, int, tuple[int, ...]]]:
-        """The bound parts of the range by the numbers of their first and last keys, with the stored entry, ascending."""
-        first, last = self._ends(keys)
-        for entry in self._within(self._kind.overlapping, self._kind.form, keys):
-            start, end, flags = entry[:3]
-            low = first if flags & _c.START_UNBOUNDED else max(first, start + bool(flags & _c.START_EXCLUDED))
-            high = last if flags & _c.END_UNBOUNDED else min(last, end - bool(flags & _c.END_EXCLUDED))
-            yield low, high, entry
 
     def _in_batches(self, items: Iterable[Any]) -> None:
         """Inserts the items many at a time; where one of them cannot be read or is none, those before it."""
@@ -317,7 +330,7 @@ class _Collection:
 
     def ranges(self) -> Iterator[Range]:
         """The stored ranges, ascending."""
-        return (self._range(*entry[:3]) for entry in self._entries())
+        return self._ranges()
 
     def __iter__(self) -> Iterator[Range]:
         """The stored ranges, ascending: ranges and not keys."""
@@ -325,15 +338,14 @@ class _Collection:
 
     def __reversed__(self) -> Iterator[Range]:
         """The stored ranges, descending."""
-        return (self._range(*entry[:3]) for entry in self._entries_back())
+        return self._ranges(backward=True)
 
     def gaps(self, keys: Any = slice(None)) -> Iterator[Range]:
         """The parts of the range, or of all keys, of which no key is there, ascending."""
-        least, greatest = self._ends(keys)
-        for start, end, flags in self._within(self._kind.gaps, self._kind.range_form, keys):
-            first = least if flags & _c.START_UNBOUNDED else start + bool(flags & _c.START_EXCLUDED)
-            last = greatest if flags & _c.END_UNBOUNDED else end - bool(flags & _c.END_EXCLUDED)
-            yield self._between(first, last)
+        ends = self._ends(keys)
+        for found, _ in self._within(self._kind.gaps, self._kind.range_form, keys):
+            for entry in found:
+                yield self._between(*_first_and_last(ends, *entry))
 
     def clear(self) -> None:
         """Takes all ranges away."""
@@ -422,33 +434,23 @@ class RangeMap(_Collection, Generic[V]):
         self._values = _Values()
         self.update(items)
 
+    def _table(self) -> dict[int, Any]:
+        # a table is never changed but by new numbers, so what a reader has of it stays whole
+        return self._values.by_number
+
     def _shown(self, start: int, end: int, flags: int, number: int) -> tuple[Range, V]:
         return self._range(start, end, flags), self._values.by_number[number]
 
     def items(self) -> Iterator[tuple[Range, V]]:
         """The stored ranges with their values, ascending."""
-        size, count = self._kind.form.size, ctypes.c_size_t(0)
-        buffer = ctypes.create_string_buffer(size * _c.BATCH)
-        view = memoryview(buffer)
-        unpack, whole = self._kind.form.iter_unpack, self._keys.is_native
-        key, greatest, new = self._keys.least, self._keys.greatest, tuple.__new__
-        while key <= greatest:
-            with self._lock:
-                _check(self._kind.read(self._handle, key, buffer, _c.BATCH, count))
-                found = [(*entry[:3], self._values.by_number[entry[3]]) for entry in unpack(view[: size * count.value])]
-            if whole:
-                for start, end, flags, value in found:
-                    # the ranges that are written most
-                    if flags == _c.END_EXCLUDED:
-                        yield new(Range, (start, end, True, False)), value
-                    else:
-                        yield self._range(start, end, flags), value
-            else:
-                for start, end, flags, value in found:
-                    yield self._range(start, end, flags), value
-            if len(found) < _c.BATCH or found[-1][2] & _c.END_UNBOUNDED:
-                return
-            key = found[-1][1] + (not found[-1][2] & _c.END_EXCLUDED)
+        is_plain, new = self._keys.is_plain and not self._offset, tuple.__new__
+        for entries, values in self._batches(self._kind.form):
+            for start, end, flags, number in entries:
+                if is_plain and not flags & _UNBOUNDED:
+                    holds_start, holds_end = _HELD_ENDS[flags]
+                    yield new(Range, (start, end, holds_start, holds_end)), values[number]
+                else:
+                    yield self._range(start, end, flags), values[number]
 
     def keys(self) -> Iterator[Range]:
         """The stored ranges, ascending."""
@@ -597,19 +599,21 @@ class RangeMap(_Collection, Generic[V]):
 
     def overlapping(self, keys: Any) -> Iterator[tuple[Range, V]]:
         """The stored ranges that hold a key of the range, whole, with their values, ascending."""
-        return ((self._range(*entry[:3]), self._values.by_number[entry[3]]) for _, _, entry in self._spans(keys))
+        for found, values in self._within(self._kind.overlapping, self._kind.form, keys):
+            for start, end, flags, number in found:
+                yield self._range(start, end, flags), values[number]
 
     def pieces(self, keys: Any, default: Any = _MISSING) -> Iterator[tuple[Range, V | Any]]:
         """The parts of the range that are bound, each with its value, ascending.
 
         With a default, the free parts between them too, each as wide as it goes, with that.
         """
-        least, greatest = self._ends(keys)
-        for start, end, flags, number, is_bound in self._within(self._kind.pieces, self._kind.piece_form, keys):
-            if is_bound or default is not _MISSING:
-                first = least if flags & _c.START_UNBOUNDED else start + bool(flags & _c.START_EXCLUDED)
-                last = greatest if flags & _c.END_UNBOUNDED else end - bool(flags & _c.END_EXCLUDED)
-                yield self._between(first, last), self._values.by_number[number] if is_bound else default
+        ends = self._ends(keys)
+        for found, values in self._within(self._kind.pieces, self._kind.piece_form, keys):
+            for start, end, flags, number, is_bound in found:
+                if is_bound or default is not _MISSING:
+                    piece = self._between(*_first_and_last(ends, start, end, flags))
+                    yield piece, values[number] if is_bound else default
 
     def split_off(self, key: Any) -> RangeMap[V]:
         """Keeps what lies before the key, and returns a map of the rest."""
@@ -642,9 +646,14 @@ class RangeMap(_Collection, Generic[V]):
             return True
         if self._keys is not other._keys or len(self) != len(other):
             return False
-        mine, others = self._values.by_number, other._values.by_number
-        pairs = zip(self._spans(slice(None)), other._spans(slice(None)))
-        return all(a[:2] == b[:2] and mine[a[2][3]] == others[b[2][3]] for a, b in pairs)
+        return all(map(operator.eq, self._bindings(), other._bindings()))
+
+    def _bindings(self) -> Iterator[tuple[tuple[int, int], V]]:
+        """The numbers of the first and the last key of each stored range, with its value, ascending."""
+        ends = self._ends(slice(None))
+        for entries, values in self._batches(self._kind.form):
+            for start, end, flags, number in entries:
+                yield _first_and_last(ends, start, end, flags), values[number]
 
     def __repr__(self) -> str:
         kind = "" if self._keys.name == "u64" else f", keys={self._keys.name!r}"
@@ -710,6 +719,7 @@ class RangeMap(_Collection, Generic[V]):
             raise NotLoaded("the JSON is no such map") from None
         with self._lock:
             made = self._opened()
+            made._values = values
             _check(self._kind.create(made._handle))
             _check(_calls.brm_load(made._handle, raw, len(raw)))
             made._close_to(self._keys)
@@ -804,7 +814,8 @@ class RangeSet(_Collection):
 
     def overlapping(self, keys: Any) -> Iterator[Range]:
         """The stored ranges that hold a key of the range, whole, ascending."""
-        return (self._range(*entry) for _, _, entry in self._spans(keys))
+        found = self._within(self._kind.overlapping, self._kind.form, keys)
+        return (self._range(*entry) for entries, _ in found for entry in entries)
 
     def copy(self) -> RangeSet:
         """A set of the same keys."""

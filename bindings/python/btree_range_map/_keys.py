@@ -34,6 +34,8 @@ class Keys:
         #: whether the library has maps of just these keys
         self.is_native = name in ("u64", "i64")
         self.is_signed = least < 0
+        #: whether a key is its number
+        self.is_plain = True
 
     def number(self, key: Any) -> int:
         """The number of a key; `TypeError` and `OverflowError` where it is none."""
@@ -53,6 +55,7 @@ class Characters(Keys):
 
     def __init__(self) -> None:
         super().__init__("char", 0, 0x10FFFF - self._SURROGATES)
+        self.is_plain = False
 
     def number(self, key: Any) -> int:
         if not isinstance(key, str) or len(key) != 1:

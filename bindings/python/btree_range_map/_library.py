@@ -50,6 +50,8 @@ class Kind:
         #: start, end, flags, and the value where there is one
         self.form = struct.Struct(f"{key}{key}I4x" + ("Q" if has_values else ""))
         self.range_form = struct.Struct(f"{key}{key}I4x")
+        #: the ranges of the same alone
+        self.form_of_ranges = struct.Struct(f"{key}{key}I4x" + ("8x" if has_values else ""))
         #: start, end, flags, the value, and whether there is one
         self.piece_form = struct.Struct(f"{key}{key}I4xQ?7x")
         self.key_code = key

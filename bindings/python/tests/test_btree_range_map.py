@@ -258,6 +258,23 @@ class Maps(unittest.TestCase):
             self.assertEqual(len(list(reversed(touching))), count)
             self.assertEqual(len(list(RangeSet(keys))), count)
 
+    def test_what_was_read_is_shown_whatever_changes(self):
+        def shown(call):
+            keys = RangeMap((slice(10 * at, 10 * at + 5), ("value", at)) for at in range(100))
+            return keys, call(keys)
+
+        calls = (lambda keys: keys.items(), lambda keys: keys.overlapping(slice(None)), lambda keys: keys.pieces(slice(None)))
+        for call in calls:
+            keys, parts = shown(call)
+            next(parts)
+            keys.clear()
+            self.assertEqual([value for _, value in parts], [("value", at) for at in range(1, 100)])
+            keys, parts = shown(call)
+            next(parts)
+            # so many others that the values are freed
+            keys.update((slice(10 * at, 10 * at + 5), ("other", at, turn)) for turn in range(3) for at in range(100))
+            self.assertEqual([value for _, value in parts], [("value", at) for at in range(1, 100)])
+
     def test_random_calls_answer_as_a_dict(self):
         numbers = random.Random(5)
         keys, wanted = RangeMap(keys="i64"), {}

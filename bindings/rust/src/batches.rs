@@ -9,7 +9,7 @@ use crate::{InsertedOnly, ffi};
 /// How many ranges a batch has at most.
 const BATCH: usize = 128;
 
-/// How many keys or ranges are given in one call at most: as many as a function may well keep on the stack.
+/// How many keys or ranges are given in one call of many: as many as a function may well keep on the stack.
 const GIVEN: usize = 64;
 
 /// A stored range as it crosses, alone or with a value.
@@ -65,6 +65,7 @@ impl<N: Copy, E: Stored<N>> End<N, E> {
 
     /// The next range of `left` that are left; `bound` is that end of a range which the next batch goes on from, and
     /// whether the range holds it.
+    #[inline]
     fn show(
         &mut self,
         handle: &Handle,
@@ -72,18 +73,25 @@ impl<N: Copy, E: Stored<N>> End<N, E> {
         left: usize,
         bound: impl Fn(&RawRange<N>) -> (N, bool),
     ) -> E {
-        if self.shown == self.read.len() {
-            let again = usize::from(self.is_again);
-            self.read.resize((left + again).min(BATCH), E::default());
-            let mut count = 0;
-            // SAFETY: the buffer is as many ranges as is said, and the handle is not written while it is borrowed
-            unsafe { reads(handle.get(), self.next, self.read.as_mut_ptr(), self.read.len(), &mut count) };
-            self.read.truncate(count);
-            self.shown = again;
-            (self.next, self.is_again) = bound(self.read[count - 1].range());
+        if self.shown >= self.read.len() {
+            let last = self.refill(handle, reads, left);
+            (self.next, self.is_again) = bound(&last);
         }
         self.shown += 1;
         self.read[self.shown - 1]
+    }
+
+    /// Reads the next batch, and returns its last range.
+    #[cold]
+    fn refill(&mut self, handle: &Handle, reads: Reads<N, E>, left: usize) -> RawRange<N> {
+        let again = usize::from(self.is_again);
+        self.read.resize((left + again).min(BATCH), E::default());
+        let mut count = 0;
+        // SAFETY: the buffer is as many ranges as is said, and the handle is not written while it is borrowed
+        unsafe { reads(handle.get(), self.next, self.read.as_mut_ptr(), self.read.len(), &mut count) };
+        self.read.truncate(count);
+        self.shown = again;
+        *self.read[count - 1].range()
     }
 }
 
@@ -98,6 +106,7 @@ impl<'a, N: Copy, E: Stored<N>> Batches<'a, N, E> {
         self.left
     }
 
+    #[inline]
     pub fn next(&mut self) -> Option<E> {
         if self.left == 0 {
             return None;
@@ -109,6 +118,7 @@ impl<'a, N: Copy, E: Stored<N>> Batches<'a, N, E> {
         Some(shown)
     }
 
+    #[inline]
     pub fn next_back(&mut self) -> Option<E> {
         if self.left == 0 {
             return None;
@@ -140,6 +150,7 @@ impl<'a, N: Copy, E: Stored<N>> Within<'a, N, E> {
         Within { handle, reads, range: Some(range), read: Vec::new(), shown: 0 }
     }
 
+    #[inline]
     pub fn next(&mut self) -> Option<E> {
         if self.shown == self.read.len() {
             self.refill()?;
@@ -150,6 +161,7 @@ impl<'a, N: Copy, E: Stored<N>> Within<'a, N, E> {
     }
 
     /// Reads the next batch, if the range may have more.
+    #[cold]
     fn refill(&mut self) -> Option<()> {
         let range = self.range.take()?;
         let capacity = if self.read.is_empty() { FIRST } else { BATCH };
@@ -176,25 +188,41 @@ fn rest_past<N: Copy>(range: RawRange<N>, shown: &RawRange<N>) -> Option<RawRang
     Some(RawRange { start: shown.end, flags, ..range })
 }
 
-/// Hands the items on to the call in batches, which says how many of a batch it has done.
+/// Hands the items on to the call in batches, which says how many of a batch it has done. To an empty collection all that
+/// the iterator is sure to give come first, at once: what is in order is stored with no search then.
 pub fn hand_on<E: Copy + Default>(
     mut items: impl Iterator<Item = E>,
+    is_empty: bool,
     mut call: impl FnMut(*const E, usize, &mut usize) -> u32,
 ) -> Result<(), InsertedOnly> {
-    let mut batch = [E::default(); GIVEN];
     let mut done = 0;
+    let mut hand = |batch: &[E]| {
+        let mut count = 0;
+        let status = call(batch.as_ptr(), batch.len(), &mut count);
+        done += count;
+        if status == DONE { Ok(()) } else { Err(InsertedOnly(done)) }
+    };
+    if is_empty {
+        hand(&sure_ones(&mut items))?;
+    }
+    let mut batch = [E::default(); GIVEN];
     loop {
         let size = filled(&mut batch, &mut items);
-        let mut count = 0;
-        let status = call(batch.as_ptr(), size, &mut count);
-        done += count;
-        if status != DONE {
-            return Err(InsertedOnly(done));
-        }
+        hand(&batch[..size])?;
         if size < GIVEN {
             return Ok(());
         }
     }
+}
+
+/// The next items that the iterator is sure to give, or none where they are few or there is no memory for them.
+fn sure_ones<E>(items: &mut impl Iterator<Item = E>) -> Vec<E> {
+    let (least, _) = items.size_hint();
+    let mut sure = Vec::new();
+    if least > GIVEN && sure.try_reserve_exact(least).is_ok() {
+        sure.extend(items.take(least));
+    }
+    sure
 }
 
 /// Writes the next items to the front of the batch, and returns how many there are.

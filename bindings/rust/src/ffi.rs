@@ -71,188 +71,96 @@ impl RawLength {
     }
 }
 
-/// The calls of one kind of collection: keys `K`, and ranges as `E` with what they are bound to.
-pub struct Calls<K, E> {
-    pub create: unsafe extern "C" fn(*mut RawHandle) -> u32,
-    pub remove: unsafe extern "C" fn(*mut RawHandle, &RawRange<K>) -> u32,
-    pub get: unsafe extern "C" fn(*const RawHandle, K, &mut E) -> u32,
-    pub contains: unsafe extern "C" fn(*const RawHandle, K) -> u32,
-    pub intersects: unsafe extern "C" fn(*const RawHandle, &RawRange<K>) -> u32,
-    pub len: unsafe extern "C" fn(*const RawHandle, &mut RawLength) -> u32,
-    pub first: unsafe extern "C" fn(*const RawHandle, &mut E) -> u32,
-    pub last: unsafe extern "C" fn(*const RawHandle, &mut E) -> u32,
-    pub next: unsafe extern "C" fn(*const RawHandle, K, &mut E) -> u32,
-    pub previous: unsafe extern "C" fn(*const RawHandle, K, &mut E) -> u32,
-    pub pop_first: unsafe extern "C" fn(*mut RawHandle, &mut E) -> u32,
-    pub pop_last: unsafe extern "C" fn(*mut RawHandle, &mut E) -> u32,
-    pub read: unsafe extern "C" fn(*const RawHandle, K, *mut E, usize, &mut usize) -> u32,
-    pub read_back: unsafe extern "C" fn(*const RawHandle, K, *mut E, usize, &mut usize) -> u32,
-    pub overlapping: ReadsWithin<K, E>,
-    pub gaps: ReadsWithin<K, RawRange<K>>,
-}
-
 /// A call that writes to an array what it finds in a range.
 pub type ReadsWithin<K, E> =
     unsafe extern "C" fn(*const RawHandle, &RawRange<K>, *mut E, usize, &mut usize) -> u32;
 
-/// The calls on maps, beside those on sets too.
-pub struct Binds<K> {
-    pub insert: unsafe extern "C" fn(*mut RawHandle, &RawRange<K>, u64) -> u32,
-    pub insert_disconnected: unsafe extern "C" fn(*mut RawHandle, &RawRange<K>, u64) -> u32,
-    pub try_insert: unsafe extern "C" fn(*mut RawHandle, &RawRange<K>, u64) -> u32,
-    pub insert_many: unsafe extern "C" fn(*mut RawHandle, *const RawEntry<K>, usize, &mut usize) -> u32,
-    pub get_many: unsafe extern "C" fn(*const RawHandle, *const K, usize, *mut RawBinding, usize) -> u32,
-    pub pieces: ReadsWithin<K, RawPiece<K>>,
-    pub split_off: unsafe extern "C" fn(*mut RawHandle, K, *mut RawHandle) -> u32,
-    pub append: unsafe extern "C" fn(*mut RawHandle, *mut RawHandle) -> u32,
-}
-
-macro_rules! calls {
-    ($module:ident, $prefix:literal, $key:ty, $entry:ty) => {
-        pub mod $module {
-            use super::*;
-
-            unsafe extern "C" {
-                #[link_name = concat!($prefix, "create")]
-                fn create(handle: *mut RawHandle) -> u32;
-                #[link_name = concat!($prefix, "remove")]
-                fn remove(handle: *mut RawHandle, range: &RawRange<$key>) -> u32;
-                #[link_name = concat!($prefix, "get")]
-                fn get(handle: *const RawHandle, key: $key, entry: &mut $entry) -> u32;
-                #[link_name = concat!($prefix, "contains")]
-                fn contains(handle: *const RawHandle, key: $key) -> u32;
-                #[link_name = concat!($prefix, "intersects")]
-                fn intersects(handle: *const RawHandle, range: &RawRange<$key>) -> u32;
-                #[link_name = concat!($prefix, "len")]
-                fn len(handle: *const RawHandle, length: &mut RawLength) -> u32;
-                #[link_name = concat!($prefix, "first")]
-                fn first(handle: *const RawHandle, entry: &mut $entry) -> u32;
-                #[link_name = concat!($prefix, "last")]
-                fn last(handle: *const RawHandle, entry: &mut $entry) -> u32;
-                #[link_name = concat!($prefix, "next")]
-                fn next(handle: *const RawHandle, key: $key, entry: &mut $entry) -> u32;
-                #[link_name = concat!($prefix, "previous")]
-                fn previous(handle: *const RawHandle, key: $key, entry: &mut $entry) -> u32;
-                #[link_name = concat!($prefix, "pop_first")]
-                fn pop_first(handle: *mut RawHandle, entry: &mut $entry) -> u32;
-                #[link_name = concat!($prefix, "pop_last")]
-                fn pop_last(handle: *mut RawHandle, entry: &mut $entry) -> u32;
-                #[link_name = concat!($prefix, "read")]
-                fn read(
-                    at: *const RawHandle,
-                    from: $key,
-                    to: *mut $entry,
-                    capacity: usize,
-                    count: &mut usize,
-                ) -> u32;
-                #[link_name = concat!($prefix, "read_back")]
-                fn read_back(
-                    at: *const RawHandle,
-                    upto: $key,
-                    to: *mut $entry,
-                    capacity: usize,
-                    count: &mut usize,
-                ) -> u32;
-                #[link_name = concat!($prefix, "overlapping")]
-                fn overlapping(
-                    at: *const RawHandle,
-                    range: &RawRange<$key>,
-                    to: *mut $entry,
-                    capacity: usize,
-                    count: &mut usize,
-                ) -> u32;
-                #[link_name = concat!($prefix, "gaps")]
-                fn gaps(
-                    at: *const RawHandle,
-                    range: &RawRange<$key>,
-                    to: *mut RawRange<$key>,
-                    capacity: usize,
-                    count: &mut usize,
-                ) -> u32;
-            }
-
-            pub static CALLS: Calls<$key, $entry> = Calls {
-                create,
-                remove,
-                get,
-                contains,
-                intersects,
-                len,
-                first,
-                last,
-                next,
-                previous,
-                pop_first,
-                pop_last,
-                read,
-                read_back,
-                overlapping,
-                gaps,
-            };
+/// Hands the list of the calls that each kind of collection has to a macro, after its own words: keys are `K`, and ranges
+/// with what they are bound to `E`.
+macro_rules! calls_on_each {
+    ($then:ident $words:tt) => {
+        $then! { $words
+            create(made: *mut RawHandle);
+            remove(handle: *mut RawHandle, range: &RawRange<K>);
+            get(handle: *const RawHandle, key: K, entry: &mut E);
+            contains(handle: *const RawHandle, key: K);
+            intersects(handle: *const RawHandle, range: &RawRange<K>);
+            len(handle: *const RawHandle, length: &mut RawLength);
+            first(handle: *const RawHandle, entry: &mut E);
+            last(handle: *const RawHandle, entry: &mut E);
+            next(handle: *const RawHandle, key: K, entry: &mut E);
+            previous(handle: *const RawHandle, key: K, entry: &mut E);
+            pop_first(handle: *mut RawHandle, entry: &mut E);
+            pop_last(handle: *mut RawHandle, entry: &mut E);
+            read(handle: *const RawHandle, from: K, to: *mut E, size: usize, count: &mut usize);
+            read_back(handle: *const RawHandle, upto: K, to: *mut E, size: usize, count: &mut usize);
+            overlapping(at: *const RawHandle, range: &RawRange<K>,
+                to: *mut E, size: usize, count: &mut usize);
+            gaps(at: *const RawHandle, range: &RawRange<K>,
+                to: *mut RawRange<K>, size: usize, count: &mut usize);
         }
     };
 }
 
-macro_rules! binds {
-    ($module:ident, $prefix:literal, $raw:literal, $key:ty) => {
-        pub mod $module {
-            use super::*;
-
-            unsafe extern "C" {
-                #[link_name = concat!($prefix, "insert")]
-                fn insert(map: *mut RawHandle, range: &RawRange<$key>, value: u64) -> u32;
-                #[link_name = concat!($prefix, "insert_disconnected")]
-                fn insert_disconnected(map: *mut RawHandle, range: &RawRange<$key>, value: u64) -> u32;
-                #[link_name = concat!($prefix, "try_insert")]
-                fn try_insert(map: *mut RawHandle, range: &RawRange<$key>, value: u64) -> u32;
-                #[link_name = concat!($prefix, "insert_many")]
-                fn insert_many(
-                    map: *mut RawHandle,
-                    from: *const RawEntry<$key>,
-                    size: usize,
-                    count: &mut usize,
-                ) -> u32;
-                #[link_name = concat!($raw, "get_many")]
-                fn get_many(
-                    map: *const RawHandle,
-                    keys: *const $key,
-                    size: usize,
-                    to: *mut RawBinding,
-                    capacity: usize,
-                ) -> u32;
-                #[link_name = concat!($prefix, "pieces")]
-                fn pieces(
-                    map: *const RawHandle,
-                    range: &RawRange<$key>,
-                    to: *mut RawPiece<$key>,
-                    capacity: usize,
-                    count: &mut usize,
-                ) -> u32;
-                #[link_name = concat!($raw, "split_off")]
-                fn split_off(map: *mut RawHandle, key: $key, other: *mut RawHandle) -> u32;
-                #[link_name = concat!($raw, "append")]
-                fn append(map: *mut RawHandle, other: *mut RawHandle) -> u32;
-            }
-
-            pub static BINDS: Binds<$key> = Binds {
-                insert,
-                insert_disconnected,
-                try_insert,
-                insert_many,
-                get_many,
-                pieces,
-                split_off,
-                append,
-            };
+/// The same of the calls that maps have beside those. Some stand under a name of their own in the header.
+macro_rules! calls_on_maps {
+    ($then:ident $words:tt) => {
+        $then! { $words
+            insert(map: *mut RawHandle, range: &RawRange<K>, value: u64);
+            insert_disconnected(map: *mut RawHandle, range: &RawRange<K>, value: u64);
+            try_insert(map: *mut RawHandle, range: &RawRange<K>, value: u64);
+            insert_many(map: *mut RawHandle, from: *const E, size: usize, count: &mut usize);
+            "raw_" get_many(map: *const RawHandle, keys: *const K, size: usize,
+                to: *mut RawBinding, room: usize);
+            pieces(map: *const RawHandle, range: &RawRange<K>,
+                to: *mut RawPiece<K>, size: usize, count: &mut usize);
+            "raw_" split_off(map: *mut RawHandle, key: K, other: *mut RawHandle);
+            "raw_" append(map: *mut RawHandle, other: *mut RawHandle);
         }
     };
 }
 
-calls!(unsigned, "brm_map_u64_", u64, RawEntry<u64>);
-calls!(signed, "brm_map_i64_", i64, RawEntry<i64>);
-calls!(set, "brm_set_u64_", u64, RawRange<u64>);
-binds!(unsigned_binds, "brm_map_u64_", "brm_raw_map_u64_", u64);
-binds!(signed_binds, "brm_map_i64_", "brm_raw_map_i64_", i64);
+/// The struct of such calls.
+macro_rules! table {
+    ([$table:ident, $doc:literal] $($($raw:literal)? $call:ident($($name:ident: $type:ty),*);)*) => {
+        #[doc = $doc]
+        pub struct $table<K, E> {
+            $(pub $call: unsafe extern "C" fn($($type),*) -> u32,)*
+        }
+    };
+}
+
+/// A module that declares such calls of one kind, and has them as a static.
+macro_rules! declare {
+    (
+        [$module:ident, $table:ident, $static:ident, $kind:literal, $key:ty, $entry:ty]
+        $($($raw:literal)? $call:ident($($name:ident: $type:ty),*);)*
+    ) => {
+        pub mod $module {
+            use super::*;
+
+            type K = $key;
+            type E = $entry;
+
+            unsafe extern "C" {
+                $(
+                    #[link_name = concat!("brm_", $($raw,)? $kind, stringify!($call))]
+                    fn $call($($name: $type),*) -> u32;
+                )*
+            }
+
+            pub static $static: $table<K, E> = $table { $($call,)* };
+        }
+    };
+}
+
+calls_on_each!(table[Calls, "The calls of one kind of collection."]);
+calls_on_each!(declare[unsigned, Calls, CALLS, "map_u64_", u64, RawEntry<u64>]);
+calls_on_each!(declare[signed, Calls, CALLS, "map_i64_", i64, RawEntry<i64>]);
+calls_on_each!(declare[set, Calls, CALLS, "set_u64_", u64, RawRange<u64>]);
+calls_on_maps!(table[Binds, "The calls on maps, beside those on sets too."]);
+calls_on_maps!(declare[unsigned_binds, Binds, BINDS, "map_u64_", u64, RawEntry<u64>]);
+calls_on_maps!(declare[signed_binds, Binds, BINDS, "map_i64_", i64, RawEntry<i64>]);
 
 /// A call that opens the last handle on a collection made of the first two.
 pub type OfTwo = unsafe extern "C" fn(*const RawHandle, *const RawHandle, *mut RawHandle) -> u32;

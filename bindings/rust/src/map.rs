@@ -31,7 +31,7 @@ pub struct RangeMap<K: Key, V> {
 
 const NO_MEMORY: &str = "out of memory";
 
-/// How many ranges `extend` inserts at most before it frees values.
+/// How many ranges `extend` inserts at most into a map that has some, before it frees values.
 const BATCH: usize = 1024;
 
 /// The range of the keys from the first to the last.
@@ -93,6 +93,7 @@ impl<K: Key, V: Eq + Hash> RangeMap<K, V> {
     }
 
     /// The stored range that holds the key, with its value.
+    #[doc(alias = "get_key_value")]
     pub fn get_range_value(&self, key: K) -> Option<(Range<K>, &V)> {
         self.shown(self.numbers.get_range_value(key))
     }
@@ -103,6 +104,7 @@ impl<K: Key, V: Eq + Hash> RangeMap<K, V> {
     }
 
     /// Whether some key of the range is bound.
+    #[doc(alias = "overlaps")]
     pub fn intersects(&self, range: impl RangeBounds<K>) -> bool {
         self.numbers.intersects(range)
     }
@@ -269,7 +271,7 @@ impl<K: Key, V: Eq + Hash> RangeMap<K, V> {
 
     #[cfg(test)]
     pub(crate) fn kept_values(&self) -> usize {
-        self.values.kept()
+        self.values.count()
     }
 
     fn shown(&self, found: Option<(Range<K>, u64)>) -> Option<(Range<K>, &V)> {
@@ -328,8 +330,9 @@ impl<K: Key, V: Eq + Hash, R: RangeBounds<K>> Extend<(R, V)> for RangeMap<K, V> 
         let mut ranges = ranges.into_iter().peekable();
         // a batch at a time, after each of which values are freed that no range has
         while ranges.peek().is_some() {
+            let batch = if self.is_empty() { BATCH.max(ranges.size_hint().0) } else { BATCH };
             let numbered =
-                ranges.by_ref().take(BATCH).map(|(range, value)| (range, self.values.number(value)));
+                ranges.by_ref().take(batch).map(|(range, value)| (range, self.values.number(value)));
             self.numbers.insert_many(numbered).expect(NO_MEMORY);
             self.free_values();
         }
@@ -365,6 +368,7 @@ impl<K: Key, V> Clone for Iter<'_, K, V> {
 impl<'a, K: Key, V: Eq + Hash> Iterator for Iter<'a, K, V> {
     type Item = (Range<K>, &'a V);
 
+    #[inline]
     fn next(&mut self) -> Option<(Range<K>, &'a V)> {
         self.numbers.next().map(|(range, number)| (range, self.values.get(number)))
     }
@@ -375,6 +379,7 @@ impl<'a, K: Key, V: Eq + Hash> Iterator for Iter<'a, K, V> {
 }
 
 impl<K: Key, V: Eq + Hash> DoubleEndedIterator for Iter<'_, K, V> {
+    #[inline]
     fn next_back(&mut self) -> Option<Self::Item> {
         self.numbers.next_back().map(|(range, number)| (range, self.values.get(number)))
     }

@@ -88,7 +88,7 @@ impl<K: Key> NumberMap<K> {
         pairs: impl IntoIterator<Item = (R, u64)>,
     ) -> Result<(), InsertedOnly> {
         let entries = pairs.into_iter().map(|(range, value)| RawEntry { range: raw(&range), value });
-        hand_on(entries, |from, size, count| unsafe {
+        hand_on(entries, self.is_empty(), |from, size, count| unsafe {
             (K::Native::BINDS.insert_many)(self.handle.get_mut(), from, size, count)
         })
     }
@@ -125,6 +125,7 @@ impl<K: Key> NumberMap<K> {
     }
 
     /// The stored range that holds the key, with its number.
+    #[doc(alias = "get_key_value")]
     pub fn get_range_value(&self, key: K) -> Option<(Range<K>, u64)> {
         found(|it| unsafe { (calls::<K>().get)(self.handle.get(), key.number(), it) })
     }
@@ -135,6 +136,7 @@ impl<K: Key> NumberMap<K> {
     }
 
     /// Whether some key of the range is bound.
+    #[doc(alias = "overlaps")]
     pub fn intersects(&self, range: impl RangeBounds<K>) -> bool {
         (unsafe { (calls::<K>().intersects)(self.handle.get(), &raw(&range)) }) == ffi::DONE
     }
@@ -295,6 +297,7 @@ pub struct Iter<'a, K: Key> {
 impl<K: Key> Iterator for Iter<'_, K> {
     type Item = (Range<K>, u64);
 
+    #[inline]
     fn next(&mut self) -> Option<(Range<K>, u64)> {
         self.batches.next().map(shown::<K>)
     }
@@ -305,6 +308,7 @@ impl<K: Key> Iterator for Iter<'_, K> {
 }
 
 impl<K: Key> DoubleEndedIterator for Iter<'_, K> {
+    #[inline]
     fn next_back(&mut self) -> Option<(Range<K>, u64)> {
         self.batches.next_back().map(shown::<K>)
     }

@@ -86,7 +86,7 @@ pub(crate) mod sealed {
     pub trait Native: Copy + Default + Ord + 'static {
         /// The calls on maps of these keys.
         const CALLS: &'static Calls<Self, RawEntry<Self>>;
-        const BINDS: &'static Binds<Self>;
+        const BINDS: &'static Binds<Self, RawEntry<Self>>;
     }
 
     /// How a key crosses to the library.
@@ -110,12 +110,12 @@ pub(crate) mod sealed {
 
 impl sealed::Native for u64 {
     const CALLS: &'static Calls<u64, RawEntry<u64>> = &ffi::unsigned::CALLS;
-    const BINDS: &'static Binds<u64> = &ffi::unsigned_binds::BINDS;
+    const BINDS: &'static Binds<u64, RawEntry<u64>> = &ffi::unsigned_binds::BINDS;
 }
 
 impl sealed::Native for i64 {
     const CALLS: &'static Calls<i64, RawEntry<i64>> = &ffi::signed::CALLS;
-    const BINDS: &'static Binds<i64> = &ffi::signed_binds::BINDS;
+    const BINDS: &'static Binds<i64, RawEntry<i64>> = &ffi::signed_binds::BINDS;
 }
 
 macro_rules! integer_keys {

@@ -86,6 +86,7 @@ impl<K: Key> RangeSet<K> {
     }
 
     /// Whether some key of the range is in the set.
+    #[doc(alias = "overlaps")]
     pub fn intersects(&self, range: impl RangeBounds<K>) -> bool {
         (unsafe { (CALLS.intersects)(self.handle.get(), &raw(&range)) }) == ffi::DONE
     }
@@ -294,7 +295,7 @@ operators!(
 impl<K: Key, R: RangeBounds<K>> Extend<R> for RangeSet<K> {
     fn extend<I: IntoIterator<Item = R>>(&mut self, ranges: I) {
         let ranges = ranges.into_iter().map(|range| raw(&range));
-        hand_on(ranges, |from, size, count| unsafe {
+        hand_on(ranges, false, |from, size, count| unsafe {
             ffi::brm_set_u64_insert_many(self.handle.get_mut(), from, size, count)
         })
         .expect(NO_MEMORY);
@@ -329,6 +330,7 @@ fn shown<K: Key>(raw: RawRange<u64>) -> Range<K> {
 impl<K: Key> Iterator for Iter<'_, K> {
     type Item = Range<K>;
 
+    #[inline]
     fn next(&mut self) -> Option<Range<K>> {
         self.batches.next().map(shown)
     }
@@ -339,6 +341,7 @@ impl<K: Key> Iterator for Iter<'_, K> {
 }
 
 impl<K: Key> DoubleEndedIterator for Iter<'_, K> {
+    #[inline]
     fn next_back(&mut self) -> Option<Range<K>> {
         self.batches.next_back().map(shown)
     }

@@ -199,6 +199,26 @@ fn ranges_within_a_range_come_whole() {
     assert_eq!((set.overlapping(5..=100).count(), set.overlapping(6..10).count()), (11, 0));
 }
 
+/// An empty map is given what an iterator is sure to give at once, and all else a batch at a time.
+#[test]
+fn ranges_given_at_once_are_bound_as_one_by_one() {
+    for (count, width, swapped) in
+        [(0, 6, 0), (1, 6, 0), (64, 6, 1), (66, 6, 0), (66, 25, 1), (2000, 6, 0), (2000, 25, 1)]
+    {
+        let ranges = || (0..count).map(|at| at ^ swapped).map(|at| (10 * at..10 * at + width, at % 3));
+        let mut one_by_one: RangeMap<u64, u64> = RangeMap::new();
+        ranges().for_each(|(range, value)| one_by_one.insert(range, value));
+        let sure: RangeMap<u64, u64> = ranges().collect();
+        let unsure: RangeMap<u64, u64> = ranges().filter(|_| true).collect();
+        let mut twice = sure.clone();
+        twice.extend(ranges());
+        assert!(sure == one_by_one && unsure == one_by_one && twice == one_by_one);
+        let mut numbers: NumberMap<u64> = NumberMap::new().unwrap();
+        numbers.insert_many(ranges()).unwrap();
+        assert!(numbers.iter().eq(one_by_one.iter().map(|(range, value)| (range, *value))));
+    }
+}
+
 /// Values by each key of a `u16`, as a map of ranges with strings answers for them.
 #[test]
 fn values_of_any_type_answer_as_a_reference() {
