@@ -93,7 +93,8 @@ impl AccessTable {
     {
         let mut open: RangeSet<Port> = RangeSet::new(self.alloc);
         open.insert(AnyRange::new(Bound::Unbounded, Bound::Unbounded))?;
-        for (range, _) in self.allowed.iter() {
+        let mut ranges = self.allowed.iter();
+        while let Some((range, _)) = ranges.next() {
             open.remove(*range)?;
         }
         Ok(open)

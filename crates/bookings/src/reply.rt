@@ -60,7 +60,8 @@ fn write_room<W: Write>(start: Option<u32>, length: u32, out: &mut W) -> io::Res
 
 fn who<W: Write>(calendar: &Calendar, minutes: &Range<u32>, out: &mut W) -> io::Result<()> {
     let mut is_free = true;
-    for (booked, name) in calendar.bookings_in(minutes) {
+    let mut bookings = calendar.bookings_in(minutes);
+    while let Some((booked, name)) = bookings.next() {
         is_free = false;
         write_minutes(booked, out)?;
         writeln!(out, " {name}")?;

@@ -1,17 +1,17 @@
 //! What a map answers to a command, by the one call that the command is.
 
 ghost use Rattle.btree_range_map.specs.Holding.{box_items, level_count};
-ghost use Rattle.std.specs.Prelude.{◌≡◌, not, MatchOption};
+ghost use Rattle.std.specs.Prelude.{◌≡◌, not, MatchOption, OnErr, OnOk};
 ghost use Rattle.std.specs.List.{filter};
 ghost use Rattle.std.specs.Ordering.{int_eq};
 ghost use Rattle.btree_range_map.specs.Lookups.{MeetsSome};
 ghost use Rattle.btree_range_map.specs.Range.{IsEmptyRange};
-ghost use Rattle.rangecalc.specs.declared.answer.Reply.TheVariants.{Nothing, Stored};
+ghost use Rattle.rangecalc.specs.declared.answer.Reply.TheVariants.{Done, Memory, Nothing, Stored};
 ghost use Rattle.rangecalc.specs.Answers.{IsAnswer, IsChanged, IsMadeFrom, IsTaken, IsTried, has_another};
 
 use crate::line::{Change, Question};
-use crate::number::NumberKey;
-use btree_range_map::{AnyRange, NotFree, RangeMap};
+use crate::number::MapKey;
+use btree_range_map::{AnyRange, MapError, NotFree, RangeMap};
 use std::alloc::Global;
 
 /// An answer of one line.
@@ -29,7 +29,7 @@ pub enum Reply<K> {
 }
 
 /// The first stored range that a range meets.
-fn taken<K: NumberKey>(map: &RangeMap<K, i64>, range: AnyRange<K>) -> Reply<K>
+fn taken<K: MapKey>(map: &RangeMap<K, i64>, range: AnyRange<K>) -> Reply<K>
     requires nonempty { ¬ IsEmptyRange K.order range }
     requires meets { MeetsSome K.order (box_items map.now) range }
     ensures { IsTaken K.order result (box_items map.now) range }
@@ -41,7 +41,7 @@ fn taken<K: NumberKey>(map: &RangeMap<K, i64>, range: AnyRange<K>) -> Reply<K>
 }
 
 /// Binds the keys of a range where no stored one is in the way.
-fn try_insert<K: NumberKey>(map: &mut RangeMap<K, i64>, range: AnyRange<K>, value: i64) -> Reply<K>
+fn try_insert<K: MapKey>(map: &mut RangeMap<K, i64>, range: AnyRange<K>, value: i64) -> Reply<K>
     ensures { IsTried K.order range value result (box_items map.old) (box_items map.new) }
 {
     match map.try_insert(range, value) {
@@ -58,14 +58,14 @@ fn is_other(value: i64, bound: &i64) -> bool
 }
 
 /// Unbinds each key that is bound to the value.
-fn drop_value<K: NumberKey>(map: &mut RangeMap<K, i64>, value: i64)
+fn drop_value<K: MapKey>(map: &mut RangeMap<K, i64>, value: i64)
     ensures { box_items map.new ≡ filter (has_another value) (box_items map.old) }
 {
     map.retain(move |_range, bound| is_other(value, bound));
 }
 
 /// Makes the map one of these bindings.
-fn make_from<K: NumberKey>(
+fn make_from<K: MapKey>(
     alloc: Global,
     map: &mut RangeMap<K, i64>,
     bindings: Vec<(AnyRange<K>, i64)>,
@@ -81,37 +81,40 @@ fn make_from<K: NumberKey>(
     }
 }
 
+fn done<K: Copy>(changed: Result<(), MapError>) -> Reply<K>
+    ensures done { OnOk changed (result ≡ Done) }
+    ensures refused { OnErr changed (result ≡ Memory) }
+{
+    match changed {
+        Ok(()) => Reply::Done,
+        Err(_) => Reply::Memory,
+    }
+}
+
+fn taken_out<K: Copy>(taken: Option<(AnyRange<K>, i64)>) -> Reply<K>
+    ensures { MatchOption taken (result ≡ Nothing) (λ stored. result ≡ Stored stored) }
+{
+    match taken {
+        Some(stored) => Reply::Stored(stored),
+        None => Reply::Nothing,
+    }
+}
+
 /// Does what is to be done to a map.
-pub fn change<K: NumberKey>(
-    alloc: Global,
-    map: &mut RangeMap<K, i64>,
-    change: Change<K>,
-) -> Reply<K>
+pub fn change<K: MapKey>(alloc: Global, map: &mut RangeMap<K, i64>, change: Change<K>) -> Reply<K>
     ensures { IsChanged K.order change result (box_items map.old) (box_items map.new) }
 {
     match change {
-        Change::Insert(range, value) => match map.insert(range, value) {
-            Ok(()) => Reply::Done,
-            Err(_) => Reply::Memory,
-        },
+        Change::Insert(range, value) => done(map.insert(range, value)),
         Change::Try(range, value) => try_insert(map, range, value),
-        Change::Remove(range) => match map.remove(range) {
-            Ok(()) => Reply::Done,
-            Err(_) => Reply::Memory,
-        },
+        Change::Remove(range) => done(map.remove(range)),
         Change::Drop(value) => {
             drop_value(map, value);
             Reply::Done
         }
         Change::From(bindings) => make_from(alloc, map, bindings),
-        Change::PopFirst => match map.pop_first() {
-            Some(stored) => Reply::Stored(stored),
-            None => Reply::Nothing,
-        },
-        Change::PopLast => match map.pop_last() {
-            Some(stored) => Reply::Stored(stored),
-            None => Reply::Nothing,
-        },
+        Change::PopFirst => taken_out(map.pop_first()),
+        Change::PopLast => taken_out(map.pop_last()),
         Change::Clear => {
             map.clear();
             Reply::Done
@@ -119,7 +122,7 @@ pub fn change<K: NumberKey>(
     }
 }
 
-fn stored<K: NumberKey>(found: Option<(&AnyRange<K>, &i64)>) -> Reply<K>
+fn stored<K: Copy>(found: Option<(&AnyRange<K>, &i64)>) -> Reply<K>
     ensures { MatchOption found.entry (result ≡ Nothing)
         (λ pair. result ≡ Stored (pair.0.now, pair.1.now)) }
 {
@@ -130,7 +133,7 @@ fn stored<K: NumberKey>(found: Option<(&AnyRange<K>, &i64)>) -> Reply<K>
 }
 
 /// Answers what is asked of a map.
-pub fn ask<K: NumberKey>(map: &RangeMap<K, i64>, question: Question<K>) -> Reply<K>
+pub fn ask<K: MapKey>(map: &RangeMap<K, i64>, question: Question<K>) -> Reply<K>
     ensures { IsAnswer K.order question result (box_items map.now) (level_count map.now) }
 {
     match question {

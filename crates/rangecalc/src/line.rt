@@ -138,31 +138,37 @@ fn end<K: NumberKey>(text: &str) -> Option<Bound<K>> {
     }
 }
 
+/// The start that a third dot leaves out.
+fn start_left_out<K: NumberKey>(text: &str) -> Option<Bound<K>> {
+    if text.is_empty() {
+        return Some(Bound::Unbounded);
+    }
+    Some(Bound::Excluded(key(text)?))
+}
+
+fn first<K: NumberKey>(text: &str) -> Option<Bound<K>> {
+    Some(Bound::Included(key(text)?))
+}
+
 /// A range as it is printed, such as `0..5`, `0..=5`, `0...5` without its start, or `...` for every
 /// key.
 pub fn range<K: NumberKey>(text: &str) -> Option<AnyRange<K>> {
-    let (head, after_dot) = text.split_once('.')?;
-    let after_dots = without_front(after_dot, '.')?;
-    match without_front(after_dots, '.') {
-        Some(tail) => {
-            let start = if head.is_empty() {
-                Bound::Unbounded
-            } else {
-                Bound::Excluded(key(head)?)
-            };
-            Some(AnyRange::new(start, end(tail)?))
-        }
-        None => {
-            let start = Bound::Included(key(head)?);
-            Some(AnyRange::new(start, end(after_dots)?))
-        }
-    }
+    let (head, tail) = text.split_once("..")?;
+    let (start, tail) = match without_front(tail, '.') {
+        Some(tail) => (start_left_out(head), tail),
+        None => (first(head), tail),
+    };
+    Some(AnyRange::new(start?, end(tail)?))
+}
+
+fn pair<K: NumberKey>(spelled: &str, value: &str) -> Option<(AnyRange<K>, i64)> {
+    Some((range(spelled)?, number(value)?))
 }
 
 /// A range and a number with a space between them.
 fn binding<K: NumberKey>(text: &str) -> Option<(AnyRange<K>, i64)> {
     let (spelled, value) = split_at_space(text)?;
-    Some((range(spelled)?, number(value)?))
+    pair(spelled, value)
 }
 
 /// The text before the first space, and the text after it where there is one.
@@ -177,7 +183,7 @@ fn front_word(text: &str) -> (&str, Option<&str>) {
 fn front_binding<K: NumberKey>(text: Option<&str>) -> Option<((AnyRange<K>, i64), Option<&str>)> {
     let (spelled, rest) = split_at_space(text?)?;
     let (value, rest) = front_word(rest);
-    Some(((range(spelled)?, number(value)?), rest))
+    Some((pair(spelled, value)?, rest))
 }
 
 /// So many ranges with their numbers, and no more.
@@ -293,16 +299,34 @@ fn relation_of(word: &str) -> Option<Relation>
     }
 }
 
+/// A word and the letter of a map behind it.
+fn word_and_name(text: &str) -> Option<(&str, Name)>
+    ensures { IfSome result (λ parts. text.now ≡ parts.0.now ++ 32 ∷ letter parts.1 ∷ []) }
+{
+    let (word, name) = split_at_space(text)?;
+    Some((word, name_of(name)?))
+}
+
 /// Two maps and what is made of them.
 fn combination<K: NumberKey>(text: &str) -> Option<Command<K>>
     ensures { IfSome result (λ command. codes "= " ++ text.now ≡ words_of command) }
 {
     let (first, rest) = front_name(text)?;
-    let (word, second) = split_at_space(rest)?;
-    let second = name_of(second)?;
+    let (word, second) = word_and_name(rest)?;
     match way_of(word) {
         Some(way) => Some(Command::Combine(way, first, second)),
         None => Some(Command::Keep(kept_of(word)?, first, second)),
+    }
+}
+
+/// A command of a word and another map.
+fn of_map<K: NumberKey>(words: &str) -> Option<Command<K>>
+    ensures { IfSome result (λ command. words.now ≡ words_of command) }
+{
+    let (word, other) = word_and_name(words)?;
+    match amendment_of(word) {
+        Some(amendment) => Some(Command::Amend(amendment, other)),
+        None => Some(Command::Compare(relation_of(word)?, other)),
     }
 }
 
@@ -310,18 +334,17 @@ fn combination<K: NumberKey>(text: &str) -> Option<Command<K>>
 fn of_maps<K: NumberKey>(words: &str) -> Option<Command<K>>
     ensures { IfSome result (λ command. words.now ≡ words_of command) }
 {
-    let (word, fields) = split_at_space(words)?;
-    match word {
-        "=" => combination(fields),
-        "+=" | "-=" => Some(Command::Amend(amendment_of(word)?, name_of(fields)?)),
-        _ => Some(Command::Compare(relation_of(word)?, name_of(fields)?)),
+    match split_at_space(words) {
+        Some(("=", fields)) => combination(fields),
+        _ => of_map(words),
     }
 }
 
 /// A command of a word and a key.
-fn of_key<K: NumberKey>(word: &str, key: K) -> Option<Command<K>>
+fn of_key<K: NumberKey>(word: &str, fields: &str) -> Option<Command<K>>
     ensures { IfSome result (λ command. word.now ≡ words_of command) }
 {
+    let key = key(fields)?;
     match word {
         "get" => Some(Command::Ask(Question::Get(key))),
         "at" => Some(Command::Ask(Question::At(key))),
@@ -332,9 +355,10 @@ fn of_key<K: NumberKey>(word: &str, key: K) -> Option<Command<K>>
 }
 
 /// A command of a word and a range.
-fn of_range<K: NumberKey>(word: &str, range: AnyRange<K>) -> Option<Command<K>>
+fn of_range<K: NumberKey>(word: &str, fields: &str) -> Option<Command<K>>
     ensures { IfSome result (λ command. word.now ≡ words_of command) }
 {
+    let range = range(fields)?;
     match word {
         "remove" => Some(Command::Change(Change::Remove(range))),
         "meets" => Some(Command::Ask(Question::Meets(range))),
@@ -347,9 +371,10 @@ fn of_range<K: NumberKey>(word: &str, range: AnyRange<K>) -> Option<Command<K>>
 }
 
 /// A command of a word, a range and a number.
-fn of_binding<K: NumberKey>(word: &str, range: AnyRange<K>, value: i64) -> Option<Command<K>>
+fn of_binding<K: NumberKey>(word: &str, fields: &str) -> Option<Command<K>>
     ensures { IfSome result (λ command. word.now ≡ words_of command) }
 {
+    let (range, value) = binding(fields)?;
     match word {
         "insert" => Some(Command::Change(Change::Insert(range, value))),
         "try" => Some(Command::Change(Change::Try(range, value))),
@@ -362,13 +387,10 @@ fn with_fields<K: NumberKey>(word: &str, fields: &str) -> Option<Command<K>>
     ensures { IfSome result (λ command. word.now ≡ words_of command) }
 {
     match word {
-        "insert" | "try" => {
-            let (range, value) = binding(fields)?;
-            of_binding(word, range, value)
-        }
-        "get" | "at" | "has" | "split" => of_key(word, key(fields)?),
+        "insert" | "try" => of_binding(word, fields),
+        "get" | "at" | "has" | "split" => of_key(word, fields),
         "drop" => Some(Command::Change(Change::Drop(number(fields)?))),
-        _ => of_range(word, range(fields)?),
+        _ => of_range(word, fields),
     }
 }
 

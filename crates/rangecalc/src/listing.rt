@@ -1,6 +1,7 @@
 //! Replies of a line for each range.
 
-ghost use Rattle.std.specs.Prelude.{OnOk, codes};
+ghost use Rattle.std.specs.Io.KnownBytes.{Appends};
+ghost use Rattle.std.specs.Prelude.{OnOk, [], codes, cond};
 ghost use Rattle.btree_range_map.specs.Holding.{box_items};
 ghost use Rattle.btree_range_map.specs.PieceLists.{shown_piece};
 ghost use Rattle.btree_range_map.specs.References.{range_of};
@@ -10,15 +11,16 @@ ghost use Rattle.line_program.specs.Listing.{SpellsLines, Writes};
 ghost use Rattle.rangecalc.specs.Replies.{SpellsGap, SpellsItem, SpellsPiece};
 
 use crate::line::Listing;
-use crate::number::{NumberKey, span_between};
+use crate::number::{MapKey, NumberKey, span_between};
 use crate::write::{write_free_line, write_gap_line, write_item, write_item_line};
 use btree_range_map::generic::map::{Gaps, GapsWithin, Iter, Overlapping, Pieces};
+use btree_range_map::range::traits::Bounded;
 use btree_range_map::storage::{Item, Storage};
 use btree_range_map::{AnyRange, RangeMap};
 use std::io::{self, Write};
 
 /// Writes the line of a free range.
-fn write_gap<K: NumberKey, W: Write>(gap: AnyRange<&K>, out: &mut W) -> io::Result<()>
+fn write_gap<K: NumberKey + Bounded, W: Write>(gap: AnyRange<&K>, out: &mut W) -> io::Result<()>
     ensures { OnOk result
         (Writes (W.contents out.old) (W.contents out.new) (SpellsGap (range_of gap.entry))) }
 {
@@ -26,7 +28,18 @@ fn write_gap<K: NumberKey, W: Write>(gap: AnyRange<&K>, out: &mut W) -> io::Resu
     write_gap_line(span_between(start, end), out)
 }
 
-fn write_items<'a, K: NumberKey + 'a, C: Storage<Item<AnyRange<K>, i64>> + 'a, W: Write>(
+/// Writes the line of an empty listing, if it is one.
+fn write_none<W: Write>(is_empty: bool, line: &[u8], out: &mut W) -> io::Result<()>
+    ensures { OnOk result
+        (Appends (W.contents out.old) (W.contents out.new) (cond is_empty line.now [])) }
+{
+    if is_empty {
+        return out.write_all(line);
+    }
+    Ok(())
+}
+
+fn write_items<'a, K: NumberKey + Bounded + 'a, C: Storage<Item<AnyRange<K>, i64>> + 'a, W: Write>(
     mut items: Iter<'a, K, i64, C>,
     out: &mut W,
 ) -> io::Result<()>
@@ -39,13 +52,10 @@ fn write_items<'a, K: NumberKey + 'a, C: Storage<Item<AnyRange<K>, i64>> + 'a, W
         is_empty = false;
         write_item(range, value, out)?;
     }
-    if is_empty {
-        return out.write_all(b"empty\n");
-    }
-    Ok(())
+    write_none(is_empty, b"empty\n", out)
 }
 
-fn write_gaps<'a, K: NumberKey + 'a, C: Storage<Item<AnyRange<K>, i64>> + 'a, W: Write>(
+fn write_gaps<'a, K: MapKey + 'a, C: Storage<Item<AnyRange<K>, i64>> + 'a, W: Write>(
     mut gaps: Gaps<'a, K, i64, C>,
     out: &mut W,
 ) -> io::Result<()>
@@ -58,13 +68,10 @@ fn write_gaps<'a, K: NumberKey + 'a, C: Storage<Item<AnyRange<K>, i64>> + 'a, W:
         is_empty = false;
         write_gap::<K, W>(gap, out)?;
     }
-    if is_empty {
-        return out.write_all(b"full\n");
-    }
-    Ok(())
+    write_none(is_empty, b"full\n", out)
 }
 
-fn write_met<'a, K: NumberKey + 'a, C: Storage<Item<AnyRange<K>, i64>> + 'a, W: Write>(
+fn write_met<'a, K: MapKey + 'a, C: Storage<Item<AnyRange<K>, i64>> + 'a, W: Write>(
     mut items: Overlapping<'a, K, i64, C>,
     out: &mut W,
 ) -> io::Result<()>
@@ -77,13 +84,10 @@ fn write_met<'a, K: NumberKey + 'a, C: Storage<Item<AnyRange<K>, i64>> + 'a, W: 
         is_empty = false;
         write_item(range, value, out)?;
     }
-    if is_empty {
-        return out.write_all(b"empty\n");
-    }
-    Ok(())
+    write_none(is_empty, b"empty\n", out)
 }
 
-fn write_free<'a, K: NumberKey + 'a, C: Storage<Item<AnyRange<K>, i64>> + 'a, W: Write>(
+fn write_free<'a, K: MapKey + 'a, C: Storage<Item<AnyRange<K>, i64>> + 'a, W: Write>(
     mut gaps: GapsWithin<'a, K, i64, C>,
     out: &mut W,
 ) -> io::Result<()>
@@ -96,14 +100,11 @@ fn write_free<'a, K: NumberKey + 'a, C: Storage<Item<AnyRange<K>, i64>> + 'a, W:
         is_empty = false;
         write_gap::<K, W>(gap, out)?;
     }
-    if is_empty {
-        return out.write_all(b"full\n");
-    }
-    Ok(())
+    write_none(is_empty, b"full\n", out)
 }
 
 /// Writes the line of a piece.
-fn write_piece<K: NumberKey, W: Write>(
+fn write_piece<K: NumberKey + Bounded, W: Write>(
     piece: AnyRange<&K>,
     value: Option<&i64>,
     out: &mut W,
@@ -120,7 +121,7 @@ fn write_piece<K: NumberKey, W: Write>(
     }
 }
 
-fn write_pieces<'a, K: NumberKey + 'a, C: Storage<Item<AnyRange<K>, i64>> + 'a, W: Write>(
+fn write_pieces<'a, K: MapKey + 'a, C: Storage<Item<AnyRange<K>, i64>> + 'a, W: Write>(
     mut pieces: Pieces<'a, K, i64, C>,
     out: &mut W,
 ) -> io::Result<()>
@@ -133,14 +134,11 @@ fn write_pieces<'a, K: NumberKey + 'a, C: Storage<Item<AnyRange<K>, i64>> + 'a, 
         is_empty = false;
         write_piece::<K, W>(piece, value, out)?;
     }
-    if is_empty {
-        return out.write_all(b"empty\n");
-    }
-    Ok(())
+    write_none(is_empty, b"empty\n", out)
 }
 
 /// Writes the ranges that a listing names, each on a line.
-pub fn list<K: NumberKey, W: Write>(
+pub fn list<K: MapKey, W: Write>(
     map: &RangeMap<K, i64>,
     listing: Listing<K>,
     out: &mut W,

@@ -8,7 +8,7 @@
 //!   `src/named.rt`, `specs/Named.antt`
 #![tactic(auto)]
 
-use std::io::{self, BufReader, BufWriter, ErrorKind, LineWriter};
+use std::io::{self, BufReader, BufWriter, ErrorKind, LineWriter, Write};
 use std::process::ExitCode;
 use std::{env, fs};
 
@@ -43,23 +43,29 @@ fn reads_file(rt: &HostRuntime) -> bool {
     }
 }
 
+/// Serves standard input to the writer.
+fn serve_to<W: Write>(rt: &HostRuntime, words: &[String], out: &mut W) -> io::Result<u8> {
+    let alloc = rt.alloc();
+    let input = BufReader::with_capacity(alloc, BUFFER_BYTES, rt.reader())?;
+    Ok(serve::serve(alloc, words, input, out, &mut rt.stderr()))
+}
+
 /// Serves the standard streams. A file is answered in large writes. A person or a program gets each
 /// line of a reply as it is written, and so can read it before the next command.
-fn run(rt: &HostRuntime) -> io::Result<u8> {
-    let alloc = rt.alloc();
-    let words = words(rt)?;
-    let words = match words.as_slice() {
-        [_, words @ ..] => words,
-        [] => &[],
-    };
-    let input = BufReader::with_capacity(alloc, BUFFER_BYTES, rt.reader())?;
-    let mut err = rt.stderr();
+fn serve_streams(rt: &HostRuntime, words: &[String]) -> io::Result<u8> {
     if reads_file(rt) {
-        let mut out = BufWriter::with_capacity(alloc, BUFFER_BYTES, rt.stdout())?;
-        Ok(serve::serve(alloc, words, input, &mut out, &mut err))
+        let mut out = BufWriter::with_capacity(rt.alloc(), BUFFER_BYTES, rt.stdout())?;
+        serve_to(rt, words, &mut out)
     } else {
-        let mut out = LineWriter::with_capacity(alloc, BUFFER_BYTES, rt.stdout())?;
-        Ok(serve::serve(alloc, words, input, &mut out, &mut err))
+        let mut out = LineWriter::with_capacity(rt.alloc(), BUFFER_BYTES, rt.stdout())?;
+        serve_to(rt, words, &mut out)
+    }
+}
+
+fn run(rt: &HostRuntime) -> io::Result<u8> {
+    match words(rt)?.as_slice() {
+        [_, words @ ..] => serve_streams(rt, words),
+        [] => serve_streams(rt, &[]),
     }
 }
 

@@ -11,7 +11,7 @@ use crate::answer::{Reply, ask, change};
 use crate::line::{Amendment, Command, Kept, Relation, Unread, Way, parse};
 use crate::listing::list;
 use crate::named::{Name, Named};
-use crate::number::NumberKey;
+use crate::number::MapKey;
 use crate::two::{amend, amend_by_itself, are_related, combined, kept};
 use crate::write::{write_reply, write_truth};
 use btree_range_map::{RangeMap, UpdateError};
@@ -22,7 +22,7 @@ use std::mem;
 /// The maps that the lines name `a` to `d`.
 pub type Maps<K> = Named<RangeMap<K, i64>>;
 
-pub fn no_maps<K: NumberKey>(alloc: Global) -> Maps<K>
+pub fn no_maps<K: MapKey>(alloc: Global) -> Maps<K>
     ensures { stored_in result ≡ none_stored }
 {
     Named {
@@ -34,7 +34,7 @@ pub fn no_maps<K: NumberKey>(alloc: Global) -> Maps<K>
 }
 
 /// Whether it is true of two maps.
-fn compare<K: NumberKey>(maps: &Maps<K>, name: Name, relation: Relation, other: Name) -> bool
+fn compare<K: MapKey>(maps: &Maps<K>, name: Name, relation: Relation, other: Name) -> bool
     ensures { IsTrue result ↔ AreRelated K.order relation (at (stored_in maps.now) name)
         (at (stored_in maps.now) other) }
 {
@@ -42,7 +42,7 @@ fn compare<K: NumberKey>(maps: &Maps<K>, name: Name, relation: Relation, other: 
 }
 
 /// Moves what lies from the key on to the next map.
-fn split<K: NumberKey>(maps: &mut Maps<K>, name: Name, key: K) -> Reply<K>
+fn split<K: MapKey>(maps: &mut Maps<K>, name: Name, key: K) -> Reply<K>
     ensures { IsSplit K.order name key result (stored_in maps.old) (stored_in maps.new) }
 {
     match maps.at_mut(name).split_off(key) {
@@ -55,7 +55,7 @@ fn split<K: NumberKey>(maps: &mut Maps<K>, name: Name, key: K) -> Reply<K>
 }
 
 /// Makes a map one of two, which it may be itself.
-fn combine<K: NumberKey>(
+fn combine<K: MapKey>(
     maps: &mut Maps<K>,
     name: Name,
     way: Way,
@@ -76,7 +76,7 @@ fn combine<K: NumberKey>(
 }
 
 /// Makes a map one of the bindings of another, which it may be itself.
-fn keep<K: NumberKey>(
+fn keep<K: MapKey>(
     maps: &mut Maps<K>,
     name: Name,
     wanted: Kept,
@@ -96,7 +96,7 @@ fn keep<K: NumberKey>(
 }
 
 /// Changes a map by another, which it may be itself.
-fn amend_by<K: NumberKey>(
+fn amend_by<K: MapKey>(
     alloc: Global,
     maps: &mut Maps<K>,
     name: Name,
@@ -120,7 +120,7 @@ fn amend_by<K: NumberKey>(
 }
 
 /// Answers a command to the map with a name.
-fn answer<K: NumberKey, W: Write>(
+fn answer<K: MapKey, W: Write>(
     alloc: Global,
     maps: &mut Maps<K>,
     name: Name,
@@ -156,7 +156,7 @@ fn answer<K: NumberKey, W: Write>(
 /// A line of no known form is answered by `bad line`, and one that fails to allocate by `memory`.
 /// Then the maps are as before, but for `a += b` and `a -= b`. These have changed the keys of the
 /// ranges of `b` before one of them, and no others.
-pub fn answer_line<K: NumberKey, W: Write>(
+pub fn answer_line<K: MapKey, W: Write>(
     alloc: Global,
     maps: &mut Maps<K>,
     line: &str,

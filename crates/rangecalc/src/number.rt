@@ -18,7 +18,7 @@ pub fn number(text: &str) -> Option<i64> {
 }
 
 /// A key that a line writes as a number.
-pub trait NumberKey: Counted + Bounded + Copy {
+pub trait NumberKey: Copy {
     ghost as_number: { Self → ℤ };
 
     /// The key of a number, `None` where the type has none.
@@ -26,7 +26,11 @@ pub trait NumberKey: Counted + Bounded + Copy {
 
     fn to_number(&self) -> i64
         ensures { result ≡ as_number self.now };
+}
 
+/// A key of the four maps. What reads and writes lines stands over [`NumberKey`], whose few members
+/// prove cheaper.
+pub trait MapKey: NumberKey + Counted + Bounded {
     ghost clones_are_equal: { ClonesAreEqual Self.is_clone Self.eq };
 }
 
@@ -40,7 +44,9 @@ impl NumberKey for u8 {
     fn to_number(&self) -> i64 {
         i64::from(*self)
     }
+}
 
+impl MapKey for u8 {
     ghost clones_are_equal = { λ x y e. Prim.grind (arith, nat_tests) };
 }
 
@@ -54,7 +60,9 @@ impl NumberKey for i32 {
     fn to_number(&self) -> i64 {
         i64::from(*self)
     }
+}
 
+impl MapKey for i32 {
     ghost clones_are_equal = { λ x y e. Prim.search rules };
 }
 
@@ -66,7 +74,7 @@ pub struct Span {
 }
 
 /// The numbers of the first and of the last key between two bounds.
-pub fn span_between<K: NumberKey>(start: Bound<&K>, end: Bound<&K>) -> Span {
+pub fn span_between<K: NumberKey + Bounded>(start: Bound<&K>, end: Bound<&K>) -> Span {
     let first = match start {
         Bound::Included(key) => key.to_number(),
         Bound::Excluded(key) => key.to_number().saturating_add(1),
@@ -81,6 +89,6 @@ pub fn span_between<K: NumberKey>(start: Bound<&K>, end: Bound<&K>) -> Span {
 }
 
 /// The numbers of the first and of the last key of a nonempty range.
-pub fn span_of<K: NumberKey>(range: &AnyRange<K>) -> Span {
+pub fn span_of<K: NumberKey + Bounded>(range: &AnyRange<K>) -> Span {
     span_between(range.start_bound(), range.end_bound())
 }

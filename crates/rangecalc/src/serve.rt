@@ -6,19 +6,19 @@ ghost use Rattle.line_program.specs.Listing.{Writes};
 ghost use Rattle.rangecalc.specs.Serving.{IsServed, IsStopped, NamesKeys};
 
 use crate::maps::{Maps, answer_line, no_maps};
-use crate::number::NumberKey;
+use crate::number::MapKey;
 use line_program::program::LineProgram;
 use std::alloc::Global;
 use std::io::{self, BufRead, Write};
 
 /// Four maps, which the lines name.
 #[derive(Drop)]
-struct MapsProgram<K: NumberKey> {
+struct MapsProgram<K: MapKey> {
     alloc: Global,
     maps: Maps<K>,
 }
 
-impl<K: NumberKey, W: Write> LineProgram<W> for MapsProgram<K> {
+impl<K: MapKey, W: Write> LineProgram<W> for MapsProgram<K> {
     ghost answers = { λ old line text new.
         AnswersLine K.order line text (stored_in old.maps) (stored_in new.maps) };
 
@@ -27,21 +27,21 @@ impl<K: NumberKey, W: Write> LineProgram<W> for MapsProgram<K> {
     }
 }
 
-fn serve_keys<K: NumberKey, R: BufRead + Drop, W: Write, E: Write>(
+fn serve_keys<K: MapKey, R: BufRead, W: Write, E: Write>(
     alloc: Global,
-    mut input: R,
+    input: &mut R,
     out: &mut W,
     err: &mut E,
 ) -> u8
     ensures status { result ≤ 1 }
     ensures silent { result ≡ 0 → err.new ≡ err.old }
     ensures answered { result ≡ 0
-        → IfSome (R.remaining input)
+        → IfSome (R.remaining input.old)
         (λ bytes. Writes (W.contents out.old) (W.contents out.new)
         (λ text. IsConversation K.order bytes text [])) }
     ensures unread { result ≡ 1
         → (err.new ≡ err.old)
-        ⊎ IfSome (R.remaining input)
+        ⊎ IfSome (R.remaining input.old)
         (λ bytes. (rest : List ℕ)
         × Writes (W.contents out.old) (W.contents out.new)
         (λ text. IsConversation K.order bytes text rest)) }
@@ -50,7 +50,7 @@ fn serve_keys<K: NumberKey, R: BufRead + Drop, W: Write, E: Write>(
         alloc,
         maps: no_maps::<K>(alloc),
     };
-    line_program::program::serve(alloc, &mut program, &mut input, out, err)
+    line_program::program::serve(alloc, &mut program, input, out, err)
 }
 
 /// Serves lines over the keys that the words name, and returns the exit status.
@@ -62,7 +62,7 @@ fn serve_keys<K: NumberKey, R: BufRead + Drop, W: Write, E: Write>(
 pub fn serve<R: BufRead + Drop, W: Write, E: Write>(
     alloc: Global,
     words: &[String],
-    input: R,
+    mut input: R,
     out: &mut W,
     err: &mut E,
 ) -> u8
@@ -80,8 +80,8 @@ pub fn serve<R: BufRead + Drop, W: Write, E: Write>(
 {
     if let [word] = words {
         match word.as_str() {
-            "u8" => return serve_keys::<u8, R, W, E>(alloc, input, out, err),
-            "i32" => return serve_keys::<i32, R, W, E>(alloc, input, out, err),
+            "u8" => return serve_keys::<u8, R, W, E>(alloc, &mut input, out, err),
+            "i32" => return serve_keys::<i32, R, W, E>(alloc, &mut input, out, err),
             _ => {}
         }
     }

@@ -3,15 +3,15 @@
 ghost use Rattle.std.specs.Prelude.{◌≡◌, ◌↔◌, IfOk, IsTrue, Err, OnErr, OnOk};
 ghost use Rattle.std.specs.Option.{option_copied};
 ghost use Rattle.std.specs.Ordering.{int_eq};
-ghost use Rattle.btree_range_map.specs.Combining.{AreCombined, MayFailOnBoth};
+ghost use Rattle.btree_range_map.specs.Combining.{AreCombined, MayAnswerBoth, MayBeAskedOfBoth, MayFailOnBoth, MayGiveValueOnBoth};
 ghost use Rattle.btree_range_map.specs.Holding.{box_items};
 ghost use Rattle.btree_range_map.specs.PartWay.{BeforeOne};
 ghost use Rattle.btree_range_map.specs.Together.{BindKeysOf, ShareNoKey};
-ghost use Rattle.btree_range_map.specs.UpdateError.TheVariants.{Closure};
+ghost use Rattle.btree_range_map.specs.UpdateError.TheVariants.{Closure, Memory};
 ghost use Rattle.rangecalc.specs.Two.{AreRelated, FindsAlone, FindsShared, IsAmended, IsKept, IsSum, Makes};
 
 use crate::line::{Amendment, Kept, Relation, Way};
-use crate::number::NumberKey;
+use crate::number::MapKey;
 use btree_range_map::{MapError, RangeMap, UpdateError};
 
 /// A sum that no `i64` holds.
@@ -41,8 +41,28 @@ fn made(way: Way, first: Option<&i64>, second: Option<&i64>) -> Result<Option<i6
     }
 }
 
+/// The one call of `combine`, which is dear to link: what it makes of two maps by a closure.
+fn put_together<K: MapKey, E: Drop, F: Fn(Option<&i64>, Option<&i64>) -> Result<Option<i64>, E>>(
+    first: &RangeMap<K, i64>,
+    second: &RangeMap<K, i64>,
+    f: F,
+) -> Result<RangeMap<K, i64>, UpdateError<E>>
+    requires { MayBeAskedOfBoth F.Fn f (box_items first.now) (box_items second.now) }
+    ensures bound { IfOk result
+        (λ made. AreCombined K.order int_eq int_eq int_eq (MayAnswerBoth F.Fn f)
+        (box_items first.now) (box_items second.now) (box_items made)) }
+    ensures closure { (e : E) → result ≡ Err (Closure e)
+        → MayFailOnBoth K.order (MayAnswerBoth F.Fn f) (box_items first.now)
+        (box_items second.now) e }
+    ensures memory { result ≡ Err Memory
+        → MayGiveValueOnBoth K.order (MayAnswerBoth F.Fn f) (box_items first.now)
+        (box_items second.now) }
+{
+    first.combine(second, f)
+}
+
 /// A map that binds the keys of two others as the way says.
-pub fn combined<K: NumberKey>(
+pub fn combined<K: MapKey>(
     way: Way,
     first: &RangeMap<K, i64>,
     second: &RangeMap<K, i64>,
@@ -53,11 +73,11 @@ pub fn combined<K: NumberKey>(
     ensures fault { (fault : Overflow) → result ≡ Err (Closure fault)
         → MayFailOnBoth K.order (Makes way) (box_items first.now) (box_items second.now) fault }
 {
-    first.combine(second, |one, two| made(way, one, two))
+    put_together(first, second, |one, two| made(way, one, two))
 }
 
 /// A map of the bindings of the first that are kept for the keys of the second.
-pub fn kept<K: NumberKey>(
+pub fn kept<K: MapKey>(
     kept: Kept,
     first: &RangeMap<K, i64>,
     second: &RangeMap<K, i64>,
@@ -73,7 +93,7 @@ pub fn kept<K: NumberKey>(
 }
 
 /// Changes a map by another.
-pub fn amend<K: NumberKey>(
+pub fn amend<K: MapKey>(
     amendment: Amendment,
     map: &mut RangeMap<K, i64>,
     other: &RangeMap<K, i64>,
@@ -91,7 +111,7 @@ pub fn amend<K: NumberKey>(
 }
 
 /// Changes a map as by another that binds each key alike.
-pub fn amend_by_itself<K: NumberKey>(amendment: Amendment, map: &mut RangeMap<K, i64>)
+pub fn amend_by_itself<K: MapKey>(amendment: Amendment, map: &mut RangeMap<K, i64>)
     ensures { IsAmended K.order amendment (box_items map.old) (box_items map.old)
         (box_items map.new) }
 {
@@ -126,29 +146,23 @@ fn find_shared(first: Option<&i64>, second: Option<&i64>) -> Result<Option<i64>,
 }
 
 /// Whether each key that the first map binds is bound by the second.
-fn is_subset<K: NumberKey>(first: &RangeMap<K, i64>, second: &RangeMap<K, i64>) -> bool
+fn is_subset<K: MapKey>(first: &RangeMap<K, i64>, second: &RangeMap<K, i64>) -> bool
     ensures { IsTrue result ↔ BindKeysOf K.order (box_items first.now) (box_items second.now) }
 {
-    let passed: Result<RangeMap<K, i64>, UpdateError<Found>> = first.combine(
-        second,
-        |one, two| find_alone(one, two),
-    );
+    let passed = put_together(first, second, |one, two| find_alone(one, two));
     passed.is_ok()
 }
 
 /// Whether no key is bound by both maps.
-fn are_apart<K: NumberKey>(first: &RangeMap<K, i64>, second: &RangeMap<K, i64>) -> bool
+fn are_apart<K: MapKey>(first: &RangeMap<K, i64>, second: &RangeMap<K, i64>) -> bool
     ensures { IsTrue result ↔ ShareNoKey K.order (box_items first.now) (box_items second.now) }
 {
-    let passed: Result<RangeMap<K, i64>, UpdateError<Found>> = first.combine(
-        second,
-        |one, two| find_shared(one, two),
-    );
+    let passed = put_together(first, second, |one, two| find_shared(one, two));
     passed.is_ok()
 }
 
 /// Whether it is true of two maps.
-pub fn are_related<K: NumberKey>(
+pub fn are_related<K: MapKey>(
     relation: Relation,
     first: &RangeMap<K, i64>,
     second: &RangeMap<K, i64>,

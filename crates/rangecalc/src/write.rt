@@ -11,6 +11,7 @@ ghost use Rattle.rangecalc.specs.declared.answer.Reply.TheVariants.{Taken};
 use crate::answer::Reply;
 use crate::number::{NumberKey, Span, span_of};
 use btree_range_map::AnyRange;
+use btree_range_map::range::traits::Bounded;
 use line_program::line::write_number_line;
 use std::io::{self, Write};
 
@@ -46,7 +47,7 @@ pub fn write_item_line<W: Write>(span: &Span, value: &i64, out: &mut W) -> io::R
 }
 
 /// Writes the line of a stored range.
-pub fn write_item<K: NumberKey, W: Write>(
+pub fn write_item<K: NumberKey + Bounded, W: Write>(
     range: &AnyRange<K>,
     value: &i64,
     out: &mut W,
@@ -69,7 +70,7 @@ fn write_taken_line<W: Write>(span: Span, out: &mut W) -> io::Result<()>
 }
 
 /// Writes the line of a range that is in the way.
-fn write_taken<K: NumberKey, W: Write>(range: &AnyRange<K>, out: &mut W) -> io::Result<()>
+fn write_taken<K: NumberKey + Bounded, W: Write>(range: &AnyRange<K>, out: &mut W) -> io::Result<()>
     ensures { OnOk result
         (Writes (W.contents out.old) (W.contents out.new) (SpellsReply (Taken range.now))) }
 {
@@ -89,7 +90,7 @@ pub fn write_truth<W: Write>(answer: bool, out: &mut W) -> io::Result<()>
 }
 
 /// Writes the line of a reply.
-pub fn write_reply<K: NumberKey, W: Write>(reply: Reply<K>, out: &mut W) -> io::Result<()>
+pub fn write_reply<K: NumberKey + Bounded, W: Write>(reply: Reply<K>, out: &mut W) -> io::Result<()>
     ensures { OnOk result
         (Writes (W.contents out.old) (W.contents out.new) (SpellsReply reply)) }
 {

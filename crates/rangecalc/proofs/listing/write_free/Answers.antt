@@ -1,8 +1,9 @@
 use Rattle.std.proofs.Common.{◌≡◌, ◌∷◌, [], subst}
-use Rattle.std.specs.Prelude.{Bool, codes}
+use Rattle.std.specs.Prelude.{codes}
 use Rattle.btree_range_map.specs.References.{range_of}
 use Rattle.rangecalc.specs.Replies.{SpellsGap}
-use Rattle.line_program.proofs.Listing.{IsListing, listed_none, listed_some, listing_more, listing_none, on_ok_as}
+use Rattle.line_program.proofs.Listing.{IsListing, listing_more, listing_none, on_ok_as}
+use Rattle.rangecalc.proofs.Listed.{listed}
 use Rattle.rangecalc.proofs.listing.write_free.Goals as goal
 
 pub loop-gap-init : goal.loop-gap-init
@@ -21,26 +22,14 @@ loop-gap-preserved g c =
     (subst (λ gaps. IsListing SpellsGap all gaps before now c.loop-gap.is_empty) step
     c.loop-gap.invariant) c.in_ok-write_gap.ensures
 
-pub returns-then-is_empty : goal.returns-then-is_empty
-returns-then-is_empty g c =
-    let all = c.args.gaps in
-    let before = g.W.Write.contents c.args.out.now in
-    let now = g.W.Write.contents c.loop-gap.out in
-    let next = g.W.Write.contents c.write_all.new.self in
-    let ended : c.loop-gap.gaps ≡ [] = c.in_default.ensures.steps.0 in
-    on_ok_as c.write_all.result _ _
-    (listed_none SpellsGap (codes "full\n") all before now next
-    (subst (λ (empty : Bool). IsListing SpellsGap all [] before now empty) c.if-is_empty.true
-    (subst (λ gaps. IsListing SpellsGap all gaps before now c.loop-gap.is_empty) ended
-    c.loop-gap.invariant))) c.write_all.ensures.bytes
-
 pub returns : goal.returns
 returns g c =
     let all = c.args.gaps in
     let before = g.W.Write.contents c.args.out.now in
     let now = g.W.Write.contents c.loop-gap.out in
+    let next = g.W.Write.contents c.write_none.new.out in
     let ended : c.loop-gap.gaps ≡ [] = c.in_default.ensures.steps.0 in
-    listed_some SpellsGap (codes "full\n") all before now
-    (subst (λ (empty : Bool). IsListing SpellsGap all [] before now empty) c.if-is_empty.false
+    on_ok_as c.write_none.result _ _
+    (listed SpellsGap (codes "full\n") all before now next c.loop-gap.is_empty
     (subst (λ gaps. IsListing SpellsGap all gaps before now c.loop-gap.is_empty) ended
-    c.loop-gap.invariant))
+    c.loop-gap.invariant)) c.write_none.ensures

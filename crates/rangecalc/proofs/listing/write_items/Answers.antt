@@ -1,8 +1,9 @@
 use Rattle.std.proofs.Common.{◌≡◌, ◌∷◌, [], subst}
-use Rattle.std.specs.Prelude.{Bool, codes}
+use Rattle.std.specs.Prelude.{codes}
 use Rattle.rangecalc.specs.Ranges.{item_of}
 use Rattle.rangecalc.specs.Replies.{SpellsItem}
-use Rattle.line_program.proofs.Listing.{IsListing, listed_none, listed_some, listing_more, listing_none, on_ok_as}
+use Rattle.line_program.proofs.Listing.{IsListing, listing_more, listing_none, on_ok_as}
+use Rattle.rangecalc.proofs.Listed.{listed}
 use Rattle.rangecalc.proofs.listing.write_items.Goals as goal
 
 pub loop-range-init : goal.loop-range-init
@@ -21,26 +22,14 @@ loop-range-preserved g c =
     (subst (λ items. IsListing SpellsItem all items before now c.loop-range.is_empty) step
     c.loop-range.invariant) c.in_ok-write_item.ensures
 
-pub returns-then-is_empty : goal.returns-then-is_empty
-returns-then-is_empty g c =
-    let all = c.args.items in
-    let before = g.W.Write.contents c.args.out.now in
-    let now = g.W.Write.contents c.loop-range.out in
-    let next = g.W.Write.contents c.write_all.new.self in
-    let ended : c.loop-range.items ≡ [] = c.in_default.ensures.steps.0 in
-    on_ok_as c.write_all.result _ _
-    (listed_none SpellsItem (codes "empty\n") all before now next
-    (subst (λ (empty : Bool). IsListing SpellsItem all [] before now empty) c.if-is_empty.true
-    (subst (λ items. IsListing SpellsItem all items before now c.loop-range.is_empty) ended
-    c.loop-range.invariant))) c.write_all.ensures.bytes
-
 pub returns : goal.returns
 returns g c =
     let all = c.args.items in
     let before = g.W.Write.contents c.args.out.now in
     let now = g.W.Write.contents c.loop-range.out in
+    let next = g.W.Write.contents c.write_none.new.out in
     let ended : c.loop-range.items ≡ [] = c.in_default.ensures.steps.0 in
-    listed_some SpellsItem (codes "empty\n") all before now
-    (subst (λ (empty : Bool). IsListing SpellsItem all [] before now empty) c.if-is_empty.false
+    on_ok_as c.write_none.result _ _
+    (listed SpellsItem (codes "empty\n") all before now next c.loop-range.is_empty
     (subst (λ items. IsListing SpellsItem all items before now c.loop-range.is_empty) ended
-    c.loop-range.invariant))
+    c.loop-range.invariant)) c.write_none.ensures

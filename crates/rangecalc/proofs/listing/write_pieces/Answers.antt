@@ -1,8 +1,9 @@
 use Rattle.std.proofs.Common.{◌≡◌, ◌∷◌, [], subst}
-use Rattle.std.specs.Prelude.{Bool, codes}
+use Rattle.std.specs.Prelude.{codes}
 use Rattle.btree_range_map.specs.PieceLists.{shown_piece}
 use Rattle.rangecalc.specs.Replies.{SpellsPiece}
-use Rattle.line_program.proofs.Listing.{IsListing, listed_none, listed_some, listing_more, listing_none, on_ok_as}
+use Rattle.line_program.proofs.Listing.{IsListing, listing_more, listing_none, on_ok_as}
+use Rattle.rangecalc.proofs.Listed.{listed}
 use Rattle.rangecalc.proofs.listing.write_pieces.Goals as goal
 
 pub loop-piece-init : goal.loop-piece-init
@@ -21,26 +22,14 @@ loop-piece-preserved g c =
     (subst (λ pieces. IsListing SpellsPiece all pieces before now c.loop-piece.is_empty) step
     c.loop-piece.invariant) c.in_ok-write_piece.ensures
 
-pub returns-then-is_empty : goal.returns-then-is_empty
-returns-then-is_empty g c =
-    let all = c.args.pieces in
-    let before = g.W.Write.contents c.args.out.now in
-    let now = g.W.Write.contents c.loop-piece.out in
-    let next = g.W.Write.contents c.write_all.new.self in
-    let ended : c.loop-piece.pieces ≡ [] = c.in_default.ensures.steps.0 in
-    on_ok_as c.write_all.result _ _
-    (listed_none SpellsPiece (codes "empty\n") all before now next
-    (subst (λ (empty : Bool). IsListing SpellsPiece all [] before now empty) c.if-is_empty.true
-    (subst (λ pieces. IsListing SpellsPiece all pieces before now c.loop-piece.is_empty) ended
-    c.loop-piece.invariant))) c.write_all.ensures.bytes
-
 pub returns : goal.returns
 returns g c =
     let all = c.args.pieces in
     let before = g.W.Write.contents c.args.out.now in
     let now = g.W.Write.contents c.loop-piece.out in
+    let next = g.W.Write.contents c.write_none.new.out in
     let ended : c.loop-piece.pieces ≡ [] = c.in_default.ensures.steps.0 in
-    listed_some SpellsPiece (codes "empty\n") all before now
-    (subst (λ (empty : Bool). IsListing SpellsPiece all [] before now empty) c.if-is_empty.false
+    on_ok_as c.write_none.result _ _
+    (listed SpellsPiece (codes "empty\n") all before now next c.loop-piece.is_empty
     (subst (λ pieces. IsListing SpellsPiece all pieces before now c.loop-piece.is_empty) ended
-    c.loop-piece.invariant))
+    c.loop-piece.invariant)) c.write_none.ensures

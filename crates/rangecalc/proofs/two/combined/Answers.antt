@@ -7,13 +7,13 @@ use Rattle.rangecalc.proofs.two.combined.Goals as goal
 
 pub returns-clause-bound : goal.returns-clause-bound
 returns-clause-bound g c =
-    if_ok_as c.combine.result _ _
+    if_ok_as c.put_together.result _ _
     (λ made bound.
     combined_as g.K.MaybeBounded.order int_eq int_eq int_eq _ (Makes c.args.way)
     (λ left right answer is.
     rw (← is.shows, ← is.other_shows) (let says = is.says in search (rules, of_calls)))
     (box_items c.args.first.now) (box_items c.args.second.now) (box_items made) bound)
-    c.combine.ensures.bound
+    c.put_together.ensures.bound
 
 pub returns-clause-fault : goal.returns-clause-fault
 returns-clause-fault g c =
@@ -22,4 +22,4 @@ returns-clause-fault g c =
     (λ left right answer is.
     rw (← is.shows, ← is.other_shows) (let says = is.says in search (rules, of_calls)))
     (box_items c.args.first.now) (box_items c.args.second.now) fault
-    (c.combine.ensures.closure fault failed)
+    (c.put_together.ensures.closure fault failed)

@@ -13,5 +13,5 @@ returns g c =
     told order lawful complete _ items others box_items
     (subset_tells order lawful complete _ items others (λ left right found is.
     rw (← is.shows, ← is.other_shows) (let says = is.says in search (rules, of_calls))))
-    c.combine-passed.result c.is_ok.result c.is_ok.ensures.value c.combine-passed.ensures.bound
-    c.combine-passed.ensures.closure c.combine-passed.ensures.memory
+    c.put_together-passed.result c.is_ok.result c.is_ok.ensures.value c.put_together-passed.ensures.bound
+    c.put_together-passed.ensures.closure c.put_together-passed.ensures.memory

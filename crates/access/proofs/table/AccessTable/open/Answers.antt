@@ -7,7 +7,7 @@ use Rattle.access.proofs.table.AccessTable.open.Goals as goal
 
 pub loop-range-preserved : goal.loop-range-preserved
 loop-range-preserved c port key =
-    let all = c.into_iter-range-iterator.result in
+    let all = c.iter-ranges.result in
     let before =
     subst (λ left.
     (HoldsKey port_order (box_items c.loop-range.open) port
