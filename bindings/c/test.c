@@ -9,12 +9,16 @@ static int failures = 0;
 /* How many allocations are still granted; all of them where it is negative. Linked with --wrap=malloc,--wrap=realloc. */
 static long granted = -1;
 
+/* How many allocations there were. */
+static long allocations = 0;
+
 void *__real_malloc(size_t size);
 void *__real_realloc(void *block, size_t size);
 void *__wrap_malloc(size_t size);
 void *__wrap_realloc(void *block, size_t size);
 
 static bool is_granted(void) {
+    allocations++;
     if (granted > 0) granted--;
     else if (granted == 0) return false;
     return true;
@@ -550,10 +554,10 @@ static void many_at_once(void) {
     EXPECT(brm_set_u64_contains(&set, 14) == BRM_DONE && brm_set_u64_contains(&set, 15) == BRM_NONE);
     EXPECT(brm_clear(&map) == BRM_DONE);
     for (uint64_t i = 0; i < RANGES; i++) apart[i] = (brm_entry_u64){upto(10 * i, 10 * i + 5), i};
-    for (long allocations = 0;; allocations++) {
+    for (long wanted = 0;; wanted++) {
         brm_handle made = BRM_HANDLE_CLOSED;
         EXPECT(brm_map_u64_create(&made) == BRM_DONE);
-        granted = allocations;
+        granted = wanted;
         brm_status status = brm_map_u64_insert_many(&made, apart, RANGES, &n);
         granted = -1;
         EXPECT(brm_count(&made) == n && (n == 0 || brm_map_u64_contains(&made, 10 * n - 6) == BRM_DONE));
@@ -563,6 +567,39 @@ static void many_at_once(void) {
     }
     EXPECT(n == RANGES);
     brm_destroy(&set);
+    brm_destroy(&map);
+}
+
+/* How many allocations it takes to insert the ranges into a map without one. */
+static long allocations_for(const brm_entry_u64 *entries, size_t size) {
+    brm_handle map = BRM_HANDLE_CLOSED;
+    size_t n = 0;
+    EXPECT(brm_map_u64_create(&map) == BRM_DONE);
+    long before = allocations;
+    EXPECT(brm_map_u64_insert_many(&map, entries, size, &n) == BRM_DONE && n == size && brm_count(&map) == size);
+    long taken = allocations - before;
+    brm_destroy(&map);
+    return taken;
+}
+
+/* Ranges in order that come to a map without one are stored at once, and others one by one; both do the same. */
+static void many_in_order(void) {
+    enum { RANGES = 300 };
+    static brm_entry_u64 ascending[RANGES], swapped[RANGES];
+    brm_handle map = BRM_HANDLE_CLOSED, same = BRM_HANDLE_CLOSED;
+    brm_entry_u64 touching[] = {{{0, 4, BRM_END_EXCLUDED}, 1}, {{4, 6, 0}, 1}, {{6, 9, BRM_START_EXCLUDED}, 2}, {{12, 0, BRM_END_UNBOUNDED}, 1}};
+    brm_entry_u64 entry = {{0, 0, 0}, 0};
+    size_t n = 0;
+    for (uint64_t i = 0; i < RANGES; i++) ascending[i] = swapped[i ^ 1] = (brm_entry_u64){upto(10 * i, 10 * i + 5), i};
+    EXPECT(allocations_for(ascending, RANGES) < allocations_for(swapped, RANGES));
+    EXPECT(brm_map_u64_create(&map) == BRM_DONE && brm_map_u64_create(&same) == BRM_DONE);
+    EXPECT(brm_map_u64_insert_many(&map, touching, 4, &n) == BRM_DONE && n == 4 && brm_count(&map) == 3);
+    for (size_t i = 0; i < 4; i++) EXPECT(put(&same, touching[i].range, touching[i].value) == BRM_DONE);
+    EXPECT(brm_equal(&map, &same) == BRM_DONE && brm_map_u64_get(&map, 5, &entry) == BRM_DONE && is_entry(entry, through(0, 6), 1));
+    EXPECT(brm_clear(&map) == BRM_DONE && brm_map_u64_insert_many(&map, ascending, RANGES, &n) == BRM_DONE && n == RANGES);
+    EXPECT(brm_map_u64_insert_many(&map, touching, 4, &n) == BRM_DONE && n == 4 && brm_count(&map) == 3);
+    EXPECT(brm_equal(&map, &same) == BRM_NONE && brm_map_u64_get(&map, 11, &entry) == BRM_DONE && entry.value == 1);
+    brm_destroy(&same);
     brm_destroy(&map);
 }
 
@@ -675,6 +712,7 @@ int main(void) {
     in_ranges();
     in_signed_ranges();
     many_at_once();
+    many_in_order();
     many_signed();
     maps_of_two();
     status_texts();

@@ -1,2 +1,3 @@
 mod Fills
 mod Flags
+mod InOrder

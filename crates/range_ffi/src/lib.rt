@@ -10,10 +10,12 @@
 //!   `specs/{Flags,Bindings}.antt`
 //! - what is asked of a map of any kind of keys, each call said once: `src/reads.rt`; many ranges
 //!   at once in `src/batch.rt`, `proofs/Fills.antt`
+//! - a map made at once of ranges in order: `src/in_order.rt`, `proofs/InOrder.antt`
 #![tactic(auto)]
 
 pub mod batch;
 pub mod bounds;
+pub mod in_order;
 pub mod key;
 pub mod reads;
 pub mod status;

@@ -24,6 +24,7 @@ use btree_range_map::range::traits::PartialEnum;
 use btree_range_map::storage::Item;
 use btree_range_map::{AnyRange, MapError, RangeMap};
 use range_ffi::batch::{Shown, Told};
+use range_ffi::in_order::map_in_order;
 use range_ffi::key::Key;
 use range_ffi::status::{
     CONNECTED, DONE, NO_MEMORY, NONE, OCCUPIED, OUT_OF_ORDER, of_disorder, of_obstacle, of_refusal,
@@ -150,7 +151,15 @@ impl<K: Key> KeptMap<K> {
 
     /// Binds the keys of each range to the value beside it, one range after the other, and tells of
     /// how many: of all, or of those before one for which there was not enough memory.
-    pub fn insert_many<E: Told<K, u64>>(&mut self, entries: &[E], count: &mut usize) -> u32
+    ///
+    /// Ranges in order that come to a map without one are stored with no search. For the time of
+    /// the call they are kept twice more, where there is enough memory for it.
+    pub fn insert_many<E: Told<K, u64>>(
+        &mut self,
+        alloc: Global,
+        entries: &[E],
+        count: &mut usize,
+    ) -> u32
         requires keys { ClonesAreEqual K.is_clone K.eq }
         ensures bound { AreBoundAfter K.order nat_eq self.old self.new
             (map E.told (take count.new entries.now)) }
@@ -158,7 +167,7 @@ impl<K: Key> KeptMap<K> {
         ensures some { result ≡ NO_MEMORY → count.new < length entries.now }
         ensures answer { (result ≡ DONE) ⊎ (result ≡ NO_MEMORY) }
     {
-        *count = self.bind_each(entries);
+        *count = self.bind_all(alloc, entries);
         if *count < entries.len() {
             NO_MEMORY
         } else {
@@ -168,6 +177,22 @@ impl<K: Key> KeptMap<K> {
 
     /// Binds the keys of each range, up to one for which there is not enough memory. Returns of how
     /// many.
+    fn bind_all<E: Told<K, u64>>(&mut self, alloc: Global, entries: &[E]) -> usize
+        requires keys { ClonesAreEqual K.is_clone K.eq }
+        ensures bound { AreBoundAfter K.order nat_eq self.old self.new
+            (map E.told (take result entries.now)) }
+        ensures within { result ≤ length entries.now }
+    {
+        if self.range_count() == 0 {
+            if let Some(map) = map_in_order(alloc, entries) {
+                *self = KeptMap { map };
+                return entries.len();
+            }
+        }
+        self.bind_each(entries)
+    }
+
+    /// The same, one range after the other.
     fn bind_each<E: Told<K, u64>>(&mut self, entries: &[E]) -> usize
         requires keys { ClonesAreEqual K.is_clone K.eq }
         ensures bound { AreBoundAfter K.order nat_eq self.old self.new

@@ -18,6 +18,7 @@ use range_ffi::reads;
 use range_ffi::status::{CLOSED, DONE, NO_MEMORY, NO_ROOM, OTHER_KIND};
 use range_handles::collection::Collection;
 use range_handles::handle::Handle;
+use std::alloc::Global;
 
 /// Writes the stored ranges from the first that ends at the key or after it on, in ascending
 /// order, as many as the array takes, and how many.
@@ -238,9 +239,11 @@ pub extern "C" fn brm_raw_map_i64_get_many(
 /// Binds the keys of each range to the value beside it, one range after the other, and tells of how
 /// many: of all, or, with `NO_MEMORY`, of those before one for which there was not enough memory.
 ///
-/// Where several ranges hold a key, the last one counts. Costs an insertion for each range.
+/// Where several ranges hold a key, the last one counts. Costs an insertion for each range, but no
+/// search where the map is empty and the ranges are in order: then it allocates two lists of them.
 #[unsafe(no_mangle)]
 pub extern "C" fn brm_map_i64_insert_many(
+    alloc: Global,
     handle: &mut Handle,
     entries: &[SignedEntry],
     count: &mut usize,
@@ -262,7 +265,7 @@ pub extern "C" fn brm_map_i64_insert_many(
         return CLOSED;
     }
     match handle.seal.as_mut() {
-        Collection::Signed(kept) => kept.insert_many(entries, count),
+        Collection::Signed(kept) => kept.insert_many(alloc, entries, count),
         _ => OTHER_KIND,
     }
 }

@@ -1,0 +1,15 @@
+use Rattle.std.proofs.Common.{[], map, nat_eq, subst}
+use Rattle.range_map.specs.Extending.{AreBoundAfter}
+use Rattle.range_reads.specs.Iteration.{pair_item}
+use Rattle.range_store.specs.Holding.{box_items}
+use Rattle.range_ffi.proofs.InOrder.{bound_at_once}
+use Rattle.range_ffi.proofs.in_order.map_in_order.Goals as goal
+
+pub returns-in-Ok-from_sorted : goal.returns-in-Ok-from_sorted
+returns-in-Ok-from_sorted g c =
+    let order = g.K.MaybeBounded.order in
+    let made = c.in-Ok-from_sorted.ensures in
+    let items = box_items c.in-Ok-from_sorted.made in
+    subst (λ said. AreBoundAfter order nat_eq [] items said) c.in-Ok.ensures
+    (bound_at_once order items (map pair_item c.in-Ok.pairs.items)
+    (c.stored_lists_bind_once.ensures items made.form) made.bound)
