@@ -1,5 +1,5 @@
 -- A list of clones: equal item by item to its source, and in the same form.
-use Rattle.range_map.proofs.Common.{◌≡◌, sym, ap, ◌∙◌, List, [], ◌∷◌, Bool, true, ◌&&◌, IsTrue, All, AllZip, AllByRecursion, Equal, is_eq, eq_by_cmp, Equal-is, Ordering, IsEquivalence, alike_right, tied_back, and_from, and_parts, KeyOrder, IsLawful, start_position, end_position, position_cmp, position_total, Position, Bound, Included, Excluded, Unbounded, IsBoundClone, range_clone, IsKnownRange, IsEmptyRange, range_cmp, range_total, AnyRange, Item, IsCopyOf, LiesBefore, Touches, IsStored, both_equal, eq_is_equal, before_is, nonempty_good, touches_is, IsListed, stored_list_is_listed, stored_by, eq_le, eq_ge, le_trans, recursion_from_All}
+use Rattle.range_map.proofs.Common.{◌≡◌, sym, ap, ◌∙◌, List, [], ◌∷◌, Bool, true, ◌&&◌, IsTrue, All, AllZip, Every, Equal, is_eq, eq_by_cmp, Equal-is, Ordering, IsEquivalence, alike_right, tied_back, and_from, and_parts, KeyOrder, IsLawful, start_position, end_position, position_cmp, position_total, Position, Bound, Included, Excluded, Unbounded, IsBoundClone, range_clone, IsKnownRange, IsEmptyRange, range_cmp, range_total, AnyRange, Item, IsCopyOf, LiesBefore, Touches, IsStored, both_equal, eq_is_equal, before_is, nonempty_good, touches_is, IsListed, stored_list_is_listed, stored_by, eq_le, eq_ge, le_trans, recursion_from_All}
 use Rattle.range_algebra.specs.Clones.{IsBoundInfallible}
 use Rattle.range_change.specs.Clones.{ClonesNeverFail}
 use Rattle.range_change.proofs.Extents.{past_le}
@@ -80,9 +80,9 @@ module _ {K : Type 0} {order : KeyOrder K} (lawful : IsLawful order) where
     copy_full i j e full h = full (same_empty i.key j.key e h)
 
     copy_listed : (copy items : List (Item (AnyRange K) V)) → IsCopyOf order same copy items
-        → AllByRecursion (λ i. IsKnownRange order i.key) copy
-        → AllByRecursion (λ i. IsKnownRange order i.key) items
-        → AllByRecursion (λ i. ¬ IsEmptyRange order i.key) items
+        → Every (λ i. IsKnownRange order i.key) copy
+        → Every (λ i. IsKnownRange order i.key) items
+        → Every (λ i. ¬ IsEmptyRange order i.key) items
         → IsListed order lawful same items → IsListed order lawful same copy
     copy_listed [] items zip known known' full h = tt
     copy_listed (i ∷ []) (j ∷ others) zip known known' full h =

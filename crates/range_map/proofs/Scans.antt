@@ -1,9 +1,9 @@
 -- Where the items of a list do not hold a key.
-use Rattle.range_map.proofs.Common.{ℕ, List, [], ◌∷◌, length, take, ◌≤◌, inl, inr, All, AllByRecursion, take_all, KeyOrder, Holds, AnyRange, Item, IsBound, recursion_from_All}
+use Rattle.range_map.proofs.Common.{ℕ, List, [], ◌∷◌, length, take, ◌≤◌, inl, inr, All, Every, take_all, KeyOrder, Holds, AnyRange, Item, IsBound, recursion_from_All}
 
 module _ {K : Type 0} (order : KeyOrder K) {V : Type 0} where
   none_bound : (items : List (Item (AnyRange K) V)) (k : K)
-      → AllByRecursion (λ i. ¬ Holds order i.key k) items → ¬ IsBound order items k
+      → Every (λ i. ¬ Holds order i.key k) items → ¬ IsBound order items k
   none_bound [] k all h = h
   none_bound (i ∷ items) k all (inl h) = all.0 h
   none_bound (i ∷ items) k all (inr h) = none_bound items k all.1 h
