@@ -20,7 +20,7 @@ loop-i-init c = ([], refl, tt, c.new-draft.ensures)
 pub loop-i-preserved : goal.loop-i-preserved
 loop-i-preserved c =
     let (res, len, read, draft) = c.loop-i.invariant in
-    let (re, is, more) = c.in-Ok.ensures res len draft in
+    let (re, is, more) = c.in-Ok.ensures.added res len draft in
     let none : PatternRule = record {
       name = record { ref_ptr = (0, 0); now = [] };
       pattern = record { ref_ptr = (0, 0); now = [] };
@@ -34,8 +34,8 @@ loop-i-preserved c =
       more,
     )
 
-pub returns : goal.returns
-returns c =
+pub returns-clause-drafted : goal.returns-clause-drafted
+returns-clause-drafted c =
     let all : c.loop-i.i ≡ length c.args.rules.now =
     omega (arith, c.loop-i-test.false, c.loop-i.auto.i-end) in
     let whole = ap (λ n. take n c.args.rules.now) all ∙ take-length c.args.rules.now in

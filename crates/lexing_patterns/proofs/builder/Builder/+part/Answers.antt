@@ -93,7 +93,7 @@ up_to-returns-clause-built t c =
 
 pub part-returns-in-Empty-clause-built : goal.part-returns-in-Empty-clause-built
 part-returns-in-Empty-clause-built t c =
-    rw (c.in-Empty.is, meaning-Empty, c.in_ok-spend.ensures) (c.empty.ensures c.args.self.now.next)
+    rw (c.in-Empty.is, meaning-Empty, c.in_ok-spend.ensures.kept) (c.empty.ensures c.args.self.now.next)
 
 pub repetition-returns-in_ok-rest-in-Some-clause-built : goal.repetition-returns-in_ok-rest-in-Some-clause-built
 repetition-returns-in_ok-rest-in-Some-clause-built t c =
