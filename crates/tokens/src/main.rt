@@ -125,31 +125,41 @@ fn machine_of<E: Write>(rt: &HostRuntime, path: &str, err: &mut E) -> io::Result
     }
 }
 
-fn run(rt: &HostRuntime) -> io::Result<u8> {
-    let words = words(rt)?;
-    let words = match words.as_slice() {
-        [_, words @ ..] => words,
-        [] => &[],
-    };
-    let (form, words) = chosen_form(words);
-    let mut err = rt.stderr();
-    let [rules, paths @ ..] = words else {
-        err.write_all(b"usage: tokens [--json|--count] RULES FILE..\n")?;
-        return Ok(2);
-    };
-    let Some(machine) = machine_of(rt, rules.as_str(), &mut err)? else {
-        return Ok(1);
-    };
+/// Prints the tokens of each file by the machine; whether each could be read and cut to its end.
+fn print_all<E: Write>(
+    rt: &HostRuntime,
+    machine: &Machine,
+    form: Form,
+    paths: &[String],
+    err: &mut E,
+) -> io::Result<bool> {
     let printer = Printer {
         alloc: rt.alloc(),
         form,
         lexer: machine.lexer(),
-        scanner: &machine,
+        scanner: machine,
     };
     let mut out = BufWriter::with_capacity(rt.alloc(), BUFFER_BYTES, rt.stdout())?;
-    match print_files(rt, &printer, paths, &mut out, &mut err)? {
-        true => Ok(0),
-        false => Ok(1),
+    print_files(rt, &printer, paths, &mut out, err)
+}
+
+/// Does what the words ask for, and returns the exit status.
+fn answer<E: Write>(rt: &HostRuntime, words: &[String], err: &mut E) -> io::Result<u8> {
+    let (form, words) = chosen_form(words);
+    let [rules, paths @ ..] = words else {
+        err.write_all(b"usage: tokens [--json|--count] RULES FILE..\n")?;
+        return Ok(2);
+    };
+    match machine_of(rt, rules.as_str(), err)? {
+        Some(machine) if print_all(rt, &machine, form, paths, err)? => Ok(0),
+        _ => Ok(1),
+    }
+}
+
+fn run(rt: &HostRuntime) -> io::Result<u8> {
+    match words(rt)?.as_slice() {
+        [_, words @ ..] => answer(rt, words, &mut rt.stderr()),
+        [] => answer(rt, &[], &mut rt.stderr()),
     }
 }
 
