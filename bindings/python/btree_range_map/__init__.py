@@ -36,7 +36,7 @@ from ._keys import KEYS, Keys, Range
 from ._library import library as _calls
 
 __all__ = ["Connected", "NotLoaded", "Range", "RangeMap", "RangeSet"]
-__version__ = "0.3.1"
+__version__ = "0.3.2"
 
 V = TypeVar("V")
 

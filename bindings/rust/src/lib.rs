@@ -16,6 +16,7 @@
 //!
 //! [`RangeMap`] has values of any type that is `Eq` and `Hash`, [`RangeSet`] has keys alone, and [`NumberMap`] is the
 //! proved map as it is, with numbers as values, calls that answer by an error where memory runs out, and JSON.
+//! [`serde_with!`] makes what `serde` needs.
 #![warn(missing_docs)]
 
 mod batches;
@@ -23,6 +24,7 @@ mod ffi;
 mod map;
 mod numbers;
 mod range;
+mod serde;
 mod set;
 mod values;
 
