@@ -128,14 +128,6 @@ module _ {T : Type 0} where
       → box_rank s edge ≡ box_place s edge - 1
   rank_is {s} {edge} good = rank_when (good_or_not s edge) good
 
-  -- the edge after the item of a rank is a position of that rank
-  pub next_at : (s : BoxStorage T) (edge : Option Edge) (rank : ℕ) → IsNextEdge s edge rank
-      → IsAt (IsGood s) (box_rank s) (length (box_items s)) edge rank
-  next_at s None rank is = is
-  next_at s (Some edge) rank is =
-      let good : IsGood s edge = record { is = is.0; some = omega (arith, is.1) } in
-      (good, omega (arith, rank_is good, is.1))
-
   -- the item before a good edge has a home
   pub good_home : {s : BoxStorage T} {edge : Edge} → IsGood s edge → IsHome s.nodes (s.levels - 1)
       s.root (box_home s edge).node (box_home s edge).index (box_place s edge - 1)
