@@ -1,4 +1,4 @@
-use Rattle.std.proofs.Common.{◌≡◌, ◌≢◌, ◌≤◌, length, refl, arith}
+use Rattle.std.proofs.Common.{◌≡◌, ◌≢◌, ◌+◌, ◌*◌, ◌^◌, ◌<◌, ◌≤◌, length, refl, arith}
 use Rattle.std.proofs.Math.Nat.{mul-le-mul_left}
 use Rattle.range_store.specs.Heap.{node_items}
 use Rattle.range_store.specs.declared.btree.nodes.TheConstants.{CAPACITY}
@@ -39,41 +39,29 @@ child_at-at-requires g c =
           (low g a);
     }
 
-pub overflow_mul-path : goal.overflow_mul-path
-overflow_mul-path g c =
-    let a = (goal.at.overflow_mul-path g c).After-first_turn-index in
+small : (g : Over) (c : After-first_turn-index g)
+    → c.down.path + c.down.weight * c.first_turn-index.result + c.down.weight < 2 ^ 64
+small g c =
     let d = c.down.invariant.way.lies in
     omega (
       arith,
       d.small,
       weight_fits c.args.below c.down.left c.down.weight c.requires.deep c.down-test.true
           d.weight_is,
-      mul-le-mul_left c.down.weight (few g a),
+      mul-le-mul_left c.down.weight (few g c),
     )
+
+pub overflow_mul-path : goal.overflow_mul-path
+overflow_mul-path g c = omega
+    (arith, small g (goal.at.overflow_mul-path g c).After-first_turn-index)
 
 pub overflow_add-path : goal.overflow_add-path
-overflow_add-path g c =
-    let a = (goal.at.overflow_add-path g c).After-first_turn-index in
-    let d = c.down.invariant.way.lies in
-    omega (
-      arith,
-      d.small,
-      weight_fits c.args.below c.down.left c.down.weight c.requires.deep c.down-test.true
-          d.weight_is,
-      mul-le-mul_left c.down.weight (few g a),
-    )
+overflow_add-path g c = omega
+    (arith, small g (goal.at.overflow_add-path g c).After-first_turn-index)
 
 pub overflow_add-later : goal.overflow_add-later
-overflow_add-later g c =
-    let a = (goal.at.overflow_add-later g c).After-first_turn-index in
-    let d = c.down.invariant.way.lies in
-    omega (
-      arith,
-      d.small,
-      weight_fits c.args.below c.down.left c.down.weight c.requires.deep c.down-test.true
-          d.weight_is,
-      mul-le-mul_left c.down.weight (few g a),
-    )
+overflow_add-later g c = omega
+    (arith, small g (goal.at.overflow_add-later g c).After-first_turn-index)
 
 pub overflow_mul-weight : goal.overflow_mul-weight
 overflow_mul-weight g c =
