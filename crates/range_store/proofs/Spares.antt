@@ -11,7 +11,7 @@ use Rattle.range_store.specs.declared.btree.node.Node.{Node}
 use Rattle.range_store.specs.Heap.{Heap, Content, node_of, HasNode, HasRoomFor, SameNodes, items_of, children_of, node_count, with_item, FitsChild, Writes, Stores, Removes, Absorbs, node_items, node_children}
 use Rattle.range_store.specs.Occurrences.{occurrences, occurrences-append, occurrences-cons, occurrences-nil, occurrences_here, occurrences_itself, occurrences_other}
 use Rattle.range_store.specs.Rows.{row_of}
-use Rattle.range_store.specs.Spares.{without, len_of, content_of, contents, nothing, heap_of, FitsCount, IsWhole}
+use Rattle.range_store.specs.Spares.{without, len_of, content_of, contents, heap_of, FitsCount, IsWhole}
 use Rattle.range_store.proofs.Slots.{slot_count, slot_read}
 
 listed : (n : ℕ) (ns : List ℕ) (k : ℕ) → k ≡ n → occurrences k (n ∷ ns) ≡ 0 → ⊥

@@ -7,7 +7,7 @@ use Rattle.std.proofs.lemmas.List.{set_past}
 use Rattle.range_store.specs.Heap.{Heap, with_item, node_items, node_children}
 use Rattle.range_store.specs.Nodes.{items_below, IsRoomy}
 use Rattle.range_store.specs.Edges.{turn, inside, IsEdge, place, home_of}
-use Rattle.range_store.specs.ListPlaces.{place_before, IsAt}
+use Rattle.range_store.specs.ListPlaces.{place_before}
 use Rattle.range_store.specs.Written.{SameShape, turned, length_same, tree_same, edge_same, place_same, IsHome, home_is, home_item, home_set, home_within, written_shape, item_written, tree_once, root_shaped}
 use Rattle.range_store.specs.declared.btree.BoxStorage.{BoxStorage}
 use Rattle.range_store.specs.declared.btree.nodes.TheConstants.{CAPACITY, MAX_LEN, MIN_LEN}

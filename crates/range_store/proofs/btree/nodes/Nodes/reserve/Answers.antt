@@ -1,4 +1,4 @@
-use Rattle.std.proofs.Common.{◌≡◌, ◌≤◌, [], length, refl, ap, ◌∙◌, arith}
+use Rattle.std.proofs.Common.{[], length, refl, ap, ◌∙◌, arith}
 use Rattle.slab.specs.Slab.{slab_len}
 use Rattle.range_store.specs.Heap.{HasRoomFor, SameNodes}
 use Rattle.range_store.specs.Spares.{heap_of}
