@@ -1,20 +1,94 @@
--- The edge behind the leaf of another, found on the way down to the leaf.
-use Rattle.std.proofs.Common.{◌≡◌, ◌≢◌, ℕ, zero, suc, ◌+◌, ◌-◌, ◌*◌, ◌<◌, ◌≤◌, Option, Some, None, length, refl, sym, ap, subst, ◌∙◌, arith}
+-- The edge behind the leaf of another, and the home of the item before that, found on the way down
+-- to the leaf.
+use Rattle.std.proofs.Common.{◌≡◌, ◌≢◌, ℕ, zero, suc, ◌+◌, ◌-◌, ◌*◌, ◌<◌, ◌≤◌, Option, Some, None, length, refl, sym, ap, subst, ◌∙◌, inl, inr, true, false, arith}
 use Rattle.std.specs.Prelude.{MatchOption}
+use Rattle.std.proofs.lemmas.Bool.{and_from, cases_eq, eq-eqb, false_from_ne_true}
 use Rattle.std.proofs.Math.Nat.{mul-add}
 use Rattle.range_store.specs.Heap.{Heap, node_items, node_child}
 use Rattle.range_store.specs.declared.btree.nodes.TheConstants.{CAPACITY}
 use Rattle.range_store.specs.declared.btree.path.Edge.{Edge}
+use Rattle.range_store.specs.declared.btree.path.Home.{Home}
 use Rattle.range_store.specs.declared.btree.path.Subtree.{Subtree}
 use Rattle.range_store.specs.declared.btree.path.TheConstants.{PATH_BASE}
-use Rattle.range_store.specs.Edges.{turn, inside, IsEdge, place}
+use Rattle.range_store.specs.Edges.{turn, inside, is_start, IsEdge, place, home_of}
 use Rattle.range_store.specs.Nodes.{items_below, ShapedBut}
 use Rattle.range_store.proofs.Below.{items_below_leaf}
 use Rattle.range_store.proofs.Edges.{leaf_is, leaf_index, leaf_place}
-use Rattle.range_store.proofs.Paths.{level_of_children, below_turn, below_inside, below_here, past_last, before_next}
+use Rattle.range_store.specs.Written.{place_of_start}
+use Rattle.range_store.proofs.Paths.{level_of_children, below_turn, below_inside, below_here, home_above, home_inside, home_leaf, past_last, before_next, start_parts}
 use Rattle.range_store.proofs.PathsBelow.{ahead_of, LiesBelow, lies_itself, lies_in_child, first_below}
 
+is_first : (g : Edge) → g.path ≡ 0 → g.index ≡ 0 → is_start g ≡ true
+is_first g path index = and_from _ _ (eq-eqb _ _ path) (eq-eqb _ _ index)
+
+is_later : (g : Edge) → 0 < g.path + g.index → is_start g ≡ false
+is_later g some = false_from_ne_true _
+    (λ start. omega (arith, some, (start_parts g start).0, (start_parts g start).1))
+
 module _ {T : Type 0} (s : Heap T) where
+  -- the edge at the end of a leaf
+  abbrev pub leaf_end : Edge → Edge
+  leaf_end edge = record edge { index = length (node_items s edge.leaf) }
+
+  -- where the item before an edge stands, found so far: at `home`, if nothing stands before the
+  -- edge as it is seen from the node `at`, else below that
+  pub record HasHome (below number : ℕ) (edge : Edge) (left at : ℕ) (inner : Edge) (home : Home)
+      : Type 0 where
+    pub is : IsEdge s left at inner
+    pub first : inner.path + inner.index ≡ 0 → home_of s below number edge ≡ home
+    pub later : 0 < inner.path + inner.index
+        → home_of s below number edge ≡ home_of s left at inner
+
+  pub home_sets_out : {below number : ℕ} (edge : Edge) (home : Home) → IsEdge s below number edge
+      → 0 < place s below number edge → HasHome below number edge below number edge home
+  home_sets_out {below} {number} edge home is some = record {
+    is = is;
+    first = λ none. absurd (omega (
+      arith,
+      some,
+      place_of_start s below number edge (omega (arith, none)) (omega (arith, none)),
+    ));
+    later = λ _. refl;
+  }
+
+  pub home_goes_on : {below number : ℕ} {edge : Edge} {left at : ℕ} {inner : Edge} {home : Home}
+      → left ≢ 0 → ShapedBut 1 CAPACITY s left at → HasHome below number edge left at inner home
+      → (i : ℕ) → i ≡ turn inner → (next : Home) → (i ≡ 0 → next ≡ home)
+      → (0 < i → next ≡ record { node = at; index = i - 1 })
+      → HasHome below number edge (left - 1) (node_child s at i) (inside inner) next
+  home_goes_on {below} {number} {edge} {left} {at} {inner} {home} above shaped has i i_is next stays
+      goes = record {
+        is = rw i_is (below_inside above shaped inner has.is);
+        first = λ none.
+            elim (cases_eq i 0) [
+              | inl straight ↦
+                  has.first (omega (arith, none, straight, i_is)) ∙ sym (stays straight)
+              | inr other ↦
+                  has.later (omega (arith, other, i_is))
+                  ∙ home_above above shaped inner
+                  (is_first (inside inner) (omega (arith, none)) (omega (arith, none)))
+                  ∙ sym (rw i_is at (goes (omega (arith, other))))
+            ];
+        later = λ some.
+            rw i_is (has.later (omega (arith, some))
+            ∙ home_inside above shaped inner (is_later (inside inner) some));
+      }
+
+  pub home_is_found : {below number : ℕ} {edge : Edge} (left at : ℕ) (inner : Edge) {home : Home}
+      → left ≡ 0 → HasHome below number edge left at inner home → (next : Home)
+      → (inner.index ≡ 0 → next ≡ home)
+      → (0 < inner.index → next ≡ record { node = at; index = inner.index - 1 })
+      → next ≡ home_of s below number edge
+  unfolding IsEdge
+  home_is_found (suc left) at inner bottom has next stays goes = absurd (omega arith)
+  home_is_found zero at inner bottom has next stays goes =
+      elim (cases_eq inner.index 0) [
+        | inl first ↦ stays first ∙ sym (has.first (omega (arith, has.is.1, first)))
+        | inr some ↦
+            goes (omega (arith, some)) ∙ sym (home_leaf s at inner)
+            ∙ sym (has.later (omega (arith, some)))
+      ]
+
   -- a subtree whose first edge stands behind so many items
   pub record BeginsBehind (below number : ℕ) (subtree : Subtree) (ahead : ℕ) : Type 0 where
     pub low : subtree.below ≤ below

@@ -12,6 +12,11 @@ use Rattle.range_store.specs.Edges.{turn, inside, is_start, IsEdge, place, home_
 use Rattle.range_store.proofs.Below.{shaped_within_wider}
 use Rattle.range_store.proofs.Rank.{kid_shaped}
 
+-- a leaf has no child to be taken
+pub no_child_gone : (ks : List ℕ) → length ks ≡ 0 → remove ks 0 ≡ ks
+no_child_gone [] none = refl
+no_child_gone (k ∷ ks) none = absurd (omega arith)
+
 -- what stands before it there stands before it below the node
 pub place_index : {T : Type 0} (s : Heap T) (d n : ℕ) (g : Edge) → g.index ≤ place s d n g
 unfolding place

@@ -24,7 +24,7 @@ home_step : {T : Type 0} (s : Heap T) (d n : ℕ) (g : Edge)
 unfolding home_of
 home_step s d n g = refl
 
-start_parts : (g : Edge) → is_start g ≡ true → (g.path ≡ 0) × (g.index ≡ 0)
+pub start_parts : (g : Edge) → is_start g ≡ true → (g.path ≡ 0) × (g.index ≡ 0)
 start_parts g start =
     let both = and_parts (g.path == 0) (g.index == 0) start in
     (eqb-true _ _ both.0, eqb-true _ _ both.1)
@@ -132,26 +132,3 @@ module _ {T : Type 0} {s : Heap T} {b n : ℕ} (inner : b ≢ 0)
       let step : home_of s (suc (b - 1)) n g ≡ below =
       home_step s (b - 1) n g ∙ ap (λ v. cond v at below) later in
       rw level_of_children at step
-
-  pub turn_is_later : (g : Edge) → is_start (inside g) ≡ true → 0 < place s b n g → 0 < turn g
-  turn_is_later g start some = from (turn g) refl
-    where
-      from : (t : ℕ) → t ≡ turn g → 0 < t
-      from zero at =
-          let none : length (before_child s b n (turn g)) ≡ 0 = rw (← at) refl in
-          absurd
-          (omega (
-            arith,
-            some,
-            below_here g,
-            none,
-            place_of_start s (b - 1) (node_child s n (turn g)) (inside g)
-                (start_parts (inside g) start).0 (start_parts (inside g) start).1,
-          ))
-      from (suc t) at = omega arith
-
-  pub inside_is_later : (g : Edge) → IsEdge s b n g → is_start (inside g) ≡ false
-      → 0 < place s (b - 1) (node_child s n (turn g)) (inside g)
-  inside_is_later g is later =
-      let low = below_turn g is in
-      not_start (inside g) (below_kid (turn g) low) (below_inside g is) later

@@ -38,29 +38,6 @@ module _ {T : Type 0} where
         sym (ap (drop 1) next) ∙ drop-drop 1 k items,
       )
 
-  -- the last item of a row went
-  module _ (rows now : List (List T)) (n left : ℕ) (there : n < length rows) (some : 0 < left)
-      (few : left ≤ length (row_of rows n)) (was : now ≡ set rows n (take left (row_of rows n)))
-    where
-      here : row_of now n ≡ take left (row_of rows n)
-      here = ap (λ zs. row_of zs n) was
-          ∙ get_or-set_same rows n (take left (row_of rows n)) [] there
-
-      pub left_length : length (row_of now n) ≡ left
-      left_length = ap length here ∙ length-take-le left (row_of rows n) few
-
-      shorter : remove (row_of now n) (left - 1) ≡ take (left - 1) (row_of rows n)
-      shorter =
-          without_last (row_of now n) (left - 1) (omega (arith, left_length))
-          ∙ ap (take (left - 1)) here ∙ take-take (left - 1) left (row_of rows n) (omega arith)
-
-      pub taken_last : set now n (remove (row_of now n) (left - 1))
-          ≡ set rows n (take (left - 1) (row_of rows n))
-      taken_last =
-          ap (λ zs. set zs n (remove (row_of now n) (left - 1))) was
-          ∙ set-set rows n (take left (row_of rows n)) (remove (row_of now n) (left - 1))
-          ∙ ap (set rows n) shorter
-
   -- the last item of one row went to the place behind those that another had
   module _ (rows now : List (List T)) (from to left : ℕ) (from_there : from < length rows)
       (to_there : to < length rows) (apart : from ≢ to) (some : 0 < left)

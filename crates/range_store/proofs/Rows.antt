@@ -299,32 +299,25 @@ module _ {T : Type 0} where
         let less : n < topped_rows.there = omega (arith, topped_rows.cells_are, topped_room) in
         rw (← topped_same, rows_read many topped n within) (topped_rows.held n less)
 
-  -- a row without cells was added
-  module _ {many : ℕ} {cells : List (Option T)} (rows : IsRows many cells) where
-    pub added_rows : IsRows (suc many) cells
-    added_rows = record {
-      there = rows.there;
-      few = omega (arith, rows.few);
-      cells_are = rows.cells_are;
-      held = rows.held;
-    }
-
+  -- rows without cells were added
+  module _ {many : ℕ} {cells : List (Option T)} (rows : IsRows many cells) (more : ℕ)
+      (long : many ≤ more) where
     -- each number has what it had
-    pub added_kept : (n : ℕ) → row_of (rows_in (suc many) cells) n ≡ row_of (rows_in many cells) n
+    pub added_kept : (n : ℕ) → row_of (rows_in more cells) n ≡ row_of (rows_in many cells) n
     added_kept n =
         elim (cases_lt n many) [
           | inl less ↦
-              rows_read (suc many) cells n (omega (arith, less)) ∙ sym (rows_read many cells n less)
+              rows_read more cells n (omega (arith, less, long)) ∙ sym (rows_read many cells n less)
           | inr past ↦
-              elim (cases_eq n many) [
-                | inl same ↦
-                    rows_read (suc many) cells n (omega (arith, same))
+              elim (cases_lt n more) [
+                | inl new ↦
+                    rows_read more cells n new
                     ∙ ap items_in (cells_past rows n (omega (arith, past, rows.few)))
                     ∙ sym (get_or_past (rows_in many cells) n []
                     (omega (arith, length-rows many cells, past)))
                 | inr other ↦
-                    get_or_past (rows_in (suc many) cells) n []
-                    (omega (arith, length-rows (suc many) cells, past, other))
+                    get_or_past (rows_in more cells) n []
+                    (omega (arith, length-rows more cells, other))
                     ∙ sym (get_or_past (rows_in many cells) n []
                     (omega (arith, length-rows many cells, past)))
               ]

@@ -1,17 +1,17 @@
 -- What is left of a list of slots, and of a slab of nodes, but for its spares.
-use Rattle.std.proofs.Common.{◌≡◌, ◌≢◌, ℕ, zero, suc, ◌+◌, ◌<◌, ◌≤◌, List, [], ◌∷◌, ◌++◌, length, get_or, cond, Option, Some, None, is_some, IsSome, count_by, refl, sym, ap, ◌∙◌, inl, inr, arith, length-append}
+use Rattle.std.proofs.Common.{◌≡◌, ◌≢◌, ℕ, zero, suc, ◌+◌, ◌<◌, ◌≤◌, List, [], ◌∷◌, ◌++◌, length, get_or, cond, Option, Some, None, is_some, IsSome, count_by, refl, sym, ap, subst, ◌∙◌, inl, inr, arith, length-append}
 use Rattle.std.proofs.Math.ListN.{set, length-set}
 use Rattle.std.specs.List.{insert, remove}
 use Rattle.std.proofs.lemmas.List.Edits.{length-insert, length-remove}
 use Rattle.std.proofs.lemmas.Bool.{cases_eq, cases_lt, false≢true}
-use Rattle.std.proofs.lemmas.List.{get_or-set_other, get_or-set_same, get_or_past, set_comm}
+use Rattle.std.proofs.lemmas.List.{get_or-set_other, get_or-set_same, get_or_past, nil_from_length, set_comm}
 use Rattle.std.proofs.lemmas.List.Sums.{sum_by-cons}
 use Rattle.slab.specs.Slab.{Slab, get, slab_len, with_value, Updates}
 use Rattle.range_store.specs.declared.btree.node.Node.{Node}
 use Rattle.range_store.specs.Heap.{Heap, Content, node_of, HasNode, HasRoomFor, SameNodes, items_of, children_of, node_count, with_item, FitsChild, Writes, Stores, Removes, Absorbs, node_items, node_children}
 use Rattle.range_store.specs.Occurrences.{occurrences, occurrences-append, occurrences-cons, occurrences-nil, occurrences_here, occurrences_itself, occurrences_other}
 use Rattle.range_store.specs.Rows.{row_of}
-use Rattle.range_store.specs.Spares.{without, len_of, content_of, contents, nothing, heap_of, FitsCount, IsWhole}
+use Rattle.range_store.specs.Spares.{without, len_of, content_of, contents, heap_of, FitsCount, IsWhole}
 use Rattle.range_store.proofs.Slots.{slot_count, slot_read}
 
 listed : (n : ℕ) (ns : List ℕ) (k : ℕ) → k ≡ n → occurrences k (n ∷ ns) ≡ 0 → ⊥
@@ -275,6 +275,53 @@ module _ {T : Type 0} (old new : Slab Node) (was now : List (List T)) (spares : 
     once = λ k. omega (arith, fewer k, whole.once k);
   }
 
+  elsewhere : (left : List ℕ) → ((k : ℕ) → k ≢ n → occurrences k left ≡ occurrences k spares)
+      → (k : ℕ) → k ≢ n → node_of (heap_of new now left) k ≡ node_of (heap_of old was spares) k
+  elsewhere left alike k differs =
+      elim (cases_eq (occurrences k spares) 0) [
+        | inl none ↦
+            slot_seen new now left k (alike k differs ∙ none)
+            ∙ unchanged k differs
+            ∙ sym (slot_seen old was spares k none)
+        | inr some ↦
+            spare_read new now left k (omega (arith, alike k differs, some))
+            ∙ sym (spare_read old was spares k (omega (arith, some)))
+      ]
+
+  -- the number became a spare, with nothing
+  more_whole : (left : List ℕ)
+      → ((k : ℕ) → occurrences k left ≡ occurrences k (n ∷ []) + occurrences k spares)
+      → occurrences n spares ≡ 0 → items ≡ [] → node.children.items ≡ [] → IsWhole new now left
+  more_whole left told apart no_items no_children = record {
+    there = changed_there;
+    lens = changed_lens;
+    empty = λ k among.
+        elim (cases_eq k n) [
+          | inl same ↦
+              rw same (changed
+              ∙ ap (λ xs. Some (record { items = xs; children = node.children.items })) no_items
+              ∙ ap (λ ks. Some (record { items = []; children = ks })) no_children)
+          | inr differs ↦
+              unchanged k differs
+              ∙ whole.empty k (omega (
+                arith,
+                among,
+                told k,
+                occurrences_other k n (λ e. differs (sym e)),
+              ))
+        ];
+    once = λ k.
+        elim (cases_eq k n) [
+          | inl same ↦ rw same (omega (arith, told n, apart, occurrences_itself n))
+          | inr differs ↦ omega (
+            arith,
+            told k,
+            whole.once k,
+            occurrences_other k n (λ e. differs (sym e)),
+          )
+        ];
+  }
+
   module _ (len : slab_len new ≡ slab_len old) where
     -- a node was written
     pub written_whole : occurrences n spares ≡ 0 → IsWhole new now spares
@@ -283,19 +330,6 @@ module _ {T : Type 0} (old new : Slab Node) (was now : List (List T)) (spares : 
     here : (left : List ℕ) → occurrences n left ≡ 0 → node_of (heap_of new now left) n
         ≡ Some (record { items = items; children = node.children.items })
     here left apart = slot_seen new now left n apart ∙ changed
-
-    elsewhere : (left : List ℕ) → ((k : ℕ) → k ≢ n → occurrences k left ≡ occurrences k spares)
-        → (k : ℕ) → k ≢ n → node_of (heap_of new now left) k ≡ node_of (heap_of old was spares) k
-    elsewhere left alike k differs =
-        elim (cases_eq (occurrences k spares) 0) [
-          | inl none ↦
-              slot_seen new now left k (alike k differs ∙ none)
-              ∙ unchanged k differs
-              ∙ sym (slot_seen old was spares k none)
-          | inr some ↦
-              spare_read new now left k (omega (arith, alike k differs, some))
-              ∙ sym (spare_read old was spares k (omega (arith, some)))
-        ]
 
     pub written : HasNode (heap_of old was spares) n
         → Writes (heap_of old was spares) (heap_of new now spares) n items node.children.items
@@ -348,38 +382,8 @@ module _ {T : Type 0} (old new : Slab Node) (was now : List (List T)) (spares : 
       apart : occurrences n spares ≡ 0
       apart = in_use old was spares n present
 
-      bare : content_of (row_of now n) (get new n) ≡ Some nothing
-      bare = changed
-          ∙ ap (λ xs. Some (record { items = xs; children = node.children.items })) no_items
-          ∙ ap (λ ks. Some (record { items = []; children = ks })) no_children
-
       pub freed_whole : IsWhole new now (n ∷ spares)
-      freed_whole = record {
-        there = changed_there;
-        lens = changed_lens;
-        empty = λ k among.
-            elim (cases_eq k n) [
-              | inl same ↦ rw same bare
-              | inr differs ↦
-                  unchanged k differs
-                  ∙ whole.empty k (omega (
-                    arith,
-                    among,
-                    longer k,
-                    occurrences_other k n (λ e. differs (sym e)),
-                  ))
-            ];
-        once = λ k.
-            elim (cases_eq k n) [
-              | inl same ↦ rw same (omega (arith, longer n, apart, occurrences_itself n))
-              | inr differs ↦ omega (
-                arith,
-                longer k,
-                whole.once k,
-                occurrences_other k n (λ e. differs (sym e)),
-              )
-            ];
-      }
+      freed_whole = more_whole (n ∷ spares) longer apart no_items no_children
 
       pub removed : Removes (heap_of old was spares) (heap_of new now (n ∷ spares)) n
       removed = record {
@@ -409,90 +413,67 @@ module _ {T : Type 0} (old new : Slab Node) (was now : List (List T)) (spares : 
         → occurrences k (spares ++ n ∷ []) ≡ occurrences k spares + occurrences k (n ∷ [])
     more k = occurrences-append k spares (n ∷ [])
 
-    pub added_whole : IsWhole new now (spares ++ n ∷ [])
-    added_whole = record {
-      there = changed_there;
-      lens = changed_lens;
-      empty = λ k among.
-          elim (cases_eq k n) [
-            | inl same ↦
-                rw same (changed
-                ∙ ap (λ xs. Some (record { items = xs; children = node.children.items })) no_items
-                ∙ ap (λ ks. Some (record { items = []; children = ks })) no_children)
-            | inr differs ↦
-                unchanged k differs
-                ∙ whole.empty k (omega (
-                  arith,
-                  among,
-                  more k,
-                  occurrences_other k n (λ e. differs (sym e)),
-                ))
-          ];
-      once = λ k.
-          elim (cases_eq k n) [
-            | inl same ↦ rw same (omega (arith, more n, absent, occurrences_itself n))
-            | inr differs ↦ omega (
-              arith,
-              more k,
-              whole.once k,
-              occurrences_other k n (λ e. differs (sym e)),
-            )
-          ];
-    }
+    added_whole : IsWhole new now (spares ++ n ∷ [])
+    added_whole = more_whole (spares ++ n ∷ []) (λ k. omega (arith, more k)) absent no_items
+        no_children
 
-    pub added : SameNodes (heap_of old was spares) (heap_of new now (spares ++ n ∷ []))
-    added = record {
-      nodes = λ k.
-          elim (cases_eq k n) [
-            | inl same ↦
-                rw same (spare_read new now (spares ++ n ∷ []) n
-                (omega (arith, more n, occurrences_itself n))
-                ∙ sym (slot_seen old was spares n absent
-                ∙ ap (content_of (row_of was n)) fresh))
-            | inr differs ↦
-                elim (cases_eq (occurrences k spares) 0) [
-                  | inl none ↦
-                      slot_seen new now (spares ++ n ∷ []) k
-                      (omega (arith, more k, none, occurrences_other k n (λ e. differs (sym e))))
-                      ∙ unchanged k differs
-                      ∙ sym (slot_seen old was spares k none)
-                  | inr some ↦
-                      spare_read new now (spares ++ n ∷ []) k (omega (arith, more k, some))
-                      ∙ sym (spare_read old was spares k (omega (arith, some)))
-                ]
-          ];
-      len = omega (arith, counted whole, counted added_whole, len, length-append spares (n ∷ []));
-    }
+    pub added : IsWhole new now (spares ++ n ∷ [])
+        × SameNodes (heap_of old was spares) (heap_of new now (spares ++ n ∷ []))
+    added = (
+      added_whole,
+      record {
+        nodes = λ k.
+            elim (cases_eq k n) [
+              | inl same ↦
+                  rw same (spare_read new now (spares ++ n ∷ []) n
+                  (omega (arith, more n, occurrences_itself n))
+                  ∙ sym (slot_seen old was spares n absent
+                  ∙ ap (content_of (row_of was n)) fresh))
+              | inr differs ↦ elsewhere (spares ++ n ∷ []) (λ k differs.
+                  omega (arith, more k, occurrences_other k n (λ e. differs (sym e)))) k differs
+            ];
+        len = omega (arith, counted whole, counted added_whole, len, length-append spares (n ∷ []));
+      },
+    )
 
--- rows that grew, but have what they had
-pub grown_whole : {T : Type 0} {slab : Slab Node} {was : List (List T)} (now : List (List T))
-    {spares : List ℕ} → IsWhole slab was spares → length was ≤ length now
-    → ((k : ℕ) → row_of now k ≡ row_of was k) → IsWhole slab now spares
-grown_whole {T} {slab} now whole long kept = record {
-  there = λ k some. omega (arith, long, whole.there k some);
-  lens = λ k. ap length (kept k) ∙ whole.lens k;
-  empty = λ k among.
-      ap (λ xs. content_of xs (get slab k)) (kept k) ∙ whole.empty k among;
-  once = whole.once;
-}
+-- a slab with more capacity, and rows that grew, but have what they had
+module _ {T : Type 0} {slab larger : Slab Node} {was : List (List T)} {spares : List ℕ}
+    (same : larger ≡ record slab { capacity = larger.capacity }) (now : List (List T))
+    (whole : IsWhole slab was spares) (long : length was ≤ length now)
+    (kept : (k : ℕ) → row_of now k ≡ row_of was k) where
+  abbrev grown : Slab Node
+  grown = record slab { capacity = larger.capacity }
 
-pub grown : {T : Type 0} {slab : Slab Node} {was : List (List T)} (now : List (List T))
-    {spares : List ℕ} → IsWhole slab was spares → length was ≤ length now
-    → ((k : ℕ) → row_of now k ≡ row_of was k)
-    → SameNodes (heap_of slab was spares) (heap_of slab now spares)
-grown {T} {slab} {was} now {spares} whole long kept = record {
-  nodes = λ k.
-      elim (cases_eq (occurrences k spares) 0) [
-        | inl none ↦
-            slot_seen slab now spares k none
-            ∙ ap (λ xs. content_of xs (get slab k)) (kept k)
-            ∙ sym (slot_seen slab was spares k none)
-        | inr some ↦
-            spare_read slab now spares k (omega (arith, some))
-            ∙ sym (spare_read slab was spares k (omega (arith, some)))
-      ];
-  len = omega (arith, counted whole, counted (grown_whole now whole long kept));
-}
+  grown_whole : IsWhole grown now spares
+  grown_whole = record {
+    there = λ k some. omega (arith, long, whole.there k some);
+    lens = λ k. ap length (kept k) ∙ whole.lens k;
+    empty = λ k among.
+        ap (λ xs. content_of xs (get slab k)) (kept k) ∙ whole.empty k among;
+    once = whole.once;
+  }
+
+  grown_nodes : SameNodes (heap_of slab was spares) (heap_of grown now spares)
+  grown_nodes = record {
+    nodes = λ k.
+        elim (cases_eq (occurrences k spares) 0) [
+          | inl none ↦
+              slot_seen slab now spares k none
+              ∙ ap (λ xs. content_of xs (get slab k)) (kept k)
+              ∙ sym (slot_seen slab was spares k none)
+          | inr some ↦
+              spare_read slab now spares k (omega (arith, some))
+              ∙ sym (spare_read slab was spares k (omega (arith, some)))
+        ];
+    len = omega (arith, counted whole, counted grown_whole);
+  }
+
+  pub roomier : IsWhole larger now spares
+      × SameNodes (heap_of slab was spares) (heap_of larger now spares)
+  roomier =
+      subst (λ s. IsWhole s now spares
+      × SameNodes (heap_of slab was spares) (heap_of s now spares))
+      (sym same) (grown_whole, grown_nodes)
 
 -- a node and its row were written, which left these spares, and made this of the nodes
 pub record Leaves {T : Type 0} (slab : Slab Node) (rows : List (List T)) (spares : List ℕ) (n : ℕ)
@@ -556,6 +537,20 @@ module _ {T : Type 0} {slab : Slab Node} {rows : List (List T)} {spares : List �
         edit same_len present no_items (children_are ∙ none);
     len = same_len;
   }
+
+-- a node that had no item became a spare
+module _ {T : Type 0} {slab : Slab Node} {rows : List (List T)} {spares : List ℕ}
+    (whole : IsWhole slab rows spares) (n : ℕ) {was : Node} (at : get slab n ≡ Some was)
+    (present : HasNode (heap_of slab rows spares) n)
+    (none : length (node_items (heap_of slab rows spares) n) ≡ 0) (node : Node)
+    (no_len : node.len ≡ 0) (no_children : node.children.items ≡ []) where
+  no_items : row_of rows n ≡ []
+  no_items = nil_from_length _ (sym (ap length (items_seen whole n present)) ∙ none)
+
+  pub freed : Leaves slab rows spares n node (row_of rows n) (n ∷ spares)
+      (λ old new. Removes old new n)
+  freed = emptied whole n at node (row_of rows n) (no_len ∙ sym (ap length no_items)) no_children
+      present no_items refl
 
 -- an item was put among those of a node, or taken out
 module _ {T : Type 0} {slab : Slab Node} {rows : List (List T)} {spares : List ℕ}
@@ -734,12 +729,8 @@ fits_count None xs ks many is fits = fits
 fits_count (Some k) xs ks many is fits = omega arith
 
 module _ {T : Type 0} where
-  none_left : (xs : List T) → length xs ≡ 0 → xs ≡ []
-  none_left [] none = refl
-  none_left (x ∷ xs) none = absurd (omega arith)
-
   -- a number with no node has no items
   pub vacant_row : {slab : Slab Node} {rows : List (List T)} {spares : List ℕ}
       → IsWhole slab rows spares → (n : ℕ) → get slab n ≡ None → row_of rows n ≡ []
-  vacant_row {slab} {rows} whole n vacant = none_left (row_of rows n)
+  vacant_row {slab} {rows} whole n vacant = nil_from_length (row_of rows n)
       (whole.lens n ∙ ap len_of vacant)

@@ -7,7 +7,7 @@ use Rattle.std.proofs.lemmas.List.{set_past}
 use Rattle.range_store.specs.Heap.{Heap, with_item, node_items, node_children}
 use Rattle.range_store.specs.Nodes.{items_below, IsRoomy}
 use Rattle.range_store.specs.Edges.{turn, inside, IsEdge, place, home_of}
-use Rattle.range_store.specs.ListPlaces.{place_before, IsAt}
+use Rattle.range_store.specs.ListPlaces.{place_before}
 use Rattle.range_store.specs.Written.{SameShape, turned, length_same, tree_same, edge_same, place_same, IsHome, home_is, home_item, home_set, home_within, written_shape, item_written, tree_once, root_shaped}
 use Rattle.range_store.specs.declared.btree.BoxStorage.{BoxStorage}
 use Rattle.range_store.specs.declared.btree.nodes.TheConstants.{CAPACITY, MAX_LEN, MIN_LEN}
@@ -127,14 +127,6 @@ module _ {T : Type 0} where
   pub rank_is : {s : BoxStorage T} {edge : Edge} → IsGood s edge
       → box_rank s edge ≡ box_place s edge - 1
   rank_is {s} {edge} good = rank_when (good_or_not s edge) good
-
-  -- the edge after the item of a rank is a position of that rank
-  pub next_at : (s : BoxStorage T) (edge : Option Edge) (rank : ℕ) → IsNextEdge s edge rank
-      → IsAt (IsGood s) (box_rank s) (length (box_items s)) edge rank
-  next_at s None rank is = is
-  next_at s (Some edge) rank is =
-      let good : IsGood s edge = record { is = is.0; some = omega (arith, is.1) } in
-      (good, omega (arith, rank_is good, is.1))
 
   -- the item before a good edge has a home
   pub good_home : {s : BoxStorage T} {edge : Edge} → IsGood s edge → IsHome s.nodes (s.levels - 1)

@@ -17,7 +17,7 @@ mod tree;
 use crate::btree::nodes::Nodes;
 pub use crate::btree::nodes::{CAPACITY, MAX_LEN, MIN_LEN};
 pub use crate::btree::path::Edge;
-use crate::btree::path::stands_first;
+use crate::btree::path::{around_leaf, first_edge, stands_first};
 use crate::btree::searching::MAX_ASKS;
 use crate::storage::{Chunk, Probe, Run, Storage};
 use std::alloc::{AllocError, Global};
@@ -104,7 +104,10 @@ impl<T: Drop> Storage<T> for BoxStorage<T> {
     }
 
     fn first(&self) -> Option<Edge> {
-        self.following(self.start()?)
+        if self.levels == 0 {
+            return None;
+        }
+        self.following(first_edge(&self.nodes, self.levels - 1, self.root))
     }
 
     fn last(&self) -> Option<Edge> {
@@ -132,18 +135,13 @@ impl<T: Drop> Storage<T> for BoxStorage<T> {
     // so that an iterator takes the next item of a leaf without a call.
     #[inline(never)]
     fn chunk_from(&self, p: Edge) -> Chunk<'_, T, Edge> {
-        let home = self.home(p);
+        let (home, behind) = around_leaf(&self.nodes, self.levels - 1, self.root, p);
         let len = self.nodes.item_count(p.leaf);
         let cells = self.nodes.cells(p.leaf);
-        let end = Edge {
-            leaf: p.leaf,
-            path: p.path,
-            index: len,
-        };
         Chunk {
             first: self.nodes.item_at(home.node, home.index),
             rest: Run::of_cells(&cells[p.index..len]),
-            after: self.following(end),
+            after: behind,
         }
     }
 
@@ -194,8 +192,11 @@ impl<T: Drop> Storage<T> for BoxStorage<T> {
     {
         if self.levels == 0 && !added.is_empty() {
             self.build(added);
-        } else {
-            self.push_all(added);
+            return;
+        }
+        let mut end = self.end();
+        for item in added {
+            end = Some(self.insert(end, item));
         }
     }
 

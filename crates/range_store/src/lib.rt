@@ -5,8 +5,7 @@
 //! - the container's contract: `src/storage.rt`
 //! - a run of items that others replace: `src/inner/cursor.rt`
 //! - the B-tree, whose nodes hold the items: `src/btree.rt` and `btree/`
-//! - what the slab keeps of a node: how many items it has, and the numbers of its children:
-//!   `src/btree/node.rt`
+//! - what the slab keeps of a node: `src/btree/node.rt`
 //! - the items of all nodes, in a row of cells for each number: how one is put, taken and moved:
 //!   `src/btree/rows.rt`, `specs/Rows.antt`, `proofs/{Cells,Rows,RowMoves,Dividing}.antt`
 //! - the nodes by their numbers in a slab, with spares that an insertion takes, and how items
@@ -18,12 +17,10 @@
 //! - the items after a position that lie together: `Run` and `chunk_from` in `src/storage.rt`,
 //!   `specs/Cells.antt`; in a leaf `proofs/LeafItems.antt`; the iterator `range_reads/src/iter.rt`
 //! - how a search goes down: `src/btree/searching.rt`, `proofs/{Ways,Descending}.antt`
-//! - what a node is to hold before it is written or cut: `src/btree/insertion.rt`,
-//!   `specs/Contents.antt`
+//! - how a node is written or cut: `src/btree/insertion.rt`, `specs/Contents.antt`
 //! - how an empty tree is built of a list, from its leaves up, and how many items each child
 //!   gets: `src/btree/building.rt`, `specs/Building.antt`, `proofs/{Building,Shares}.antt`
-//! - how a short node gets an item, or is joined with another: `src/btree/removal.rt`,
-//!   `proofs/{Rotating,ShortNodes}.antt`
+//! - how a short node gets an item: `src/btree/removal.rt`, `proofs/{Rotating,ShortNodes}.antt`
 //! - the tree as its container sees it: `src/btree/tree.rt`, `specs/Holding.antt`
 //! - a tree in which one item was written: `specs/Written.antt`
 //! - what a step is, and who counts it: `specs/Counting.antt`; a search by its probe, a

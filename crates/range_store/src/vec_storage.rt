@@ -47,37 +47,22 @@ impl<T: Drop> Storage<T> for VecStorage<T> {
     }
 
     fn first(&self) -> Option<VecPosition> {
-        if self.stored.is_empty() {
-            None
-        } else {
-            Some(VecPosition(0))
-        }
+        self.stored.first()?;
+        Some(VecPosition(0))
     }
 
     fn next(&self, p: VecPosition) -> Option<VecPosition> {
         let following = p.0 + 1;
-        if following < self.stored.len() {
-            Some(VecPosition(following))
-        } else {
-            None
-        }
+        self.stored.get(following)?;
+        Some(VecPosition(following))
     }
 
     fn last(&self) -> Option<VecPosition> {
-        let len = self.stored.len();
-        if len == 0 {
-            None
-        } else {
-            Some(VecPosition(len - 1))
-        }
+        Some(VecPosition(self.stored.len().checked_sub(1)?))
     }
 
     fn prev(&self, p: VecPosition) -> Option<VecPosition> {
-        if p.0 == 0 {
-            None
-        } else {
-            Some(VecPosition(p.0 - 1))
-        }
+        Some(VecPosition(p.0.checked_sub(1)?))
     }
 
     fn get(&self, p: VecPosition) -> &T {
@@ -111,11 +96,7 @@ impl<T: Drop> Storage<T> for VecStorage<T> {
                 high = middle;
             }
         }
-        if low == 0 {
-            None
-        } else {
-            Some(VecPosition(low - 1))
-        }
+        Some(VecPosition(low.checked_sub(1)?))
     }
 
     fn reserve(&mut self, n: usize) -> Result<(), AllocError> {
@@ -137,10 +118,8 @@ impl<T: Drop> Storage<T> for VecStorage<T> {
             Some(p) => p.0,
             None => self.stored.len(),
         };
-        match self.stored.insert(at, item) {
-            Ok(()) => VecPosition(at),
-            Err(_) => unreachable!(),
-        }
+        self.stored.insert(at, item).unwrap();
+        VecPosition(at)
     }
 
     fn append(&mut self, added: Vec<T>)
@@ -165,11 +144,8 @@ impl<T: Drop> Storage<T> for VecStorage<T> {
     }
 
     fn pop_first(&mut self) -> Option<T> {
-        if self.stored.is_empty() {
-            None
-        } else {
-            Some(self.stored.remove(0))
-        }
+        self.stored.first()?;
+        Some(self.stored.remove(0))
     }
 
     fn pop_last(&mut self) -> Option<T> {

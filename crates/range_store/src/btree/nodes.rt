@@ -70,10 +70,7 @@ fn next_spare(spares: &mut VecDeque<usize>) -> usize
     ensures items { spares.old.items ≡ result ∷ spares.new.items }
     ensures capacity { deque_capacity spares.new ≡ deque_capacity spares.old }
 {
-    match spares.pop_front() {
-        Some(number) => number,
-        None => unreachable!(),
-    }
+    spares.pop_front().unwrap()
 }
 
 impl<T: Drop> Nodes<T> {
@@ -118,24 +115,12 @@ impl<T: Drop> Nodes<T> {
             return Ok(());
         }
         self.slab.reserve(missing)?;
-        for _ in 0..missing {
-            self.add_spare()?;
-        }
-        Ok(())
-    }
-
-    // Adds one empty node.
-    fn add_spare(&mut self) -> Result<(), AllocError>
-        ensures more { OnOk result (self.new.capacity ≡ self.old.capacity + 1) }
-        ensures no_less { self.old.capacity ≤ self.new.capacity }
-        ensures kept { SameNodes self.old self.new }
-    {
-        self.rows.add_to(self.slab.vacant_key())?;
+        self.rows.reserve(self.slab.capacity())?;
         self.spares
-            .reserve(self.slab.len() - self.spares.len() + 1)?;
-        match self.slab.insert(Node::new()) {
-            Ok(number) => self.spares.push_back_reserved(number),
-            Err(_) => return Err(AllocError),
+            .reserve(self.slab.len() - self.spares.len() + missing)?;
+        for _ in 0..missing {
+            let number = self.slab.insert_reserved(Node::new());
+            self.spares.push_back_reserved(number);
         }
         Ok(())
     }
@@ -234,19 +219,6 @@ impl<T: Drop> Nodes<T> {
         Split { middle, right }
     }
 
-    /// Takes the item at an index out of a node.
-    pub fn take_item(&mut self, number: usize, index: usize) -> T
-        requires present { HasNode self.old number }
-        requires within { index < length (node_items self.old number) }
-        ensures value { result ≡ slice_index_or (node_items self.old number) index result }
-        ensures rest { Writes self.old self.new number (remove (node_items self.old number) index)
-            (node_children self.old number) }
-    {
-        let len = self.item_count(number);
-        self.slab[number].len = len - 1;
-        self.rows.take(number, len, index)
-    }
-
     /// Stores a new node with one item and no child.
     pub fn store_leaf(&mut self, item: T) -> usize
         requires { HasRoomFor self.old 1 }
@@ -293,14 +265,13 @@ impl<T: Drop> Nodes<T> {
         number
     }
 
-    /// Takes a node away, with its items.
+    /// Takes a node away that has no item.
     pub fn remove_node(&mut self, number: usize)
-        requires { HasNode self.old number }
+        requires present { HasNode self.old number }
+        requires empty { length (node_items self.old number) ≡ 0 }
         ensures { Removes self.old self.new number }
     {
-        let len = self.item_count(number);
         self.slab[number] = Node::new();
-        self.rows.clear(number, len);
         self.spares.push_front_reserved(number);
     }
 
@@ -353,8 +324,8 @@ impl<T: Drop> Nodes<T> {
         self.append(left, down, right);
     }
 
-    // Takes the item at an index out of a node, and the child at `place`, if there is one.
-    fn take_beside(&mut self, number: usize, index: usize, place: usize) -> (T, Option<usize>)
+    /// Takes the item at an index out of a node, and the child at `place`, if there is one.
+    pub fn take_beside(&mut self, number: usize, index: usize, place: usize) -> (T, Option<usize>)
         requires present { HasNode self.old number }
         requires within { index < length (node_items self.old number) }
         ensures item { result.0 ≡ slice_index_or (node_items self.old number) index result.0 }

@@ -151,45 +151,49 @@ pub fn end_edge<T: Drop>(nodes: &Nodes<T>, below: usize, number: usize) -> Edge
     }
 }
 
-// The edge after the item after an edge below a node.
-pub fn following<T: Drop>(nodes: &Nodes<T>, below: usize, number: usize, edge: Edge) -> Option<Edge>
-    requires shaped { ShapedBut 1 CAPACITY nodes.now below number }
-    requires deep { below < MAX_LEVELS }
-    requires edge { IsEdge nodes.now below number edge }
-    ensures { MatchOption result
-        (place nodes.now below number edge ≡ length (items_below nodes.now (suc below) number))
-        (λ h. IsEdge nodes.now below number h
-        × (place nodes.now below number h ≡ place nodes.now below number edge + 1)) }
+// The home before an index of a node: the item there, or another home where it has none.
+#[inline(always)]
+fn home_before(node: usize, index: usize, otherwise: Home) -> Home
+    ensures none { index ≡ 0 → result ≡ otherwise }
+    ensures some { 0 < index → result ≡ record { node = node; index = index - 1 } }
 {
-    if edge.index < nodes.item_count(edge.leaf) {
-        return Some(Edge {
-            leaf: edge.leaf,
-            path: edge.path,
-            index: edge.index + 1,
-        });
+    if index == 0 {
+        return otherwise;
     }
-    edge_behind(nodes, below, number, edge)
+    let index = index - 1;
+    Home { node, index }
 }
 
-// The same of an edge at the end of its leaf. It is the first edge below the child after the one on
-// the path, in the lowest node that has such a child. Out of line, so that a step within a leaf is
-// no call.
+// Where the item before an edge stands, and the edge after the item behind its leaf. That is the
+// first edge below the child after the one on the path, in the lowest node that has such a child.
+// One walk finds both. Out of line, so that a step within a leaf is no call.
 #[inline(never)]
-fn edge_behind<T: Drop>(nodes: &Nodes<T>, below: usize, number: usize, edge: Edge) -> Option<Edge>
+pub fn around_leaf<T: Drop>(
+    nodes: &Nodes<T>,
+    below: usize,
+    number: usize,
+    edge: Edge,
+) -> (Home, Option<Edge>)
     requires shaped { ShapedBut 1 CAPACITY nodes.now below number }
     requires deep { below < MAX_LEVELS }
     requires edge { IsEdge nodes.now below number edge }
-    requires last { length (node_items nodes.now edge.leaf) ≤ edge.index }
-    ensures { MatchOption result
-        (place nodes.now below number edge ≡ length (items_below nodes.now (suc below) number))
+    requires some { 0 < place nodes.now below number edge }
+    ensures home { result.0 ≡ home_of nodes.now below number edge }
+    ensures behind { let end = record edge { index = length (node_items nodes.now edge.leaf) }
+        in MatchOption result.1
+        (place nodes.now below number end ≡ length (items_below nodes.now (suc below) number))
         (λ h. IsEdge nodes.now below number h
-        × (place nodes.now below number h ≡ place nodes.now below number edge + 1)) }
+        × (place nodes.now below number h ≡ place nodes.now below number end + 1)) }
 {
     let mut at = number;
     let mut left = below;
     let mut inner = edge;
     let mut path: u64 = 0;
     let mut weight: u64 = 1;
+    let mut home = Home {
+        node: number,
+        index: 0,
+    };
     let mut behind = None;
     'down: while left > 0 {
         let node = at;
@@ -197,6 +201,7 @@ fn edge_behind<T: Drop>(nodes: &Nodes<T>, below: usize, number: usize, edge: Edg
         at = nodes.child_at(node, index);
         left -= 1;
         inner = seen_inside(inner);
+        home = home_before(node, index, home);
         path += weight * (index as u64);
         let later = path + weight;
         weight *= PATH_BASE;
@@ -208,13 +213,18 @@ fn edge_behind<T: Drop>(nodes: &Nodes<T>, below: usize, number: usize, edge: Edg
             });
         }
     }
-    let subtree = behind?;
-    let first = first_edge(nodes, subtree.below, subtree.node);
-    Some(Edge {
-        leaf: first.leaf,
-        path: subtree.path,
-        index: first.index,
-    })
+    let found = home_before(at, inner.index, home);
+    match behind {
+        None => (found, None),
+        Some(subtree) => {
+            let first = first_edge(nodes, subtree.below, subtree.node);
+            let edge = Edge {
+                path: subtree.path,
+                ..first
+            };
+            (found, Some(edge))
+        }
+    }
 }
 
 // The edge before the item before an edge below a node.
@@ -258,20 +268,16 @@ pub fn find_home<T: Drop>(nodes: &Nodes<T>, below: usize, number: usize, edge: E
     let mut at = number;
     let mut left = below;
     let mut inner = edge;
+    let mut home = Home {
+        node: number,
+        index: 0,
+    };
     'down: while left > 0 {
         let index = first_turn(inner);
-        inner = seen_inside(inner);
-        if stands_first(inner) {
-            return Home {
-                node: at,
-                index: index - 1,
-            };
-        }
+        home = home_before(at, index, home);
         at = nodes.child_at(at, index);
+        inner = seen_inside(inner);
         left -= 1;
     }
-    Home {
-        node: at,
-        index: inner.index - 1,
-    }
+    home_before(at, inner.index, home)
 }

@@ -166,15 +166,13 @@ pub fn remove_below<T: Drop>(
         ≡ place nodes.old below number edge }
 {
     if below == 0 {
-        let item = nodes.take_item(number, edge.index - 1);
-        return Taken {
-            item,
-            edge: Edge {
-                leaf: number,
-                path: 0,
-                index: edge.index - 1,
-            },
+        let (item, _) = nodes.take_beside(number, edge.index - 1, 0);
+        let edge = Edge {
+            leaf: number,
+            path: 0,
+            index: edge.index - 1,
         };
+        return Taken { item, edge };
     }
     let index = first_turn(edge);
     let child = nodes.child_at(number, index);

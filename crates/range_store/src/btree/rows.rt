@@ -43,10 +43,7 @@ pub fn next_item<T: Drop>(items: &mut IntoIter<T>) -> T
     requires { 0 < length (into_iter_items items.old) }
     ensures { into_iter_items items.old ≡ result ∷ into_iter_items items.new }
 {
-    match items.next() {
-        Some(item) => item,
-        None => unreachable!(),
-    }
+    items.next().unwrap()
 }
 
 // The item in a full cell.
@@ -91,10 +88,7 @@ fn take_item<T: Drop>(row: &mut [Option<T>], len: usize, index: usize) -> T
         at -= 1;
         mem::swap(&mut row[at], &mut carried);
     }
-    match carried {
-        Some(item) => item,
-        None => unreachable!(),
-    }
+    carried.unwrap()
 }
 
 // Adds the empty cells that are missing to so many, for which there is room.
@@ -124,34 +118,15 @@ impl<T: Drop> Rows<T> {
         }
     }
 
-    /// How many rows there are.
-    pub fn len(&self) -> usize
-        ensures { result ≡ length self.now }
-    {
-        self.many
-    }
-
-    /// Adds empty rows up to this number.
-    pub fn add_to(&mut self, number: usize) -> Result<(), AllocError>
-        ensures there { OnOk result (number < length self.new) }
+    /// Adds empty rows, until there are so many.
+    pub fn reserve(&mut self, many: usize) -> Result<(), AllocError>
+        ensures there { OnOk result (many ≤ length self.new) }
         ensures no_less { length self.old ≤ length self.new }
         ensures kept { (k : ℕ) → row_of self.new k ≡ row_of self.old k }
     {
-        while self.len() <= number {
-            self.add_row()?;
-        }
-        Ok(())
-    }
-
-    // Adds an empty row.
-    fn add_row(&mut self) -> Result<(), AllocError>
-        ensures more { OnOk result (length self.new ≡ length self.old + 1) }
-        ensures no_less { length self.old ≤ length self.new }
-        ensures kept { (k : ℕ) → row_of self.new k ≡ row_of self.old k }
-    {
-        let missing = CAPACITY * self.many - self.cells.len() + CAPACITY;
-        self.cells.reserve(missing)?;
-        self.many += 1;
+        let cells = many.checked_mul(CAPACITY).ok_or(AllocError)?;
+        self.cells.reserve(cells.saturating_sub(self.cells.len()))?;
+        self.many = self.many.max(many);
         Ok(())
     }
 
@@ -230,19 +205,6 @@ impl<T: Drop> Rows<T> {
         for index in 0..count {
             let item = next_item(items);
             self.put(number, index, index, item);
-        }
-    }
-
-    /// Drops the items of a row, which has `len`.
-    pub fn clear(&mut self, number: usize, len: usize)
-        requires number { number < length self.old }
-        requires len { len ≡ length (row_of self.old number) }
-        ensures { self.new ≡ slice_set self.old number [] }
-    {
-        let mut left = len;
-        while left > 0 {
-            let _item = self.take(number, left, left - 1);
-            left -= 1;
         }
     }
 

@@ -10,24 +10,13 @@ use crate::btree::building::{Layout, build, layout_of};
 use crate::btree::insertion::{Insertion, insert_below};
 use crate::btree::nodes::{CAPACITY, MIN_LEN};
 use crate::btree::path::{
-    Edge, Home, end_edge, find_home, first_edge, following, preceding, seen_above, stands_first,
+    Edge, Home, around_leaf, end_edge, find_home, preceding, seen_above, stands_first,
 };
 use crate::btree::removal::{remove_below, shrink_root};
 use crate::btree::searching::{MAX_ASKS, search_below};
 use crate::storage::Probe;
 
 impl<T: Drop> BoxStorage<T> {
-    // The edge before all items, if there are any.
-    pub fn start(&self) -> Option<Edge>
-        ensures { MatchOption result (box_items self.now ≡ [])
-            (λ g. IsBoxEdge self.now g × (box_place self.now g ≡ 0)) }
-    {
-        if self.levels == 0 {
-            return None;
-        }
-        Some(first_edge(&self.nodes, self.levels - 1, self.root))
-    }
-
     // The edge after all items, if there are any.
     pub fn end(&self) -> Option<Edge>
         ensures { MatchOption result (box_items self.now ≡ [])
@@ -44,7 +33,13 @@ impl<T: Drop> BoxStorage<T> {
         requires { IsBoxEdge self.now edge }
         ensures { IsNextEdge self.now result (box_place self.now edge) }
     {
-        following(&self.nodes, self.levels - 1, self.root, edge)
+        if edge.index < self.nodes.item_count(edge.leaf) {
+            return Some(Edge {
+                index: edge.index + 1,
+                ..edge
+            });
+        }
+        around_leaf(&self.nodes, self.levels - 1, self.root, edge).1
     }
 
     // The edge before the item before an edge.
@@ -55,9 +50,8 @@ impl<T: Drop> BoxStorage<T> {
     {
         if edge.index > 0 {
             return Some(Edge {
-                leaf: edge.leaf,
-                path: edge.path,
                 index: edge.index - 1,
+                ..edge
             });
         }
         preceding(&self.nodes, self.levels - 1, self.root, edge)
@@ -112,26 +106,16 @@ impl<T: Drop> BoxStorage<T> {
     {
         match edge {
             Some(edge) => self.insert_between(edge, item),
-            None => self.insert_into_empty(item),
-        }
-    }
-
-    // Puts an item into an empty tree, and returns the edge after it.
-    fn insert_into_empty(&mut self, item: T) -> Edge
-        requires empty { box_items self.old ≡ [] }
-        requires room { 1 ≤ box_room self.old }
-        ensures list { box_items self.new ≡ item ∷ [] }
-        ensures room { box_room self.new + 1 ≡ box_room self.old }
-        ensures edge { IsBoxEdge self.new result }
-        ensures place { box_place self.new result ≡ 1 }
-    {
-        self.root = self.nodes.store_leaf(item);
-        self.levels = 1;
-        self.len = 1;
-        Edge {
-            leaf: self.root,
-            path: 0,
-            index: 1,
+            None => {
+                self.root = self.nodes.store_leaf(item);
+                self.levels = 1;
+                self.len = 1;
+                Edge {
+                    leaf: self.root,
+                    path: 0,
+                    index: 1,
+                }
+            }
         }
     }
 
@@ -149,9 +133,8 @@ impl<T: Drop> BoxStorage<T> {
         if self.nodes.item_count(edge.leaf) < CAPACITY {
             self.nodes.put(edge.leaf, edge.index, item, 0, None);
             return Edge {
-                leaf: edge.leaf,
-                path: edge.path,
                 index: edge.index + 1,
+                ..edge
             };
         }
         let inserted = insert_below(&mut self.nodes, self.levels - 1, self.root, edge, item);
@@ -184,18 +167,6 @@ impl<T: Drop> BoxStorage<T> {
         self.len = count;
     }
 
-    // Puts items, in their order, after all others.
-    pub fn push_all(&mut self, added: Vec<T>)
-        requires { length added.items ≤ box_room self.old }
-        ensures list { box_items self.new ≡ box_items self.old ++ added.items }
-        ensures room { box_room self.old ≡ box_room self.new + length added.items }
-    {
-        let mut end = self.end();
-        for item in added {
-            end = Some(self.insert(end, item));
-        }
-    }
-
     // Takes the item before an edge out of its leaf. Tells where the edge then lies, if there are
     // items left.
     pub fn take_in_leaf(&mut self, edge: Edge) -> (T, Option<Edge>)
@@ -211,11 +182,10 @@ impl<T: Drop> BoxStorage<T> {
     {
         self.len -= 1;
         if self.nodes.item_count(edge.leaf) > MIN_LEN {
-            let item = self.nodes.take_item(edge.leaf, edge.index - 1);
+            let (item, _) = self.nodes.take_beside(edge.leaf, edge.index - 1, 0);
             let before = Edge {
-                leaf: edge.leaf,
-                path: edge.path,
                 index: edge.index - 1,
+                ..edge
             };
             return (item, Some(before));
         }
@@ -248,11 +218,7 @@ impl<T: Drop> BoxStorage<T> {
             };
         }
         // The item stands above the leaves: the one after it takes its place.
-        let behind = Edge {
-            leaf: edge.leaf,
-            path: edge.path,
-            index: 1,
-        };
+        let behind = Edge { index: 1, ..edge };
         let (next, left) = self.take_in_leaf(behind);
         let Some(left) = left else { unreachable!() };
         let home = self.home(left);

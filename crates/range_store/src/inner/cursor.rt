@@ -46,15 +46,11 @@ pub fn put<T: Drop, C: Storage<T>>(
             left: 0,
         };
     }
-    match cursor.at {
-        Some(p) => {
-            let _replaced = stored.replace(p, item);
-            Cursor {
-                at: stored.next(p),
-                left: cursor.left - 1,
-            }
-        }
-        None => unreachable!(),
+    let Some(p) = cursor.at else { unreachable!() };
+    let _replaced = stored.replace(p, item);
+    Cursor {
+        at: stored.next(p),
+        left: cursor.left - 1,
     }
 }
 
@@ -70,13 +66,8 @@ pub fn remove_rest<T: Drop, C: Storage<T>>(stored: &mut C, cursor: Cursor<C::Pos
 {
     let mut at = cursor.at;
     for _removed in 0..cursor.left {
-        match at {
-            Some(p) => {
-                let (_, following) = stored.remove_at(p);
-                at = following;
-            }
-            None => unreachable!(),
-        }
+        let Some(p) = at else { unreachable!() };
+        at = stored.remove_at(p).1;
     }
 }
 
@@ -96,12 +87,10 @@ pub fn replace_run<T: Drop, C: Storage<T>>(stored: &mut C, cursor: Cursor<C::Pos
         0 => {
             let _inserted = stored.insert_at(cursor.at, item);
         }
-        1 => match cursor.at {
-            Some(p) => {
-                let _replaced = stored.replace(p, item);
-            }
-            None => unreachable!(),
-        },
+        1 => {
+            let Some(p) = cursor.at else { unreachable!() };
+            let _replaced = stored.replace(p, item);
+        }
         _ => {
             let rest = put::<T, C>(stored, cursor, item);
             remove_rest::<T, C>(stored, rest);

@@ -1,19 +1,50 @@
+use Rattle.std.proofs.Common.{◌≡◌, ◌+◌, ◌-◌, length, refl, arith}
+use Rattle.range_store.specs.Heap.{node_items}
 use Rattle.range_store.specs.Holding.{box_place}
 use Rattle.range_store.specs.Written.{root_shaped}
+use Rattle.range_store.proofs.InLeaf.{place_index}
 use Rattle.range_store.proofs.Positions.{next_from}
-use Rattle.range_store.proofs.Whole.{tree_is_not_too_deep}
+use Rattle.range_store.proofs.Whole.{tree_beside, tree_is_not_too_deep, tree_leaf}
 use Rattle.range_store.proofs.btree.BoxStorage.following.Goals as goal
 
-pub following-requires : goal.following-requires
-following-requires g c =
+pub item_count-requires : goal.item_count-requires
+item_count-requires g c = (tree_leaf c.requires).present
+
+pub returns-then-edge-item_count : goal.returns-then-edge-item_count
+returns-then-edge-item_count g c =
+    let next = tree_beside c.requires
+    (record {
+      leaf = c.args.edge.leaf;
+      path = c.args.edge.path;
+      index = c.args.edge.index + 1;
+    }) refl refl (omega (arith, c.if-edge-item_count.true, c.item_count.ensures)) in
+    (next.0, omega (arith, next.1))
+
+pub around_leaf-requires : goal.around_leaf-requires
+around_leaf-requires g c =
     let s = c.args.self.now in
     record {
       shaped = root_shaped s.levels c.requires.some s.whole.tree;
       deep = tree_is_not_too_deep s.levels s.whole;
       edge = c.requires.edge;
+      some = omega (
+        arith,
+        place_index s.nodes (s.levels - 1) s.root c.args.edge,
+        (tree_leaf c.requires).some,
+        c.if-edge-item_count.false,
+        c.item_count.ensures,
+      );
     }
 
 pub returns : goal.returns
 returns g c =
-    next_from c.args.self.now
-    (box_place c.args.self.now c.args.edge) c.requires.some c.following.result c.following.ensures
+    let s = c.args.self.now in
+    let last : length (node_items s.nodes c.args.edge.leaf) ≡ c.args.edge.index =
+    omega (
+      arith,
+      (tree_leaf c.requires).within,
+      c.if-edge-item_count.false,
+      c.item_count.ensures,
+    ) in
+    next_from s (box_place s c.args.edge) c.requires.some c.around_leaf.result.1
+    (rw last at c.around_leaf.ensures.behind)

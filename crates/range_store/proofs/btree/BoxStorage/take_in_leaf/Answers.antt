@@ -4,7 +4,7 @@ use Rattle.std.proofs.lemmas.List.Edits.{length-remove}
 use Rattle.range_store.specs.Holding.{box_items, box_place}
 use Rattle.range_store.specs.Nodes.{items_below}
 use Rattle.range_store.specs.Written.{root_shaped}
-use Rattle.range_store.proofs.InLeaf.{place_index}
+use Rattle.range_store.proofs.InLeaf.{no_child_gone, place_index}
 use Rattle.range_store.proofs.InPlace.{IsLeafChange, take_from_leaf}
 use Rattle.range_store.proofs.Levels.{has_levels}
 use Rattle.range_store.proofs.Rank.{items_below_none}
@@ -12,7 +12,7 @@ use Rattle.range_store.proofs.Roots.{loosened_items, loosened_tree, tree_owned}
 use Rattle.range_store.proofs.Whole.{edge_within, leaf_item, tree_is_not_too_deep, tree_leaf}
 use Rattle.range_store.proofs.btree.BoxStorage.take_in_leaf.Goals as goal
 use Rattle.range_store.proofs.btree.BoxStorage.take_in_leaf.Given.{Over}
-use Rattle.range_store.proofs.btree.BoxStorage.take_in_leaf.Goals.{Start, After-take_item-item, After-shrink_root-shrunk}
+use Rattle.range_store.proofs.btree.BoxStorage.take_in_leaf.Goals.{Start, After-take_beside-item, After-shrink_root-shrunk}
 
 some_before : (g : Over) (c : Start g) → 0 < box_place c.args.self.now c.args.edge
 some_before g c =
@@ -48,31 +48,32 @@ pub item_count-requires : goal.item_count-requires
 item_count-requires g c = (tree_leaf c.requires.edge).present
 
 -- from a leaf with an item to spare
-pub take_item-item-requires : goal.take_item-item-requires
-take_item-item-requires g c =
+pub take_beside-item-requires : goal.take_beside-item-requires
+take_beside-item-requires g c =
     let leaf = tree_leaf c.requires.edge in
     record { present = leaf.present; within = omega (arith, leaf.within, c.requires.in_leaf) }
 
-taken : (g : Over) (c : After-take_item-item g)
-    → IsLeafChange c.take_item-item.new.self c.requires.edge
+taken : (g : Over) (c : After-take_beside-item g)
+    → IsLeafChange c.take_beside-item.new.self c.requires.edge
     (remove (box_items c.args.self.now) (box_place c.args.self.now c.args.edge - 1))
     (record { leaf = c.args.edge.leaf; path = c.args.edge.path; index = c.args.edge.index - 1 })
     (c.args.edge.index - 1)
-taken g c = take_from_leaf c.take_item-item.new.self c.requires.edge _ (omega (
+taken g c = take_from_leaf c.take_beside-item.new.self c.requires.edge _ (omega (
   arith,
   c.if-item_count-gt-MIN_LEN.true,
   c.item_count.ensures,
-)) c.requires.in_leaf c.take_item-item.ensures.rest refl refl refl
+)) c.requires.in_leaf (rw (no_child_gone _ (tree_leaf c.requires.edge).childless) at
+    c.take_beside-item.ensures.rest) refl refl refl
 
 pub invariant_of-self : goal.invariant_of-self
 invariant_of-self g c =
     let s = c.args.self.now in
     let at = goal.at.invariant_of-self g c in
-    let taken = taken g at.After-take_item-item in
+    let taken = taken g at.After-take_beside-item in
     let less = ap length taken.items_are in
     let back = fewer g at.Start in
     let many : c.args.self.now.len - 1
-    ≡ length (items_below c.take_item-item.new.self s.levels s.root) =
+    ≡ length (items_below c.take_beside-item.new.self s.levels s.root) =
     omega (arith, less, back, s.counted) in
     record {
       whole =
@@ -88,27 +89,27 @@ invariant_of-self g c =
 pub returns-then-item_count-gt-MIN_LEN-clause-removed :
     goal.returns-then-item_count-gt-MIN_LEN-clause-removed
 returns-then-item_count-gt-MIN_LEN-clause-removed g c =
-    c.take_item-item.ensures.value
-    ∙ sym (leaf_item c.requires.edge c.take_item-item.result c.requires.in_leaf)
+    c.take_beside-item.ensures.item
+    ∙ sym (leaf_item c.requires.edge c.take_beside-item.result.0 c.requires.in_leaf)
 
 pub returns-then-item_count-gt-MIN_LEN-clause-list :
     goal.returns-then-item_count-gt-MIN_LEN-clause-list
 returns-then-item_count-gt-MIN_LEN-clause-list g c =
     (taken g (goal.at.returns-then-item_count-gt-MIN_LEN-clause-list g
-    c).After-take_item-item).items_are
+    c).After-take_beside-item).items_are
 
 pub returns-then-item_count-gt-MIN_LEN-clause-capacity :
     goal.returns-then-item_count-gt-MIN_LEN-clause-capacity
 returns-then-item_count-gt-MIN_LEN-clause-capacity g c =
     (taken g (goal.at.returns-then-item_count-gt-MIN_LEN-clause-capacity g
-    c).After-take_item-item).capacity
+    c).After-take_beside-item).capacity
 
 pub returns-then-item_count-gt-MIN_LEN-clause-edge :
     goal.returns-then-item_count-gt-MIN_LEN-clause-edge
 returns-then-item_count-gt-MIN_LEN-clause-edge g c =
     let taken =
     taken g (goal.at.returns-then-item_count-gt-MIN_LEN-clause-edge g
-    c).After-take_item-item in (
+    c).After-take_beside-item in (
       record { some = c.requires.edge.some; edge = taken.edge },
       omega (arith, taken.place_is, c.requires.in_leaf),
     )

@@ -1,12 +1,14 @@
 use Rattle.std.proofs.Common.{◌≡◌, ◌≤◌, ◌+◌, ◌-◌, length, ap, arith, rules, sym, subst, ◌∙◌, drop, take}
 use Rattle.std.proofs.lemmas.List.{length-drop}
 use Rattle.range_store.specs.Heap.{items_of, node_of}
-use Rattle.range_store.specs.Holding.{box_items, box_place, box_rank, good_home, next_at, rank_is, IsGood}
+use Rattle.range_store.specs.Holding.{box_items, box_place, box_rank, good_home, rank_is, IsGood}
 use Rattle.range_store.specs.ListPlaces.{IsAt}
 use Rattle.range_store.proofs.Cells.{row_length}
 use Rattle.range_store.proofs.LeafItems.{at_index, leaf_rest, rest_full, rest_items}
 use Rattle.range_store.proofs.Lent.{item_home}
-use Rattle.range_store.proofs.Whole.{tree_leaf}
+use Rattle.range_store.proofs.Positions.{next_at, next_from}
+use Rattle.range_store.proofs.Whole.{tree_is_not_too_deep, tree_leaf}
+use Rattle.range_store.specs.Written.{root_shaped}
 use Rattle.range_store.proofs.btree.BoxStorageStorage.chunk_from.Goals as goal
 
 pub item_count-len-requires : goal.item_count-len-requires
@@ -38,16 +40,22 @@ slice_bounds-of_cells-start g c =
 pub item_at-requires : goal.item_at-requires
 item_at-requires g c =
     let home = good_home c.requires in
-    rw c.home-home.ensures (record { present = home.present; within = home.within })
+    rw c.around_leaf-behind.ensures.home (record { present = home.present; within = home.within })
 
 pub of_cells-requires : goal.of_cells-requires
 of_cells-requires g c =
     rw c.item_count-len.ensures
     (rest_full c.cells-cells.ensures c.args.p.index (tree_leaf c.requires.is).within)
 
-pub following-requires : goal.following-requires
-following-requires g c =
-    (at_index c.requires.is c.item_count-len.result (omega (arith, c.item_count-len.ensures))).0
+pub around_leaf-behind-requires : goal.around_leaf-behind-requires
+around_leaf-behind-requires g c =
+    let s = c.args.self.now in
+    record {
+      shaped = root_shaped s.levels c.requires.is.some s.whole.tree;
+      deep = tree_is_not_too_deep s.levels s.whole;
+      edge = c.requires.is.edge;
+      some = c.requires.some;
+    }
 
 pub returns : goal.returns
 returns g c =
@@ -67,12 +75,12 @@ returns g c =
     ≡ box_rank s p + 1 + length c.of_cells.result =
     omega (arith, end.1, behind, low, many) in
     record {
-      first = item_home c.requires c.home-home.result c.home-home.ensures
+      first = item_home c.requires c.around_leaf-behind.result.0 c.around_leaf-behind.ensures.home
           c.item_at.result.now c.item_at.ensures;
       rest = run ∙ leaf_rest c.requires.is
           ∙ ap (λ n. take n (drop (box_place s p) (box_items s))) (sym many)
           ∙ ap (λ n. take (length c.of_cells.result) (drop n (box_items s))) behind;
-      after = subst (IsAt (IsGood s) (box_rank s) (length (box_items s)) c.following.result) place
-          (next_at s c.following.result _
-          (rw c.item_count-len.ensures at c.following.ensures));
+      after = subst (IsAt (IsGood s) (box_rank s) (length (box_items s))
+          c.around_leaf-behind.result.1) place (next_at s _ c.around_leaf-behind.result.1 (next_from s _
+          c.requires.is.some c.around_leaf-behind.result.1 c.around_leaf-behind.ensures.behind));
     }

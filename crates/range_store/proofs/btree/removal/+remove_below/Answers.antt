@@ -6,14 +6,15 @@ use Rattle.range_store.specs.Nodes.{before_child}
 use Rattle.range_store.specs.Edges.{turn, inside, place}
 use Rattle.range_store.proofs.Edges.{leaf_is, leaf_edge, leaf_index, leaf_place}
 use Rattle.range_store.proofs.Growing.{kid_owned}
+use Rattle.range_store.proofs.InLeaf.{no_child_gone}
 use Rattle.range_store.proofs.Rank.{kid_shaped}
 use Rattle.range_store.proofs.Seats.{seat_place_inner}
 use Rattle.range_store.proofs.Shortening.{leaf_shrinks, kid_kept, kid_front, kid_may_be_rebalanced, lists_shorter, shorter_child_shrinks_node}
 use Rattle.range_store.proofs.Paths.{level_of_children, child_within, below_kid, below_turn, below_inside, below_here, below_most}
 use Rattle.range_store.proofs.btree.removal.+remove_below.Goals as goal
 
-pub take_item-item-requires : goal.take_item-item-requires
-take_item-item-requires g t c =
+pub take_beside-item-requires : goal.take_beside-item-requires
+take_beside-item-requires g t c =
     record {
       present = c.requires.shaped.node.present;
       within = omega (
@@ -29,7 +30,7 @@ returns-then-below-eq0-clause-item g t c =
     let leaf =
     leaf_is c.args.nodes.now c.args.number c.args.edge
     (rw c.if-below-eq0.true at c.requires.edge) in
-    rw leaf c.take_item-item.ensures.value
+    rw leaf c.take_beside-item.ensures.item
 
 pub returns-then-below-eq0-clause-shrinks : goal.returns-then-below-eq0-clause-shrinks
 returns-then-below-eq0-clause-shrinks g t c = rw (
@@ -41,20 +42,20 @@ returns-then-below-eq0-clause-shrinks g t c = rw (
       leaf_index c.args.nodes.now c.args.number c.args.edge
           (rw c.if-below-eq0.true at c.requires.edge),
       c.requires.in_leaf,
-    ))
-    c.take_item-item.ensures.rest)
+    )) (rw (no_child_gone _ (rw c.if-below-eq0.true at c.requires.shaped).node.branches) at
+    c.take_beside-item.ensures.rest))
 
 pub returns-then-below-eq0-clause-edge : goal.returns-then-below-eq0-clause-edge
 returns-then-below-eq0-clause-edge g t c =
     let index =
     leaf_index c.args.nodes.now c.args.number c.args.edge
     (rw c.if-below-eq0.true at c.requires.edge) in
-    rw c.if-below-eq0.true (leaf_edge c.take_item-item.new.self c.args.number _ refl refl
+    rw c.if-below-eq0.true (leaf_edge c.take_beside-item.new.self c.args.number _ refl refl
     (omega (
       arith,
       index,
       c.requires.in_leaf,
-      ap length c.take_item-item.ensures.rest.items_are,
+      ap length c.take_beside-item.ensures.rest.items_are,
       length-remove (node_items c.args.nodes.now c.args.number) (c.args.edge.index - 1)
           (omega (arith, index, c.requires.in_leaf)),
     )))
@@ -64,7 +65,7 @@ returns-then-below-eq0-clause-place g t c =
     rw c.if-below-eq0.true (omega (
       arith,
       leaf_place c.args.nodes.now c.args.number c.args.edge,
-      leaf_place c.take_item-item.new.self c.args.number
+      leaf_place c.take_beside-item.new.self c.args.number
           (record { leaf = c.args.number; path = 0; index = c.args.edge.index - 1 }),
       c.requires.in_leaf,
     ))

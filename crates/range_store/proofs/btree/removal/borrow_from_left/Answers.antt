@@ -59,25 +59,17 @@ seen_above-requires-clause-path g c =
     (rw c.seen_inside.ensures at c.edge_at-inner.ensures.inside)
     (path_low c.args.nodes.now c.args.low _ c.args.edge c.requires.deep c.requires.edge)
 
-pub returns-clause-shrinks : goal.returns-clause-shrinks
-returns-clause-shrinks g c = next_shrinks c.requires.levelled c.rotate_right.ensures
-    c.requires.spare
-
-pub returns-clause-kept : goal.returns-clause-kept
-returns-clause-kept g c = next_kept c.requires.levelled c.rotate_right.ensures c.requires.spare
-
-pub returns-clause-edge : goal.returns-clause-edge
-returns-clause-edge g c = (next_edge c.requires.levelled c.rotate_right.ensures c.requires.spare
+pub returns : goal.returns
+returns g c =
+    let edge = next_edge c.requires.levelled c.rotate_right.ensures c.requires.spare
     c.args.edge c.edge_at-inner.result c.seen_above.result c.requires.edge
     (rw (c.child_at-right.ensures, c.seat.ensures) at c.edge_at-inner.ensures.leaf)
     (rw c.seat.ensures at c.edge_at-inner.ensures.turn)
     (rw c.seen_inside.ensures at c.edge_at-inner.ensures.inside) c.seen_above.ensures.turn
-    c.seen_above.ensures.inside).0
-
-pub returns-clause-place : goal.returns-clause-place
-returns-clause-place g c = (next_edge c.requires.levelled c.rotate_right.ensures c.requires.spare
-    c.args.edge c.edge_at-inner.result c.seen_above.result c.requires.edge
-    (rw (c.child_at-right.ensures, c.seat.ensures) at c.edge_at-inner.ensures.leaf)
-    (rw c.seat.ensures at c.edge_at-inner.ensures.turn)
-    (rw c.seen_inside.ensures at c.edge_at-inner.ensures.inside) c.seen_above.ensures.turn
-    c.seen_above.ensures.inside).1
+    c.seen_above.ensures.inside in
+    record {
+      shrinks = next_shrinks c.requires.levelled c.rotate_right.ensures c.requires.spare;
+      kept = next_kept c.requires.levelled c.rotate_right.ensures c.requires.spare;
+      edge = edge.0;
+      place = edge.1;
+    }

@@ -20,19 +20,13 @@ seen_above-requires-clause-path g c =
     path_small c.args.nodes.now c.args.low _ c.args.edge
     (omega (arith, c.requires.deep)) c.requires.edge
 
-pub returns-clause-shrinks : goal.returns-clause-shrinks
-returns-clause-shrinks g c = previous_shrinks c.requires.levelled c.rotate_left.ensures
-    c.requires.spare
-
-pub returns-clause-kept : goal.returns-clause-kept
-returns-clause-kept g c = previous_kept c.requires.levelled c.rotate_left.ensures c.requires.spare
-
-pub returns-clause-edge : goal.returns-clause-edge
-returns-clause-edge g c = (previous_edge c.requires.levelled c.rotate_left.ensures c.requires.spare
-    c.args.edge c.seen_above.result c.requires.edge c.seen_above.ensures.turn
-    c.seen_above.ensures.inside).0
-
-pub returns-clause-place : goal.returns-clause-place
-returns-clause-place g c = (previous_edge c.requires.levelled c.rotate_left.ensures c.requires.spare
-    c.args.edge c.seen_above.result c.requires.edge c.seen_above.ensures.turn
-    c.seen_above.ensures.inside).1
+pub returns : goal.returns
+returns g c =
+    let edge = previous_edge c.requires.levelled c.rotate_left.ensures c.requires.spare c.args.edge
+    c.seen_above.result c.requires.edge c.seen_above.ensures.turn c.seen_above.ensures.inside in
+    record {
+      shrinks = previous_shrinks c.requires.levelled c.rotate_left.ensures c.requires.spare;
+      kept = previous_kept c.requires.levelled c.rotate_left.ensures c.requires.spare;
+      edge = edge.0;
+      place = edge.1;
+    }

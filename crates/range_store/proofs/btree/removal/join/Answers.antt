@@ -54,27 +54,18 @@ seen_above-requires-clause-path g c =
     (rw c.seen_inside.ensures at c.edge_at-inner.ensures.inside)
     (path_low c.args.nodes.now c.args.low _ c.args.edge c.requires.deep c.requires.edge)
 
-pub returns-clause-shrinks : goal.returns-clause-shrinks
-returns-clause-shrinks g c = joined_shrinks c.requires.levelled c.merge.ensures c.requires.few
-
-pub returns-clause-edge : goal.returns-clause-edge
-returns-clause-edge g c = (joined_edge c.requires.levelled c.merge.ensures c.requires.few
+pub returns : goal.returns
+returns g c =
+    let second = rw (c.item_count-many.ensures, c.child_at-left.ensures) at
+    c.joined_seat-seat.ensures.second in
+    let edge = joined_edge c.requires.levelled c.merge.ensures c.requires.few
     c.args.turn c.args.edge c.edge_at-inner.result c.seen_above.result c.joined_seat-seat.result
-    c.requires.near c.requires.edge c.joined_seat-seat.ensures.first (rw (
-      c.item_count-many.ensures,
-      c.child_at-left.ensures,
-    ) at c.joined_seat-seat.ensures.second)
+    c.requires.near c.requires.edge c.joined_seat-seat.ensures.first second
     (rw c.child_at-left.ensures at c.edge_at-inner.ensures.leaf) c.edge_at-inner.ensures.turn
     (rw c.seen_inside.ensures at c.edge_at-inner.ensures.inside) c.seen_above.ensures.turn
-    c.seen_above.ensures.inside).0
-
-pub returns-clause-place : goal.returns-clause-place
-returns-clause-place g c = (joined_edge c.requires.levelled c.merge.ensures c.requires.few
-    c.args.turn c.args.edge c.edge_at-inner.result c.seen_above.result c.joined_seat-seat.result
-    c.requires.near c.requires.edge c.joined_seat-seat.ensures.first (rw (
-      c.item_count-many.ensures,
-      c.child_at-left.ensures,
-    ) at c.joined_seat-seat.ensures.second)
-    (rw c.child_at-left.ensures at c.edge_at-inner.ensures.leaf) c.edge_at-inner.ensures.turn
-    (rw c.seen_inside.ensures at c.edge_at-inner.ensures.inside) c.seen_above.ensures.turn
-    c.seen_above.ensures.inside).1
+    c.seen_above.ensures.inside in
+    record {
+      shrinks = joined_shrinks c.requires.levelled c.merge.ensures c.requires.few;
+      edge = edge.0;
+      place = edge.1;
+    }

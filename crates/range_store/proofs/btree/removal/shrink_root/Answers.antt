@@ -16,26 +16,16 @@ returns-then-levels-eq1-clause-items g c = (empty_root_leaves_nothing c.args.lev
     c.if-levels-eq1.true c.requires.tree (omega (arith, c.item_count.ensures))
     c.remove_node.ensures).1
 
-pub returns-clause-tree : goal.returns-clause-tree
-returns-clause-tree g c = rw c.child_at-child.ensures (only_child_is_root c.args.levels
-    c.if-levels-eq1.false c.requires.tree (omega (arith, c.item_count.ensures))
-    c.remove_node-2.ensures).0
-
-pub returns-clause-items : goal.returns-clause-items
-returns-clause-items g c = rw c.child_at-child.ensures (only_child_is_root c.args.levels
-    c.if-levels-eq1.false c.requires.tree (omega (arith, c.item_count.ensures))
-    c.remove_node-2.ensures).1
-
-pub returns-clause-edge : goal.returns-clause-edge
-returns-clause-edge g c = λ some. rw (c.child_at-child.ensures, c.seen_inside.ensures)
-    (lowered_edge c.args.levels c.args.edge c.if-levels-eq1.false c.requires.tree (omega (
-      arith,
-      c.item_count.ensures,
-    )) c.remove_node-2.ensures c.requires.edge).0
-
-pub returns-clause-place : goal.returns-clause-place
-returns-clause-place g c = λ some. rw (c.child_at-child.ensures, c.seen_inside.ensures)
-    (lowered_edge c.args.levels c.args.edge c.if-levels-eq1.false c.requires.tree (omega (
-      arith,
-      c.item_count.ensures,
-    )) c.remove_node-2.ensures c.requires.edge).1
+pub returns : goal.returns
+returns g c =
+    let only = only_child_is_root c.args.levels c.if-levels-eq1.false c.requires.tree
+    (omega (arith, c.item_count.ensures)) c.remove_node-2.ensures in
+    let lowered = lowered_edge c.args.levels c.args.edge c.if-levels-eq1.false c.requires.tree
+    (omega (arith, c.item_count.ensures)) c.remove_node-2.ensures c.requires.edge in
+    rw (c.child_at-child.ensures, c.seen_inside.ensures) (record {
+      tree = only.0;
+      items = only.1;
+      capacity = c.remove_node-2.ensures.capacity;
+      edge = λ some. lowered.0;
+      place = λ some. lowered.1;
+    })

@@ -1,10 +1,12 @@
-use Rattle.std.proofs.Common.{◌≡◌, ◌-◌, ◌<◌, suc, length, arith, ap, ◌∙◌, sym}
-use Rattle.std.specs.List.{insert}
+use Rattle.std.proofs.Common.{◌≡◌, ◌-◌, ◌<◌, suc, length, refl, arith, ap, ◌∙◌, sym, Some}
+use Rattle.std.specs.List.{insert, remove}
 use Rattle.std.proofs.Math.ListN.{length-set}
-use Rattle.std.proofs.lemmas.Option.{none-some, same_Some}
-use Rattle.range_store.specs.Rows.{items_in}
-use Rattle.range_store.proofs.Cells.{carried_back, held_without, row_length, standing}
+use Rattle.std.proofs.lemmas.Option.{same_Some}
+use Rattle.range_store.specs.Rows.{items_in, HoldsItems}
+use Rattle.range_store.proofs.Cells.{Standing, carried_back, held_without, row_length, standing}
 use Rattle.range_store.proofs.btree.rows.take_item.Goals as goal
+use Rattle.range_store.proofs.btree.rows.take_item.Given.{Over}
+use Rattle.range_store.proofs.btree.rows.take_item.Goals.{After-loop-at}
 
 pub loop-at-preserved : goal.loop-at-preserved
 loop-at-preserved g c =
@@ -28,31 +30,30 @@ loop-at-preserved g c =
       high = omega (arith, c.loop-at.invariant.high);
     }
 
-pub unreachable-requires : goal.unreachable-requires
-unreachable-requires g c =
+-- what was carried out, and the row without it
+taken : (g : Over) (c : After-loop-at g) → HoldsItems c.loop-at.row
+    (remove (items_in c.args.row.now) c.args.index)
+    × ((stands : Standing (items_in c.args.row.now) c.args.index)
+    → c.loop-at.carried ≡ Some stands.item)
+taken g c =
     let at : c.args.index ≡ c.loop-at.at = omega arith in
-    let taken = held_without c.loop-at.row c.args.len c.args.index c.loop-at.carried c.requires.held
+    held_without c.loop-at.row c.args.len c.args.index c.loop-at.carried c.requires.held
     c.requires.len c.requires.within c.loop-at.invariant.long
-    (ap (λ k. insert c.loop-at.row k c.loop-at.carried) at ∙ c.loop-at.invariant.same) in
+    (ap (λ k. insert c.loop-at.row k c.loop-at.carried) at ∙ c.loop-at.invariant.same)
+
+pub unwrap-requires : goal.unwrap-requires
+unwrap-requires g c =
     let stands = standing (items_in c.args.row.now) c.args.index
     (omega (arith, c.requires.len, c.requires.within)) in
-    none-some stands.item (sym c.in-None.is ∙ taken.1 stands)
+    rw ((taken g (goal.at.unwrap-requires g c).After-loop-at).1 stands) refl
 
 pub returns-clause-item : goal.returns-clause-item
 returns-clause-item g c =
-    let at : c.args.index ≡ c.loop-at.at = omega arith in
-    let taken = held_without c.loop-at.row c.args.len c.args.index c.loop-at.carried c.requires.held
-    c.requires.len c.requires.within c.loop-at.invariant.long
-    (ap (λ k. insert c.loop-at.row k c.loop-at.carried) at ∙ c.loop-at.invariant.same) in
     let stands = standing (items_in c.args.row.now) c.args.index
     (omega (arith, c.requires.len, c.requires.within)) in
-    same_Some c.in-Some.item stands.item (sym c.in-Some.is ∙ taken.1 stands)
-    ∙ sym (stands.item_is c.in-Some.item)
+    let a = (goal.at.returns-clause-item g c).After-loop-at in
+    same_Some c.unwrap.result stands.item (sym c.unwrap.ensures ∙ (taken g a).1 stands)
+    ∙ sym (stands.item_is c.unwrap.result)
 
 pub returns-clause-held : goal.returns-clause-held
-returns-clause-held g c =
-    let at : c.args.index ≡ c.loop-at.at = omega arith in
-    let taken = held_without c.loop-at.row c.args.len c.args.index c.loop-at.carried c.requires.held
-    c.requires.len c.requires.within c.loop-at.invariant.long
-    (ap (λ k. insert c.loop-at.row k c.loop-at.carried) at ∙ c.loop-at.invariant.same) in
-    taken.0
+returns-clause-held g c = (taken g (goal.at.returns-clause-held g c).After-loop-at).0

@@ -11,13 +11,13 @@ loop-removed-preserved g c =
     let place = place_before (storage.rank c.args.stored.now) (length before) c.args.cursor.at in
     let here = rw c.in-Some.is at c.loop-removed.invariant.position in
     record {
-      position = rw here.1 at c.remove_at-following.ensures.following;
+      position = rw here.1 at c.remove_at-at.ensures.following;
       changed =
           removed_one before (storage.items c.loop-removed.stored)
-          (storage.items c.remove_at-following.new.self) place c.loop-removed._removed
-          (storage.rank c.loop-removed.stored c.in-Some.p) c.remove_at-following.result.0
-          c.loop-removed.invariant.changed c.remove_at-following.ensures.list here.1 (omega arith);
-      space = omega (arith, c.remove_at-following.ensures.space, c.loop-removed.invariant.space);
+          (storage.items c.remove_at-at.new.self) place c.loop-removed._removed
+          (storage.rank c.loop-removed.stored c.in-Some.p) c.remove_at-at.result.0
+          c.loop-removed.invariant.changed c.remove_at-at.ensures.list here.1 (omega arith);
+      space = omega (arith, c.remove_at-at.ensures.space, c.loop-removed.invariant.space);
     }
 
 pub loop-removed-init : goal.loop-removed-init

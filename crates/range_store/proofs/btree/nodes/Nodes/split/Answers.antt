@@ -35,12 +35,7 @@ first_half g c =
 
 pub next_spare-right-requires : goal.next_spare-right-requires
 next_spare-right-requires g c =
-    let s = c.self.inside in
-    omega (
-      arith,
-      spares_left c.self.invariant.0 1 (rw (← c.self.view_is) at c.requires.room),
-      s.spares.ok.0,
-    )
+    omega (arith, spares_left c.self.invariant.0 1 (rw (← c.self.view_is) at c.requires.room))
 
 pub index_mut-requires : goal.index_mut-requires
 index_mut-requires g c = found c.self.invariant.0 c.args.number

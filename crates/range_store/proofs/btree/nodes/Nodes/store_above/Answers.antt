@@ -6,12 +6,7 @@ use Rattle.range_store.proofs.btree.nodes.Nodes.store_above.Goals as goal
 
 pub next_spare-number-requires : goal.next_spare-number-requires
 next_spare-number-requires g c =
-    let s = c.self.inside in
-    omega (
-      arith,
-      spares_left c.self.invariant.0 1 (rw (← c.self.view_is) at c.requires),
-      s.spares.ok.0,
-    )
+    omega (arith, spares_left c.self.invariant.0 1 (rw (← c.self.view_is) at c.requires))
 
 pub index_mut-requires : goal.index_mut-requires
 index_mut-requires g c = spare_found c.self.invariant.0 c.next_spare-number.ensures.items

@@ -1,7 +1,7 @@
 use Rattle.std.proofs.Common.{◌≡◌, ◌+◌, ◌≤◌, ◌++◌, [], length}
 use Rattle.std.specs.Prelude.{MatchOption}
 use Rattle.range_store.specs.Holding.{box_items, box_place, box_room, IsBoxEdge}
-use Rattle.range_store.proofs.btree.BoxStorage.push_all.Given as goal
+use Rattle.range_store.proofs.btree.BoxStorageStorage.append.Given as goal
 
 abbrev pub invariant-loop-item : goal.invariant-loop-item
 invariant-loop-item g l =

@@ -4,14 +4,14 @@ use Rattle.range_store.proofs.Edges.{leaf_edge, leaf_place}
 use Rattle.range_store.proofs.Levels.{empty_levels, has_levels}
 use Rattle.range_store.proofs.RootGrowth.{first_tree}
 use Rattle.range_store.proofs.Rank.{first_room}
-use Rattle.range_store.proofs.btree.BoxStorage.insert_into_empty.Goals as goal
-use Rattle.range_store.proofs.btree.BoxStorage.insert_into_empty.Given.{Over}
-use Rattle.range_store.proofs.btree.BoxStorage.insert_into_empty.Goals.{After-store_leaf-self}
+use Rattle.range_store.proofs.btree.BoxStorage.insert.Goals as goal
+use Rattle.range_store.proofs.btree.BoxStorage.insert.Given.{Over}
+use Rattle.range_store.proofs.btree.BoxStorage.insert.Goals.{After-store_leaf-self}
 
 pub store_leaf-self-requires : goal.store_leaf-self-requires
 store_leaf-self-requires g c =
     let s = c.args.self.now in
-    let none = ap length c.requires.empty in first_room s.levels
+    let none = ap length (rw c.in-None.is at c.requires.edge) in first_room s.levels
     (empty_levels s.whole.tree none) s.whole.tree (omega (arith, none, c.requires.room))
 
 first : (g : Over) (c : After-store_leaf-self g)
@@ -19,7 +19,7 @@ first : (g : Over) (c : After-store_leaf-self g)
     × (items_below c.store_leaf-self.new.self 1 c.store_leaf-self.result ≡ c.args.item ∷ [])
 first g c =
     let s = c.args.self.now in
-    first_tree s.levels c.args.item (empty_levels s.whole.tree (ap length c.requires.empty))
+    first_tree s.levels c.args.item (empty_levels s.whole.tree (ap length (rw c.in-None.is at c.requires.edge)))
     s.whole.tree c.store_leaf-self.ensures
 
 pub invariant_of-self : goal.invariant_of-self
@@ -37,23 +37,24 @@ invariant_of-self g c =
       levelled = rw many at (has_levels (first g c).0);
     }
 
-pub returns-clause-list : goal.returns-clause-list
-returns-clause-list g c = let a =
-    (goal.at.returns-clause-list g c).After-store_leaf-self in (first g a).1
+pub returns-in-None-clause-list : goal.returns-in-None-clause-list
+returns-in-None-clause-list g c =
+    let a = (goal.at.returns-in-None-clause-list g c).After-store_leaf-self in
+    rw (c.in-None.is, rw c.in-None.is at c.requires.edge) (first g a).1
 
-pub returns-clause-room : goal.returns-clause-room
-returns-clause-room g c =
-    let a = (goal.at.returns-clause-room g c).After-store_leaf-self in
+pub returns-in-None-clause-room : goal.returns-in-None-clause-room
+returns-in-None-clause-room g c =
+    let a = (goal.at.returns-in-None-clause-room g c).After-store_leaf-self in
     omega (
       arith,
       ap length (first g a).1,
-      ap length c.requires.empty,
+      ap length (rw c.in-None.is at c.requires.edge),
       c.requires.room,
       c.store_leaf-self.ensures.capacity,
     )
 
-pub returns-clause-edge : goal.returns-clause-edge
-returns-clause-edge g c =
+pub returns-in-None-clause-edge : goal.returns-in-None-clause-edge
+returns-in-None-clause-edge g c =
     record {
       some = omega arith;
       edge =
@@ -61,5 +62,7 @@ returns-clause-edge g c =
           (omega (arith, ap length c.store_leaf-self.ensures.items_are));
     }
 
-pub returns-clause-place : goal.returns-clause-place
-returns-clause-place g c = leaf_place c.store_leaf-self.new.self c.store_leaf-self.result _
+pub returns-in-None-clause-place : goal.returns-in-None-clause-place
+returns-in-None-clause-place g c =
+    rw (c.in-None.is, rw c.in-None.is at c.requires.edge)
+    (leaf_place c.store_leaf-self.new.self c.store_leaf-self.result _)
