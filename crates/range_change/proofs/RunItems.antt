@@ -20,6 +20,7 @@ use Rattle.range_change.proofs.PlaceOrder.{le_refl, lt_le, le_trans, lt_not_le, 
 use Rattle.range_store.specs.ListPlaces.{place_before}
 use Rattle.range_store.specs.declared.storage.Item.{Item}
 use Rattle.std.proofs.Common.{◌≡◌, refl, sym, ap, ◌∙◌, ℕ, zero, suc, ◌+◌, ◌-◌, ◌<◌, ◌≤◌, Bool, true, false, List, [], ◌∷◌, ◌++◌, length, take, drop, get_or, arith, Option, Some, None, inl, inr}
+use Rattle.std.proofs.Math.Seq.{take-append-add}
 use Rattle.std.proofs.lemmas.List.{drop-drop}
 use Rattle.std.specs.Cmp.{IsEquivalence}
 use Rattle.std.specs.Ordering.{is_gt}
@@ -211,6 +212,23 @@ module _ {T : Type 0} (items : List T) (p q : ℕ) (x : T) (within : q < length 
       rw next (first_of_run items p (q + 1 - p) x (omega (arith, le))
       (omega (arith, le, within)) read
       ∙ ap (λ m. x ∷ take m (drop (p + 1) items)) left)
+
+  -- the first, those that lie with it, and the rest
+  pub run_near : p ≤ q → x ≡ get_or items p x → (near : List T)
+      → near ≡ take (length near) (drop (p + 1) items) → (n : ℕ) → n ≡ p + 1 + length near → n ≤ q
+      → take (q + 1 - p) (drop p items) ≡ x ∷ (near ++ take (q + 1 - n) (drop n items))
+  run_near le read near is n next upto =
+      let behind = drop (p + 1) items in
+      let left : q + 1 - (p + 1) ≡ length near + (q + 1 - n) = omega (arith, next, upto) in
+      let far : drop (length near) behind ≡ drop n items =
+      drop-drop (length near) (p + 1) items ∙ ap (λ m. drop m items) (sym next) in
+      let parts : behind ≡ near ++ drop n items =
+      list_is_take_and_drop behind (length near)
+      ∙ (ap (λ ys. ys ++ drop (length near) behind) (sym is) ∙ ap (λ ys. near ++ ys) far) in
+      run_first le read (p + 1) refl
+      ∙ ap (λ ys. x ∷ ys)
+      (ap (λ m. take m behind) left ∙ (ap (take (length near + (q + 1 - n))) parts
+      ∙ take-append-add near (drop n items) (q + 1 - n)))
 
   pub run_last : p ≤ q → x ≡ get_or items q x → (n : ℕ) → n + 1 ≡ q
       → take (q + 1 - p) (drop p items) ≡ take (n + 1 - p) (drop p items) ++ x ∷ []

@@ -12,7 +12,7 @@ use crate::window::starts_past;
 use range_algebra::any::AnyRange;
 use range_keys::bound::Directed;
 use range_keys::traits::PartialEnum;
-use range_store::storage::{Item, Steps, Storage};
+use range_store::storage::{Item, Run, Steps, Storage};
 use std::alloc::AllocError;
 use std::marker::{Model, PhantomData};
 use std::ops::RangeBounds;
@@ -22,13 +22,17 @@ use std::ops::RangeBounds;
 #[derive(Drop)]
 pub struct Overlapping<'a, K: PartialEnum + 'a, V: Eq + 'a, C: Storage<Item<AnyRange<K>, V>> + 'a> {
     stored: &'a C,
+    // Items that lie together, and the run of those after them.
+    near: Run<'a, Item<AnyRange<K>, V>>,
     ends: Option<(C::Position, C::Position)>,
+    // Whether the last item lies with the next, so that they are taken one by one.
+    one_by_one: bool,
     item: PhantomData<(K, V)>,
 }
 
 impl<'a, K: PartialEnum + 'a, V: Eq + 'a, C: Storage<Item<AnyRange<K>, V>> + 'a> Model
     for Overlapping<'a, K, V, C> {
-    ghost use Rattle.std.specs.Prelude.{List};
+    ghost use Rattle.std.specs.Prelude.{List, ◌++◌};
     ghost use Rattle.range_algebra.specs.declared.any.AnyRange.{AnyRange};
     ghost use Rattle.range_store.specs.declared.storage.Item.{Item};
     ghost use Rattle.range_change.specs.Runs.{IsRun, run_items};
@@ -36,7 +40,7 @@ impl<'a, K: PartialEnum + 'a, V: Eq + 'a, C: Storage<Item<AnyRange<K>, V>> + 'a>
 
     ghost Value = { List (Item (AnyRange K) V) };
 
-    ghost view = { λ o. run_items (C.rank o.stored.now) (C.items o.stored.now) o.ends };
+    ghost view = { λ o. o.near ++ run_items (C.rank o.stored.now) (C.items o.stored.now) o.ends };
 
     ghost invariant = { λ o. IsStored K.order V.eq (C.items o.stored.now)
         × IsRun (C.is_good o.stored.now) (C.rank o.stored.now) o.ends };
@@ -56,7 +60,9 @@ impl<'a, K: PartialEnum + 'a, V: Eq + 'a, C: Storage<Item<AnyRange<K>, V>> + 'a>
     {
         Overlapping {
             stored,
+            near: Run::of_items(&[]),
             ends,
+            one_by_one: false,
             item: PhantomData,
         }
     }
@@ -65,7 +71,17 @@ impl<'a, K: PartialEnum + 'a, V: Eq + 'a, C: Storage<Item<AnyRange<K>, V>> + 'a>
     pub fn duplicate(&self) -> Self
         ensures { result ≡ self.now }
     {
-        Overlapping::new(self.stored, self.ends)
+        let near = match self.near.clone() {
+            Ok(near) => near,
+            Err(_) => unreachable!(),
+        };
+        Overlapping {
+            stored: self.stored,
+            near,
+            ends: self.ends,
+            one_by_one: self.one_by_one,
+            item: PhantomData,
+        }
     }
 }
 
@@ -83,26 +99,64 @@ fn stands_before<K: PartialEnum, V>(
     starts_past::<K, V>(other, &start, &mut steps)
 }
 
-/// The first item of a run, and the run that is left after it.
+/// The first item of a run, those after it that lie with it, and the run of those after these.
+#[derive(Drop)]
+struct Front<'a, T, P: Copy> {
+    item: &'a T,
+    near: Run<'a, T>,
+    ends: Option<(P, P)>,
+    one_by_one: bool,
+}
+
+/// Takes the first item from a run, and those that lie with it, unless the last lies with them.
 fn split_first<'a, K: PartialEnum, V: Eq, C: Storage<Item<AnyRange<K>, V>>>(
     stored: &'a C,
     first: C::Position,
     last: C::Position,
-) -> (&'a Item<AnyRange<K>, V>, Option<(C::Position, C::Position)>)
+    one_by_one: bool,
+) -> Front<'a, Item<AnyRange<K>, V>, C::Position>
     requires stored { IsStored K.order V.eq (C.items stored.now) }
     requires run { IsRun (C.is_good stored.now) (C.rank stored.now) (Some (first, last)) }
-    ensures run { IsRun (C.is_good stored.now) (C.rank stored.now) result.1 }
+    ensures run { IsRun (C.is_good stored.now) (C.rank stored.now) result.ends }
     ensures items { run_items (C.rank stored.now) (C.items stored.now) (Some (first, last))
-        ≡ result.0.now ∷ run_items (C.rank stored.now) (C.items stored.now) result.1 }
+        ≡ result.item.now ∷ (result.near
+        ++ run_items (C.rank stored.now) (C.items stored.now) result.ends) }
 {
     let item = stored.get(first);
-    if stands_before(item, stored.get(last)) {
-        match stored.next(first) {
-            Some(p) => (item, Some((p, last))),
-            None => unreachable!(),
+    let end = stored.get(last);
+    if !stands_before(item, end) {
+        return alone(item, None);
+    }
+    if !one_by_one {
+        let chunk = stored.chunk_from(first);
+        if let Some(after) = chunk.after {
+            if !stands_before(end, stored.get(after)) {
+                return Front {
+                    item: chunk.first,
+                    near: chunk.rest,
+                    ends: Some((after, last)),
+                    one_by_one: false,
+                };
+            }
         }
-    } else {
-        (item, None)
+    }
+    match stored.next(first) {
+        Some(p) => alone(item, Some((p, last))),
+        None => unreachable!(),
+    }
+}
+
+/// An item with which no other is taken.
+fn alone<'a, T, P: Copy>(item: &'a T, ends: Option<(P, P)>) -> Front<'a, T, P>
+    ensures item { result.item.now ≡ item.now }
+    ensures near { result.near ≡ [] }
+    ensures ends { result.ends ≡ ends }
+{
+    Front {
+        item,
+        near: Run::of_items(&[]),
+        ends,
+        one_by_one: true,
     }
 }
 
@@ -177,15 +231,17 @@ impl<'a, K: PartialEnum + 'a, V: Eq + 'a, C: Storage<Item<AnyRange<K>, V>> + 'a>
 
     ghost remaining = { item_count (λ rest. rest) };
 
+    #[inline(always)]
     fn next(&mut self) -> Option<(&'a AnyRange<K>, &'a V)> {
-        match self.ends {
-            None => None,
-            Some((first, last)) => {
-                let (item, ends) = split_first::<K, V, C>(self.stored, first, last);
-                self.ends = ends;
-                Some((&item.key, &item.value))
-            }
+        if let Some(item) = self.near.next() {
+            return Some((&item.key, &item.value));
         }
+        let (first, last) = self.ends?;
+        let front = split_first::<K, V, C>(self.stored, first, last, self.one_by_one);
+        self.near = front.near;
+        self.ends = front.ends;
+        self.one_by_one = front.one_by_one;
+        Some((&front.item.key, &front.item.value))
     }
 
     fn size_hint(&self) -> (usize, Option<usize>) {
@@ -199,7 +255,10 @@ impl<'a, K: PartialEnum + 'a, V: Eq + 'a, C: Storage<Item<AnyRange<K>, V>> + 'a>
 
     fn next_back(&mut self) -> Option<(&'a AnyRange<K>, &'a V)> {
         match self.ends {
-            None => None,
+            None => {
+                let item = self.near.next_back()?;
+                Some((&item.key, &item.value))
+            }
             Some((first, last)) => {
                 let (ends, item) = split_last::<K, V, C>(self.stored, first, last);
                 self.ends = ends;

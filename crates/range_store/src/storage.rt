@@ -81,7 +81,7 @@ impl<K, V> Item<K, V> {
     }
 }
 
-/// Items that lie together, in a slice of items or of full cells, of which the next can be taken.
+/// Items that lie together, in a slice of items or of full cells, which can be taken from both ends.
 /// A contract sees their list.
 #[derive(Drop)]
 pub struct Run<'a, T> {
@@ -133,6 +133,23 @@ impl<'a, T> Run<'a, T> {
         let (item, rest) = self.items.split_first()?;
         self.items = rest;
         Some(item)
+    }
+
+    /// The last item, which is taken from the run, or none where no item is left.
+    pub fn next_back(&mut self) -> Option<&'a T>
+        ensures { MatchOption result ((self.old ≡ []) × (self.new ≡ []))
+            (λ item. self.old ≡ self.new ++ item.now ∷ []) }
+    {
+        if let Some((item, rest)) = self.items.split_last() {
+            self.items = rest;
+            return Some(item);
+        }
+        let (cell, rest) = self.cells.split_last()?;
+        self.cells = rest;
+        match cell {
+            Some(item) => Some(item),
+            None => unreachable!(),
+        }
     }
 }
 

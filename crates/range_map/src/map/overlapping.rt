@@ -23,8 +23,8 @@ impl<K: Measure, V: Eq + Drop, C: Storage<Item<AnyRange<K>, V>>> RangeMap<K, V, 
     /// both ends.
     ///
     /// An empty range meets none. There is none exactly where no key of the range is bound, over
-    /// keys that leave no gap. Costs two searches and one comparison more, and then a comparison
-    /// for each range that is shown. Allocates nothing.
+    /// keys that leave no gap. Costs two searches and one comparison more, and then at most
+    /// two comparisons for each range that is shown. Allocates nothing.
     ///
     /// ```
     /// // of a map that binds 0..=5 to 1
@@ -70,7 +70,7 @@ impl<K: PartialEnum, V: Eq + Drop, C: Storage<Item<AnyRange<K>, V>>> RangeMap<K,
     /// ascending order, from both ends.
     ///
     /// They are those that meet the keys from this one on. Costs one search and a way down the
-    /// tree, and then a comparison for each range that is shown. Allocates nothing.
+    /// tree, and then at most two comparisons for each range that is shown. Allocates nothing.
     ///
     /// ```
     /// // of a map that binds 0..=5 to 1

@@ -94,7 +94,7 @@ impl<T: PartialEnum, C: Storage<Item<AnyRange<T>, ()>>> RangeSet<T, C> {
     /// both ends.
     ///
     /// They are those that meet the keys from this one on. Costs one search and a way down the
-    /// tree, and then a comparison for each range that is shown. Allocates nothing.
+    /// tree, and then at most two comparisons for each range that is shown. Allocates nothing.
     ///
     /// ```
     /// // of a set of the keys 0..=5
@@ -131,8 +131,8 @@ impl<T: Measure, C: Storage<Item<AnyRange<T>, ()>>> RangeSet<T, C> {
     /// The stored ranges that meet the range, whole, in ascending order, from both ends.
     ///
     /// An empty range meets none. There is none exactly where no key of the range is in the set,
-    /// over keys that leave no gap. Costs two searches and one comparison more, and then a
-    /// comparison for each range that is shown. Allocates nothing.
+    /// over keys that leave no gap. Costs two searches and one comparison more, and then at
+    /// most two comparisons for each range that is shown. Allocates nothing.
     ///
     /// ```
     /// // of a set of the keys 0..=5
