@@ -1,5 +1,14 @@
 -- What the closure of an update may answer, told by what its calls may.
-use Rattle.range_map.proofs.Common.{Bool, List, [], ◌∷◌, Option, Result, Ok, Err, Bor, Shared, KeyOrder, Every, every_weaker, AnyRange, Item, MayAnswer, IsAnswered, IsUpdated, MayFail, FailsAt, AreRebound}
+use Rattle.range_map.proofs.Common.{◌≡◌, Bool, List, [], ◌∷◌, Option, Result, Ok, Err, Bor, Shared, KeyOrder, Every, every_weaker, AnyRange, Item, MayAnswer, IsAnswered, IsUpdated, MayFail, FailsAt, AreRebound}
+use Rattle.std.specs.Result.{IsErrAnd}
+use Rattle.range_change.specs.declared.error.UpdateError.{UpdateError}
+use Rattle.range_change.specs.declared.error.UpdateError.TheVariants.{Closure as ClosureError, Memory as MemoryError}
+
+-- an error that is of memory is no error of a closure
+pub memory_is_no_closure : {A E : Type 0} (r : Result A (UpdateError E)) (e : E)
+    → IsErrAnd r (λ error. error ≡ MemoryError) → r ≡ Err (ClosureError e) → ⊥
+memory_is_no_closure (Ok a) e memory failed = absurd memory
+memory_is_no_closure (Err error) e memory failed = cc
 
 pub every_one : {X : Type 0} (P : X → Type 0) (xs : List X) → ((x : X) → P x) → Every P xs
 every_one P [] each = tt

@@ -1,5 +1,6 @@
 use Rattle.std.proofs.lemmas.Bool.{cases_lt}
-use Rattle.range_map.proofs.Common.{arith, inl, inr, length, false≢true, rules}
+use Rattle.range_map.proofs.Common.{arith, inl, inr, length, false≢true, rules, error_has_no_value}
+use Rattle.range_map.proofs.ClosureAnswers.{memory_is_no_closure}
 use Rattle.range_map.proofs.Coarse.{coarse_alike}
 use Rattle.range_merge.proofs.Combination.{pieces_combine}
 use Rattle.range_map.proofs.StoredLists.{stored_coarse}
@@ -26,9 +27,20 @@ returns g c =
           complete) coarse alike);
     }
 
-pub returns-in_err-map_of-clause-memory : goal.returns-in_err-map_of-clause-memory
-returns-in_err-map_of-clause-memory g c = λ failed.
-    elim (cases_lt 0 (length c.in_ok-answers.answers.items)) [
-      | inl some ↦ c.in_ok-answers.ensures.some some
-      | inr none ↦ absurd (false≢true (c.in_err-map_of.ensures.none_needed (omega (arith, none))))
-    ]
+pub returns-in_err-map_of : goal.returns-in_err-map_of
+returns-in_err-map_of g c =
+    let left = c.from_residual-in_err-map_of in
+    record {
+      bound = error_has_no_value _ left.result left.ensures.0;
+      pieces = error_has_no_value _ left.result left.ensures.0;
+      form = error_has_no_value _ left.result left.ensures.0;
+      coarse = λ complete. error_has_no_value _ left.result left.ensures.0;
+      only = λ complete. error_has_no_value _ left.result left.ensures.0;
+      closure = λ e failed. absurd (memory_is_no_closure left.result e left.ensures.1 failed);
+      memory = λ failed.
+          elim (cases_lt 0 (length c.in_ok-answers.answers.items)) [
+            | inl some ↦ c.in_ok-answers.ensures.some some
+            | inr none ↦
+                absurd (false≢true (c.in_err-map_of.ensures.none_needed (omega (arith, none))))
+          ];
+    }

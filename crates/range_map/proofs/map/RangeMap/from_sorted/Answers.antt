@@ -1,5 +1,6 @@
-use Rattle.range_map.proofs.Common.{◌≡◌, refl, ap, subst, map, Err, item_of, IsFirstFault}
-use Rattle.range_map.specs.declared.map.from_sorted.NotSorted.TheVariants.{OutOfOrder as FaultAt}
+use Rattle.range_map.proofs.Common.{◌≡◌, ℕ, refl, ap, subst, map, Result, Ok, Err, false≢true, item_of, IsFirstFault}
+use Rattle.range_map.specs.declared.map.from_sorted.NotSorted.{NotSorted}
+use Rattle.range_map.specs.declared.map.from_sorted.NotSorted.TheVariants.{Memory, OutOfOrder as FaultAt}
 use Rattle.range_map.proofs.SortedLists.{one_fault, sorted_has_none}
 use Rattle.range_map.proofs.StoredLists.{stored_coarse, stored_only}
 use Rattle.range_map.proofs.map.RangeMap.from_sorted.Goals as goal
@@ -14,25 +15,41 @@ returns-in-Some-clause-out_of_order g c n =
       λ other. ap (λ m. Err (FaultAt m)) (one_fault order items place n fault other),
     )
 
-pub returns-in-Err-clause-out_of_order : goal.returns-in-Err-clause-out_of_order
-returns-in-Err-clause-out_of_order g c n =
+memory_is_no_fault : {A : Type 0} {n : ℕ} (r : Result A NotSorted) → r ≡ Err Memory
+    → r ≡ Err (FaultAt n) → ⊥
+memory_is_no_fault r is e = cc
+
+map_is_no_fault : {A : Type 0} {new : A} {n : ℕ} → Ok new ≡ Err (FaultAt n) → ⊥
+map_is_no_fault e = cc
+
+pub returns-in-Err : goal.returns-in-Err
+returns-in-Err g c =
     let items = map (item_of g.R.AsRange.range) c.args.pairs.items in
-    let sorted = rw c.as_slice.ensures.value at (c.in-None.ensures.sorted refl) in (
-      λ e. absurd (cc),
-      λ fault. absurd (sorted_has_none g.K.MaybeBounded.order items n sorted fault),
-    )
+    let sorted = rw c.as_slice.ensures.value at (c.in-None.ensures.sorted refl) in
+    record {
+      out_of_order = λ n. (
+        λ e. absurd (memory_is_no_fault _ refl e),
+        λ fault. absurd (sorted_has_none g.K.MaybeBounded.order items n sorted fault),
+      );
+      bound = tt;
+      form = tt;
+      coarse = λ complete. tt;
+      only = λ complete. tt;
+      empty = λ none. absurd (false≢true (c.in-Err.ensures.none_needed none));
+    }
 
-pub returns-in-Ok-clause-out_of_order : goal.returns-in-Ok-clause-out_of_order
-returns-in-Ok-clause-out_of_order g c n =
+pub returns-in-Ok : goal.returns-in-Ok
+returns-in-Ok g c =
     let items = map (item_of g.R.AsRange.range) c.args.pairs.items in
-    let sorted = rw c.as_slice.ensures.value at (c.in-None.ensures.sorted refl) in (
-      λ e. absurd (cc),
-      λ fault. absurd (sorted_has_none g.K.MaybeBounded.order items n sorted fault),
-    )
-
-pub returns-in-Ok-clause-coarse : goal.returns-in-Ok-clause-coarse
-returns-in-Ok-clause-coarse g c = stored_coarse g.met.K.PartialEnum.lawful _ c.in-Ok.ensures.form
-
-pub returns-in-Ok-clause-only : goal.returns-in-Ok-clause-only
-returns-in-Ok-clause-only g c =
-    stored_only g.met.K.PartialEnum.lawful g.met.V.Eq.laws _ c.in-Ok.ensures.form
+    let sorted = rw c.as_slice.ensures.value at (c.in-None.ensures.sorted refl) in
+    record {
+      out_of_order = λ n. (
+        λ e. absurd (map_is_no_fault e),
+        λ fault. absurd (sorted_has_none g.K.MaybeBounded.order items n sorted fault),
+      );
+      bound = c.in-Ok.ensures.bound;
+      form = c.in-Ok.ensures.form;
+      coarse = stored_coarse g.met.K.PartialEnum.lawful _ c.in-Ok.ensures.form;
+      only = stored_only g.met.K.PartialEnum.lawful g.met.V.Eq.laws _ c.in-Ok.ensures.form;
+      empty = λ none. refl;
+    }

@@ -1,4 +1,4 @@
-use Rattle.range_map.proofs.Common.{tied_back, range_clone, range_total, range_of, on_error, AreUnboundAfter}
+use Rattle.range_map.proofs.Common.{tied_back, range_clone, range_total, range_of, error_has_no_value, on_error, AreUnboundAfter}
 use Rattle.range_map.proofs.InPlace.{none_unbound, one_unbound, all_kept}
 use Rattle.range_map.proofs.PartWay.{set_out, one_done, stopped_at_gap, arrived}
 use Rattle.range_map.proofs.StoredLists.{stored_coarse, stored_only}
@@ -44,20 +44,45 @@ loop-gap-preserved g c =
       only = c.remove.ensures.only;
     }
 
-pub returns-clause-bound : goal.returns-clause-bound
-returns-clause-bound g c =
+pub returns : goal.returns
+returns g c =
     let same = g.V.PartialEq.eq in
     let first = g.C.Storage.items c.args.self.now in
     let now = g.C.Storage.items c.loop-gap.self in
-    all_kept g.K.MaybeBounded.order same first now _ c.gaps-gaps.result c.gaps-gaps.ensures.once
-    (arrived c.in_default.ensures.steps.0 c.loop-gap.invariant.way)
+    record {
+      bound =
+          all_kept g.K.MaybeBounded.order same first now _ c.gaps-gaps.result
+          c.gaps-gaps.ensures.once
+          (arrived c.in_default.ensures.steps.0 c.loop-gap.invariant.way);
+      refused = tt;
+      form = c.loop-gap.invariant.form;
+      coarse = c.loop-gap.invariant.coarse;
+      only = c.loop-gap.invariant.only;
+    }
 
-pub returns-in_err-cloned-clause-refused : goal.returns-in_err-cloned-clause-refused
-returns-in_err-cloned-clause-refused g c =
-    on_error _ c.from_residual.result
-    (stopped_at_gap c.gaps-gaps.ensures.gaps c.in-Some.ensures.steps c.loop-gap.invariant.way)
+pub returns-in_err-cloned : goal.returns-in_err-cloned
+returns-in_err-cloned g c =
+    let left = c.from_residual in
+    record {
+      bound = error_has_no_value _ left.result left.ensures.0;
+      refused =
+          on_error _ left.result (stopped_at_gap c.gaps-gaps.ensures.gaps c.in-Some.ensures.steps
+          c.loop-gap.invariant.way);
+      form = c.loop-gap.invariant.form;
+      coarse = c.loop-gap.invariant.coarse;
+      only = c.loop-gap.invariant.only;
+    }
 
-pub returns-in_err-remove-clause-refused : goal.returns-in_err-remove-clause-refused
-returns-in_err-remove-clause-refused g c =
-    rw c.in_err-remove.ensures.refused (on_error _ c.from_residual-in_err-remove.result
-    (stopped_at_gap c.gaps-gaps.ensures.gaps c.in-Some.ensures.steps c.loop-gap.invariant.way))
+pub returns-in_err-remove : goal.returns-in_err-remove
+returns-in_err-remove g c =
+    let left = c.from_residual-in_err-remove in
+    record {
+      bound = error_has_no_value _ left.result left.ensures.0;
+      refused =
+          rw c.in_err-remove.ensures.refused (on_error _ left.result
+          (stopped_at_gap c.gaps-gaps.ensures.gaps c.in-Some.ensures.steps
+          c.loop-gap.invariant.way));
+      form = c.remove.ensures.form;
+      coarse = c.remove.ensures.coarse;
+      only = c.remove.ensures.only;
+    }

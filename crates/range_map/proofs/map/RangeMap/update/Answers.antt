@@ -1,4 +1,5 @@
-use Rattle.range_map.proofs.Common.{Ok, Err, false≢true, bound_clone, IsUpdated, not_both, on_ok, updated_stands}
+use Rattle.range_map.proofs.Common.{Ok, Err, refl, false≢true, bound_clone, IsUpdated, error_has_no_value, not_both, on_error, on_ok, updated_stands}
+use Rattle.range_map.proofs.ClosureAnswers.{memory_is_no_closure}
 use Rattle.range_map.proofs.Likeness.{clone_empty, updated_too, answers_too}
 use Rattle.range_change.proofs.MergedItems.{unchanged_stands}
 use Rattle.range_change.proofs.SpelledChanges.{list_keeps_spelling}
@@ -77,14 +78,20 @@ pub returns-then-is_empty-clause-only : goal.returns-then-is_empty-clause-only
 returns-then-is_empty-clause-only g c =
     stored_only g.met.K.PartialEnum.lawful g.met.V.Eq.laws _ c.in_form.ensures
 
-pub returns-in_err-range-clause-coarse : goal.returns-in_err-range-clause-coarse
-returns-in_err-range-clause-coarse g c =
-    stored_coarse g.met.K.PartialEnum.lawful _ c.in_form.ensures
-
-pub returns-in_err-range-clause-only : goal.returns-in_err-range-clause-only
-returns-in_err-range-clause-only g c =
-    stored_only g.met.K.PartialEnum.lawful g.met.V.Eq.laws _ c.in_form.ensures
-
-pub returns-in_err-range-clause-memory : goal.returns-in_err-range-clause-memory
-returns-in_err-range-clause-memory g c never failed =
-    absurd (false≢true (c.in_err-range.ensures.succeeds never))
+pub returns-in_err-range : goal.returns-in_err-range
+returns-in_err-range g c =
+    let left = c.from_residual in
+    record {
+      updated = error_has_no_value _ left.result left.ensures.0;
+      rebound = error_has_no_value _ left.result left.ensures.0;
+      kept = error_has_no_value _ left.result left.ensures.0;
+      spelled = error_has_no_value _ left.result left.ensures.0;
+      form = c.in_form.ensures;
+      coarse = stored_coarse g.met.K.PartialEnum.lawful _ c.in_form.ensures;
+      only = stored_only g.met.K.PartialEnum.lawful g.met.V.Eq.laws _ c.in_form.ensures;
+      closure = λ e failed. absurd (memory_is_no_closure left.result e left.ensures.1 failed);
+      memory = λ never failed. absurd (false≢true (c.in_err-range.ensures.succeeds never));
+      refused = on_error _ left.result refl;
+      empty = λ e. absurd (not_both c.if-is_empty.false (c.is_empty.ensures.by_position.1 e));
+      empty_unchanged = λ _. refl;
+    }

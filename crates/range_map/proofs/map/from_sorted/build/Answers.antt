@@ -1,6 +1,6 @@
 use Rattle.std.proofs.Common.{◌≡◌, ◌∙◌, sym, ap, ◌∷◌, ◌++◌, [], length, map, subst, arith, append_assoc}
 use Rattle.range_map.proofs.AppendedLists.{appended_length}
-use Rattle.range_map.proofs.Common.{false≢true, length-append, map-append, lower, BindAlike, item_upper, item_of, full_range, le_refl}
+use Rattle.range_map.proofs.Common.{false≢true, error_has_no_value, length-append, map-append, lower, BindAlike, item_upper, item_of, full_range, le_refl}
 use Rattle.std.proofs.lemmas.Result.{IfOk-weaker}
 use Rattle.range_change.proofs.OuterBounds.{prefix_is_all}
 use Rattle.range_map.proofs.JoinedItems.{built_more, built_none}
@@ -73,20 +73,32 @@ returns-clause-bound g c =
     IfOk-weaker c.map_of.result _ (λ new. alike _) (λ new is. subst alike (sym is) bound)
     c.map_of.ensures.items
 
-pub returns-in_err-items-clause-none_needed : goal.returns-in_err-items-clause-none_needed
-returns-in_err-items-clause-none_needed g c none =
-    absurd (false≢true (c.in_err-items.ensures.succeeds
-    (omega (arith, none, c.len.ensures, c.args.pairs.ok.0))))
+pub returns-in_err-items : goal.returns-in_err-items
+returns-in_err-items g c =
+    let left = c.from_residual in
+    record {
+      bound = error_has_no_value _ left.result left.ensures.0;
+      form = error_has_no_value _ left.result left.ensures.0;
+      none_needed = λ none.
+          absurd (false≢true (c.in_err-items.ensures.succeeds
+          (omega (arith, none, c.len.ensures, c.args.pairs.ok.0))));
+    }
 
-pub returns-in_err-push-clause-none_needed : goal.returns-in_err-push-clause-none_needed
-returns-in_err-push-clause-none_needed g c none =
-    absurd (omega (
-      arith,
-      none,
-      ap length c.loop-range.invariant.parted,
-      ap length c.in-Some.ensures.steps.0,
-      length-append c.loop-range.yielded c.loop-range.range-iterator.rest.items,
-    ))
+pub returns-in_err-push : goal.returns-in_err-push
+returns-in_err-push g c =
+    let left = c.from_residual-in_err-push in
+    record {
+      bound = error_has_no_value _ left.result left.ensures.0;
+      form = error_has_no_value _ left.result left.ensures.0;
+      none_needed = λ none.
+          absurd (omega (
+            arith,
+            none,
+            ap length c.loop-range.invariant.parted,
+            ap length c.in-Some.ensures.steps.0,
+            length-append c.loop-range.yielded c.loop-range.range-iterator.rest.items,
+          ));
+    }
 
 pub returns-clause-none_needed : goal.returns-clause-none_needed
 returns-clause-none_needed g c none =

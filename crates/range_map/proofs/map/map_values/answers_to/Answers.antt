@@ -1,6 +1,7 @@
 use Rattle.std.proofs.lemmas.Bool.{cases_lt}
-use Rattle.range_map.proofs.Common.{◌≡◌, sym, ap, arith, inl, inr, length, [], rules, false≢true, lower, full_range}
+use Rattle.range_map.proofs.Common.{◌≡◌, sym, ap, arith, inl, inr, length, [], rules, false≢true, error_has_no_value, lower, full_range}
 use Rattle.range_merge.specs.Merged.{part_item}
+use Rattle.range_map.proofs.ClosureAnswers.{memory_is_no_closure}
 use Rattle.range_map.proofs.JoinedItems.{built_none, stored_rises}
 use Rattle.range_map.proofs.MappedValues.{first_left, mapped_more, next_answered}
 use Rattle.range_map.proofs.CloneLists.{clones_tied}
@@ -32,12 +33,6 @@ answered-requires g c = λ shown is.
     c.requires.asked shown (first_left (λ i. i.value ≡ shown.now) was.done c.next_part.new.items _
     (part_item c.in-Some.part) (rw (← c.in-Some.ensures.items) at was.parted) (sym is))
 
-pub returns-in_err-item-clause-closure : goal.returns-in_err-item-clause-closure
-returns-in_err-item-clause-closure g c = λ e failed.
-    next_answered g.K.MaybeBounded.order g.F.Fn c.args.f.now g.W.PartialEq.eq _
-    (rw (← c.in-Some.ensures.items) at c.loop-part.invariant.mapped)
-    (c.answered.ensures.closure e (search rules))
-
 pub loop-part-preserved : goal.loop-part-preserved
 loop-part-preserved g c =
     let order = g.K.MaybeBounded.order in
@@ -62,31 +57,64 @@ loop-part-preserved g c =
 pub map_of-requires : goal.map_of-requires
 map_of-requires g c = c.loop-part.invariant.mapped.form.stored
 
-pub returns-in_err-item-clause-memory : goal.returns-in_err-item-clause-memory
-returns-in_err-item-clause-memory g c = λ failed.
-    let said = c.answered.ensures.memory (search rules) in (
-      said.0,
-      next_answered g.K.MaybeBounded.order g.F.Fn c.args.f.now g.W.PartialEq.eq _
-          (rw (← c.in-Some.ensures.items) at c.loop-part.invariant.mapped) said.1,
-    )
+pub returns-in_err-item : goal.returns-in_err-item
+returns-in_err-item g c =
+    let left = c.from_residual in
+    let was = rw (← c.in-Some.ensures.items) at c.loop-part.invariant.mapped in
+    record {
+      answers = error_has_no_value _ left.result left.ensures.0;
+      form = error_has_no_value _ left.result left.ensures.0;
+      closure = λ e failed.
+          next_answered g.K.MaybeBounded.order g.F.Fn c.args.f.now g.W.PartialEq.eq _ was
+          (c.answered.ensures.closure e (search rules));
+      memory = λ failed.
+          let said = c.answered.ensures.memory (search rules) in (
+            said.0,
+            next_answered g.K.MaybeBounded.order g.F.Fn c.args.f.now g.W.PartialEq.eq _ was said.1,
+          );
+    }
 
-pub returns-in_err-reserve-clause-memory : goal.returns-in_err-reserve-clause-memory
-returns-in_err-reserve-clause-memory g c = λ failed. (
-  c.in_ok-item.item.value,
-  next_answered g.K.MaybeBounded.order g.F.Fn c.args.f.now g.W.PartialEq.eq _
-      (rw (← c.in-Some.ensures.items) at c.loop-part.invariant.mapped) c.in_ok-item.ensures.value,
-)
+pub returns-in_err-reserve : goal.returns-in_err-reserve
+returns-in_err-reserve g c =
+    let left = c.from_residual-in_err-reserve in
+    record {
+      answers = error_has_no_value _ left.result left.ensures.0;
+      form = error_has_no_value _ left.result left.ensures.0;
+      closure = λ e failed. absurd (memory_is_no_closure left.result e left.ensures.1 failed);
+      memory = λ failed. (
+        c.in_ok-item.item.value,
+        next_answered g.K.MaybeBounded.order g.F.Fn c.args.f.now g.W.PartialEq.eq _
+            (rw (← c.in-Some.ensures.items) at c.loop-part.invariant.mapped)
+            c.in_ok-item.ensures.value,
+      );
+    }
 
-pub returns-in_err-push-clause-memory : goal.returns-in_err-push-clause-memory
-returns-in_err-push-clause-memory g c = λ failed. (
-  c.in_ok-item.item.value,
-  next_answered g.K.MaybeBounded.order g.F.Fn c.args.f.now g.W.PartialEq.eq _
-      (rw (← c.in-Some.ensures.items) at c.loop-part.invariant.mapped) c.in_ok-item.ensures.value,
-)
+pub returns-in_err-push : goal.returns-in_err-push
+returns-in_err-push g c =
+    let left = c.from_residual-in_err-push in
+    record {
+      answers = error_has_no_value _ left.result left.ensures.0;
+      form = error_has_no_value _ left.result left.ensures.0;
+      closure = λ e failed. absurd (memory_is_no_closure left.result e left.ensures.1 failed);
+      memory = λ failed. (
+        c.in_ok-item.item.value,
+        next_answered g.K.MaybeBounded.order g.F.Fn c.args.f.now g.W.PartialEq.eq _
+            (rw (← c.in-Some.ensures.items) at c.loop-part.invariant.mapped)
+            c.in_ok-item.ensures.value,
+      );
+    }
 
-pub returns-in_err-map_of-clause-memory : goal.returns-in_err-map_of-clause-memory
-returns-in_err-map_of-clause-memory g c = λ failed.
-    elim (cases_lt 0 (length c.loop-part.answers.items)) [
-      | inl some ↦ c.loop-part.invariant.some some
-      | inr none ↦ absurd (false≢true (c.in_err-map_of.ensures.none_needed (omega (arith, none))))
-    ]
+pub returns-in_err-map_of : goal.returns-in_err-map_of
+returns-in_err-map_of g c =
+    let left = c.from_residual-in_err-map_of in
+    record {
+      answers = error_has_no_value _ left.result left.ensures.0;
+      form = error_has_no_value _ left.result left.ensures.0;
+      closure = λ e failed. absurd (memory_is_no_closure left.result e left.ensures.1 failed);
+      memory = λ failed.
+          elim (cases_lt 0 (length c.loop-part.answers.items)) [
+            | inl some ↦ c.loop-part.invariant.some some
+            | inr none ↦
+                absurd (false≢true (c.in_err-map_of.ensures.none_needed (omega (arith, none))))
+          ];
+    }

@@ -1,13 +1,20 @@
-use Rattle.range_map.proofs.Common.{false≢true, every_left}
+use Rattle.range_map.proofs.Common.{false≢true, every_left, error_has_no_value, on_error}
 use Rattle.range_map.proofs.SplitLists.{unmet_is_below}
 use Rattle.range_map.proofs.map.split_off.divide.Goals as goal
 
-pub returns-in_err-move_back-clause-succeeds : goal.returns-in_err-move_back-clause-succeeds
-returns-in_err-move_back-clause-succeeds g c = λ none.
-    let below =
-    unmet_is_below g.met.K.PartialEnum.lawful g.met.V.Eq.laws c.args.key c.known.ensures _
-    c.requires.stored none in
-    absurd (false≢true (c.in_err-move_back.ensures.succeeds below.1))
+pub returns-in_err-move_back : goal.returns-in_err-move_back
+returns-in_err-move_back g c =
+    let left = c.from_residual in
+    record {
+      divided = error_has_no_value _ left.result left.ensures.0;
+      list = on_error _ left.result c.move_back.ensures.list;
+      room = on_error _ left.result c.move_back.ensures.room;
+      succeeds = λ none.
+          let below =
+          unmet_is_below g.met.K.PartialEnum.lawful g.met.V.Eq.laws c.args.key c.known.ensures _
+          c.requires.stored none in
+          absurd (false≢true (c.in_err-move_back.ensures.succeeds below.1));
+    }
 
 pub returns-clause-succeeds : goal.returns-clause-succeeds
 returns-clause-succeeds g c = λ none.
