@@ -34,14 +34,6 @@ module _ {K : Type 0} (order : KeyOrder K) {S V : Type 0} (has : S → V → Boo
         ],
       )
 
-  -- no pair was added or taken away yet
-  pub none_united : (items : Items) → HasPairsOfEither order has items [] items
-  none_united items k key v =
-      (λ p. inl p, λ p. elim p [ inl old ↦ old | inr none ↦ absurd none ])
-
-  pub none_parted : (items : Items) → HasPairsOfFirstAlone order has items [] items
-  none_parted items k key v = (λ p. (p, λ none. none), λ p. p.0)
-
   -- the pairs of one range more were added
   pub one_united : (first before after done : Items) (i : Item (AnyRange K) S)
       → HasPairsOfEither order has first done before
@@ -108,23 +100,20 @@ module _ {K : Type 0} (order : KeyOrder K) {S V : Type 0} (has : S → V → Boo
           ],
         )
 
-    -- what was made of a copy is made of its source
-    pub united_copy : (copy items others new : Items) → IsCopyOf order same copy items
-        → HasPairsOfEither order has copy others new → HasPairsOfEither order has items others new
-    united_copy copy items others new zip h k key v =
+    -- a copy to which nothing was added yet, or from which nothing was taken
+    pub none_united : (copy items : Items) → IsCopyOf order same copy items
+        → HasPairsOfEither order has items [] copy
+    none_united copy items zip k key v =
         let alike = pairs_of_copy copy items zip k key v in (
-          λ p. elim ((h k key v).0 p) [ inl old ↦ inl (alike.0 old) | inr other ↦ inr other ],
-          λ p. (h k key v).1 (elim p [ inl old ↦ inl (alike.1 old) | inr other ↦ inr other ]),
+          λ p. inl (alike.0 p),
+          λ p. elim p [ inl old ↦ alike.1 old | inr none ↦ absurd none ],
         )
 
-    pub parted_copy : (copy items others new : Items) → IsCopyOf order same copy items
-        → HasPairsOfFirstAlone order has copy others new
-        → HasPairsOfFirstAlone order has items others new
-    parted_copy copy items others new zip h k key v =
-        let alike = pairs_of_copy copy items zip k key v in (
-          λ p. (alike.0 ((h k key v).0 p).0, ((h k key v).0 p).1),
-          λ p. (h k key v).1 (alike.1 p.0, p.1),
-        )
+    pub none_parted : (copy items : Items) → IsCopyOf order same copy items
+        → HasPairsOfFirstAlone order has items [] copy
+    none_parted copy items zip k key v =
+        let alike = pairs_of_copy copy items zip k key v in
+        (λ p. (alike.0 p, λ none. none), λ p. alike.1 p.0)
 
 -- the set of the next range is not empty
 pub next_is_full : {K S : Type 0} (is_void : S → Type 0)

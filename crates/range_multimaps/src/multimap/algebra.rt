@@ -110,25 +110,6 @@ impl<K: Measure + Clone, S: MaybeEmpty, C: Storage<Item<AnyRange<K>, S>>> RangeM
         Ok(())
     }
 
-    /// Adds each pair of the other. After an error those of the stored ranges before one are added.
-    fn insert_pairs<V: Eq + Clone, D: Storage<Item<AnyRange<K>, S>>>(
-        &mut self,
-        other: &RangeMultiMap<K, S, D>,
-    ) -> Result<(), MapError>
-    where
-        S: SetAlgebra<V>,
-        requires keys { ClonesAreEqual K.is_clone K.eq }
-        requires values { ClonesAreEqual V.is_clone V.eq }
-        ensures { OnOk result (HasPairsOfEither K.order S.has (C.items self.old) (D.items other.now)
-            (C.items self.new)) }
-    {
-        let mut items = other.iter();
-        while let Some((range, values)) = items.next() {
-            self.insert_values::<V>(range, values)?;
-        }
-        Ok(())
-    }
-
     /// A multimap of the pairs that are in this one, in the other, or in both, whatever containers
     /// they are kept in.
     ///
@@ -158,28 +139,12 @@ impl<K: Measure + Clone, S: MaybeEmpty, C: Storage<Item<AnyRange<K>, S>>> RangeM
             → IfOk result (λ new. IsOnlyCoarse K.order S.eq (C.items new)) }
     {
         let mut new = self.clone::<V>()?;
-        new.insert_pairs::<V, D>(other)?;
-        new.in_form();
-        Ok(new)
-    }
-
-    /// Takes each pair of the other away. After an error those of the stored ranges before one are gone.
-    fn remove_pairs<V: Eq + Clone, D: Storage<Item<AnyRange<K>, S>>>(
-        &mut self,
-        other: &RangeMultiMap<K, S, D>,
-    ) -> Result<(), MapError>
-    where
-        S: SetAlgebra<V>,
-        requires keys { ClonesAreEqual K.is_clone K.eq }
-        requires values { ClonesAreEqual V.is_clone V.eq }
-        ensures { OnOk result (HasPairsOfFirstAlone K.order S.has (C.items self.old) (D.items other.now)
-            (C.items self.new)) }
-    {
         let mut items = other.iter();
         while let Some((range, values)) = items.next() {
-            self.remove_values::<V>(range, values)?;
+            new.insert_values::<V>(range, values)?;
         }
-        Ok(())
+        new.in_form();
+        Ok(new)
     }
 
     /// A multimap of the pairs of this one that are not in the other, whatever containers they are
@@ -210,7 +175,10 @@ impl<K: Measure + Clone, S: MaybeEmpty, C: Storage<Item<AnyRange<K>, S>>> RangeM
             → IfOk result (λ new. IsOnlyCoarse K.order S.eq (C.items new)) }
     {
         let mut new = self.clone::<V>()?;
-        new.remove_pairs::<V, D>(other)?;
+        let mut items = other.iter();
+        while let Some((range, values)) = items.next() {
+            new.remove_values::<V>(range, values)?;
+        }
         new.in_form();
         Ok(new)
     }
