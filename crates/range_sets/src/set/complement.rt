@@ -7,24 +7,10 @@ ghost use Rattle.range_sets.specs.KeySets.{HoldsTheOthers, IsStoredSet};
 use super::RangeSet;
 use range_algebra::any::AnyRange;
 use range_algebra::inner;
-use range_keys::traits::{Measure, PartialEnum};
+use range_keys::traits::Measure;
 use range_map::inner::append::{append, reserve};
 use range_map::map::{MapError, RangeMap};
 use range_store::storage::{Item, Storage};
-use std::alloc::{AllocError, Global};
-
-/// A map without a range that has room for so many.
-fn roomy<T: PartialEnum, C: Storage<Item<AnyRange<T>, ()>>>(
-    alloc: Global,
-    count: usize,
-) -> Result<RangeMap<T, (), C>, AllocError>
-    ensures empty { IfOk result (λ map. C.items map ≡ []) }
-    ensures room { IfOk result (λ map. count ≤ C.room map) }
-{
-    let mut map = RangeMap::new(alloc);
-    reserve(&mut map, count)?;
-    Ok(map)
-}
 
 impl<T: Measure + Clone, C: Storage<Item<AnyRange<T>, ()>>> RangeSet<T, C> {
     /// A set of just the keys that this one does not hold: its ranges are the gaps of this one.
@@ -50,7 +36,8 @@ impl<T: Measure + Clone, C: Storage<Item<AnyRange<T>, ()>>> RangeSet<T, C> {
             Some(most) => most,
             None => return Err(MapError::Memory),
         };
-        let mut others = roomy(self.alloc, most)?;
+        let mut others = RangeMap::new(self.alloc);
+        reserve(&mut others, most)?;
         self.append_gaps(&mut others)?;
         Ok(RangeSet {
             map: others,

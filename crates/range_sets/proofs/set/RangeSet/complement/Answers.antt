@@ -1,4 +1,4 @@
-use Rattle.std.proofs.Common.{arith}
+use Rattle.std.proofs.Common.{◌∙◌, arith}
 use Rattle.range_sets.proofs.set.RangeSet.complement.Goals as goal
 
 pub append_gaps-requires : goal.append_gaps-requires
@@ -7,13 +7,13 @@ append_gaps-requires g c =
       clones =
           c.requires;
       empty =
-          c.in_ok-others.ensures.empty;
+          c.reserve.ensures.list ∙ c.new-others.ensures;
       room =
           omega (
             arith,
             c.in-Some.ensures,
             c.range_count.ensures.value,
-            c.in_ok-others.ensures.room,
+            c.in_ok-reserve.ensures.space,
           );
     }
 
