@@ -108,23 +108,24 @@ module _ {K : Type 0} (order : KeyOrder K) where
   -- a closure that answers as a test says keeps the keys as the test says
   pub combined_kept : {E : Type 0} (same : Unit {0} → Unit {0} → Bool)
       → ((v : Unit {0}) → IsTrue (same v v)) → (answers : Option (Unit {0}) → Option (Unit {0})
-      → Result (Option (Unit {0})) E → Type 0) (may : Bool → Bool → Bool → Type 0)
+      → Result (Option (Unit {0})) E → Type 0) (op : Bool → Bool → Bool)
       → ((left right answer : Option (Unit {0})) → answers left right (Ok answer)
-      → may (is_some left) (is_some right) (is_some answer)) → (items others new : Items)
+      → is_some answer ≡ op (is_some left) (is_some right)) → (items others new : Items)
       → AreCombined order same same same answers items others new
-      → AreKept order items others new may
-  combined_kept same equal answers may told items others new combined =
+      → AreKept order items others new op
+  combined_kept same equal answers op told items others new combined =
       record {
         held = λ k key some.
             let at = combined.held k key some in
             record {
               first = is_some at.left;
               second = is_some at.right;
-              kept = is_some at.answer;
               in_first = bound_is same items k at.left at.first;
               in_second = bound_is same others k at.right at.second;
-              given = told at.left at.right at.answer at.given;
-              is = answered_is same equal new k at.answer at.is;
+              is =
+                  subst (λ b. IsTrue b ↔ HoldsKey order new k)
+                  (told at.left at.right at.answer at.given)
+                  (answered_is same equal new k at.answer at.is);
             };
         free = combined.free;
       }
@@ -144,10 +145,8 @@ module _ {K : Type 0} (order : KeyOrder K) where
         ]
 
     -- a test that answers by op
-    module _ (may : Bool → Bool → Bool → Type 0) (op : Bool → Bool → Bool)
-        (none : op false false ≡ false)
-        (told : (first second kept : Bool) → may first second kept → kept ≡ op first second)
-        (items others new : Items) (kept : AreKept order items others new may) where
+    module _ (op : Bool → Bool → Bool) (none : op false false ≡ false)
+        (items others new : Items) (kept : AreKept order items others new op) where
       kept_at : (k : K) → order.is_key k → (a b : Bool) → (IsTrue a ↔ HoldsKey order items k)
           → (IsTrue b ↔ HoldsKey order others k) → HoldsKey order items k ⊎ HoldsKey order others k
           → IsTrue (op a b) ↔ HoldsKey order new k
@@ -155,9 +154,7 @@ module _ {K : Type 0} (order : KeyOrder K) where
           let at = kept.held k key some in
           let first = same_test at.first a at.in_first f in
           let second = same_test at.second b at.in_second g in
-          let is : at.kept ≡ op a b = rw (← first, ← second)
-          (told at.first at.second at.kept at.given) in
-          subst (λ x. IsTrue x ↔ HoldsKey order new k) is at.is
+          rw (← first, ← second) at.is
 
       kept_as : (k : K) → order.is_key k → (a b : Bool) → (IsTrue a ↔ HoldsKey order items k)
           → (IsTrue b ↔ HoldsKey order others k) → IsTrue (op a b) ↔ HoldsKey order new k
@@ -180,19 +177,16 @@ module _ {K : Type 0} (order : KeyOrder K) where
           then first.0 second.0 first.1 second.1
           (kept_as k key first.0 second.0 first.1 second.1)
 
-    module _ (may : Bool → Bool → Bool → Type 0) (items others new : Items)
-        (kept : AreKept order items others new may) where
-      pub kept_both : ((a b r : Bool) → may a b r → r ≡ (a && b))
-          → HoldsBoth order items others new
-      kept_both told k key =
-          by_test may (λ a b. a && b) refl told items others new kept k key both_are
+    module _ (items others new : Items) where
+      pub kept_both : AreKept order items others new ◌&&◌ → HoldsBoth order items others new
+      kept_both kept k key = by_test ◌&&◌ refl items others new kept k key both_are
 
-      pub kept_first_alone : ((a b r : Bool) → may a b r → r ≡ (a && not b))
+      pub kept_first_alone : AreKept order items others new (λ a b. a && not b)
           → HoldsFirstAlone order items others new
-      kept_first_alone told k key =
-          by_test may (λ a b. a && not b) refl told items others new kept k key first_alone_is
+      kept_first_alone kept k key =
+          by_test (λ a b. a && not b) refl items others new kept k key first_alone_is
 
-      pub kept_just_one : ((a b r : Bool) → may a b r → r ≡ not (beq a b))
+      pub kept_just_one : AreKept order items others new (λ a b. not (beq a b))
           → HoldsJustOne order items others new
-      kept_just_one told k key =
-          by_test may (λ a b. not (beq a b)) refl told items others new kept k key just_one_is
+      kept_just_one kept k key =
+          by_test (λ a b. not (beq a b)) refl items others new kept k key just_one_is

@@ -1,15 +1,9 @@
 -- Which keys a set holds that is made of two others.
 use Rattle.std.specs.Prelude.{Bool, IsTrue, List, ◌⊎◌, ◌↔◌}
-use Rattle.std.specs.Fn.{Shared}
 use Rattle.range_keys.specs.Order.{KeyOrder}
 use Rattle.range_algebra.specs.declared.any.AnyRange.{AnyRange}
 use Rattle.range_store.specs.declared.storage.Item.{Item}
 use Rattle.range_sets.specs.KeySets.{HoldsKey}
-
--- the test f may answer so, where it is told of each set whether that holds a key
-abbrev pub MayTell : {F : Type 0} → Shared F (Bool × (Bool × Unit {0})) Bool → F → Bool → Bool
-    → Bool → Type 0
-MayTell calls f first second kept = calls.post f (first, (second, tt)) kept
 
 module _ {K : Type 0} (order : KeyOrder K) {V W X : Type 0} (items : List (Item (AnyRange K) V))
     (others : List (Item (AnyRange K) W)) (new : List (Item (AnyRange K) X)) where
@@ -34,16 +28,14 @@ module _ {K : Type 0} (order : KeyOrder K) {V W X : Type 0} (items : List (Item 
       ↔ ((HoldsKey order items k × (¬ HoldsKey order others k))
       ⊎ ((¬ HoldsKey order items k) × HoldsKey order others k))
 
-  module _ (may : Bool → Bool → Bool → Type 0) where
-    -- the key is held just where the test may say so of which list holds it
+  module _ (op : Bool → Bool → Bool) where
+    -- the key is held just where the test says so of which list holds it
     pub record IsKeptAt (k : K) : Type 0 where
       pub first : Bool
       pub second : Bool
-      pub kept : Bool
       pub in_first : IsTrue first ↔ HoldsKey order items k
       pub in_second : IsTrue second ↔ HoldsKey order others k
-      pub given : may first second kept
-      pub is : IsTrue kept ↔ HoldsKey order new k
+      pub is : IsTrue (op first second) ↔ HoldsKey order new k
 
     -- each key of either list is held as the test says, and no other key is held
     pub record AreKept : Type 0 where

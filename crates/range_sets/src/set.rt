@@ -143,8 +143,7 @@ impl<T: PartialEnum, C: Storage<Item<AnyRange<T>, ()>>> RangeSet<T, C> {
     pub fn contains(&self, key: T) -> bool
         ensures { IsTrue result ↔ HoldsKey T.order (C.items self.now) key }
     {
-        let mut steps = Steps::new();
-        self.contains_counted(key, &mut steps)
+        self.map.contains_key(key)
     }
 
     /// Whether the key is in the set, as `contains` returns it; adds the steps that it takes.
@@ -179,7 +178,6 @@ impl<T: PartialEnum, C: Storage<Item<AnyRange<T>, ()>>> RangeSet<T, C> {
         ensures coarse { IsComplete T.order → IsCoarse T.order (λ _ _. true) (C.items self.now) }
         ensures only { IsComplete T.order → IsOnlyCoarse T.order (λ _ _. true) (C.items self.now) }
     {
-        self.in_form();
         Iter::new(self.map.iter())
     }
 

@@ -1,29 +1,66 @@
 //! Two sets put together.
-ghost use Rattle.std.specs.Prelude.{IfOk, is_some};
+ghost use Rattle.std.specs.Prelude.{◌≡◌, ◌&&◌, Bool, IfOk, is_some, not};
+ghost use Rattle.std.specs.Bool.{beq};
 ghost use Rattle.range_algebra.specs.Range.{ClonesAreEqual};
 ghost use Rattle.range_sets.specs.KeySets.{IsStoredSet};
-ghost use Rattle.range_sets.specs.TwoSets.{MayTell, HoldsEither, HoldsBoth, HoldsFirstAlone, HoldsJustOne, AreKept};
+ghost use Rattle.range_sets.specs.TwoSets.{HoldsEither, HoldsBoth, HoldsFirstAlone, HoldsJustOne, AreKept};
 
 use super::RangeSet;
-use crate::set::union::united;
+use crate::set::union::unite;
 use range_algebra::any::AnyRange;
 use range_keys::traits::PartialEnum;
 use range_map::inner::build::map_of;
 use range_map::map::{MapError, UpdateError};
 use range_store::storage::{Item, Storage};
 
+/// A test of which of two sets have a key.
+trait Test {
+    // What it says.
+    ghost truth: { Bool → Bool → Bool };
+
+    fn says(in_first: bool, in_second: bool) -> bool
+        ensures { result ≡ truth in_first in_second };
+}
+
+/// Whether both have it.
+pub(crate) struct Both;
+
+impl Test for Both {
+    ghost truth = { ◌&&◌ };
+
+    fn says(in_first: bool, in_second: bool) -> bool {
+        in_first && in_second
+    }
+}
+
+/// Whether the first has it, and the second does not.
+pub(crate) struct FirstAlone;
+
+impl Test for FirstAlone {
+    ghost truth = { λ first second. first && not second };
+
+    fn says(in_first: bool, in_second: bool) -> bool {
+        in_first && !in_second
+    }
+}
+
+/// Whether just one has it.
+pub(crate) struct JustOne;
+
+impl Test for JustOne {
+    ghost truth = { λ first second. not (beq first second) };
+
+    fn says(in_first: bool, in_second: bool) -> bool {
+        in_first != in_second
+    }
+}
+
 /// What the test says of a piece, as the result of a closure that puts two maps together.
-fn answer<F: Fn(bool, bool) -> bool>(
-    keeps: &F,
-    first: Option<&()>,
-    second: Option<&()>,
-) -> Result<Option<()>, MapError>
-    requires { F.IsAlwaysCallable keeps.now }
+fn answer<W: Test>(first: Option<&()>, second: Option<&()>) -> Result<Option<()>, MapError>
     ensures { IfOk result
-        (λ answer. MayTell F.Fn keeps.now (is_some first.entry) (is_some second.entry)
-        (is_some answer)) }
+        (λ answer. is_some answer ≡ W.truth (is_some first.entry) (is_some second.entry)) }
 {
-    if keeps(first.is_some(), second.is_some()) {
+    if W::says(first.is_some(), second.is_some()) {
         Ok(Some(()))
     } else {
         Ok(None)
@@ -31,23 +68,19 @@ fn answer<F: Fn(bool, bool) -> bool>(
 }
 
 impl<T: PartialEnum + Clone, C: Storage<Item<AnyRange<T>, ()>>> RangeSet<T, C> {
-    /// A set of the keys of both sets at which the test returns true for whether this set has the
-    /// key, and whether the other has it.
-    fn kept<D: Storage<Item<AnyRange<T>, ()>>, F: Fn(bool, bool) -> bool>(
+    /// A set of the keys of both sets of which the test says so.
+    fn kept<W: Test, D: Storage<Item<AnyRange<T>, ()>>>(
         &self,
         other: &RangeSet<T, D>,
-        keeps: F,
     ) -> Result<Self, MapError>
-        requires clones { ClonesAreEqual T.is_clone T.eq }
-        requires callable { F.IsAlwaysCallable keeps }
+        requires { ClonesAreEqual T.is_clone T.eq }
         ensures kept { IfOk result
-            (λ new. AreKept T.order (C.items self.now) (D.items other.now) (C.items new)
-            (MayTell F.Fn keeps)) }
+            (λ new. AreKept T.order (C.items self.now) (D.items other.now) (C.items new) W.truth) }
         ensures form { IfOk result (λ new. IsStoredSet T.order (C.items new)) }
     {
         match self
             .map
-            .combine(&other.map, |first, second| answer(&keeps, first, second))
+            .combine(&other.map, |first, second| answer::<W>(first, second))
         {
             Ok(map) => Ok(RangeSet {
                 map,
@@ -78,7 +111,8 @@ impl<T: PartialEnum + Clone, C: Storage<Item<AnyRange<T>, ()>>> RangeSet<T, C> {
             (λ new. HoldsEither T.order (C.items self.now) (D.items other.now) (C.items new)) }
         ensures form { IfOk result (λ new. IsStoredSet T.order (C.items new)) }
     {
-        let ranges = united(self, other)?;
+        let mut ranges = Vec::new(self.alloc);
+        unite(&mut ranges, self, other)?;
         Ok(RangeSet {
             map: map_of(self.alloc, ranges)?,
             alloc: self.alloc,
@@ -104,7 +138,7 @@ impl<T: PartialEnum + Clone, C: Storage<Item<AnyRange<T>, ()>>> RangeSet<T, C> {
             (λ new. HoldsBoth T.order (C.items self.now) (D.items other.now) (C.items new)) }
         ensures form { IfOk result (λ new. IsStoredSet T.order (C.items new)) }
     {
-        self.kept(other, |first, second| first && second)
+        self.kept::<Both, D>(other)
     }
 
     /// A set of the keys of this set that are not in the other, whatever containers they are kept
@@ -128,7 +162,7 @@ impl<T: PartialEnum + Clone, C: Storage<Item<AnyRange<T>, ()>>> RangeSet<T, C> {
             (C.items new)) }
         ensures form { IfOk result (λ new. IsStoredSet T.order (C.items new)) }
     {
-        self.kept(other, |first, second| first && !second)
+        self.kept::<FirstAlone, D>(other)
     }
 
     /// A set of the keys that are in just one of the two sets, whatever containers they are kept
@@ -151,6 +185,6 @@ impl<T: PartialEnum + Clone, C: Storage<Item<AnyRange<T>, ()>>> RangeSet<T, C> {
             (λ new. HoldsJustOne T.order (C.items self.now) (D.items other.now) (C.items new)) }
         ensures form { IfOk result (λ new. IsStoredSet T.order (C.items new)) }
     {
-        self.kept(other, |first, second| first != second)
+        self.kept::<JustOne, D>(other)
     }
 }

@@ -1,5 +1,5 @@
 //! The ranges of two sets as one list, in one pass over both.
-ghost use Rattle.std.specs.Prelude.{◌≡◌, ◌↔◌, IfOk, IsTrue, MatchOption, None, OnOk};
+ghost use Rattle.std.specs.Prelude.{◌≡◌, ◌↔◌, [], IfOk, IsTrue, MatchOption, None, OnOk};
 ghost use Rattle.std.specs.Option.{option_copied};
 ghost use Rattle.range_keys.specs.Position.{bound_of, position_cmp};
 ghost use Rattle.range_algebra.specs.Cuts.{lower};
@@ -130,21 +130,22 @@ fn add<'a, T: PartialEnum + Clone>(
     })
 }
 
-/// The ranges of both sets, where those that meet or touch are one.
-pub(crate) fn united<T, C, D>(
+/// Puts the ranges of both sets into an empty list, where those that meet or touch are one.
+pub(crate) fn unite<T, C, D>(
+    ranges: &mut Vec<Item<AnyRange<T>, ()>>,
     set: &RangeSet<T, C>,
     other: &RangeSet<T, D>,
-) -> Result<Vec<Item<AnyRange<T>, ()>>, AllocError>
+) -> Result<(), AllocError>
 where
     T: PartialEnum + Clone,
     C: Storage<Item<AnyRange<T>, ()>>,
     D: Storage<Item<AnyRange<T>, ()>>,
-    requires { ClonesAreEqual T.is_clone T.eq }
-    ensures held { IfOk result
-        (λ ranges. HoldsEither T.order (C.items set.now) (D.items other.now) ranges.items) }
-    ensures form { IfOk result (λ ranges. IsStoredSet T.order ranges.items) }
+    requires clones { ClonesAreEqual T.is_clone T.eq }
+    requires empty { ranges.old.items ≡ [] }
+    ensures held { OnOk result
+        (HoldsEither T.order (C.items set.now) (D.items other.now) ranges.new.items) }
+    ensures form { OnOk result (IsStoredSet T.order ranges.new.items) }
 {
-    let mut ranges = Vec::new(set.alloc);
     let mut items = set.iter();
     let mut others = other.iter();
     let mut left = items.next();
@@ -154,16 +155,15 @@ where
             start: first.start_bound(),
             end: first.end_bound(),
         },
-        None => return Ok(ranges),
+        None => return Ok(()),
     };
     while let Some((range, is_left)) = first_of(left, right) {
-        last = add(&mut ranges, last, range)?;
+        last = add(ranges, last, range)?;
         if is_left {
             left = items.next();
         } else {
             right = others.next();
         }
     }
-    push_clone(&mut ranges, last)?;
-    Ok(ranges)
+    push_clone::<T>(ranges, last)
 }

@@ -1,16 +1,17 @@
 use Rattle.std.proofs.Common.{◌∙◌, sym}
 use Rattle.std.specs.Option.{option_copied}
+use Rattle.std.proofs.lemmas.Result.{on_ok_weaker}
 use Rattle.range_algebra.specs.Clones.{bound_clone}
 use Rattle.range_algebra.specs.References.{range_of}
 use Rattle.range_map.proofs.CloneLists.{clones_tied}
 use Rattle.range_sets.proofs.Uniting.{stepped, drained, nothing_ahead, first_placed, united_none, united_first, united_left, united_right, united_all}
-use Rattle.range_sets.proofs.set.union.united.Goals as goal
+use Rattle.range_sets.proofs.set.union.unite.Goals as goal
 
-pub returns-in-None-clause-held : goal.returns-in-None-clause-held
-returns-in-None-clause-held g c =
+pub returns-in-None : goal.returns-in-None
+returns-in-None g c =
     let left = c.next-left in
     let right = c.next-right in
-    rw c.new-ranges.ensures.items (united_none g.met.T.PartialEnum.lawful _ _
+    let none = united_none g.met.T.PartialEnum.lawful _ _
     (sym (nothing_ahead left.result left.new.self c.in-None.ensures.0
     (drained c.iter-items.result left.new.self left.result left.ensures.steps))
     ∙ (stepped c.iter-items.result left.new.self left.result left.ensures.steps
@@ -18,7 +19,11 @@ returns-in-None-clause-held g c =
     (sym (nothing_ahead right.result right.new.self c.in-None.ensures.1
     (drained c.iter-others.result right.new.self right.result right.ensures.steps))
     ∙ (stepped c.iter-others.result right.new.self right.result right.ensures.steps
-    ∙ c.iter-others.ensures.ranges))).0
+    ∙ c.iter-others.ensures.ranges)) in
+    record {
+      held = rw c.requires.empty none.0;
+      form = rw c.requires.empty none.1;
+    }
 
 pub loop-range-init : goal.loop-range-init
 loop-range-init g c =
@@ -29,7 +34,7 @@ loop-range-init g c =
     drained c.iter-others.result right.new.self right.result right.ensures.steps in
     record {
       united = λ lawful.
-          rw (c.new-ranges.ensures.items, c.start_bound.ensures tt, c.end_bound.ensures tt)
+          rw (c.requires.empty, c.start_bound.ensures tt, c.end_bound.ensures tt)
           (united_first lawful _ _ (option_copied left.result) (option_copied right.result)
           left.new.self right.new.self c.in-Some.first.now c.in-Some.field-0-1 none none_other
           c.iter-items.ensures.form c.iter-others.ensures.form
@@ -55,7 +60,7 @@ loop-range-preserved-then-is_left g c =
     let inv = c.loop-range.invariant in
     let left = c.next-left-then-is_left in
     let equal_keys =
-    clones_tied g.met.T.MaybeBounded.order_is_cmp g.met.T.Ord.matches_eq c.requires in
+    clones_tied g.met.T.MaybeBounded.order_is_cmp g.met.T.Ord.matches_eq c.requires.clones in
     record {
       united = λ lawful.
           rw (stepped c.loop-range.items left.new.self left.result left.ensures.steps)
@@ -75,7 +80,7 @@ loop-range-preserved g c =
     let inv = c.loop-range.invariant in
     let right = c.next-right-else-is_left in
     let equal_keys =
-    clones_tied g.met.T.MaybeBounded.order_is_cmp g.met.T.Ord.matches_eq c.requires in
+    clones_tied g.met.T.MaybeBounded.order_is_cmp g.met.T.Ord.matches_eq c.requires.clones in
     record {
       united = λ lawful.
           rw (stepped c.loop-range.others right.new.self right.result right.ensures.steps)
@@ -98,12 +103,12 @@ returns g c =
     let all =
     united_all lawful _ _ g.T.Clone.is_clone
     (bound_clone g.T.MaybeBounded.order lawful g.T.Clone.is_clone
-    (clones_tied g.met.T.MaybeBounded.order_is_cmp g.met.T.Ord.matches_eq c.requires)) _ _
+    (clones_tied g.met.T.MaybeBounded.order_is_cmp g.met.T.Ord.matches_eq c.requires.clones)) _ _
     c.loop-range.ranges.items c.push_clone.new.ranges.items (range_of c.loop-range.last)
     (nothing_ahead c.loop-range.left c.loop-range.items none.0 inv.first)
-    (nothing_ahead c.loop-range.right c.loop-range.others none.1 inv.second) (inv.united lawful)
-    c.in_ok-push_clone.ensures in
+    (nothing_ahead c.loop-range.right c.loop-range.others none.1 inv.second)
+    (inv.united lawful) in
     record {
-      held = all.0;
-      form = all.1;
+      held = on_ok_weaker c.push_clone.result (λ pushed. (all pushed).0) c.push_clone.ensures;
+      form = on_ok_weaker c.push_clone.result (λ pushed. (all pushed).1) c.push_clone.ensures;
     }

@@ -3,7 +3,7 @@ use Rattle.std.specs.Option.{option_copied}
 use Rattle.range_keys.specs.Order.{IsLawful}
 use Rattle.range_algebra.specs.References.{range_of}
 use Rattle.range_sets.proofs.Uniting.{IsUnitedUpTo, ahead}
-use Rattle.range_sets.proofs.set.union.united.Given as goal
+use Rattle.range_sets.proofs.set.union.unite.Given as goal
 
 abbrev pub invariant-loop-range : goal.invariant-loop-range
 invariant-loop-range g l = record {
