@@ -75,6 +75,10 @@ impl<K: PartialEnum + Clone, V: Eq + Clone, C: Storage<Item<AnyRange<K>, V>>> Ra
             (λ new. IsWithout K.order V.eq (C.items self.now) (D.items other.now)
             (C.items new)) }
         ensures form { IfOk result (λ new. IsStored K.order V.eq (C.items new)) }
+        ensures coarse { IsComplete K.order → IfOk result
+            (λ new. IsCoarse K.order V.eq (C.items new)) }
+        ensures only { IsComplete K.order → IfOk result
+            (λ new. IsOnlyCoarse K.order V.eq (C.items new)) }
     {
         self.in_form();
         match self.combine(other, |first, second| kept(bound, first, second)) {
@@ -161,8 +165,7 @@ impl<K: PartialEnum + Clone, V: Eq + Clone, C: Storage<Item<AnyRange<K>, V>>> Ra
         ensures only { IsComplete K.order → IfOk result
             (λ new. IsOnlyCoarse K.order V.eq (C.items new)) }
     {
-        let new = self.kept_where(other, true)?;
-        Ok(new)
+        self.kept_where(other, true)
     }
 
     /// A map that binds just those keys of this one that the other map does not bind, each as this
@@ -191,7 +194,6 @@ impl<K: PartialEnum + Clone, V: Eq + Clone, C: Storage<Item<AnyRange<K>, V>>> Ra
         ensures only { IsComplete K.order → IfOk result
             (λ new. IsOnlyCoarse K.order V.eq (C.items new)) }
     {
-        let new = self.kept_where(other, false)?;
-        Ok(new)
+        self.kept_where(other, false)
     }
 }
