@@ -104,6 +104,19 @@ module _ {K : Type 0} (order : KeyOrder K) {V : Type 0} (is_counted : Bool) (lea
     none = takes.none;
   }
 
+-- what takes no step, or asks once at most, takes no more than a change may
+idle_takes : (before after most many left : ℕ) → after ≡ before → left ≤ many + 1
+    → TakesAsChange before after most many left
+idle_takes before after most many left same few = omega (arith, same, few)
+
+asked_takes : {X : Type 0} (before after most : ℕ) (items next : List X)
+    → after ≤ before + (most + 1) → next ≡ items
+    → TakesAsChange before after most (length items) (length next)
+asked_takes before after most items next asked kept = omega (arith, asked, ap length kept)
+
+kept_is_few : {X : Type 0} (items next : List X) → next ≡ items → length next ≤ length items + 1
+kept_is_few items next kept = omega (arith, ap length kept)
+
 module _ {K : Type 0} (order : KeyOrder K) {V : Type 0} where
   -- a change, or a look-up, that is due takes at least one step
   change_least : (least most : ℕ) (items next : List (Item (AnyRange K) V)) (r : AnyRange K)
@@ -196,10 +209,10 @@ module _ {K : Type 0} (order : KeyOrder K) {V : Type 0} where
         (takes.at_most tt, memory)
     one_most least most items next
         (InsertDisconnected r v) commands Done replies before after step takes none memory =
-        (omega (arith, takes, step.1.few), memory)
+        (idle_takes before after most _ _ takes step.1.few, memory)
     one_most least most items next (InsertDisconnected r v) commands
         (Connected s w) replies before after step takes none memory =
-        (omega (arith, takes, ap length step.3), memory)
+        (idle_takes before after most _ _ takes (kept_is_few items next step.3), memory)
     one_most least most items next
         (Remove r) commands Done replies before after step takes none memory =
         (takes.at_most tt, memory)
@@ -207,35 +220,26 @@ module _ {K : Type 0} (order : KeyOrder K) {V : Type 0} where
         (Update r t) commands reply replies before after step takes none memory = absurd none
     one_most least most items next (Get k) commands
         (Value b) replies before after step takes none memory = (
-          omega (
-            arith,
-            ap length step.1,
-            lookup_most least most items ⊥ before after (inr (λ no. no)) takes,
-          ),
+          asked_takes before after most items next
+              (lookup_most least most items ⊥ before after (inr (λ no. no)) takes) step.1,
           memory,
         )
     one_most least most items next (Contains k) commands
         (Truth b) replies before after step takes none memory = (
-          omega (
-            arith,
-            ap length step.1,
-            lookup_most least most items ⊥ before after (inr (λ no. no)) takes,
-          ),
+          asked_takes before after most items next
+              (lookup_most least most items ⊥ before after (inr (λ no. no)) takes) step.1,
           memory,
         )
     one_most least most items next (Intersects r) commands
         (Truth b) replies before after step takes none memory = (
-          omega (
-            arith,
-            ap length step.1,
-            lookup_most least most items (IsEmptyRange order r) before after
-                (empty_or_not order r) takes,
-          ),
+          asked_takes before after most items next
+              (lookup_most least most items (IsEmptyRange order r) before after
+              (empty_or_not order r) takes) step.1,
           memory,
         )
     one_most least most items next Count commands
         (Counted n) replies before after step takes none memory =
-        (omega (arith, takes, ap length step.1), memory)
+        (idle_takes before after most _ _ takes (kept_is_few items next step.1), memory)
     one_most least most items next command commands Memory replies before after step takes none
         memory = absurd memory
     one_most least most items next command commands reply replies before after step takes none

@@ -1,5 +1,5 @@
 -- How many ranges more there are after a list of commands.
-use Rattle.std.proofs.Common.{◌≡◌, ◌≤◌, ◌+◌, ◌*◌, Bool, List, [], ◌∷◌, length, ap, arith}
+use Rattle.std.proofs.Common.{◌≡◌, ℕ, suc, ◌≤◌, ◌+◌, ◌*◌, Bool, List, [], ◌∷◌, length, ap, arith}
 use Rattle.std.specs.Prelude.{Option, Result}
 use Rattle.range_keys.specs.Order.{KeyOrder}
 use Rattle.range_algebra.specs.declared.any.AnyRange.{AnyRange}
@@ -17,6 +17,14 @@ module _ {K : Type 0} (order : KeyOrder K) {V : Type 0} (same : V → V → Bool
       → length next ≤ length items + 2
   unchanged_list_is_few items next e = omega (arith, ap length e)
 
+  -- nor is it too long with one range more
+  one_more_is_few : (many next : ℕ) → next ≤ many + 1 → next ≤ many + 2
+  one_more_is_few many next h = omega (arith, h)
+
+  few_in_all : (many next last commands : ℕ) → next ≤ many + 2 → last ≤ next + 2 * commands
+      → last ≤ many + 2 * suc commands
+  few_in_all many next last commands h k = omega (arith, h, k)
+
   -- one command that is no update leaves at most two ranges more
   pub two_more : (items next : List (Item (AnyRange K) V)) (command : Command K V T)
       (commands : List (Command K V T)) (reply : Reply K V E)
@@ -26,12 +34,13 @@ module _ {K : Type 0} (order : KeyOrder K) {V : Type 0} (same : V → V → Bool
   two_more items next (Insert r v) commands Memory step rest =
       (unchanged_list_is_few items next step.1, rest)
   two_more items next (InsertDisconnected r v) commands Done step rest =
-      (omega (arith, step.1.few), rest)
+      (one_more_is_few _ _ step.1.few, rest)
   two_more items next (InsertDisconnected r v) commands Memory step rest =
       (unchanged_list_is_few items next step.2, rest)
   two_more items next (InsertDisconnected r v) commands (Connected s w) step rest =
       (unchanged_list_is_few items next step.3, rest)
-  two_more items next (Remove r) commands Done step rest = (omega (arith, step.few), rest)
+  two_more items next (Remove r) commands Done step rest =
+      (one_more_is_few _ _ step.few, rest)
   two_more items next (Remove r) commands Memory step rest =
       (unchanged_list_is_few items next step.2, rest)
   two_more items next (Update r t) commands reply step none = absurd none
@@ -55,5 +64,6 @@ module _ {K : Type 0} (order : KeyOrder K) {V : Type 0} (same : V → V → Bool
   few_more items last [] (r ∷ replies) run no_update = absurd run
   few_more items last (c ∷ commands) [] run no_update = absurd run
   few_more items last (c ∷ commands) (r ∷ replies) run no_update =
-      let (first, rest) = two_more items run.0 c commands r run.1 no_update in
-      omega (arith, first, few_more run.0 last commands replies run.2 rest)
+      let grown = two_more items run.0 c commands r run.1 no_update in
+      few_in_all (length items) (length run.0) (length last) (length commands) grown.0
+      (few_more run.0 last commands replies run.2 grown.1)

@@ -59,3 +59,12 @@ loop-command-init g c = record {
         c.in_ok-replies.ensures.capacity,
       );
 }
+
+pub unreachable-requires : goal.unreachable-requires
+unreachable-requires g c =
+    omega (
+      arith,
+      c.loop-command.invariant.space,
+      ap length c.in-Some.ensures.steps.0,
+      c.in-Err.ensures.full,
+    )

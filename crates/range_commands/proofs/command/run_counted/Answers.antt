@@ -1,4 +1,4 @@
-use Rattle.std.proofs.Common.{◌+◌, ◌*◌, length, arith}
+use Rattle.std.proofs.Common.{ℕ, ◌+◌, ◌*◌, ◌≤◌, length, arith}
 use Rattle.range_store.specs.Holding.{box_items}
 use Rattle.range_change.specs.Costs.{greatest_level}
 use Rattle.range_commands.specs.LastCommands.{last_command_decides}
@@ -6,6 +6,12 @@ use Rattle.range_commands.specs.Tagged.{MayAnswerTo}
 use Rattle.range_commands.proofs.CountedRuns.{if_ok_then, uncounted, few_after, run_most, run_least, few_asks, some_asks}
 use Rattle.range_map.proofs.Depths.{greatest_level_is}
 use Rattle.range_commands.proofs.command.run_counted.Goals as goal
+
+as_many : (n : ℕ) → n ≤ n
+as_many n = omega arith
+
+without_last : (after last most : ℕ) → after + 2 * last ≤ most → after ≤ most
+without_last after last most h = omega (arith, h)
 
 pub returns-clause-chain : goal.returns-clause-chain
 returns-clause-chain g c =
@@ -40,8 +46,8 @@ returns-clause-most g c =
     (MayAnswerTo g.F.Fn c.args.f.now) _ _ _ level many
     (few_asks many level (greatest_level_is (many + 1))) c.args.map.now c.run_by.new.map
     c.args.commands.items replies.items c.args.steps.now c.run_by.new.steps
-    (omega arith) none memory run in
-    omega (arith, all))
+    (as_many many) none memory run in
+    without_last c.run_by.new.steps (length (box_items c.run_by.new.map)) _ all)
 
 pub returns-clause-least : goal.returns-clause-least
 returns-clause-least g c =

@@ -1,4 +1,4 @@
-use Rattle.std.proofs.Common.{inr, refl, rules}
+use Rattle.std.proofs.Common.{inl, inr, refl, rules}
 use Rattle.range_merge.proofs.AskedPieces.{asked_of_piece, parts_of_both, comes_next, one_ends, next_askable}
 use Rattle.range_merge.proofs.asking.ask_pieces.Goals as goal
 
@@ -59,3 +59,11 @@ returns-in_err-ask_both-in-Some-Some-clause-memory g c failed =
         said.1,
       ),
     )
+
+pub returns-in_err-ask_both-clause-closure : goal.returns-in_err-ask_both-clause-closure
+returns-in_err-ask_both-clause-closure g c e failed =
+    inl (c.ask_both.ensures.closure e (search rules))
+
+pub returns-in_err-ask_both-clause-memory : goal.returns-in_err-ask_both-clause-memory
+returns-in_err-ask_both-clause-memory g c failed =
+    let said = c.ask_both.ensures.memory (search rules) in (said.0, inl said.1)
