@@ -1,25 +1,64 @@
-use Rattle.range_map.proofs.Common.{◌≡◌, ◌∙◌, ap, refl, false≢true, rules, LieBefore, appended}
+use Rattle.range_map.proofs.Common.{◌≡◌, ◌∙◌, Result, Ok, Err, ap, arith, refl, false≢true, rules, LieBefore, appended, error_has_no_value, on_error}
+use Rattle.std.specs.Result.{IsErrAnd}
+use Rattle.range_change.specs.declared.error.NotAppended.{NotAppended}
+use Rattle.range_change.specs.declared.error.NotAppended.TheVariants.{Memory}
+use Rattle.range_map.specs.Appending.{IsOutOfOrder}
 use Rattle.range_map.proofs.AppendedLists.{appended_binds, appended_length, appended_stored}
 use Rattle.range_map.proofs.StoredLists.{stored_coarse, stored_only}
 use Rattle.range_map.proofs.map.RangeMap.append.Goals as goal
 
-pub returns-then-not-lies_before-clause-coarse : goal.returns-then-not-lies_before-clause-coarse
-returns-then-not-lies_before-clause-coarse g c =
-    stored_coarse g.met.K.PartialEnum.lawful _ c.in_form.ensures
+-- an error that is of memory is none of the order
+memory_is_in_order : {A : Type 0} (r : Result A NotAppended) → IsErrAnd r (λ e. e ≡ Memory)
+    → IsErrAnd r IsOutOfOrder → ⊥
+memory_is_in_order (Ok a) memory fault = absurd memory
+memory_is_in_order (Err e) memory fault = absurd (rw memory at fault)
 
-pub returns-then-not-lies_before-clause-only : goal.returns-then-not-lies_before-clause-only
-returns-then-not-lies_before-clause-only g c =
-    stored_only g.met.K.PartialEnum.lawful g.met.V.Eq.laws _ c.in_form.ensures
+pub returns-then-not-lies_before : goal.returns-then-not-lies_before
+returns-then-not-lies_before g c =
+    record {
+      out_of_order = (
+        λ fault before.
+            let yes = c.lies_before.ensures.1 before in absurd (search (rules, yes)),
+        λ not. tt,
+      );
+      bound = tt;
+      list = tt;
+      emptied = tt;
+      form = c.in_form.ensures;
+      coarse = stored_coarse g.met.K.PartialEnum.lawful _ c.in_form.ensures;
+      only = stored_only g.met.K.PartialEnum.lawful g.met.V.Eq.laws _ c.in_form.ensures;
+      few = omega arith;
+      succeeds = λ before enough.
+          let yes = c.lies_before.ensures.1 before in absurd (search (rules, yes));
+      refused = refl;
+      other_refused = refl;
+    }
 
-pub returns-in_err-reserve-clause-coarse : goal.returns-in_err-reserve-clause-coarse
-returns-in_err-reserve-clause-coarse g c complete =
-    rw c.reserve.ensures.list
-    (stored_coarse g.met.K.PartialEnum.lawful _ c.self.invariant complete)
-
-pub returns-in_err-reserve-clause-only : goal.returns-in_err-reserve-clause-only
-returns-in_err-reserve-clause-only g c complete =
-    rw c.reserve.ensures.list
-    (stored_only g.met.K.PartialEnum.lawful g.met.V.Eq.laws _ c.self.invariant complete)
+pub returns-in_err-reserve : goal.returns-in_err-reserve
+returns-in_err-reserve g c =
+    let left = c.from_residual in
+    record {
+      out_of_order = (
+        λ fault. absurd (memory_is_in_order left.result left.ensures.1 fault),
+        λ not. absurd (not (c.lies_before.ensures.0 (search rules))),
+      );
+      bound = error_has_no_value _ left.result left.ensures.0;
+      list = error_has_no_value _ left.result left.ensures.0;
+      emptied = error_has_no_value _ left.result left.ensures.0;
+      form = rw c.reserve.ensures.list c.self.invariant;
+      coarse = λ complete.
+          rw c.reserve.ensures.list
+          (stored_coarse g.met.K.PartialEnum.lawful _ c.self.invariant complete);
+      only = λ complete.
+          rw c.reserve.ensures.list
+          (stored_only g.met.K.PartialEnum.lawful g.met.V.Eq.laws _ c.self.invariant complete);
+      few = rw (← c.self.view_is, c.reserve.ensures.list) (omega arith);
+      succeeds = λ before enough.
+          absurd (false≢true (c.in_err-reserve.ensures.succeeds
+          (rw (← c.self.view_is, ← c.other.view_is, ← c.len.ensures) at enough)));
+      refused = on_error _ left.result (rw (← c.self.view_is) c.reserve.ensures.list);
+      other_refused = on_error _ left.result refl;
+    }
 
 pub invariant_of-self-2 : goal.invariant_of-self-2
 invariant_of-self-2 g c =
@@ -64,12 +103,3 @@ returns g c =
       refused = search rules;
       other_refused = search rules;
     }
-
-pub returns-then-not-lies_before-clause-succeeds : goal.returns-then-not-lies_before-clause-succeeds
-returns-then-not-lies_before-clause-succeeds g c before enough =
-    let yes = c.lies_before.ensures.1 before in absurd (search (rules, yes))
-
-pub returns-in_err-reserve-clause-succeeds : goal.returns-in_err-reserve-clause-succeeds
-returns-in_err-reserve-clause-succeeds g c before enough =
-    absurd (false≢true (c.in_err-reserve.ensures.succeeds
-    (rw (← c.self.view_is, ← c.other.view_is, ← c.len.ensures) at enough)))
