@@ -1,6 +1,7 @@
-use Rattle.std.proofs.Common.{◌∷◌, [], map, rules}
+use Rattle.std.proofs.Common.{◌∷◌, [], map}
 use Rattle.std.proofs.lemmas.List.{map-append}
-use Rattle.range_change.proofs.Results.{on_error}
+use Rattle.std.proofs.lemmas.Bool.{false≢true}
+use Rattle.range_change.proofs.Results.{error_has_no_value, on_error}
 use Rattle.range_sets.proofs.Membership.{none_added, one_more}
 use Rattle.range_sets.proofs.set.RangeSet.extend.Goals as goal
 
@@ -36,19 +37,24 @@ loop-range-preserved g c =
 pub returns : goal.returns
 returns g c =
     record {
-      added =
-          search rules;
-      refused =
-          search rules;
-      form =
-          search rules;
+      added = (
+        c.into_iter-range-iterator.result,
+        c.loop-range.yielded,
+        c.into_iter-range-iterator.ensures.into_iter_gives,
+        (
+          c.next.new.self,
+          (c.loop-range.range-iterator, c.loop-range.yielded_by, c.in-None.ensures.steps),
+        ),
+        c.loop-range.invariant.added,
+      );
+      refused = tt;
+      form = c.loop-range.invariant.form;
     }
 
 pub returns-in_err-insert : goal.returns-in_err-insert
 returns-in_err-insert g c =
     record {
-      added =
-          search rules;
+      added = error_has_no_value _ c.from_residual.result c.from_residual.ensures.0;
       refused =
           on_error _ c.from_residual.result (
             c.into_iter-range-iterator.result,
@@ -56,13 +62,12 @@ returns-in_err-insert g c =
             c.in-Some.range,
             c.next.new.self,
             c.into_iter-range-iterator.ensures.into_iter_gives,
-            (c.loop-range.range-iterator, search rules, search rules),
-            λ empty. absurd (search (rules, c.insert.ensures.empty empty)),
+            (c.loop-range.range-iterator, c.loop-range.yielded_by, c.in-Some.ensures.steps),
+            λ empty. absurd (false≢true (c.in_err-insert.ensures.empty empty)),
             rw c.in_err-insert.ensures.refused c.loop-range.invariant.added,
           );
-      form =
-          search rules;
+      form = c.insert.ensures.form;
     }
 
 pub insert-requires : goal.insert-requires
-insert-requires g c = search rules
+insert-requires g c = c.requires.clones

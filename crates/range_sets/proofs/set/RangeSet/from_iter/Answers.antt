@@ -13,8 +13,6 @@ returns g c =
 pub extend-requires : goal.extend-requires
 extend-requires g c =
     record {
-      clones =
-          search rules;
-      ends =
-          search rules;
+      clones = c.requires.clones;
+      ends = c.requires.ends;
     }

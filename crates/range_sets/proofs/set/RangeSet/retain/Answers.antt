@@ -16,8 +16,8 @@ pub returns : goal.returns
 returns g c =
     let items = g.C.Storage.items in
     record {
-      form = search rules;
-      few = search rules;
+      form = c.retain.ensures.form;
+      few = rw (← c.self.view_is) c.retain.ensures.few;
       space = rw (← c.self.view_is) c.retain.ensures.space;
       filtered =
           rw (← c.self.view_is) (ranges_filtered (λ s. s.0) _ (CalledAt g.F.FnMut)
