@@ -62,7 +62,7 @@ module _ {K : Type 0} {order : KeyOrder K} (lawful : IsLawful order) where
           found.0,
           found.1,
           (held_between order lawful r found.0 known found.1).1 (
-            le_trans lawful (Lo r) (start_position order b) (Beside found.0 At) from at.0,
+            le_trans lawful _ _ _ from at.0,
             at.1,
           ),
           at.0,
@@ -76,16 +76,12 @@ module _ {K : Type 0} {order : KeyOrder K} (lawful : IsLawful order) where
         let at = flipped_bound_is_past order lawful e b turns in
         let found =
         from_bound r b known (flipped_known order lawful e b turns known_e)
-        (le_trans lawful (Lo r) (past order (end_position order e)) (start_position order b) from
-        (eq_le lawful (past order (end_position order e)) (start_position order b) at))
-        (le_lt_trans lawful (start_position order b) (past order (end_position order e)) (Hi r)
-        (eq_ge lawful (past order (end_position order e)) (start_position order b) at) upto) in (
+        (le_trans lawful _ _ _ from (eq_le lawful _ _ at))
+        (le_lt_trans lawful _ _ _ (eq_ge lawful _ _ at) upto) in (
           found.0,
           found.1,
           found.2,
-          le_trans lawful (past order (end_position order e)) (start_position order b)
-              (Beside found.0 At)
-              (eq_le lawful (past order (end_position order e)) (start_position order b) at) found.3,
+          le_trans lawful _ _ _ (eq_le lawful _ _ at) found.3,
         )
 
     past_end : (r : AnyRange K) (e : Bound K) → IsKnownRange order r → IsKnownBound order e
@@ -93,7 +89,7 @@ module _ {K : Type 0} {order : KeyOrder K} (lawful : IsLawful order) where
         → Lt cmp (past order (end_position order e)) (Hi r)
         → HasKeyIn r (past order (end_position order e))
     past_end r Unbounded known known_e from upto =
-        absurd (lt_not_le lawful (past order (end_position order Unbounded)) (Hi r) upto (unbounded_end order lawful r.end known.1))
+        absurd (lt_not_le lawful _ _ upto (unbounded_end order lawful r.end known.1))
     past_end r (Included a) known known_e from upto =
         end_is_flipped r (Included a) (Excluded a) refl known known_e from upto
     past_end r (Excluded a) known known_e from upto =
@@ -114,7 +110,7 @@ module _ {K : Type 0} {order : KeyOrder K} (lawful : IsLawful order) where
             | inl l ↦
                 none key.0 key.1 key.2 key.3
                 ((held_between order lawful i.key key.0 known key.1).1 (
-                  le_trans lawful (Lo i.key) p (Beside key.0 At) from key.2,
+                  le_trans lawful _ _ _ from key.2,
                   lt_trans lawful (Beside key.0 At) (start_position order b) (Hi i.key) key.3 l,
                 ))
             | inr g ↦
@@ -138,17 +134,17 @@ module _ {K : Type 0} {order : KeyOrder K} (lawful : IsLawful order) where
             before_start (Lo i.key) y.key.start
             (λ k key from upto held. below_all order lawful (y ∷ ys) (Lo y.key) k key upto known_ys
             (chain_above (line_of order lawful any_same all_same) (Lo y.key) y ys chain
-            (le_refl lawful (Lo y.key))) (each k key held))
-            (from_bound i.key i.key.start known known.0 (le_refl lawful (Lo i.key)) full)
+            (le_refl lawful _)) (each k key held))
+            (from_bound i.key i.key.start known known.0 (le_refl lawful _) full)
             (key_from order lawful complete (Lo i.key) (Lo y.key)
             (starts_lie_at_starts order lawful i.key.start known.0)
-            (starts_lie_at_starts order lawful y.key.start known_ys.0.0) late) (le_refl lawful (Lo i.key))
+            (starts_lie_at_starts order lawful y.key.start known_ys.0.0) late) (le_refl lawful _)
 
         not_by_first : (y : Item (AnyRange K) W) (ys : List (Item (AnyRange K) W)) (k : K)
             → IsKnownRange order y.key → order.is_key k → Le cmp (Hi y.key) (Beside k At)
             → IsBound order (y ∷ ys) k → IsBound order ys k
         not_by_first y ys k known_y key over (inl held) =
-            absurd (lt_not_le lawful (Beside k At) (Hi y.key)
+            absurd (lt_not_le lawful _ _
             ((held_between order lawful y.key k known_y key).0 held).1 over)
         not_by_first y ys k known_y key over (inr bound) = bound
 
@@ -163,12 +159,12 @@ module _ {K : Type 0} {order : KeyOrder K} (lawful : IsLawful order) where
             not_by_first y [] found.0 known_ys.0 found.1 found.3 (each found.0 found.1 found.2)
         ends_early y (z ∷ zs) known_ys chain each from early =
             let apart : Lt cmp (Hi y.key) (Lo z.key) =
-            not_le lawful (Hi y.key) (Lo z.key) (λ le. chain.1.0.1 le refl) in
+            not_le lawful _ _ (λ le. chain.1.0.1 le refl) in
             before_start (Hi y.key) z.key.start
             (λ k key over upto held. below_all order lawful (z ∷ zs) (Lo z.key) k key upto
             known_ys.1
             (chain_above (line_of order lawful any_same all_same) (Lo z.key) z zs chain.1.1
-            (le_refl lawful (Lo z.key))) (not_by_first y (z ∷ zs) k known_ys.0 key over (each k key held)))
+            (le_refl lawful _)) (not_by_first y (z ∷ zs) k known_ys.0 key over (each k key held)))
             (past_end i.key y.key.end known known_ys.0.1 from early)
             (key_from order lawful complete (Hi y.key) (Lo z.key)
             (past_is_start order lawful (end_position order y.key.end) (Lo z.key) complete
@@ -186,21 +182,20 @@ module _ {K : Type 0} {order : KeyOrder K} (lawful : IsLawful order) where
             → Chained order lawful any_same all_same ys → Each ys
             → Any (λ y. LiesIn order i.key y.key) ys
         inside_some [] known_ys chain each =
-            let found =
-            from_bound i.key i.key.start known known.0 (le_refl lawful (Lo i.key)) full in
+            let found = from_bound i.key i.key.start known known.0 (le_refl lawful _) full in
             each found.0 found.1 found.2
         inside_some (y ∷ ys) known_ys chain each =
             elim (cases lawful (Lo i.key) (Hi y.key)) [
               | inr past_it ↦
                   inr (inside_some ys known_ys.1 (chain_rest y ys chain) (λ k key held.
                   not_by_first y ys k known_ys.0 key
-                  (le_trans lawful (Hi y.key) (Lo i.key) (Beside k At) past_it
+                  (le_trans lawful _ _ _ past_it
                   ((held_between order lawful i.key k known key).0 held).0) (each k key held)))
               | inl reaches ↦ elim (cases lawful (Lo i.key) (Lo y.key)) [
                 | inl late ↦ absurd (starts_late y ys known_ys chain each late)
                 | inr from ↦ elim (cases lawful (Hi y.key) (Hi i.key)) [
                   | inl early ↦
-                      absurd (ends_early y ys known_ys chain each (lt_le lawful (Lo i.key) (Hi y.key) reaches) early)
+                      absurd (ends_early y ys known_ys chain each (lt_le lawful _ _ reaches) early)
                   | inr upto ↦ inl (lies_in order lawful i.key y.key known known_ys.0 from upto)
                 ]
               ]

@@ -4,6 +4,7 @@ use Rattle.std.proofs.lemmas.List.{take_more, length-take-le, take-append-drop}
 use Rattle.serde_json.specs.View.{view}
 use Rattle.range_json.specs.MapFaults.{IsMapFault, IsFirstFault, IsFaultOf}
 use Rattle.range_json.specs.declared.error.JsonError.TheVariants.{Memory, Meets}
+use Rattle.range_change.proofs.Results.{error_has_no_value}
 use Rattle.range_json.proofs.MapReading.{IsMapSoFar, IsPut, map_begun, map_more, map_fails, map_meets, none_stored}
 use Rattle.range_json.proofs.Reading.{append_one_more}
 use Rattle.range_json.proofs.map.map_from_json.Goals as goal
@@ -44,9 +45,8 @@ loop-index-preserved g c =
     (rw size c.in_ok-item.ensures.sound) c.in_ok-item.ensures.read put
     c.insert_element.ensures.form)
 
-pub returns-in_err-item-clause-fault :
-    goal.returns-in_err-item-clause-fault
-returns-in_err-item-clause-fault g c =
+pub returns-in_err-item : goal.returns-in_err-item
+returns-in_err-item g c =
     let order = g.K.MaybeBounded.order in
     let vs = c.in_ok-elements.elements.now in
     let n = c.loop-index.index in
@@ -79,10 +79,15 @@ returns-in_err-item-clause-fault g c =
           g.V.Json.is_read g.V.PartialEq.eq (take n vs) rest v e
           (g.C.Storage.items c.loop-index.map) c.loop-index.invariant (rw size at))))
     ] in
-    search (rules, told)
+    let left = c.from_residual-in_err-item in
+    record {
+      read = error_has_no_value _ left.result left.ensures.0;
+      form = error_has_no_value _ left.result left.ensures.0;
+      fault = search (rules, told);
+    }
 
-pub returns-in_err-insert_element-clause-fault : goal.returns-in_err-insert_element-clause-fault
-returns-in_err-insert_element-clause-fault g c =
+pub returns-in_err-insert_element : goal.returns-in_err-insert_element
+returns-in_err-insert_element g c =
     let order = g.K.MaybeBounded.order in
     let vs = c.in_ok-elements.elements.now in
     let n = c.loop-index.index in
@@ -118,7 +123,12 @@ returns-in_err-insert_element-clause-fault g c =
           c.loop-index.invariant (rw size c.in_ok-item.ensures.sound)
           c.in_ok-item.ensures.read c.insert_element.ensures.known (at.1, at.2)))))
     ] in
-    search (rules, told)
+    let left = c.from_residual-in_err-insert_element in
+    record {
+      read = error_has_no_value _ left.result left.ensures.0;
+      form = error_has_no_value _ left.result left.ensures.0;
+      fault = search (rules, told);
+    }
 
 pub returns-clause-read : goal.returns-clause-read
 returns-clause-read g c =

@@ -6,6 +6,7 @@ use Rattle.range_json.specs.Faults.{first_fault}
 use Rattle.range_json.specs.MapFaults.{element_fault}
 use Rattle.range_json.specs.Overwriting.{fault_of_elements, overwriting_fault}
 use Rattle.range_json.specs.declared.error.JsonError.TheVariants.{Memory}
+use Rattle.range_change.proofs.Results.{error_has_no_value}
 use Rattle.range_json.proofs.MapReading.{none_stored}
 use Rattle.range_json.proofs.OverwritingLoop.{IsOverwrittenSoFar, overwriting_begun, overwriting_more, overwriting_fails}
 use Rattle.range_json.proofs.Reading.{append_one_more}
@@ -38,8 +39,8 @@ loop-index-preserved g c =
     (rw size c.in_ok-item.ensures.sound) c.in_ok-item.ensures.read c.overwrite_element.ensures.known
     done.bound done.frame c.overwrite_element.ensures.form)
 
-pub returns-in_err-item-clause-fault : goal.returns-in_err-item-clause-fault
-returns-in_err-item-clause-fault g c =
+pub returns-in_err-item : goal.returns-in_err-item
+returns-in_err-item g c =
     let fault = element_fault g.K.Json.reads g.V.Json.reads in
     let vs = c.in_ok-elements.elements.now in
     let n = c.loop-index.index in
@@ -67,7 +68,13 @@ returns-in_err-item-clause-fault g c =
           g.V.Json.is_read g.V.PartialEq.eq (take n vs) rest v e
           (g.C.Storage.items c.loop-index.map) c.loop-index.invariant (rw size at)))
     ] in
-    search (rules, told)
+    let left = c.from_residual-in_err-item in
+    record {
+      read = error_has_no_value _ left.result left.ensures.0;
+      form = error_has_no_value _ left.result left.ensures.0;
+      sound = error_has_no_value _ left.result left.ensures.0;
+      fault = search (rules, told);
+    }
 
 pub returns-clause-read : goal.returns-clause-read
 returns-clause-read g c =
