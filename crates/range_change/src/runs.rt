@@ -17,6 +17,12 @@ use std::alloc::AllocError;
 use std::marker::{Model, PhantomData};
 use std::ops::RangeBounds;
 
+/// How many items are taken one by one at first, since most ranges meet few, and where the last lies
+/// with the next.
+const FIRST_SINGLES: u8 = 4;
+
+const LAST_SINGLES: u8 = 12;
+
 /// The stored ranges that meet a range and are left, each with its value, in order. A contract sees
 /// their list.
 #[derive(Drop)]
@@ -25,8 +31,8 @@ pub struct Overlapping<'a, K: PartialEnum + 'a, V: Eq + 'a, C: Storage<Item<AnyR
     // Items that lie together, and the run of those after them.
     near: Run<'a, Item<AnyRange<K>, V>>,
     ends: Option<(C::Position, C::Position)>,
-    // Whether the last item lies with the next, so that they are taken one by one.
-    one_by_one: bool,
+    // How many items are taken one by one before those that lie with the next are asked for.
+    singles: u8,
     item: PhantomData<(K, V)>,
 }
 
@@ -62,7 +68,7 @@ impl<'a, K: PartialEnum + 'a, V: Eq + 'a, C: Storage<Item<AnyRange<K>, V>> + 'a>
             stored,
             near: Run::of_items(&[]),
             ends,
-            one_by_one: false,
+            singles: FIRST_SINGLES,
             item: PhantomData,
         }
     }
@@ -79,7 +85,7 @@ impl<'a, K: PartialEnum + 'a, V: Eq + 'a, C: Storage<Item<AnyRange<K>, V>> + 'a>
             stored: self.stored,
             near,
             ends: self.ends,
-            one_by_one: self.one_by_one,
+            singles: self.singles,
             item: PhantomData,
         }
     }
@@ -105,15 +111,16 @@ struct Front<'a, T, P: Copy> {
     item: &'a T,
     near: Run<'a, T>,
     ends: Option<(P, P)>,
-    one_by_one: bool,
+    singles: u8,
 }
 
-/// Takes the first item from a run, and those that lie with it, unless the last lies with them.
+/// Takes the first item from a run, and those that lie with it, unless the last lies with them or
+/// so many items come first one by one.
 fn split_first<'a, K: PartialEnum, V: Eq, C: Storage<Item<AnyRange<K>, V>>>(
     stored: &'a C,
     first: C::Position,
     last: C::Position,
-    one_by_one: bool,
+    singles: u8,
 ) -> Front<'a, Item<AnyRange<K>, V>, C::Position>
     requires stored { IsStored K.order V.eq (C.items stored.now) }
     requires run { IsRun (C.is_good stored.now) (C.rank stored.now) (Some (first, last)) }
@@ -125,9 +132,9 @@ fn split_first<'a, K: PartialEnum, V: Eq, C: Storage<Item<AnyRange<K>, V>>>(
     let item = stored.get(first);
     let end = stored.get(last);
     if !stands_before(item, end) {
-        return alone(item, None);
+        return alone(item, None, singles);
     }
-    if !one_by_one {
+    if singles == 0 {
         let chunk = stored.chunk_from(first);
         if let Some(after) = chunk.after {
             if !stands_before(end, stored.get(after)) {
@@ -135,19 +142,19 @@ fn split_first<'a, K: PartialEnum, V: Eq, C: Storage<Item<AnyRange<K>, V>>>(
                     item: chunk.first,
                     near: chunk.rest,
                     ends: Some((after, last)),
-                    one_by_one: false,
+                    singles,
                 };
             }
         }
     }
     match stored.next(first) {
-        Some(p) => alone(item, Some((p, last))),
+        Some(p) => alone(item, Some((p, last)), singles),
         None => unreachable!(),
     }
 }
 
 /// An item with which no other is taken.
-fn alone<'a, T, P: Copy>(item: &'a T, ends: Option<(P, P)>) -> Front<'a, T, P>
+fn alone<'a, T, P: Copy>(item: &'a T, ends: Option<(P, P)>, singles: u8) -> Front<'a, T, P>
     ensures item { result.item.now ≡ item.now }
     ensures near { result.near ≡ [] }
     ensures ends { result.ends ≡ ends }
@@ -156,7 +163,11 @@ fn alone<'a, T, P: Copy>(item: &'a T, ends: Option<(P, P)>) -> Front<'a, T, P>
         item,
         near: Run::of_items(&[]),
         ends,
-        one_by_one: true,
+        singles: if singles == 0 {
+            LAST_SINGLES
+        } else {
+            singles - 1
+        },
     }
 }
 
@@ -237,10 +248,10 @@ impl<'a, K: PartialEnum + 'a, V: Eq + 'a, C: Storage<Item<AnyRange<K>, V>> + 'a>
             return Some((&item.key, &item.value));
         }
         let (first, last) = self.ends?;
-        let front = split_first::<K, V, C>(self.stored, first, last, self.one_by_one);
+        let front = split_first::<K, V, C>(self.stored, first, last, self.singles);
         self.near = front.near;
         self.ends = front.ends;
-        self.one_by_one = front.one_by_one;
+        self.singles = front.singles;
         Some((&front.item.key, &front.item.value))
     }
 
