@@ -8,7 +8,7 @@ top=$(cd "$(dirname "$0")/../../.." && pwd)
 work=$(mktemp -d)
 trap 'rm -rf "$work"' EXIT
 mkdir -p "$work/crates/containers/src"
-crates="range_keys range_algebra range_store range_change range_reads range_merge range_map range_sets range_commands range_json range_set_json btree_range_map"
+crates="$(sed -n 's/^btree_range_map: //p' "$top/crates.txt") btree_range_map"
 for crate in $crates; do
     cp -r "$top/crates/$crate" "$work/crates/"
     grep "^$crate:" "$top/crates.txt" >> "$work/crates.txt"
