@@ -13,7 +13,7 @@ import time
 from tools import repository
 from tools.repository import CRATES, TOP, Counts, run, told
 
-RUN = [CRATES / name for name in ("tour", "access", "bookings", "downloads", "odd_keys", "lexing_patterns")]
+RUN = [CRATES / name for name in ("tour", "bookings", "odd_keys", "lexing_patterns")]
 RUN += [TOP / "tests" / name for name in ("address_tests", "example_tests", "pattern_tests")]
 PAGES = ("README.md", "docs/GUIDE.md")
 KINDS = (".rt", ".rt.txt", ".antt")

@@ -8,10 +8,9 @@ use btree_range_map::generic::RangeSet;
 use btree_range_map::generic::set::complementing_twice_restores;
 use btree_range_map::storage::{Item, Storage};
 use btree_range_map::{AnyRange, MapError, Measure};
-use std::test::Fail;
 
 /// The complement of the complement of a set, which equals it.
-fn complemented_twice<T: Measure + Clone, C: Storage<Item<AnyRange<T>, ()>>>(
+pub fn complemented_twice<T: Measure + Clone, C: Storage<Item<AnyRange<T>, ()>>>(
     set: &RangeSet<T, C>,
 ) -> Result<RangeSet<T, C>, MapError>
     requires { ClonesAreEqual T.is_clone T.eq }
@@ -23,12 +22,4 @@ fn complemented_twice<T: Measure + Clone, C: Storage<Item<AnyRange<T>, ()>>>(
     let others = set.complement()?;
     let again = others.complement()?;
     Ok(again)
-}
-
-#[test]
-fn a_set_is_restored(rt: HostRuntime) -> Result<(), Fail> {
-    let mut set: btree_range_map::RangeSet<i32> = RangeSet::new(rt.alloc());
-    set.insert(0..=5)?;
-    assert!(rt; complemented_twice(&set)? == set);
-    Ok(())
 }

@@ -1,15 +1,24 @@
-//! The first program of the README, and as tests what a caller proves by the calls' contracts.
+//! The first program of the README, what the guide shows, and callers of what it does not show.
+//!
+//! The program calls nothing else of this crate: all of it is proved, and what the guide shows is
+//! run by `tests/example_tests`.
+//!
+//! Where to find what:
+//!
+//! - an access table over ports, a key type of its own: `src/access`, `specs/{Ports,Rules}.antt`
+//! - which bytes of a download have come: `src/downloads.rt`, `specs/Coverage.antt`
+//! - callers that cite a law: `src/{complement,round_trip,unions}.rt`
+//! - values in JSON, and sets as values: `src/{own_values,set_values}.rt`
+//! - a caller at one type of each public call that no other crate calls so: `src/callers`
 #![tactic(auto)]
 
-#[cfg(test)]
+mod access;
+mod callers;
 mod complement;
-#[cfg(test)]
+mod downloads;
 mod own_values;
-#[cfg(test)]
 mod round_trip;
-#[cfg(test)]
 mod set_values;
-#[cfg(test)]
 mod unions;
 
 use btree_range_map::RangeMap;

@@ -10,12 +10,11 @@ use btree_range_map::json::{JsonError, ReadsBack, map_from_json, map_to_json, ma
 use btree_range_map::storage::{Item, Storage};
 use btree_range_map::{AnyRange, Measure};
 use std::alloc::Global;
-use std::test::Fail;
 
 /// What the map is written as, read as a map.
 ///
 /// That map equals the one that was written, and none is read only where an allocation fails.
-fn read_back<
+pub fn read_back<
     K: ReadsBack + Measure + Clone,
     V: ReadsBack + Clone,
     C: Storage<Item<AnyRange<K>, V>>,
@@ -29,12 +28,4 @@ fn read_back<
     let _items = map.iter(); // whose contract says the form in which they are stored
     let written = map_to_json(alloc, map)?;
     map_from_json(alloc, &written)
-}
-
-#[test]
-fn a_map_is_read_back(rt: HostRuntime) -> Result<(), Fail> {
-    let mut map: btree_range_map::RangeMap<i32, i64> = RangeMap::new(rt.alloc());
-    map.insert(0..=5, 1)?;
-    assert!(rt; read_back(rt.alloc(), &map)? == map);
-    Ok(())
 }

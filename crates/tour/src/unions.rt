@@ -8,10 +8,9 @@ use btree_range_map::generic::RangeSet;
 use btree_range_map::generic::set::set_operations_commute;
 use btree_range_map::storage::{Item, Storage};
 use btree_range_map::{AnyRange, MapError, Measure};
-use std::test::Fail;
 
 /// Whether the union of two sets is the same whichever comes first: over complete keys it is.
-fn unions_are_equal<T: Measure + Clone, C: Storage<Item<AnyRange<T>, ()>>>(
+pub fn unions_are_equal<T: Measure + Clone, C: Storage<Item<AnyRange<T>, ()>>>(
     set: &RangeSet<T, C>,
     other: &RangeSet<T, C>,
 ) -> Result<bool, MapError>
@@ -22,14 +21,4 @@ fn unions_are_equal<T: Measure + Clone, C: Storage<Item<AnyRange<T>, ()>>>(
     let first = set.union(other)?;
     let second = other.union(set)?;
     Ok(first == second)
-}
-
-#[test]
-fn two_sets(rt: HostRuntime) -> Result<(), Fail> {
-    let mut set: btree_range_map::RangeSet<u8> = RangeSet::new(rt.alloc());
-    set.insert(0..6)?;
-    let mut other: btree_range_map::RangeSet<u8> = RangeSet::new(rt.alloc());
-    other.insert(4..9)?;
-    assert!(rt; unions_are_equal(&set, &other)?);
-    Ok(())
 }

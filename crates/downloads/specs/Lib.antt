@@ -1,2 +1,0 @@
--- What a download's bytes are.
-pub mod Coverage
