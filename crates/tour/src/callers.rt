@@ -5,7 +5,6 @@ mod bounds;
 mod commands;
 mod containers;
 mod json;
-mod lengths;
 mod maps;
 mod multimaps;
 mod ranges;

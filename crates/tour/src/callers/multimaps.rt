@@ -1,8 +1,39 @@
-//! Callers of the sets that multimaps keep.
+//! Callers of multimaps, and of the sets that these keep.
 
 use btree_range_map::generic::multimap::{MaybeEmpty, SetMut};
+use btree_range_map::{MapError, RangeMultiMap};
 use std::alloc::{AllocError, Global};
 use std::collections::HashSet;
+
+type Classes = RangeMultiMap<char, HashSet<u8>>;
+
+fn new(alloc: Global) -> Classes {
+    RangeMultiMap::default(alloc)
+}
+
+fn add(classes: &mut Classes) -> Result<(), MapError> {
+    classes.insert('0'..='9', 1)
+}
+
+fn take(classes: &mut Classes) -> Result<(), MapError> {
+    classes.remove('4'..='6', &1)
+}
+
+fn has(classes: &Classes) -> bool {
+    classes.contains('5', &1)
+}
+
+fn is_bound(classes: &Classes) -> bool {
+    classes.get('5').is_some()
+}
+
+fn copied(classes: &Classes) -> Result<Classes, MapError> {
+    Ok(classes.clone()?)
+}
+
+fn has_range(classes: &Classes) -> bool {
+    classes.iter().next().is_some()
+}
 
 fn new_set(alloc: Global) -> HashSet<u8> {
     <HashSet<u8> as MaybeEmpty>::default(alloc)
