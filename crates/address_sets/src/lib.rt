@@ -11,12 +11,14 @@
 //!   `specs/{Prefixes,Tiles}.antt`; that no fewer have its addresses, `proofs/{Fewest,Sets}.antt`
 //! - how many addresses a set has: `src/count.rt`, `proofs/Counts.antt`; those that follow each
 //!   other: `src/runs.rt`, `specs/Runs.antt`
+//! - addresses as JSON: `src/json.rt`, `specs/Json.antt`
 #![tactic(auto)]
 
 pub mod address;
 pub mod count;
 pub mod ipv4;
 pub mod ipv6;
+mod json;
 pub mod prefix;
 pub mod prefixes;
 pub mod runs;
