@@ -7,7 +7,7 @@ use Rattle.address_lists.specs.Lists.{AreSaid, SaysNothingKnown}
 use Rattle.address_lists.specs.declared.read.Found.{Found}
 use Rattle.address_lists.specs.declared.read.Found.TheVariants.{Good, Other, End}
 use Rattle.address_lists.specs.declared.read.ListError.{ListError}
-use Rattle.address_lists.specs.declared.read.ListError.TheVariants.{BadLine, Unread, Memory}
+use Rattle.address_lists.specs.declared.read.ListError.TheVariants.{BadLine, Json, Memory, Unread}
 
 module _ (strict : Bool) where
   -- a line is read of the input, which goes on behind it
@@ -30,6 +30,7 @@ module _ (strict : Bool) where
       × (bytes ≢ []) × SaysNothingKnown strict (take_through 10 bytes)
   IsBad bytes number Unread = Unit {0}
   IsBad bytes number Memory = Unit {0}
+  IsBad bytes number (Json fault) = ⊥
 
   -- all lines before a bad one say something, and it is counted from 1
   abbrev pub HasFault : List ℕ → ListError → Type 0

@@ -2,6 +2,7 @@
 pub mod Addresses
 pub mod Counts
 pub mod Families
+pub mod Json
 pub mod Left
 pub mod Prefixes
 pub mod Runs

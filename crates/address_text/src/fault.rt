@@ -1,6 +1,8 @@
 //! What is wrong with a line that says nothing.
 
-ghost use Rattle.std.specs.Prelude.{◌≤◌, ◌+◌, length};
+ghost use Rattle.std.specs.Prelude.{◌≡◌, ◌≤◌, ◌+◌, ℕ, MatchOption, drop, length};
+ghost use Rattle.address_text.specs.Faults.{IsAddress, IsExpected, IsOf, IsWrong, IsWrongPrefix, IsWrongRange};
+ghost use Rattle.address_text.specs.Lines.{content, from_word};
 
 use crate::family::Family;
 use crate::line::{content_of, length_of};
@@ -37,7 +39,9 @@ pub struct Fault {
     pub expected: Expected,
 }
 
-fn family_of(text: &str) -> Option<Family> {
+fn family_of(text: &str) -> Option<Family>
+    ensures { MatchOption result (¬ IsAddress text.now) (λ family. IsOf family text.now) }
+{
     if Family::V4.read(text).is_some() {
         Some(Family::V4)
     } else if Family::V6.read(text).is_some() {
@@ -49,13 +53,15 @@ fn family_of(text: &str) -> Option<Family> {
 
 /// How many bytes of white space a text begins with.
 fn blanks(text: &[u8]) -> usize
-    ensures { result ≤ length text.now }
+    ensures most { result ≤ length text.now }
+    ensures word { drop result text.now ≡ from_word text.now }
 {
     text.len().saturating_sub(text.trim_ascii_start().len())
 }
 
 fn fault_of_prefix(address: &str, digits: &str) -> Fault
-    ensures { result.column ≤ length address.now + 1 }
+    ensures last { result.column ≤ length address.now + 1 }
+    ensures expected { IsWrongPrefix address.now digits.now result.expected }
 {
     match family_of(address) {
         None => Fault {
@@ -74,7 +80,8 @@ fn fault_of_prefix(address: &str, digits: &str) -> Fault
 }
 
 fn fault_of_range(first: &str, last: &str) -> Fault
-    ensures { result.column ≤ length first.now + 1 + length last.now }
+    ensures last { result.column ≤ length first.now + 1 + length last.now }
+    ensures expected { IsWrongRange first.now last.now result.expected }
 {
     if family_of(first.trim_ascii()).is_none() {
         return Fault {
@@ -94,7 +101,8 @@ fn fault_of_range(first: &str, last: &str) -> Fault
 }
 
 fn fault_in(text: &str) -> Fault
-    ensures { result.column ≤ length text.now }
+    ensures last { result.column ≤ length text.now }
+    ensures expected { IsWrong text.now result.expected }
 {
     if let Some((address, digits)) = text.split_once('/') {
         return fault_of_prefix(address, digits);
@@ -113,6 +121,7 @@ fn fault_in(text: &str) -> Fault
 pub fn fault_of(line: &[u8]) -> Fault
     ensures first { 1 ≤ result.column }
     ensures last { result.column ≤ length line.now + 1 }
+    ensures expected { IsExpected (content (from_word line.now)) result.expected }
 {
     let blanks = blanks(line);
     let fault = match str::from_utf8(content_of(&line[blanks..])) {
