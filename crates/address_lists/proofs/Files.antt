@@ -10,6 +10,7 @@ use Rattle.address_text.specs.declared.line.Line.{Line}
 use Rattle.address_lists.specs.Files.{IsFile, IsFileReason, IsReadAs, IsReasonAs, is_json}
 use Rattle.address_lists.specs.Json.{IsDocument}
 use Rattle.address_lists.specs.Lists.{AreGood, Has, HasJust, IsListed}
+use Rattle.address_lists.specs.Lists.AreGood.{Ended}
 use Rattle.address_lists.specs.declared.addresses.Addresses.{Addresses}
 use Rattle.address_lists.specs.declared.read.BadLines.{BadLines}
 use Rattle.address_lists.specs.declared.read.BadLines.TheVariants.{Refused}
@@ -73,7 +74,7 @@ module _ (strict : Bool) where
 
   any_unread : (told : Bool) (bytes : List ℕ) → IsReasonAs strict told bytes Unread
   any_unread true bytes = tt
-  any_unread false bytes = ([], bytes, AreGood.Ended bytes, tt)
+  any_unread false bytes = ([], bytes, Ended bytes, tt)
 
   -- an input that cannot be looked at
   pub none_seen : (input : Option (List ℕ))

@@ -8,8 +8,10 @@ use Rattle.btree_range_map.specs.KeySets.{HoldsKey}
 use Rattle.address_sets.specs.Addresses.{ipv4_at, ipv4_order, ipv6_at, ipv6_order}
 use Rattle.address_text.specs.declared.family.Family.{Family}
 use Rattle.address_text.specs.declared.family.Family.TheVariants.{V4, V6}
+use Rattle.address_lists.specs.Files.{IsFileReason}
 use Rattle.address_lists.specs.Lists.{Has, HasJust}
 use Rattle.address_lists.specs.declared.addresses.Addresses.{Addresses}
+use Rattle.address_lists.specs.declared.read.ListError.{ListError}
 use Rattle.cidr.specs.Commands.{AreKnown, AreLists, Asked, Combined, IsAnswer, IsList, IsStop, Put, left_out_of}
 use Rattle.line_program.specs.Listing.{Writes}
 use Rattle.cidr.specs.Shown.{IsShown}
@@ -72,10 +74,22 @@ abbrev pub IsRead : Reading → Option (List ℕ) → List ℕ → List ℕ → 
 IsRead reading input before now new = IfSome input (λ bytes. (others : ℕ)
     × IsList reading bytes (new, others) × (now ≡ before ++ others ∷ []))
 
+pub read_one : (reading : Reading) (input : Option (List ℕ)) (before now : List ℕ)
+    (list : Addresses) (others : ℕ) → IfSome input (λ bytes. IsList reading bytes (list, others))
+    → now ≡ before ++ others ∷ [] → IsRead reading input before now list
+read_one reading None before now list others found counted = tt
+read_one reading (Some bytes) before now list others found counted = (others, found, counted)
+
 -- why the one source of this name is not read, where its bytes are known
 abbrev pub IsUnread : Reading → Option (List ℕ) → String Global → Stop → Type 0
 IsUnread reading input name stop =
     IfSome input (λ bytes. IsStop reading (name ∷ []) (bytes ∷ []) stop)
+
+pub unread_one : (reading : Reading) (input : Option (List ℕ)) (name : String Global)
+    (error : ListError) → IfSome input (λ bytes. IsFileReason reading.strict bytes error)
+    → IsUnread reading input name (Bad name error)
+unread_one reading None name error why = tt
+unread_one reading (Some bytes) name error why = inl (refl, why)
 
 -- why not all sources are read
 abbrev pub AreUnread : Reading → List (Option (List ℕ)) → List (String Global) → Stop → Type 0
@@ -117,6 +131,15 @@ later_unread reading input inputs name names before now list stop read unread (b
     known =
     let (others, said, counted) = subst (λ o. IsRead reading o before now list) known.0 read in
     stops_later reading name names bytes files (list, others) said stop (unread files known.1)
+
+pub others_unread : (reading : Reading) (input : Option (List ℕ))
+    (inputs : List (Option (List ℕ))) (name : String Global) (names : List (String Global))
+    (before now : List ℕ) (list : Addresses) {X : Type 0} (result : Result X Stop)
+    → IsRead reading input before now list → IfErr result (AreUnread reading inputs names)
+    → IfErr result (AreUnread reading (input ∷ inputs) (name ∷ names))
+others_unread reading input inputs name names before now list (Ok done) read unread = tt
+others_unread reading input inputs name names before now list (Err stop) read unread =
+    later_unread reading input inputs name names before now list stop read unread
 
 -- the lists of all inputs, how many lines are left out of each, and what is made of them
 abbrev pub AreMade : Reading → List (Option (List ℕ)) → List ℕ → List ℕ

@@ -8,7 +8,7 @@ returns-clause-printed g c =
     (g.W.Write.contents c.args.out.now) (g.W.Write.contents c.print.new.out)
     c.read_source.new.left_out.items (g.R.Read.remaining c.args.first.reader)
     (g.R.Read.remaining c.args.second.reader) c.in_ok-first.first c.in_ok-second.second
-    c.print.result c.in_ok-first.ensures c.in_ok-second.ensures c.print.ensures.printed
+    c.print.result c.in_ok-first.ensures.read c.in_ok-second.ensures.read c.print.ensures.printed
 
 pub returns-clause-silent : goal.returns-clause-silent
 returns-clause-silent g c = fails_unwritable _ c.print.result c.print.ensures.failed

@@ -7,7 +7,7 @@ returns-clause-printed g c =
     all_looked_up c.args.reading c.args.addresses.now c.args.left_out.now.items
     c.read_source.new.left_out.items (g.W.Write.contents c.args.out.now)
     (g.W.Write.contents c.print.new.out) (g.R.Read.remaining c.args.source.reader)
-    c.in_ok-list.list c.print.result c.in_ok-list.ensures c.print.ensures.told
+    c.in_ok-list.list c.print.result c.in_ok-list.ensures.read c.print.ensures.told
     c.print.ensures.printed
 
 pub returns-clause-silent : goal.returns-clause-silent

@@ -3,7 +3,7 @@ use Rattle.std.specs.Prelude.{map}
 use Rattle.cidr.specs.Commands.{IsAnswer}
 use Rattle.cidr.specs.Shown.{Kept}
 use Rattle.cidr.specs.declared.serve.Source.{Source}
-use Rattle.cidr.proofs.Commands.{answer_printed, fails_unwritable}
+use Rattle.cidr.proofs.Commands.{answer_printed, unprinted}
 use Rattle.cidr.proofs.Kept.{kept_answer}
 use Rattle.cidr.proofs.serve.serve.Goals as goal
 
@@ -16,8 +16,11 @@ returns-clause-printed g c =
     (g.W.Write.contents c.print.new.out) c.print.result
     (ap (map (λ (s : Source _). g.R.Read.remaining s.reader)) c.into_iter.ensures.rest)
     (kept_answer c.args.reading c.args.command c.args.output.only _ numbers later c.in_ok-list.list
-    c.kept.result c.in_ok-list.ensures c.kept.ensures)
+    c.kept.result c.in_ok-list.ensures.made c.kept.ensures)
     c.print.ensures.printed
 
 pub returns-clause-silent : goal.returns-clause-silent
-returns-clause-silent g c = fails_unwritable _ c.print.result c.print.ensures.failed
+returns-clause-silent g c = c.print.ensures.silent
+
+pub returns-clause-bad : goal.returns-clause-bad
+returns-clause-bad g c = unprinted c.args.reading _ _ c.print.result c.print.ensures.failed
