@@ -1,5 +1,5 @@
 -- A JSON value is read as an address just where its text is one.
-use Rattle.std.proofs.Common.{◌≡◌, ℕ, Bool, false, List, [], ◌∷◌, ◌++◌, Option, None, Some, refl, sym, ap, subst, ◌∙◌, append-nil, lit≤}
+use Rattle.std.proofs.Common.{◌≡◌, ℕ, Bool, false, List, [], ◌∷◌, ◌++◌, Option, None, Some, refl, sym, ap, subst, ◌∙◌, append-nil, arith, length, lit≤, ne_eqb}
 use Rattle.std.specs.Prelude.{IsTrue, is_some, option_and_then}
 use Rattle.std.specs.Net.Grammar.{IsColonHex, IsDotted}
 use Rattle.std.specs.Net.Reader.{Read, read_ipv4, read_ipv6, whole_value}
@@ -30,7 +30,8 @@ module _ (read : List ℕ → Read (List ℕ)) (Spells : List ℕ → List ℕ �
   not_whole text (Some (numbers, [])) e none =
       let (front, split, spelled) = sound text numbers [] e in
       absurd (none numbers (subst (λ t. Spells t numbers) (sym (split ∙ append-nil front)) spelled))
-  not_whole text (Some (numbers, b ∷ rest)) e none = refl
+  not_whole text (Some (numbers, b ∷ rest)) e none =
+      rw (ne_eqb (length (b ∷ rest)) 0 (omega arith)) refl
 
   pub reads_none : (d : Data) (text : List ℕ) → as_str d ≡ Some text → IsNone text
       → reads_whole read d ≡ false

@@ -116,6 +116,19 @@ fn fault_in(text: &str) -> Fault
     }
 }
 
+fn fault_in_content(content: &[u8]) -> Fault
+    ensures last { result.column ≤ length content.now }
+    ensures expected { IsExpected content.now result.expected }
+{
+    match str::from_utf8(content) {
+        Ok(text) => fault_in(text),
+        Err(_) => Fault {
+            column: 0,
+            expected: Expected::Address,
+        },
+    }
+}
+
 /// What is wrong with a line that [`line_of`](crate::line_of) reads as nothing, at one of its bytes
 /// or at its end. Allocates nothing.
 pub fn fault_of(line: &[u8]) -> Fault
@@ -124,13 +137,7 @@ pub fn fault_of(line: &[u8]) -> Fault
     ensures expected { IsExpected (content (from_word line.now)) result.expected }
 {
     let blanks = blanks(line);
-    let fault = match str::from_utf8(content_of(&line[blanks..])) {
-        Ok(text) => fault_in(text),
-        Err(_) => Fault {
-            column: 0,
-            expected: Expected::Address,
-        },
-    };
+    let fault = fault_in_content(content_of(&line[blanks..]));
     Fault {
         column: fault.column.saturating_add(blanks).saturating_add(1),
         expected: fault.expected,
