@@ -1,7 +1,7 @@
 //! Reading a list of either form: lines, or JSON.
 
 ghost use Rattle.std.specs.Prelude.{◌≡◌, false, IfErr, IfOk, IfSome};
-ghost use Rattle.std.specs.Io.BufRead.{Keeps};
+ghost use Rattle.std.specs.Io.KnownBytes.{Keeps};
 ghost use Rattle.address_lists.specs.Files.{IsFile, IsFileReason, IsReadAs, IsReasonAs, is_json};
 
 use crate::addresses::Addresses;

