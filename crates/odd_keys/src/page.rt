@@ -1,14 +1,17 @@
-//! A custom key type without known ends, with keys longer than 1.
+//! Keys that are longer than 1, without known ends, and ranges of them whose length is known from
+//! outside.
 
-ghost use Rattle.std.specs.Prelude.{ℕ, ◌*◌, ◌-◌, ◌<◌, ◌^◌, None, refl};
+ghost use Rattle.std.specs.Prelude.{◌≡◌, ℕ, ◌*◌, ◌-◌, ◌<◌, ◌^◌, Some, None, refl};
 ghost use Rattle.std.specs.Ordering.{nat_cmp, on};
 ghost use Rattle.std.specs.Cmp.{nat_cmp_total, on_total, ranked};
 ghost use Rattle.std.proofs.Common.{arith, sym, lit<};
 ghost use Rattle.std.proofs.lemmas.Bool.Decides.{nat_tests};
 ghost use Rattle.std.specs.declared.cmp.Ordering.TheVariants.{Equal, Less};
-ghost use Rattle.key_tests.specs.declared.algebra.page.Page.{Page};
+ghost use Rattle.odd_keys.specs.declared.page.Page.{Page};
 
-use range_keys::traits::{MaybeBounded, Measure, PartialEnum};
+use btree_range_map::AnyRange;
+use btree_range_map::range::traits::{MaybeBounded, Measure, PartialEnum};
+use std::ops::Bound;
 
 /// A page of 4096 bytes of a store that has no known end.
 #[derive(Clone, Copy, PartialEq, Eq, PartialOrd, Ord, Debug)]
@@ -86,4 +89,22 @@ impl Measure for Page {
       step = λ a b e. Prim.cc;
       fits = λ a b p q f. Prim.grind (arith, nat_tests);
     } };
+}
+
+pub fn pages_from_three() -> Option<u128>
+    ensures { result ≡ None }
+{
+    AnyRange::new(Bound::Included(Page(3)), Bound::Unbounded).bounded_len()
+}
+
+pub fn pages_above_three_to_five() -> Option<u128>
+    ensures { result ≡ Some 8192 }
+{
+    AnyRange::new(Bound::Excluded(Page(3)), Bound::Included(Page(5))).bounded_len()
+}
+
+pub fn pages_reversed() -> Option<u128>
+    ensures { result ≡ Some 0 }
+{
+    AnyRange::new(Bound::Excluded(Page(3)), Bound::Excluded(Page(3))).bounded_len()
 }
