@@ -113,12 +113,15 @@ module _ (rules : Rules) (text : List ℕ) (Whole : Type 0) where
       subst (λ k. AcceptsFrom rules next (drop k text) ↔ Whole) (sym later)
       (λ h. was.0 (step.0 h), λ h. step.1 (was.1 h))
 
-  pub end_of_text_decides : (states : BTreeSet ℕ) (n : ℕ) (disjoint : Bool) → n ≡ length text
-      → IsTrue disjoint ↔ IsDisjoint nat_cmp states rules.accepting
-      → (AcceptsFrom rules states (drop n text) ↔ Whole) → IsTrue (not disjoint) ↔ Whole
-  end_of_text_decides states n disjoint whole told so_far =
+  pub end_of_text_decides : (states : BTreeSet ℕ) (n : ℕ) (accepts : Bool) → n ≡ length text
+      → IsTrue accepts ↔ AcceptsAmong rules states
+      → (AcceptsFrom rules states (drop n text) ↔ Whole) → IsTrue accepts ↔ Whole
+  end_of_text_decides states n accepts whole told so_far =
       let was =
       subst (λ rest. AcceptsFrom rules states rest ↔ Whole)
-      (ap (λ k. drop k text) whole ∙ drop_all text) so_far in
-      let end = at_end rules states disjoint told in
-      (λ h. was.0 (end.0 h), λ h. end.1 (was.1 h))
+      (ap (λ k. drop k text) whole ∙ drop_all text) so_far in (
+        λ h. let (p, has, ends) = told.0 h in was.0 (p, p, has, refl, ends),
+        λ h.
+            let (p, q, has, same, ends) = was.1 h in
+            told.1 (p, has, subst (IsAccepting rules) (sym same) ends),
+      )

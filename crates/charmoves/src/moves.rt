@@ -76,10 +76,10 @@ impl Moves {
     pub fn accepts(&self, text: &str) -> Result<bool, MapError>
         ensures path { IfOk result (λ b. IsTrue b ↔ Accepts (rules_of self.now) (chars text.now)) }
     {
-        let mut states = self.rules.starts.clone()?;
+        let mut states = self.starts()?;
         for c in text.chars() {
             states = self.step(&states, c)?;
         }
-        Ok(!states.is_disjoint(&self.rules.accepting))
+        Ok(self.is_accepting(&states))
     }
 }

@@ -1,5 +1,5 @@
 //! An automaton whose accepting states belong to rules.
-ghost use Rattle.std.specs.Prelude.{◌≡◌, ◌+◌, ◌↔◌, ◌≤◌, ℕ, IsTrue, IfOk, OnOk, OnErr, MatchOption, IfSome, ◌⊎◌, ⊤};
+ghost use Rattle.std.specs.Prelude.{◌≡◌, ◌+◌, ◌↔◌, ◌≤◌, ℕ, List, IsTrue, IfOk, OnOk, OnErr, MatchOption, IfSome, ◌⊎◌, ⊤};
 ghost use Rattle.charmoves.specs.Automata.{rules_of};
 ghost use Rattle.lexing.specs.Lexers.{rules_in, rule_count, Accepts, IsSkipped, IsNameOf, KeepsRules, AcceptsAlso, IsFirstAmong};
 ghost use Rattle.lexing.specs.Tokens.{IsToken, BeginsWithNone};
@@ -75,6 +75,8 @@ impl Lexer {
         ensures automaton { rules_in self.new ≡ rules_in self.old }
         ensures count { rule_count self.new ≡ rule_count self.old }
         ensures skips { (n : ℕ) → IsSkipped self.new n ↔ IsSkipped self.old n }
+        ensures names { (n : ℕ) (name : List ℕ)
+            → IsNameOf self.new n name ↔ IsNameOf self.old n name }
         ensures refused { OnErr result
             ((q n : ℕ) → Accepts self.new q n ↔ Accepts self.old q n) }
     {

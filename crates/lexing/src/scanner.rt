@@ -37,9 +37,9 @@ pub trait Scanner {
     final fn tokens<'a>(&'a self, text: &'a str) -> Tokens<'a, Self>
     where
         Self: Sized,
-        ensures scanner { result.scanner.now ≡ self.now }
-        ensures text { result.text.now ≡ text.now }
-        ensures start { result.at ≡ 0 }
+        ensures scanner { result.scanner ≡ self.now }
+        ensures text { result.text ≡ text.now }
+        ensures start { result.place ≡ 0 }
     {
         Tokens::new(self, text)
     }

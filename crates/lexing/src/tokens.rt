@@ -7,24 +7,36 @@ ghost use Rattle.lexing.specs.Runs.{IsNext, IsTokenAt, IsReasonAt, IsBehindOne};
 use crate::scanner::Scanner;
 use crate::token::{LexError, Token};
 use std::iter::FusedIterator;
+use std::marker::Model;
 
-/// The tokens that are left of a text. See [`Scanner::tokens`].
+/// The tokens that are left of a text. See [`Scanner::tokens`]. A contract sees the scanner, the
+/// text and the place.
 ///
 /// Where no token begins, `next` gives `NoToken` with the place, and the next call goes on behind
 /// the character there. After `Memory` nothing is left.
 #[derive(Drop)]
 pub struct Tokens<'a, S: Scanner> {
-    pub(crate) scanner: &'a S,
-    pub(crate) text: &'a str,
-    pub(crate) at: usize,
-    ghost on_boundary: { IsCharBoundary text.now at },
+    scanner: &'a S,
+    text: &'a str,
+    at: usize,
+}
+
+impl<'a, S: Scanner> Model for Tokens<'a, S> {
+    ghost use Rattle.std.specs.Str.{IsCharBoundary};
+    ghost use Rattle.lexing.specs.Left.{Left};
+
+    ghost Value = { Left S };
+
+    ghost view = { λ t. record { scanner = t.scanner.now; text = t.text.now; place = t.at } };
+
+    ghost invariant = { λ t. IsCharBoundary t.text.now t.at };
 }
 
 impl<'a, S: Scanner> Tokens<'a, S> {
     pub(crate) fn new(scanner: &'a S, text: &'a str) -> Self
-        ensures scanner { result.scanner.now ≡ scanner.now }
-        ensures text { result.text.now ≡ text.now }
-        ensures start { result.at ≡ 0 }
+        ensures scanner { result.scanner ≡ scanner.now }
+        ensures text { result.text ≡ text.now }
+        ensures start { result.place ≡ 0 }
     {
         Tokens {
             scanner,
@@ -35,7 +47,7 @@ impl<'a, S: Scanner> Tokens<'a, S> {
 
     /// The place in bytes from which the text is still to be cut. Allocates nothing.
     pub fn place(&self) -> usize
-        ensures { result ≡ self.now.at }
+        ensures { result ≡ self.now.place }
     {
         self.at
     }
@@ -44,10 +56,10 @@ impl<'a, S: Scanner> Tokens<'a, S> {
 impl<'a, S: Scanner> Iterator for Tokens<'a, S> {
     type Item = Result<Token, LexError>;
 
-    ghost next_gives = { λ s item t. (t.scanner.now ≡ s.scanner.now) × (t.text.now ≡ s.text.now)
-        × IsNext (S.lexer s.scanner.now) s.text.now (S.may_refuse s.scanner.now) s.at item t.at };
+    ghost next_gives = { λ s item t. (t.scanner ≡ s.scanner) × (t.text ≡ s.text)
+        × IsNext (S.lexer s.scanner) s.text (S.may_refuse s.scanner) s.place item t.place };
 
-    ghost remaining = { λ s. at_most (length s.text.now - s.at) };
+    ghost remaining = { λ s. at_most (length s.text - s.place) };
 
     fn next(&mut self) -> Option<Result<Token, LexError>> {
         let step = next_from(self.scanner, self.text, self.at);

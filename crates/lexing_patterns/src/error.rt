@@ -27,7 +27,8 @@ pub enum PatternError {
     Memory,
 }
 
-/// Which rule is not taken, and why. Where memory ran out behind the last rule, that is its number.
+/// Which rule is not taken, and why. Where memory ran out behind the last rule, `rule` is the number
+/// of rules.
 #[derive(Clone, Copy, Debug, PartialEq, Eq, Drop, Error)]
 #[error("rule {rule}: {error}")]
 pub struct RuleError {

@@ -1,9 +1,10 @@
 //! The parts of patterns, from their trees.
-ghost use Rattle.std.specs.Prelude.{ℕ, ◌≤◌, ◌≡◌, Bool, map, IfOk};
+ghost use Rattle.std.specs.Prelude.{ℕ, ◌≤◌, ◌≡◌, Bool, map, IfErr, IfOk};
 ghost use Rattle.std.specs.Str.{chars};
 ghost use Rattle.regex_hir.specs.Re.{Re, literal};
 ghost use Rattle.regex_hir.specs.Meaning.{meaning, repeat, copies, up_to, cat_all, alt_all};
 ghost use Rattle.lexing_patterns.specs.Built.{IsBuilt};
+ghost use Rattle.lexing_patterns.specs.Faults.{IsFaultIn, IsTooMuch};
 
 use crate::builder::Builder;
 use crate::error::PatternError;
@@ -17,6 +18,7 @@ impl Builder {
     pub(crate) fn part(&mut self, hir: &Hir) -> Result<Part, PatternError>
         ensures built { IfOk result (λ r. IsBuilt (meaning hir.now) r self.old.next self.new.next) }
         ensures grows { self.old.next ≤ self.new.next }
+        ensures refused { IfErr result (IsFaultIn (meaning hir.now)) }
     {
         self.spend(1)?;
         match hir {
@@ -38,6 +40,7 @@ impl Builder {
         ensures built { IfOk result
             (λ r. IsBuilt (cat_all (map meaning subs.now)) r self.old.next self.new.next) }
         ensures grows { self.old.next ≤ self.new.next }
+        ensures refused { IfErr result (IsFaultIn (cat_all (map meaning subs.now))) }
     {
         let mut all = self.empty();
         for i in (0..subs.len()).rev() {
@@ -52,6 +55,7 @@ impl Builder {
         ensures built { IfOk result
             (λ r. IsBuilt (alt_all (map meaning subs.now)) r self.old.next self.new.next) }
         ensures grows { self.old.next ≤ self.new.next }
+        ensures refused { IfErr result (IsFaultIn (alt_all (map meaning subs.now))) }
     {
         let mut any = self.nothing();
         for i in (0..subs.len()).rev() {
@@ -66,6 +70,8 @@ impl Builder {
         ensures built { IfOk result (λ r. (greedy : Bool)
             → IsBuilt (repeat min max greedy (meaning sub.now)) r self.old.next self.new.next) }
         ensures grows { self.old.next ≤ self.new.next }
+        ensures refused { IfErr result (λ error. (greedy : Bool)
+            → IsFaultIn (repeat min max greedy (meaning sub.now)) error) }
     {
         match max {
             Some(max) => {
@@ -90,6 +96,8 @@ impl Builder {
             → IsBuilt re rest low self.old.next
             → IsBuilt (copies count (meaning sub.now) re) r low self.new.next) }
         ensures grows { self.old.next ≤ self.new.next }
+        ensures refused { IfErr result
+            (λ error. (re : Re) → IsFaultIn (copies count (meaning sub.now) re) error) }
     {
         let mut all = rest;
         for done in 0..count {
@@ -105,6 +113,8 @@ impl Builder {
         ensures built { IfOk result (λ r. (greedy : Bool)
             → IsBuilt (up_to greedy most (meaning sub.now)) r self.old.next self.new.next) }
         ensures grows { self.old.next ≤ self.new.next }
+        ensures refused { IfErr result (λ error. (greedy : Bool)
+            → IsFaultIn (up_to greedy most (meaning sub.now)) error) }
     {
         let mut all = self.empty();
         for done in 0..most {
@@ -119,6 +129,7 @@ impl Builder {
     fn literal(&mut self, bytes: &[u8]) -> Result<Part, PatternError>
         ensures built { IfOk result (λ r. IsBuilt (literal bytes.now) r self.old.next self.new.next) }
         ensures grows { self.old.next ≤ self.new.next }
+        ensures refused { IfErr result (IsFaultIn (literal bytes.now)) }
     {
         let Ok(text) = std::str::from_utf8(bytes) else {
             return Err(PatternError::NotText);

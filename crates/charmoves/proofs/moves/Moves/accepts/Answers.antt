@@ -7,6 +7,13 @@ use Rattle.charmoves.specs.Automata.{rules_of, Accepts}
 use Rattle.charmoves.proofs.Paths.{one_more, end_of_text_decides}
 use Rattle.charmoves.proofs.moves.Moves.accepts.Goals as goal
 
+pub loop-c-init : goal.loop-c-init
+loop-c-init c =
+    let starts = c.in_ok-states.ensures.starts in (
+      λ (p, q, has, path, ends). (p, q, (starts p).0 has, path, ends),
+      λ (p, q, is, path, ends). (p, q, (starts p).1 is, path, ends),
+    )
+
 pub loop-c-preserved : goal.loop-c-preserved
 loop-c-preserved c =
     let text = chars c.args.text.now in
@@ -28,6 +35,6 @@ returns c =
     record {
       path = end_of_text_decides (rules_of c.args.self.now) text
           (Accepts (rules_of c.args.self.now) text) c.loop-c.states
-          (length c.loop-c.yielded) c.is_disjoint.result end.1 c.is_disjoint.ensures
+          (length c.loop-c.yielded) c.is_accepting.result end.1 c.is_accepting.ensures.accepting
           c.loop-c.invariant;
     }

@@ -2,6 +2,4 @@ use Rattle.std.proofs.lemmas.Str.{IsCharBoundary-start}
 use Rattle.lexing.proofs.tokens.Tokens.new.Goals as goal
 
 pub invariant_of-result : goal.invariant_of-result
-invariant_of-result g c = record {
-  on_boundary = IsCharBoundary-start c.args.text.now c.utf8.text;
-}
+invariant_of-result g c = IsCharBoundary-start c.args.text.now c.utf8.text
