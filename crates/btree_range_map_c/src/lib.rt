@@ -7,7 +7,7 @@
 //! Where to find what:
 //!
 //! - the calls for C, kind by kind: `src/exports/`; what each does to a map or a set:
-//!   `range_handles/src/{kept_map,kept_set}.rt`; what it asks of one: `range_ffi/src/reads.rt`
+//!   `range_handles/src/{kept_map,kept_set}.rt`; what it asks of one: `range_handles/src/reads.rt`
 #![tactic(auto)]
 
 mod exports;

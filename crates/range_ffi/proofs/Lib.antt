@@ -1,3 +1,1 @@
-mod Fills
 mod Flags
-mod InOrder

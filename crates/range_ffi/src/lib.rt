@@ -1,28 +1,15 @@
-//! Ranges, bindings and statuses as they cross to callers from other languages, and what is asked
-//! of maps of ranges for them.
+//! Ranges, bindings and statuses as they cross to callers from other languages.
 //!
-//! A range crosses as two keys and flags. What many ranges are written to is an array of the
-//! caller's own; a set is asked as the map of its keys to nothing.
+//! A range crosses as two keys and flags.
 //!
 //! Where to find what:
 //!
-//! - ranges as two keys and flags, bindings, and what a call returns: `src/{bounds,status}.rt`,
-//!   `specs/{Flags,Bindings}.antt`
-//! - what is asked of a map of any kind of keys, each call said once: `src/reads.rt`; many ranges
-//!   at once in `src/batch.rt`, `proofs/Fills.antt`
-//! - a map made at once of ranges in order: `src/in_order.rt`, `proofs/InOrder.antt`
+//! - ranges as two keys and flags, and bindings: `src/bounds.rt`, `specs/{Flags,Bindings}.antt`,
+//!   `proofs/Flags.antt`
+//! - a range with its value, either way: `src/items.rt`
+//! - what a call answers: `src/status.rt`
 #![tactic(auto)]
 
-pub mod batch;
 pub mod bounds;
-pub mod in_order;
-pub mod key;
-pub mod reads;
+pub mod items;
 pub mod status;
-
-use range_algebra::any::AnyRange;
-use range_store::btree::BoxStorage;
-use range_store::storage::Item;
-
-/// A map of ranges in the default container.
-pub type RangeMap<K, V> = range_map::map::RangeMap<K, V, BoxStorage<Item<AnyRange<K>, V>>>;

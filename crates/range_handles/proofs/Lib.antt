@@ -1,3 +1,6 @@
 mod AsBox
+mod Fills
 mod Floats
+mod InOrder
 mod Many
+mod Upto

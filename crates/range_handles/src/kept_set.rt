@@ -14,12 +14,12 @@ ghost use Rattle.range_ffi.specs.Flags.{said_range};
 
 pub mod algebra;
 
+use crate::key::Key;
 use btree_range_map::json::{Json, JsonError, set_from_json, set_to_json};
 use btree_range_map::range::traits::PartialEnum;
 use btree_range_map::storage::Item;
 use btree_range_map::{AnyRange, RangeMap, RangeSet};
-use range_ffi::batch::{Shown, Told};
-use range_ffi::key::Key;
+use range_ffi::items::{Shown, Told};
 use range_ffi::status::{DONE, NO_MEMORY, NONE};
 use serde_json::Value;
 use std::alloc::{AllocError, Global};

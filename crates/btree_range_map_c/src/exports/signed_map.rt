@@ -13,11 +13,11 @@ mod many;
 mod together;
 
 use range_ffi::bounds::{Length, SignedBounds, SignedEntry};
-use range_ffi::reads;
 use range_ffi::status::{CLOSED, CONNECTED, DONE, NO_MEMORY, NONE, OCCUPIED, OPEN, OTHER_KIND};
 use range_handles::collection::Collection;
 use range_handles::handle::Handle;
 use range_handles::kept_map::KeptMap;
+use range_handles::reads;
 use std::alloc::Global;
 
 /// Opens a closed handle, on an empty map. Allocates one block.

@@ -14,11 +14,11 @@ ghost use Rattle.range_handles.specs.Lists.{unsigned_keys, KeyRanges};
 mod many;
 
 use range_ffi::bounds::{Bounds, Length};
-use range_ffi::reads;
 use range_ffi::status::{CLOSED, DONE, NO_MEMORY, NONE, OPEN, OTHER_KIND};
 use range_handles::collection::Collection;
 use range_handles::handle::Handle;
 use range_handles::kept_set::KeptSet;
+use range_handles::reads;
 use std::alloc::Global;
 
 /// Opens a closed handle, on an empty set. Allocates one block.

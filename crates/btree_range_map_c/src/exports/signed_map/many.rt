@@ -14,10 +14,10 @@ ghost use Rattle.range_handles.specs.Held.{HoldsSignedMap, signed_items};
 ghost use Rattle.range_handles.specs.Lists.{signed_keys, SignedRanges, SignedPieces};
 
 use range_ffi::bounds::{Binding, SignedBounds, SignedEntry, SignedPiece};
-use range_ffi::reads;
 use range_ffi::status::{CLOSED, DONE, NO_MEMORY, NO_ROOM, OTHER_KIND};
 use range_handles::collection::Collection;
 use range_handles::handle::Handle;
+use range_handles::reads;
 use std::alloc::Global;
 
 /// Writes the stored ranges from the first that ends at the key or after it on, in ascending

@@ -10,10 +10,10 @@ ghost use Rattle.range_handles.specs.Held.{HoldsSet, set_items};
 ghost use Rattle.range_handles.specs.Lists.{unsigned_keys, KeyRanges};
 
 use range_ffi::bounds::Bounds;
-use range_ffi::reads;
 use range_ffi::status::{CLOSED, DONE, NO_MEMORY, OTHER_KIND};
 use range_handles::collection::Collection;
 use range_handles::handle::Handle;
+use range_handles::reads;
 
 /// Writes the stored ranges from the first that ends at the key or after it on, in ascending
 /// order, as many as the array takes, and how many.

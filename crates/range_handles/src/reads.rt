@@ -1,26 +1,26 @@
 //! What is asked of a map of ranges, and of a set as the map of its keys to nothing.
 ghost use Rattle.std.specs.Prelude.{◌<◌, ◌≤◌, ◌≡◌, ◌⊎◌, List, [], ◌∷◌, ◌++◌, Option, Some, length, map, nat_eq, take, drop, reverse};
 ghost use Rattle.std.specs.List.{AllZip};
-ghost use Rattle.range_algebra.specs.declared.any.AnyRange.{AnyRange};
-ghost use Rattle.range_change.specs.Bindings.{Binds, IsBound, IsItemFor};
-ghost use Rattle.range_store.specs.Holding.{box_items};
-ghost use Rattle.range_store.specs.declared.storage.Item.{Item};
-ghost use Rattle.range_change.specs.Lookups.{BindsKeyOf};
-ghost use Rattle.range_algebra.specs.Numbers.{IsNumberOfKeys};
-ghost use Rattle.range_map.specs.Overlapping.{AreOverlapping};
-ghost use Rattle.range_reads.specs.PieceLists.{AreGapsWithin};
-ghost use Rattle.range_change.specs.Pieces.{ArePieces};
-ghost use Rattle.range_algebra.specs.Range.{IsEmptyRange};
+ghost use Rattle.btree_range_map.specs.AnyRange.{AnyRange};
+ghost use Rattle.btree_range_map.specs.Bindings.{Binds, IsBound, IsItemFor};
+ghost use Rattle.btree_range_map.specs.Holding.{box_items};
+ghost use Rattle.btree_range_map.specs.Item.{Item};
+ghost use Rattle.btree_range_map.specs.Lookups.{BindsKeyOf};
+ghost use Rattle.btree_range_map.specs.Numbers.{IsNumberOfKeys};
+ghost use Rattle.btree_range_map.specs.Overlapping.{AreOverlapping};
+ghost use Rattle.btree_range_map.specs.PieceLists.{AreGapsWithin};
+ghost use Rattle.btree_range_map.specs.Pieces.{ArePieces};
+ghost use Rattle.btree_range_map.specs.Range.{IsEmptyRange};
 ghost use Rattle.range_ffi.specs.Bindings.{binding_value};
 ghost use Rattle.range_ffi.specs.Flags.{number_of, from_key, upto_key, said_range};
 
-use crate::RangeMap;
-use crate::batch::{Shown, fill, fill_back, fill_gaps, fill_pieces};
-use crate::bounds::{Binding, Length};
+use crate::batch::{Backwards, fill};
 use crate::key::Key;
-use crate::status::{DONE, NO_ROOM, NONE, answer};
-use range_algebra::any::AnyRange;
-use range_keys::inner::counted::measure_counts_keys;
+use btree_range_map::range::traits::measure_counts_keys;
+use btree_range_map::{AnyRange, RangeMap};
+use range_ffi::bounds::{Binding, Length};
+use range_ffi::items::Shown;
+use range_ffi::status::{DONE, NO_ROOM, NONE, answer};
 
 /// Writes the stored range that holds the key, with its value.
 pub fn get<K: Key, V: Eq + Drop, E: Shown<K, V>>(
@@ -201,8 +201,10 @@ pub fn read_back<K: Key, V: Eq + Drop, E: Shown<K, V>>(
     ensures done { result ≡ DONE }
 {
     key.known();
-    let mut items = stored.overlapping(..=key);
-    *count = fill_back(&mut items, entries);
+    let mut items = Backwards {
+        items: stored.overlapping(..=key),
+    };
+    *count = fill(&mut items, entries);
     DONE
 }
 
@@ -251,7 +253,7 @@ pub fn gaps<K: Key, V: Eq + Drop, E: Shown<K, ()>>(
     ensures done { result ≡ DONE }
 {
     let mut gaps = stored.gaps_within(&range);
-    *count = fill_gaps(&mut gaps, ranges);
+    *count = fill(&mut gaps, ranges);
     DONE
 }
 
@@ -275,7 +277,7 @@ pub fn pieces<K: Key, V: Eq + Copy + Drop, E: Shown<K, Option<V>>>(
     ensures done { result ≡ DONE }
 {
     let mut parts = stored.pieces(&range);
-    *count = fill_pieces(&mut parts, pieces);
+    *count = fill(&mut parts, pieces);
     DONE
 }
 

@@ -1,9 +1,9 @@
 use Rattle.std.proofs.Common.{[], map, nat_eq, subst}
-use Rattle.range_map.specs.Extending.{AreBoundAfter}
-use Rattle.range_reads.specs.Iteration.{pair_item}
-use Rattle.range_store.specs.Holding.{box_items}
-use Rattle.range_ffi.proofs.InOrder.{bound_at_once}
-use Rattle.range_ffi.proofs.in_order.map_in_order.Goals as goal
+use Rattle.btree_range_map.specs.MapExtending.{AreBoundAfter}
+use Rattle.btree_range_map.specs.Iteration.{pair_item}
+use Rattle.btree_range_map.specs.Holding.{box_items}
+use Rattle.range_handles.proofs.InOrder.{bound_at_once}
+use Rattle.range_handles.proofs.in_order.map_in_order.Goals as goal
 
 pub returns-in-Ok-from_sorted : goal.returns-in-Ok-from_sorted
 returns-in-Ok-from_sorted g c =

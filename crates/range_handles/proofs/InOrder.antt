@@ -1,12 +1,12 @@
 -- Ranges in order are bound at once as one after the other.
 use Rattle.std.proofs.Common.{◌≡◌, inl, inr, ℕ, ◌++◌, ◌↔◌, List, [], ◌∷◌, nat_eq, IsTrue, Option, Some, None}
 use Rattle.std.proofs.lemmas.Cmp.{nat_eq_equiv}
-use Rattle.range_keys.specs.Order.{KeyOrder}
-use Rattle.range_algebra.specs.Range.{Holds}
-use Rattle.range_algebra.specs.declared.any.AnyRange.{AnyRange}
-use Rattle.range_store.specs.declared.storage.Item.{Item}
-use Rattle.range_change.specs.Bindings.{Binds, BindsTo, BindAlike, IsBound, IsSomeOf}
-use Rattle.range_map.specs.Extending.{AreBoundAfter}
+use Rattle.btree_range_map.specs.Order.{KeyOrder}
+use Rattle.btree_range_map.specs.Range.{Holds}
+use Rattle.btree_range_map.specs.AnyRange.{AnyRange}
+use Rattle.btree_range_map.specs.Item.{Item}
+use Rattle.btree_range_map.specs.Bindings.{Binds, BindsTo, BindAlike, IsBound, IsSomeOf}
+use Rattle.btree_range_map.specs.MapExtending.{AreBoundAfter}
 
 module _ {K : Type 0} (order : KeyOrder K) where
   binds_among : (front rest : List (Item (AnyRange K) ℕ)) (i : Item (AnyRange K) ℕ) (k : K)

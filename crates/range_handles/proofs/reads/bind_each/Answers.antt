@@ -1,10 +1,10 @@
 use Rattle.std.proofs.Common.{◌≡◌, ◌∙◌, arith, rules, refl, sym, subst, get_or, nat_eq, length-set}
 use Rattle.std.proofs.lemmas.List.{drop-set-lt}
-use Rattle.range_change.specs.Bindings.{Binds}
-use Rattle.range_store.specs.Holding.{box_items}
+use Rattle.btree_range_map.specs.Bindings.{Binds}
+use Rattle.btree_range_map.specs.Holding.{box_items}
 use Rattle.range_ffi.specs.Bindings.{binding_value}
-use Rattle.range_ffi.proofs.Fills.{one_more_pair}
-use Rattle.range_ffi.proofs.reads.bind_each.Goals as goal
+use Rattle.range_handles.proofs.Fills.{one_more_pair}
+use Rattle.range_handles.proofs.reads.bind_each.Goals as goal
 
 pub loop-count-init : goal.loop-count-init
 loop-count-init g c =

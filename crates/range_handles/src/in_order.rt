@@ -1,14 +1,13 @@
 //! A map made at once of ranges that are in order.
 ghost use Rattle.std.specs.Prelude.{◌≡◌, [], map, nat_eq, IfOk, IfSome};
-ghost use Rattle.range_map.specs.Extending.{AreBoundAfter};
-ghost use Rattle.range_reads.specs.Iteration.{pair_item};
-ghost use Rattle.range_store.specs.Holding.{box_items};
+ghost use Rattle.btree_range_map.specs.MapExtending.{AreBoundAfter};
+ghost use Rattle.btree_range_map.specs.Iteration.{pair_item};
+ghost use Rattle.btree_range_map.specs.Holding.{box_items};
 
-use crate::RangeMap;
-use crate::batch::Told;
 use crate::key::Key;
-use range_algebra::any::AnyRange;
-use range_map::map::stored_lists_bind_once;
+use btree_range_map::generic::map::stored_lists_bind_once;
+use btree_range_map::{AnyRange, RangeMap};
+use range_ffi::items::Told;
 use std::alloc::{AllocError, Global};
 
 /// The ranges with their values.

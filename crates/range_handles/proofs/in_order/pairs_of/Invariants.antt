@@ -1,6 +1,6 @@
 use Rattle.std.proofs.Common.{◌≡◌, ◌≤◌, ◌-◌, take, map, length}
-use Rattle.range_reads.specs.Iteration.{pair_item}
-use Rattle.range_ffi.proofs.in_order.pairs_of.Given as goal
+use Rattle.btree_range_map.specs.Iteration.{pair_item}
+use Rattle.range_handles.proofs.in_order.pairs_of.Given as goal
 
 abbrev pub invariant-loop-count : goal.invariant-loop-count
 invariant-loop-count g l =

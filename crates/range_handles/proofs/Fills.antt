@@ -2,7 +2,7 @@
 use Rattle.std.proofs.Common.{◌≡◌, ◌∙◌, ap, arith, ℕ, ◌+◌, ◌<◌, ◌≤◌, ◌++◌, List, [], ◌∷◌, map, reverse, take, length, slice_set, sym, subst, get_or}
 use Rattle.std.specs.List.{AllZip}
 use Rattle.std.proofs.lemmas.Slice.Zip.{all_zipped_more}
-use Rattle.std.proofs.lemmas.List.{take_more, take_more_set, map_push, append_assoc, reverse-append, length-append, length-map, length-take-le}
+use Rattle.std.proofs.lemmas.List.{take_more, take_more_set, map_push, append_assoc, reverse-append, reverse-reverse, length-append, length-map, length-take-le}
 
 -- of nothing, nothing is written
 pub none_filled : {X E : Type 0} (said : E → X) (slots : List E) (n : ℕ) (rest : List X)
@@ -27,17 +27,14 @@ module _ {X E : Type 0} (said : E → X) (slots : List E) (n : ℕ) (e : E) wher
       ∙ (ap (λ l. l ++ left) (sym (map_push said (take n slots) e))
       ∙ ap (λ l. map said l ++ left) (sym (take_more_set slots n e within)))))
 
-  -- and, where they come from the back, in front of those
-  pub one_more_back : (all : List X) (x : X) (left : List X) → n < length slots
-      → all ≡ (left ++ x ∷ []) ++ reverse (map said (take n slots)) → said e ≡ x
-      → all ≡ left ++ reverse (map said (take (n + 1) (slice_set slots n e)))
-  one_more_back all x left within before is =
-      before
-      ∙ (append_assoc left (x ∷ []) (reverse (map said (take n slots)))
-      ∙ (ap (λ y. left ++ y ∷ reverse (map said (take n slots))) (sym is)
-      ∙ (ap (λ l. left ++ l) (sym (reverse-append (map said (take n slots)) (said e ∷ [])))
-      ∙ (ap (λ l. left ++ reverse l) (sym (map_push said (take n slots) e))
-      ∙ ap (λ l. left ++ reverse (map said l)) (sym (take_more_set slots n e within))))))
+-- what comes from the back stands behind what is left
+pub from_the_back : {X E : Type 0} (said : E → X) (written : List E) (all left : List X)
+    → reverse all ≡ map said written ++ reverse left → all ≡ left ++ reverse (map said written)
+from_the_back said written all left is =
+    sym (reverse-reverse all)
+    ∙ (ap reverse is
+    ∙ (reverse-append (map said written) (reverse left)
+    ∙ ap (λ l. l ++ reverse (map said written)) (reverse-reverse left)))
 
 -- one more of both lists
 pub one_more_pair : {A B : Type 0} (R : A → B → Type 0) (xs : List A) (ys : List B) (n : ℕ) (d : A)

@@ -1,7 +1,6 @@
 //! What is asked of keys that cross to C.
 
-use range_keys::inner::counted::Counted;
-use range_keys::traits::Bounded;
+use btree_range_map::range::traits::{Bounded, Counted};
 
 /// A type of keys that cross to C: counted ones, which are copied as they are.
 pub trait Key: Counted + Bounded + Clone + Copy {}

@@ -1,9 +1,9 @@
 use Rattle.std.proofs.Common.{◌≡◌, ◌≤◌, ◌-◌, ℕ, take, drop, length, nat_eq}
 use Rattle.std.specs.List.{AllZip}
-use Rattle.range_change.specs.Bindings.{Binds}
-use Rattle.range_store.specs.Holding.{box_items}
+use Rattle.btree_range_map.specs.Bindings.{Binds}
+use Rattle.btree_range_map.specs.Holding.{box_items}
 use Rattle.range_ffi.specs.Bindings.{binding_value}
-use Rattle.range_ffi.proofs.reads.bind_each.Given as goal
+use Rattle.range_handles.proofs.reads.bind_each.Given as goal
 
 abbrev pub invariant-loop-count : goal.invariant-loop-count
 invariant-loop-count g l =
