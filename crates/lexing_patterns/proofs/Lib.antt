@@ -1,6 +1,7 @@
 pub mod Any
 pub mod Building
 pub mod Drafting
+pub mod Faults
 pub mod Joining
 pub mod Literals
 pub mod Meanings

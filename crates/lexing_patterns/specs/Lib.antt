@@ -1,5 +1,6 @@
 pub mod Built
 pub mod Drafts
+pub mod Faults
 pub mod Languages
 pub mod Parts
 pub mod Patterns

@@ -1,16 +1,16 @@
 //! States, and parts put together within a budget.
-ghost use Rattle.std.specs.Prelude.{ℕ, ◌≤◌, ◌+◌, ◌≡◌, [], Bool, IfOk};
+ghost use Rattle.std.specs.Prelude.{ℕ, ◌≤◌, ◌+◌, ◌≡◌, [], Bool, IfOk, IfErr};
 ghost use Rattle.regex_hir.specs.Re.{Re, cat, alt, plus, empty, byte_in, char_in};
 ghost use Rattle.regex_hir.specs.Meaning.{optional};
+ghost use Rattle.regex_syntax.specs.WellFormed.{IsWithin};
 ghost use Rattle.lexing_patterns.specs.Built.{IsBuilt};
+ghost use Rattle.lexing_patterns.specs.Faults.{IsTooMuch};
 
 use crate::error::PatternError;
 use crate::part::{self, Part};
 use crate::pieces;
 use regex_class::{Class, ClassRange};
 use std::alloc::Global;
-
-const LAST_ASCII: u32 = 0x7F;
 
 /// Makes the states of parts, and puts parts together.
 #[derive(Drop)]
@@ -24,7 +24,8 @@ pub(crate) struct Builder {
 
 impl Builder {
     pub(crate) fn spend(&mut self, steps: usize) -> Result<(), PatternError>
-        ensures { self.new.next ≡ self.old.next }
+        ensures kept { self.new.next ≡ self.old.next }
+        ensures refused { IfErr result IsTooMuch }
     {
         if self.budget < steps {
             return Err(PatternError::TooLarge);
@@ -37,6 +38,7 @@ impl Builder {
     pub(crate) fn state(&mut self) -> Result<u32, PatternError>
         ensures new { IfOk result (λ q. (q ≡ self.old.next) × (self.new.next ≡ self.old.next + 1)) }
         ensures grows { self.old.next ≤ self.new.next }
+        ensures refused { IfErr result IsTooMuch }
     {
         let state = self.next;
         let Some(next) = state.checked_add(1) else {
@@ -64,21 +66,21 @@ impl Builder {
     pub(crate) fn character(&mut self, ranges: &[ClassRange]) -> Result<Part, PatternError>
         ensures built { IfOk result (λ r. IsBuilt (char_in ranges.now) r self.old.next self.new.next) }
         ensures grows { self.old.next ≤ self.new.next }
+        ensures refused { IfErr result IsTooMuch }
     {
         self.spend(ranges.len())?;
         let state = self.state()?;
         Ok(pieces::one_of(self.alloc, ranges, state)?)
     }
 
-    /// Matches one byte of the class, if all its bytes are ASCII.
+    /// Matches one byte of the class, whose bytes are ASCII.
     pub(crate) fn byte(&mut self, class: &Class) -> Result<Part, PatternError>
+        requires { IsWithin 0x7F class.now.ranges.items }
         ensures built { IfOk result
             (λ r. IsBuilt (byte_in class.now.ranges.items) r self.old.next self.new.next) }
         ensures grows { self.old.next ≤ self.new.next }
+        ensures refused { IfErr result IsTooMuch }
     {
-        if !class.is_within(LAST_ASCII) {
-            return Err(PatternError::NotText);
-        }
         self.character(&class.ranges)
     }
 
@@ -88,6 +90,7 @@ impl Builder {
             → middle ≤ high → IsBuilt a front middle high → IsBuilt b back low middle
             → IsBuilt (cat a b) r low high) }
         ensures kept { self.new.next ≡ self.old.next }
+        ensures refused { IfErr result IsTooMuch }
     {
         self.spend(front.ends.len().saturating_mul(back.leads.len()))?;
         Ok(part::in_turn(front, back)?)
@@ -99,6 +102,7 @@ impl Builder {
             → middle ≤ high → IsBuilt a one middle high → IsBuilt b other low middle
             → IsBuilt (alt a b) r low high) }
         ensures kept { self.new.next ≡ self.old.next }
+        ensures refused { IfErr result IsTooMuch }
     {
         Ok(part::either(one, other)?)
     }
@@ -108,6 +112,7 @@ impl Builder {
         ensures built { IfOk result (λ r. (greedy : Bool) (a : Re) (low high : ℕ)
             → IsBuilt a once low high → IsBuilt (plus greedy a) r low high) }
         ensures kept { self.new.next ≡ self.old.next }
+        ensures refused { IfErr result IsTooMuch }
     {
         self.spend(once.ends.len().saturating_mul(once.leads.len()))?;
         Ok(part::repeated(once)?)

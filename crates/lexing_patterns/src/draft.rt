@@ -1,8 +1,10 @@
 //! The automata of several rules, side by side.
-ghost use Rattle.std.specs.Prelude.{ℕ, ◌≡◌, ◌↔◌, ◌⊎◌, [], ◌∷◌, ◌++◌, List, length, OnOk};
+ghost use Rattle.std.specs.Prelude.{ℕ, ◌≡◌, ◌↔◌, ◌⊎◌, [], ◌∷◌, ◌++◌, List, true, length, IfErr, OnOk};
 ghost use Rattle.regex_hir.specs.Re.{Re};
 ghost use Rattle.regex_hir.specs.Meaning.{meaning};
+ghost use Rattle.regex_syntax.specs.WellFormed.{IsWellFormed};
 ghost use Rattle.lexing_patterns.specs.Drafts.{HasEnd, IsDraft};
+ghost use Rattle.lexing_patterns.specs.Faults.{IsFaultIn};
 ghost use Rattle.lexing_patterns.specs.Parts.{IsAmong};
 
 use crate::builder::Builder;
@@ -48,8 +50,10 @@ impl Draft {
 
     /// Adds the automaton of a pattern, for the next rule.
     pub(crate) fn add(&mut self, hir: &Hir, rule: u32) -> Result<(), PatternError>
-        ensures { OnOk result ((res : List Re) → rule ≡ length res → IsDraft self.old res
+        requires { IsWellFormed true hir.now }
+        ensures added { OnOk result ((res : List Re) → rule ≡ length res → IsDraft self.old res
             → IsDraft self.new (res ++ meaning hir.now ∷ [])) }
+        ensures refused { IfErr result (IsFaultIn (meaning hir.now)) }
     {
         let part = self.builder.part(hir)?;
         let start = self.builder.state()?;

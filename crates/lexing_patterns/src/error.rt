@@ -16,9 +16,6 @@ pub enum PatternError {
     /// It has an assertion, such as `^`, `$` or `\b`: a token is matched by its own text alone.
     #[error("assertions are not taken")]
     Assertion,
-    /// It may match bytes that are no UTF-8.
-    #[error("bytes that are no UTF-8 are not taken")]
-    NotText,
     /// It is larger than the budget allows, by what it repeats or by how much may follow what.
     #[error("the pattern is too large")]
     TooLarge,
@@ -27,7 +24,8 @@ pub enum PatternError {
     Memory,
 }
 
-/// Which rule is not taken, and why. Where memory ran out behind the last rule, that is its number.
+/// Which rule is not taken, and why. Where memory ran out behind the last rule, `rule` is the number
+/// of rules.
 #[derive(Clone, Copy, Debug, PartialEq, Eq, Drop, Error)]
 #[error("rule {rule}: {error}")]
 pub struct RuleError {

@@ -1,9 +1,12 @@
 //! A lexer of several patterns.
-ghost use Rattle.std.specs.Prelude.{ℕ, ◌≡◌, ◌↔◌, ◌∷◌, [], ◌++◌, List, length, IfOk, OnOk};
+ghost use Rattle.std.specs.Prelude.{ℕ, ◌≡◌, ◌≢◌, ◌⊎◌, ◌↔◌, ◌∷◌, [], ◌++◌, List, length, IfErr, IfOk, OnOk};
 ghost use Rattle.regex_hir.specs.Re.{Re};
 ghost use Rattle.lexing.specs.Lexers.{Accepts, rules_in, rule_count};
+ghost use Rattle.regex_syntax.specs.declared.error.ErrorKind.TheVariants.{OutOfMemory};
 ghost use Rattle.lexing_patterns.specs.Drafts.{IsDraft};
+ghost use Rattle.lexing_patterns.specs.Faults.{IsFault, IsRefusal};
 ghost use Rattle.lexing_patterns.specs.Patterns.{IsReadAs, AreReadAs, IsPoured, IsLexerOf, HasNamesOf, SkipsAs};
+ghost use Rattle.lexing_patterns.specs.declared.error.PatternError.TheVariants.{Memory, Syntax};
 
 use crate::draft::Draft;
 use crate::error::{PatternError, RuleError};
@@ -25,7 +28,8 @@ pub struct PatternRule<'a> {
 ///
 /// Each token is the longest piece of the text from its place on that one of the patterns matches,
 /// by the first such pattern. The patterns are those of the crate `regex_syntax`, without
-/// assertions. The rules are numbered from 0, as they stand.
+/// assertions. The rules are numbered from 0, as they stand. An error names the first rule that is
+/// not taken, and why.
 ///
 /// Costs a state for each character or class of the patterns, after `{m,n}` is written out.
 /// Allocates.
@@ -34,6 +38,7 @@ pub fn lexer(alloc: Global, rules: &[PatternRule]) -> Result<Lexer, RuleError>
     ensures named { IfOk result (HasNamesOf rules.now) }
     ensures skips { IfOk result (SkipsAs rules.now) }
     ensures tokens { IfOk result (IsLexerOf rules.now) }
+    ensures refused { IfErr result (IsRefusal rules.now) }
 {
     let draft = draft_of(alloc, rules)?;
     match assembled(alloc, &draft, rules) {
@@ -47,7 +52,9 @@ pub fn lexer(alloc: Global, rules: &[PatternRule]) -> Result<Lexer, RuleError>
 
 /// The automata of the rules.
 fn draft_of(alloc: Global, rules: &[PatternRule]) -> Result<Draft, RuleError>
-    ensures { IfOk result (λ draft. (res : List Re) × AreReadAs rules.now res × IsDraft draft res) }
+    ensures drafted { IfOk result
+        (λ draft. (res : List Re) × AreReadAs rules.now res × IsDraft draft res) }
+    ensures refused { IfErr result (IsRefusal rules.now) }
 {
     let mut draft = Draft::new(alloc);
     for i in 0..rules.len() {
@@ -66,8 +73,9 @@ fn add_pattern(
     pattern: &str,
     number: usize,
 ) -> Result<(), PatternError>
-    ensures { OnOk result ((res : List Re) → number ≡ length res → IsDraft draft.old res
+    ensures added { OnOk result ((res : List Re) → number ≡ length res → IsDraft draft.old res
         → (re : Re) × IsReadAs pattern.now re × IsDraft draft.new (res ++ re ∷ [])) }
+    ensures refused { IfErr result (IsFault pattern.now) }
 {
     let Ok(rule) = u32::try_from(number) else {
         return Err(PatternError::TooLarge);
@@ -78,7 +86,9 @@ fn add_pattern(
     }
 }
 
-fn fault(error: regex_syntax::Error) -> PatternError {
+fn fault(error: regex_syntax::Error) -> PatternError
+    ensures { (result ≡ Memory) ⊎ ((result ≡ Syntax error) × (error.kind ≢ OutOfMemory)) }
+{
     match error.kind {
         ErrorKind::OutOfMemory => PatternError::Memory,
         _ => PatternError::Syntax(error),
@@ -90,6 +100,7 @@ fn assembled(alloc: Global, draft: &Draft, rules: &[PatternRule]) -> Result<Lexe
     ensures named { IfOk result (HasNamesOf rules.now) }
     ensures skips { IfOk result (SkipsAs rules.now) }
     ensures poured { IfOk result (IsPoured draft.now) }
+    ensures memory { IfErr result (λ error. error ≡ Memory) }
 {
     let moves = Moves::build(rules_of(alloc, draft)?);
     let mut lexer = Lexer::new(alloc, moves);
@@ -106,6 +117,7 @@ fn name_all(lexer: &mut Lexer, rules: &[PatternRule]) -> Result<(), PatternError
     ensures skips { OnOk result (SkipsAs rules.now lexer.new) }
     ensures automaton { rules_in lexer.new ≡ rules_in lexer.old }
     ensures accepting { (q r : ℕ) → Accepts lexer.new q r ↔ Accepts lexer.old q r }
+    ensures memory { IfErr result (λ error. error ≡ Memory) }
 {
     for rule in rules {
         lexer.add_rule(rule.name, rule.skipped)?;

@@ -1,9 +1,11 @@
 //! The parts of patterns, from their trees.
-ghost use Rattle.std.specs.Prelude.{ℕ, ◌≤◌, ◌≡◌, Bool, map, IfOk};
+ghost use Rattle.std.specs.Prelude.{ℕ, ◌≤◌, ◌≡◌, true, Bool, All, IsUtf8, map, IfErr, IfOk};
 ghost use Rattle.std.specs.Str.{chars};
 ghost use Rattle.regex_hir.specs.Re.{Re, literal};
 ghost use Rattle.regex_hir.specs.Meaning.{meaning, repeat, copies, up_to, cat_all, alt_all};
+ghost use Rattle.regex_syntax.specs.WellFormed.{IsWellFormed};
 ghost use Rattle.lexing_patterns.specs.Built.{IsBuilt};
+ghost use Rattle.lexing_patterns.specs.Faults.{IsFaultIn, IsTooMuch};
 
 use crate::builder::Builder;
 use crate::error::PatternError;
@@ -15,8 +17,10 @@ impl Builder {
     /// Matches what the pattern does.
     #[cycle(part)]
     pub(crate) fn part(&mut self, hir: &Hir) -> Result<Part, PatternError>
+        requires { IsWellFormed true hir.now }
         ensures built { IfOk result (λ r. IsBuilt (meaning hir.now) r self.old.next self.new.next) }
         ensures grows { self.old.next ≤ self.new.next }
+        ensures refused { IfErr result (IsFaultIn (meaning hir.now)) }
     {
         self.spend(1)?;
         match hir {
@@ -35,9 +39,11 @@ impl Builder {
     // Both loops go from the last part back, as `cat_all` and `alt_all` are built.
     #[cycle(part)]
     fn all_of(&mut self, subs: &[Hir]) -> Result<Part, PatternError>
+        requires { All (IsWellFormed true) subs.now }
         ensures built { IfOk result
             (λ r. IsBuilt (cat_all (map meaning subs.now)) r self.old.next self.new.next) }
         ensures grows { self.old.next ≤ self.new.next }
+        ensures refused { IfErr result (IsFaultIn (cat_all (map meaning subs.now))) }
     {
         let mut all = self.empty();
         for i in (0..subs.len()).rev() {
@@ -49,9 +55,11 @@ impl Builder {
 
     #[cycle(part)]
     fn any_of(&mut self, subs: &[Hir]) -> Result<Part, PatternError>
+        requires { All (IsWellFormed true) subs.now }
         ensures built { IfOk result
             (λ r. IsBuilt (alt_all (map meaning subs.now)) r self.old.next self.new.next) }
         ensures grows { self.old.next ≤ self.new.next }
+        ensures refused { IfErr result (IsFaultIn (alt_all (map meaning subs.now))) }
     {
         let mut any = self.nothing();
         for i in (0..subs.len()).rev() {
@@ -63,9 +71,12 @@ impl Builder {
 
     #[cycle(part)]
     fn repetition(&mut self, min: u32, max: Option<u32>, sub: &Hir) -> Result<Part, PatternError>
+        requires { IsWellFormed true sub.now }
         ensures built { IfOk result (λ r. (greedy : Bool)
             → IsBuilt (repeat min max greedy (meaning sub.now)) r self.old.next self.new.next) }
         ensures grows { self.old.next ≤ self.new.next }
+        ensures refused { IfErr result (λ error. (greedy : Bool)
+            → IsFaultIn (repeat min max greedy (meaning sub.now)) error) }
     {
         match max {
             Some(max) => {
@@ -86,10 +97,13 @@ impl Builder {
     /// Copies of the pattern, and then the rest.
     #[cycle(part)]
     fn copies(&mut self, count: u32, sub: &Hir, rest: Part) -> Result<Part, PatternError>
+        requires { IsWellFormed true sub.now }
         ensures built { IfOk result (λ r. (re : Re) (low : ℕ) → low ≤ self.old.next
             → IsBuilt re rest low self.old.next
             → IsBuilt (copies count (meaning sub.now) re) r low self.new.next) }
         ensures grows { self.old.next ≤ self.new.next }
+        ensures refused { IfErr result
+            (λ error. (re : Re) → IsFaultIn (copies count (meaning sub.now) re) error) }
     {
         let mut all = rest;
         for done in 0..count {
@@ -102,9 +116,12 @@ impl Builder {
     /// The pattern at most so many times.
     #[cycle(part)]
     fn up_to(&mut self, most: u32, sub: &Hir) -> Result<Part, PatternError>
+        requires { IsWellFormed true sub.now }
         ensures built { IfOk result (λ r. (greedy : Bool)
             → IsBuilt (up_to greedy most (meaning sub.now)) r self.old.next self.new.next) }
         ensures grows { self.old.next ≤ self.new.next }
+        ensures refused { IfErr result (λ error. (greedy : Bool)
+            → IsFaultIn (up_to greedy most (meaning sub.now)) error) }
     {
         let mut all = self.empty();
         for done in 0..most {
@@ -117,11 +134,13 @@ impl Builder {
 
     /// Matches this text alone.
     fn literal(&mut self, bytes: &[u8]) -> Result<Part, PatternError>
+        requires { IsUtf8 bytes.now }
         ensures built { IfOk result (λ r. IsBuilt (literal bytes.now) r self.old.next self.new.next) }
         ensures grows { self.old.next ≤ self.new.next }
+        ensures refused { IfErr result IsTooMuch }
     {
         let Ok(text) = std::str::from_utf8(bytes) else {
-            return Err(PatternError::NotText);
+            unreachable!();
         };
         let characters = characters(self.alloc, text)?;
         let mut all = self.empty();

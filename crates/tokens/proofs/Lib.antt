@@ -1,4 +1,5 @@
 pub mod CountLines
+pub mod FaultLines
 pub mod Counting
 pub mod Lists
 pub mod Machines

@@ -1,33 +1,48 @@
 //! Places in a text, shown to whoever wrote it.
-ghost use Rattle.std.specs.Prelude.{⊤, OnOk};
+ghost use Rattle.std.specs.Prelude.{◌≡◌, OnOk};
+ghost use Rattle.std.specs.Io.KnownBytes.{Appends};
 ghost use Rattle.line_program.specs.Listing.{Writes};
+ghost use Rattle.tokens.specs.Faults.{BeginsWithLine, EndsWithLine, ShowsFault, blank_below, mark_below};
 
 use crate::place::Place;
+use line_program::line::split_at;
 use std::io::{self, Write};
 
 /// Marks the character behind the text, on the line below it.
 pub(crate) fn mark<E: Write>(before: &str, err: &mut E) -> io::Result<()>
-    ensures { OnOk result (Writes (E.contents err.old) (E.contents err.new) (λ more. ⊤)) }
+    ensures { OnOk result (Appends (E.contents err.old) (E.contents err.new)
+        (mark_below before.now)) }
 {
     err.write_all(b"  ")?;
     for c in before.chars() {
-        let space: &[u8] = if c == '\t' { b"\t" } else { b" " };
-        err.write_all(space)?;
+        err.write_all(&[blank_below(c)])?;
     }
     err.write_all(b"^\n")
 }
 
+/// What stands in the marking line below the character.
+fn blank_below(c: char) -> u8
+    ensures { result ≡ blank_below c }
+{
+    if c == '\t' { b'\t' } else { b' ' }
+}
+
 /// The last line of the text.
-fn last_line(text: &str) -> &str {
-    match text.rsplit_once('\n') {
-        Some((_, last)) => last,
+#[tactic(auto, using(std::proofs::lemmas::Str::lead_after_ascii))]
+fn last_line(text: &str) -> &str
+    ensures { EndsWithLine text.now result.now }
+{
+    match text.rfind('\n') {
+        Some(at) => &text[at + 1..],
         None => text,
     }
 }
 
 /// The first line of the text.
-fn first_line(text: &str) -> &str {
-    match text.split_once('\n') {
+fn first_line(text: &str) -> &str
+    ensures { BeginsWithLine text.now result.now }
+{
+    match split_at(text, b'\n') {
         Some((first, _)) => first,
         None => text,
     }
@@ -40,7 +55,10 @@ pub(crate) fn show_fault<E: Write>(
     front: &str,
     rest: &str,
     err: &mut E,
-) -> io::Result<()> {
+) -> io::Result<()>
+    ensures { OnOk result (Writes (E.contents err.old) (E.contents err.new)
+        (ShowsFault path.now place front.now rest.now)) }
+{
     let Place { line, column } = place;
     let before = last_line(front);
     let behind = first_line(rest);

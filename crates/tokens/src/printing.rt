@@ -1,9 +1,10 @@
 //! The tokens of a text, one after the other, written.
-ghost use Rattle.std.specs.Prelude.{◌≡◌, ◌≤◌, ◌<◌, ◌&&◌, List, Ok, true, IfOk, OnOk, length};
+ghost use Rattle.std.specs.Prelude.{◌≡◌, ◌≤◌, ◌<◌, ◌&&◌, List, Ok, true, false, IfOk, OnOk, length, take, drop};
 ghost use Rattle.std.specs.Str.{IsCharBoundary};
 ghost use Rattle.line_program.specs.Listing.{Writes};
 ghost use Rattle.lexing_patterns.specs.declared.patterns.PatternRule.{PatternRule};
 ghost use Rattle.regex_hir.specs.Re.{Re};
+ghost use Rattle.tokens.specs.Faults.{ShowsFault};
 ghost use Rattle.tokens.specs.Places.{place_at};
 ghost use Rattle.tokens.specs.Printing.{IsOfRules, IsPiece, IsPrinted, IsStep, WritesToken, printed_token};
 
@@ -69,6 +70,8 @@ fn print_piece<S: Scanner, W: Write, E: Write>(
         (λ line. IsStep rules patterns (printed_token printer.now.form text.now) text.now is_token
         at line piece.end)) }
     ensures silent { result ≡ Ok true → err.new ≡ err.old }
+    ensures shown { result ≡ Ok false → Writes (E.contents err.old) (E.contents err.new)
+        (ShowsFault path.now place (take at text.now) (drop at text.now)) }
 {
     match piece.rule {
         Some(rule) => {

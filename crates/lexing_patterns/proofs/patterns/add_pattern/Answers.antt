@@ -6,8 +6,8 @@ use Rattle.regex_syntax.specs.Verdict.{Reads}
 use Rattle.lexing_patterns.proofs.Results.{on_ok}
 use Rattle.lexing_patterns.proofs.patterns.add_pattern.Goals as goal
 
-pub returns-in-Ok-parse : goal.returns-in-Ok-parse
-returns-in-Ok-parse c =
+pub returns-in-Ok-parse-clause-added : goal.returns-in-Ok-parse-clause-added
+returns-in-Ok-parse-clause-added c =
     let hir = c.in-Ok-parse.parsed.hir in
     let names = map (option_map string_bytes) c.in-Ok-parse.parsed.names.items in
     let read = subst (λ config. Reads config c.args.pattern.now hir names) c.default.ensures
@@ -15,4 +15,4 @@ returns-in-Ok-parse c =
     on_ok c.add.result
     (λ more res number was.
     (meaning hir, (hir, names, read, refl), more res (c.in-Ok.ensures.1 ∙ number) was))
-    c.add.ensures
+    c.add.ensures.added

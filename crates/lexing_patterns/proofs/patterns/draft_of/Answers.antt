@@ -1,5 +1,6 @@
-use Rattle.std.proofs.Common.{◌≡◌, refl, ap, ◌∙◌, [], ◌∷◌, ◌++◌, List, take, length, length-append, get_or, false, arith}
+use Rattle.std.proofs.Common.{◌≡◌, refl, ap, inr, ◌∙◌, [], ◌∷◌, ◌++◌, List, take, length, length-append, get_or, false, arith}
 use Rattle.std.proofs.lemmas.List.{take_more}
+use Rattle.std.proofs.lemmas.Option.{slice_get-get_or}
 use Rattle.std.proofs.Math.Seq.{take-length}
 use Rattle.regex_hir.specs.Re.{Re}
 use Rattle.lexing_patterns.specs.declared.patterns.PatternRule.{PatternRule}
@@ -20,7 +21,7 @@ loop-i-init c = ([], refl, tt, c.new-draft.ensures)
 pub loop-i-preserved : goal.loop-i-preserved
 loop-i-preserved c =
     let (res, len, read, draft) = c.loop-i.invariant in
-    let (re, is, more) = c.in-Ok.ensures res len draft in
+    let (re, is, more) = c.in-Ok.ensures.added res len draft in
     let none : PatternRule = record {
       name = record { ref_ptr = (0, 0); now = [] };
       pattern = record { ref_ptr = (0, 0); now = [] };
@@ -34,10 +35,26 @@ loop-i-preserved c =
       more,
     )
 
-pub returns : goal.returns
-returns c =
+pub returns-clause-drafted : goal.returns-clause-drafted
+returns-clause-drafted c =
     let all : c.loop-i.i ≡ length c.args.rules.now =
     omega (arith, c.loop-i-test.false, c.loop-i.auto.i-end) in
     let whole = ap (λ n. take n c.args.rules.now) all ∙ take-length c.args.rules.now in
     let (res, len, read, draft) = c.loop-i.invariant in
     (res, rw whole at read, draft)
+
+pub returns-in-Err-clause-refused : goal.returns-in-Err-clause-refused
+returns-in-Err-clause-refused c =
+    let (res, len, read, draft) = c.loop-i.invariant in
+    let none : PatternRule = record {
+      name = record { ref_ptr = (0, 0); now = [] };
+      pattern = record { ref_ptr = (0, 0); now = [] };
+      skipped = false;
+    } in
+    inr (
+      get_or c.args.rules.now c.loop-i.i none,
+      slice_get-get_or c.args.rules.now c.loop-i.i none c.loop-i-test.true,
+      c.in-Err.ensures.refused,
+      res,
+      read,
+    )

@@ -3,7 +3,7 @@ use Rattle.lexing_patterns.proofs.patterns.lexer.Goals as goal
 
 pub returns-in-Ok-clause-tokens : goal.returns-in-Ok-clause-tokens
 returns-in-Ok-clause-tokens c =
-    let draft = c.in_ok-draft.ensures in (
+    let draft = c.in_ok-draft.ensures.drafted in (
       draft.0,
       draft.1,
       λ text utf8 rule len.

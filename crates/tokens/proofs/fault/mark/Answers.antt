@@ -1,16 +1,32 @@
+use Rattle.std.proofs.Common.{◌≡◌, ap, sym, subst, ◌∙◌, ◌++◌, [], ◌∷◌, map, codes}
+use Rattle.std.specs.Io.KnownBytes.{Appends}
+use Rattle.std.proofs.lemmas.Iterator.{YieldsList-from_chars}
+use Rattle.std.proofs.lemmas.Iterator.Consumers.{YieldsList-end}
+use Rattle.std.proofs.lemmas.List.{map-append, map-id}
 use Rattle.line_program.proofs.Listing.{appends_then, on_ok_as}
+use Rattle.tokens.specs.Faults.{blank_below}
 use Rattle.tokens.proofs.fault.mark.Goals as goal
 
 pub loop-c-init : goal.loop-c-init
-loop-c-init g c = (_, tt, c.in_ok-write_all.ensures.bytes)
+loop-c-init g c = c.in_ok-write_all.ensures.bytes
 
 pub loop-c-preserved : goal.loop-c-preserved
 loop-c-preserved g c =
-    let (more, any, was) = c.loop-c.invariant in
-    (_, tt, appends_then _ _ _ more _ was c.in_ok-write_all-2.ensures.bytes)
+    let marked = c.loop-c.yielded in
+    let more = appends_then _ _ _ _ _ c.loop-c.invariant c.in_ok-write_all-2.ensures.bytes in
+    subst (Appends (g.E.Write.contents c.args.err.now) (g.E.Write.contents c.write_all-2.new.self))
+    (ap (λ l. codes "  " ++ l)
+    (ap (λ b. map blank_below marked ++ b ∷ []) c.blank_below.ensures
+    ∙ sym (map-append blank_below marked (c.in-Some.c ∷ []))))
+    more
 
 pub returns : goal.returns
 returns g c =
+    let end =
+    YieldsList-end (YieldsList-from_chars c.args.before.now c.utf8.before cc) c.loop-c.yielded _
+    c.loop-c.yielded_by _ _ c.in-None.is c.next.ensures.steps in
+    let all = sym (map-id c.loop-c.yielded) ∙ end.0 in
     on_ok_as c.write_all-2.result _ _
-    (λ appended. let (more, any, was) = c.loop-c.invariant in
-    (_, tt, appends_then _ _ _ more _ was appended)) c.write_all-2.ensures.bytes
+    (λ appended. subst (Appends (g.E.Write.contents c.args.err.now) (g.E.Write.contents c.write_all-2.new.self))
+    (ap (λ l. (codes "  " ++ map blank_below l) ++ codes "^\n") all)
+    (appends_then _ _ _ _ _ c.loop-c.invariant appended)) c.write_all-2.ensures.bytes

@@ -44,3 +44,8 @@ returns-in_ok-show_fault-in-None-clause-printed g c = λ rules patterns is.
           (printed_token c.args.printer.now.form text) c.args.piece.end none behind,
       appends_none (g.W.Write.contents c.args.out.now),
     )
+
+pub returns-in_ok-show_fault-in-None-clause-shown :
+    goal.returns-in_ok-show_fault-in-None-clause-shown
+returns-in_ok-show_fault-in-None-clause-shown g c = λ none.
+    rw (c.range_to.ensures.value, c.range_from.ensures.value) at c.in_ok-show_fault-in-None.ensures

@@ -4,5 +4,5 @@ use Rattle.tokens.proofs.rules.show_pattern.Goals as goal
 pub returns-in_ok-writeln-in-Syntax : goal.returns-in_ok-writeln-in-Syntax
 returns-in_ok-writeln-in-Syntax g c =
     on_ok_as c.mark.result _ _
-    (λ (more, any, marked). (_, tt, appends_then _ _ _ _ more c.in_ok-writeln-in-Syntax.ensures.bytes marked))
+    (λ marked. (_, tt, appends_then _ _ _ _ _ c.in_ok-writeln-in-Syntax.ensures.bytes marked))
     c.mark.ensures

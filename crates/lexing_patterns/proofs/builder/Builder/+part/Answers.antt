@@ -1,7 +1,12 @@
-use Rattle.std.proofs.Common.{◌≡◌, ◌+◌, ◌-◌, length, arith, add-one}
+use Rattle.std.proofs.Common.{◌≡◌, ◌+◌, ◌-◌, All, true, length, sym, subst, arith, add-one, rules}
 use Rattle.std.proofs.lemmas.List.{drop_all, drop_more}
-use Rattle.regex_hir.specs.Meaning.{meaning}
-use Rattle.regex_hir.proofs.MeaningLemmas.{meaning-Empty}
+use Rattle.std.proofs.lemmas.Result.{err_from_is_err_and}
+use Rattle.regex_hir.specs.Meaning.{meaning, copies, up_to}
+use Rattle.regex_hir.proofs.MeaningLemmas.{meaning-Empty, meaning-Repetition}
+use Rattle.regex_syntax.specs.WellFormed.{IsWellFormed}
+use Rattle.regex_syntax.proofs.WellFormedLemmas.{IsWellFormed-Concat}
+use Rattle.lexing_patterns.specs.Faults.{IsFaultIn}
+use Rattle.lexing_patterns.proofs.Faults.{if_err, fault_of, has_in_turn, has_as_choice, has_in_copies, has_in_up_to, bounded_rest, bounded_copies, unbounded_once, unbounded_copies}
 use Rattle.lexing_patterns.proofs.Repeating.{repeat_bounded, repeat_star, repeat_plus}
 use Rattle.lexing_patterns.proofs.Results.{if_ok}
 use Rattle.lexing_patterns.proofs.builder.Builder.+part.Goals as goal
@@ -93,7 +98,7 @@ up_to-returns-clause-built t c =
 
 pub part-returns-in-Empty-clause-built : goal.part-returns-in-Empty-clause-built
 part-returns-in-Empty-clause-built t c =
-    rw (c.in-Empty.is, meaning-Empty, c.in_ok-spend.ensures) (c.empty.ensures c.args.self.now.next)
+    rw (c.in-Empty.is, meaning-Empty, c.in_ok-spend.ensures.kept) (c.empty.ensures c.args.self.now.next)
 
 pub repetition-returns-in_ok-rest-in-Some-clause-built : goal.repetition-returns-in_ok-rest-in-Some-clause-built
 repetition-returns-in_ok-rest-in-Some-clause-built t c =
@@ -125,3 +130,98 @@ repetition-returns-else-min-eq0-clause-built t c =
     (rest.built greedy (meaning c.args.sub.now) c.args.self.now.next c.part.new.self.next
     once.built))))
     c.copies-in-None.ensures.built
+
+pub part-all_of-requires : goal.part-all_of-requires
+part-all_of-requires t c = (
+  search rules,
+  subst (All (IsWellFormed true)) (sym c.deref-in-Concat.ensures.value)
+      ((IsWellFormed-Concat true c.in-Concat.subs).0
+      (subst (IsWellFormed true) c.in-Concat.is c.requires)),
+)
+
+pub part-any_of-requires : goal.part-any_of-requires
+part-any_of-requires t c = (
+  search rules,
+  subst (All (IsWellFormed true)) (sym c.deref-in-Alternation.ensures.value)
+      ((IsWellFormed-Concat true c.in-Alternation.subs).0
+      (subst (IsWellFormed true) c.in-Alternation.is c.requires)),
+)
+
+pub all_of-returns-in_err-front-clause-refused : goal.all_of-returns-in_err-front-clause-refused
+all_of-returns-in_err-front-clause-refused t c =
+    let p = err_from_is_err_and c.from_residual.result c.from_residual.ensures.1 in
+    rw (p.1, p.2)
+    (fault_of (meaning c.index-subs-i.result) _
+    (has_in_turn c.args.subs.now (c.loop-i.i - 1) c.index-subs-i.result (omega arith)
+    c.index-subs-i.is) _ c.in_err-front.ensures.refused)
+
+pub any_of-returns-in_err-one-clause-refused : goal.any_of-returns-in_err-one-clause-refused
+any_of-returns-in_err-one-clause-refused t c =
+    let p = err_from_is_err_and c.from_residual.result c.from_residual.ensures.1 in
+    rw (p.1, p.2)
+    (fault_of (meaning c.index-subs-i.result) _
+    (has_as_choice c.args.subs.now (c.loop-i.i - 1) c.index-subs-i.result (omega arith)
+    c.index-subs-i.is) _ c.in_err-one.ensures.refused)
+
+pub copies-returns-in_err-front-clause-refused : goal.copies-returns-in_err-front-clause-refused
+copies-returns-in_err-front-clause-refused t c =
+    let p = err_from_is_err_and c.from_residual.result c.from_residual.ensures.1 in
+    let sub = meaning c.args.sub.now in
+    rw (p.1, p.2)
+    (λ re. fault_of sub (copies c.args.count sub re)
+    (has_in_copies c.loop-done.done c.args.count sub re (omega arith)) _
+    c.in_err-front.ensures.refused)
+
+pub up_to-returns-in_err-front-clause-refused : goal.up_to-returns-in_err-front-clause-refused
+up_to-returns-in_err-front-clause-refused t c =
+    let p = err_from_is_err_and c.from_residual.result c.from_residual.ensures.1 in
+    let sub = meaning c.args.sub.now in
+    rw (p.1, p.2)
+    (λ greedy. fault_of sub (up_to greedy c.args.most sub)
+    (has_in_up_to c.loop-done.done c.args.most greedy sub (omega arith)) _
+    c.in_err-front.ensures.refused)
+
+pub part-returns-in-Repetition-clause-refused : goal.part-returns-in-Repetition-clause-refused
+part-returns-in-Repetition-clause-refused t c =
+    if_err c.repetition.result _ _
+    (λ error fault.
+    rw (c.in-Repetition.is, meaning-Repetition)
+    (rw c.deref-in-Repetition.ensures at (fault c.in-Repetition.greedy)))
+    c.repetition.ensures.refused
+
+pub repetition-returns-in_err-rest-in-Some-clause-refused :
+    goal.repetition-returns-in_err-rest-in-Some-clause-refused
+repetition-returns-in_err-rest-in-Some-clause-refused t c =
+    let p = err_from_is_err_and c.from_residual.result c.from_residual.ensures.1 in
+    rw (p.1, p.2)
+    (λ greedy. bounded_rest c.args.min c.args.max greedy (meaning c.args.sub.now) _ c.in-Some.max
+    c.saturating_sub.result c.in-Some.is c.saturating_sub.ensures
+    (c.in_err-rest-in-Some.ensures.refused greedy))
+
+pub repetition-returns-in_err-once-in-None-clause-refused :
+    goal.repetition-returns-in_err-once-in-None-clause-refused
+repetition-returns-in_err-once-in-None-clause-refused t c =
+    let p =
+    err_from_is_err_and c.from_residual-in_err-once-in-None.result
+    c.from_residual-in_err-once-in-None.ensures.1 in
+    rw (p.1, p.2)
+    (λ greedy. unbounded_once c.args.min c.args.max greedy (meaning c.args.sub.now) _ c.in-None.is
+    c.in_err-once-in-None.ensures.refused)
+
+pub repetition-returns-in_ok-rest-in-Some-clause-refused :
+    goal.repetition-returns-in_ok-rest-in-Some-clause-refused
+repetition-returns-in_ok-rest-in-Some-clause-refused t c =
+    if_err c.copies.result _ _
+    (λ error fault greedy.
+    bounded_copies c.args.min c.args.max greedy (meaning c.args.sub.now) error c.in-Some.max
+    c.in-Some.is fault)
+    c.copies.ensures.refused
+
+pub repetition-returns-else-min-eq0-clause-refused :
+    goal.repetition-returns-else-min-eq0-clause-refused
+repetition-returns-else-min-eq0-clause-refused t c =
+    if_err c.copies-in-None.result _ _
+    (λ error fault greedy.
+    unbounded_copies c.args.min c.args.max greedy (meaning c.args.sub.now) error c.in-None.is
+    c.if-min-eq0.false fault)
+    c.copies-in-None.ensures.refused

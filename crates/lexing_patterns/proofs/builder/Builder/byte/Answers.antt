@@ -10,5 +10,5 @@ returns-clause-built c =
     if_ok c.character.result
     (λ r. IsBuilt (char_in ranges) r c.args.self.now.next c.character.new.self.next) _
     (λ r is. built_byte r ranges c.args.self.now.next c.character.new.self.next
-    (c.is_within.ensures.0 c.if-not-is_within.false) is)
+    c.requires is)
     (rw c.deref.ensures.value at c.character.ensures.built)

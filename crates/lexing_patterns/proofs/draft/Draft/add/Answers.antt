@@ -7,8 +7,8 @@ use Rattle.lexing_patterns.proofs.Any.{any-append}
 use Rattle.lexing_patterns.proofs.Drafting.{one_more_drafted}
 use Rattle.lexing_patterns.proofs.draft.Draft.add.Goals as goal
 
-pub returns-whole : goal.returns-whole
-returns-whole c =
+pub returns-clause-added : goal.returns-clause-added
+returns-clause-added c =
     λ res number was.
     let part = c.in_ok-part.part in
     let old = c.args.self.now in

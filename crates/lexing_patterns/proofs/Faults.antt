@@ -1,0 +1,106 @@
+-- Why patterns are not taken, by what they are made of.
+use Rattle.std.proofs.Common.{◌≡◌, ◌<◌, ◌⊎◌, ◌+◌, ◌-◌, refl, sym, subst, inl, inr, ℕ, zero, suc, Bool, true, false, Option, Some, None, List, [], ◌∷◌, map, length, get_or, Result, Ok, Err, IfErr, arith}
+use Rattle.regex_hir.specs.Re.{Re, cat, alt, plus}
+use Rattle.regex_hir.specs.Meaning.{meaning, cat_all, alt_all, copies, up_to, optional, repeat}
+use Rattle.regex_hir.specs.declared.hir.Hir.{Hir}
+use Rattle.lexing_patterns.specs.declared.error.PatternError.{PatternError}
+use Rattle.lexing_patterns.specs.declared.error.PatternError.TheVariants.{Syntax, Assertion, TooLarge, Memory}
+use Rattle.lexing_patterns.specs.Faults.{HasAssertion, IsFaultIn, IsTooMuch}
+use Rattle.lexing_patterns.proofs.Repeating.{repeat_bounded, repeat_plus}
+
+pub if_err : {T E : Type 0} (r : Result T E) (P Q : E → Type 0) → ((e : E) → P e → Q e)
+    → IfErr r P → IfErr r Q
+if_err (Ok x) P Q more h = tt
+if_err (Err e) P Q more h = more e h
+
+pub too_much : (re : Re) (error : PatternError) → IsTooMuch error → IsFaultIn re error
+too_much re (Syntax fault) is = elim is [ inl e ↦ absurd cc | inr e ↦ absurd cc ]
+too_much re Assertion is = elim is [ inl e ↦ absurd cc | inr e ↦ absurd cc ]
+too_much re TooLarge is = tt
+too_much re Memory is = tt
+
+-- a fault of a part is one of the whole, where its assertions are
+pub fault_of : (a b : Re) → (HasAssertion a → HasAssertion b) → (error : PatternError)
+    → IsFaultIn a error → IsFaultIn b error
+fault_of a b more (Syntax fault) is = is
+fault_of a b more Assertion is = more is
+fault_of a b more TooLarge is = tt
+fault_of a b more Memory is = tt
+
+-- the assertions of one in the list are those of all, in turn or as choices
+pub has_in_turn : (subs : List Hir) (i : ℕ) (sub : Hir) → i < length subs → sub ≡ get_or subs i sub
+    → HasAssertion (meaning sub) → HasAssertion (cat_all (map meaning subs))
+has_in_turn [] i sub within is has = absurd (omega (arith, within))
+has_in_turn (x ∷ subs) zero sub within is has = inl (subst (λ s. HasAssertion (meaning s)) is has)
+has_in_turn (x ∷ subs) (suc i) sub within is has =
+    inr (has_in_turn subs i sub (omega (arith, within)) is has)
+
+pub has_as_choice : (subs : List Hir) (i : ℕ) (sub : Hir) → i < length subs
+    → sub ≡ get_or subs i sub → HasAssertion (meaning sub) → HasAssertion (alt_all (map meaning subs))
+has_as_choice [] i sub within is has = absurd (omega (arith, within))
+has_as_choice (x ∷ subs) zero sub within is has = inl (subst (λ s. HasAssertion (meaning s)) is has)
+has_as_choice (x ∷ subs) (suc i) sub within is has =
+    inr (has_as_choice subs i sub (omega (arith, within)) is has)
+
+-- the assertions of what is repeated
+pub has_in_copies : (n count : ℕ) (a b : Re) → n < count → HasAssertion a
+    → HasAssertion (copies count a b)
+has_in_copies n zero a b within has = absurd (omega (arith, within))
+has_in_copies n (suc count) a b within has = inl has
+
+has_behind_copies : (count : ℕ) (a b : Re) → HasAssertion b → HasAssertion (copies count a b)
+has_behind_copies zero a b has = has
+has_behind_copies (suc count) a b has = inr (has_behind_copies count a b has)
+
+has_in_optional : (greedy : Bool) (a : Re) → HasAssertion a → HasAssertion (optional greedy a)
+has_in_optional true a has = inl has
+has_in_optional false a has = inr has
+
+pub has_in_up_to : (n count : ℕ) (greedy : Bool) (a : Re) → n < count → HasAssertion a
+    → HasAssertion (up_to greedy count a)
+has_in_up_to n zero greedy a within has = absurd (omega (arith, within))
+has_in_up_to n (suc count) greedy a within has =
+    has_in_optional greedy (cat a (up_to greedy count a)) (inl has)
+
+pub has_in_bounded : (least most : ℕ) (greedy : Bool) (a : Re)
+    → HasAssertion (up_to greedy (most - least) a) → HasAssertion (repeat least (Some most) greedy a)
+has_in_bounded least most greedy a has =
+    subst HasAssertion (sym (repeat_bounded least most greedy a))
+    (has_behind_copies least a (up_to greedy (most - least) a) has)
+
+pub has_in_unbounded : (least : ℕ) (greedy : Bool) (a : Re) → HasAssertion a
+    → HasAssertion (repeat least None greedy a)
+unfolding repeat
+has_in_unbounded zero greedy a has = has_in_optional greedy (plus greedy a) has
+has_in_unbounded (suc least) greedy a has = has_behind_copies least a (plus greedy a) has
+
+-- why a repetition is not taken, by why its parts are not
+module _ (least : ℕ) (max : Option ℕ) (greedy : Bool) (a : Re) (error : PatternError) where
+  pub bounded_rest : (most n : ℕ) → max ≡ Some most → n ≡ most - least
+      → IsFaultIn (up_to greedy n a) error → IsFaultIn (repeat least max greedy a) error
+  bounded_rest most n is rest fault =
+      subst (λ m. IsFaultIn (repeat least m greedy a) error) (sym is)
+      (fault_of (up_to greedy (most - least) a) (repeat least (Some most) greedy a)
+      (has_in_bounded least most greedy a) error
+      (subst (λ k. IsFaultIn (up_to greedy k a) error) rest fault))
+
+  pub bounded_copies : (most : ℕ) → max ≡ Some most
+      → ((re : Re) → IsFaultIn (copies least a re) error)
+      → IsFaultIn (repeat least max greedy a) error
+  bounded_copies most is fault =
+      subst (λ m. IsFaultIn (repeat least m greedy a) error) (sym is)
+      (subst (λ re. IsFaultIn re error) (sym (repeat_bounded least most greedy a))
+      (fault (up_to greedy (most - least) a)))
+
+  pub unbounded_once : max ≡ None → IsFaultIn a error → IsFaultIn (repeat least max greedy a) error
+  unbounded_once is fault =
+      subst (λ m. IsFaultIn (repeat least m greedy a) error) (sym is)
+      (fault_of a (repeat least None greedy a) (has_in_unbounded least greedy a) error fault)
+
+  pub unbounded_copies : max ≡ None → ¬ (least ≡ 0)
+      → ((re : Re) → IsFaultIn (copies (least - 1) a re) error)
+      → IsFaultIn (repeat least max greedy a) error
+  unbounded_copies is some fault =
+      subst (λ m. IsFaultIn (repeat least m greedy a) error) (sym is)
+      (subst (λ re. IsFaultIn re error) (sym (repeat_plus least greedy a some))
+      (fault (plus greedy a)))

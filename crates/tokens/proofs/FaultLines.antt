@@ -1,0 +1,22 @@
+-- The lines around a place of a text.
+use Rattle.std.proofs.Common.{◌≡◌, ◌≢◌, sym, subst, ap, inr, ◌∙◌, ℕ, ◌+◌, ◌<◌, List, ◌∷◌, ◌++◌, length, get_or, take, drop, arith}
+use Rattle.std.proofs.lemmas.List.{get_or-drop, drop_more, length-drop, take-append-drop}
+use Rattle.line_program.specs.Lines.{Lacks}
+use Rattle.tokens.specs.Faults.{EndsWithLine}
+
+-- behind the last line break stands the last line
+pub behind_last_break : (text : List ℕ) (at : ℕ) → at < length text → get_or text at 0 ≡ 10
+    → ((i : ℕ) → at < i → i < length text → get_or text i 0 ≢ 10)
+    → EndsWithLine text (drop (at + 1) text)
+behind_last_break text at within break none = (
+  λ i below same.
+      let len = length-drop (at + 1) text in
+      none (at + 1 + i) (omega arith) (omega (arith, below, len))
+      (sym (get_or-drop (at + 1) text i 0) ∙ same),
+  inr (
+    take at text,
+    sym (take-append-drop at text)
+        ∙ ap (λ rest. take at text ++ rest)
+        (drop_more text at 0 within ∙ ap (λ b. b ∷ drop (at + 1) text) break),
+  ),
+)
