@@ -14,7 +14,7 @@ pub loop-c-preserved : goal.loop-c-preserved
 loop-c-preserved g c =
     let marked = c.loop-c.yielded in
     let more = appends_then _ _ _ _ _ c.loop-c.invariant c.in_ok-write_all-2.ensures.bytes in
-    subst (Appends (g.E.Write.contents c.args.err.now) (g.E.Write.contents c.write_all-2.new.self))
+    subst (Appends (g.E.Write.contents c.args.err.now) (g.E.Write.contents c.write_all-in-loop-c.new.self))
     (ap (λ l. codes "  " ++ l)
     (ap (λ b. map blank_below marked ++ b ∷ []) c.blank_below.ensures
     ∙ sym (map-append blank_below marked (c.in-Some.c ∷ []))))
