@@ -114,12 +114,9 @@ impl<T: Drop> Storage<T> for VecStorage<T> {
         ensures position { (result.0 < length self.new.stored.items)
             × (result.0 ≡ place_before (λ q. q.0) (length self.old.stored.items) before) }
     {
-        let at = match before {
-            Some(p) => p.0,
-            None => self.stored.len(),
-        };
-        self.stored.insert(at, item).unwrap();
-        VecPosition(at)
+        let at = before.unwrap_or(VecPosition(self.stored.len()));
+        self.stored.insert(at.0, item).unwrap();
+        at
     }
 
     fn append(&mut self, added: Vec<T>)
@@ -129,18 +126,16 @@ impl<T: Drop> Storage<T> for VecStorage<T> {
         ensures space { vec_capacity self.old.stored - vec_len self.old.stored
             ≡ vec_capacity self.new.stored - vec_len self.new.stored + length added.items }
     {
-        for item in added {
+        let mut left = added.into_iter();
+        while let Some(item) = left.next() {
             self.stored.push_reserved(item);
         }
+        left.destroy_empty();
     }
 
     fn remove_at(&mut self, p: VecPosition) -> (T, Option<VecPosition>) {
         let removed = self.stored.remove(p.0);
-        if p.0 < self.stored.len() {
-            (removed, Some(p))
-        } else {
-            (removed, None)
-        }
+        (removed, (p.0 < self.stored.len()).then_some(p))
     }
 
     fn pop_first(&mut self) -> Option<T> {

@@ -244,19 +244,18 @@ impl<T: Drop> Rows<T> {
             (slice_set self.old left (take HALF (insert (row_of self.old left) index item))) right
             (drop (HALF + 1) (insert (row_of self.old left) index item)) }
     {
-        if index == HALF {
-            self.move_end(left, HALF, CAPACITY, right, 0);
-            return item;
-        }
-        if index < HALF {
-            self.move_end(left, HALF, CAPACITY, right, 0);
-            let middle = self.take(left, HALF, HALF - 1);
-            self.put(left, HALF - 1, index, item);
+        if index > HALF {
+            self.move_end(left, HALF + 1, CAPACITY, right, 0);
+            let middle = self.take(left, HALF + 1, HALF);
+            self.put(right, CAPACITY - HALF - 1, index - HALF - 1, item);
             return middle;
         }
-        self.move_end(left, HALF + 1, CAPACITY, right, 0);
-        let middle = self.take(left, HALF + 1, HALF);
-        self.put(right, CAPACITY - HALF - 1, index - HALF - 1, item);
+        self.move_end(left, HALF, CAPACITY, right, 0);
+        if index == HALF {
+            return item;
+        }
+        let middle = self.take(left, HALF, HALF - 1);
+        self.put(left, HALF - 1, index, item);
         middle
     }
 
