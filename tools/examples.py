@@ -19,7 +19,7 @@ PAGES = ("README.md", "docs/GUIDE.md")
 KINDS = (".rt", ".rt.txt", ".antt")
 FRAMES = TOP / "tests" / "examples.txt"
 SHOWN = ("range_algebra", "range_map", "range_sets", "range_multimaps", "range_commands", "range_json")
-SHOWN += ("range_set_json", "lexing_patterns")
+SHOWN += ("range_map_json", "range_set_json", "lexing_patterns")
 # The crate of the examples, the one whose calls most of them show, and what else they use.
 CRATE, CRATE_ABOVE = "examples", "btree_range_map"
 USED = "lexing lexing_patterns serde_json"

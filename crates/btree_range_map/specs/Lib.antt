@@ -89,7 +89,7 @@ pub use Rattle.range_json.specs.Keys
 pub use Rattle.range_set_json.specs.Laws
 pub use Rattle.range_json.specs.MapFaults
 pub use Rattle.range_json.specs.Meetings
-pub use Rattle.range_json.specs.Overwriting
+pub use Rattle.range_map_json.specs.Overwriting
 pub use Rattle.range_set_json.specs.MultimapFaults
 pub use Rattle.range_json.specs.Shapes
 pub use Rattle.range_json.specs.Values

@@ -1,9 +1,7 @@
 pub mod Exact
 pub mod FoundMeetings
 pub mod Keeping
-pub mod MapReading
 pub mod Meetings
-pub mod OverwritingLoop
 pub mod Reading
 pub mod ReadingBack
 pub mod ValueSets

@@ -5,7 +5,6 @@ pub mod ValueSets
 pub mod Faults
 pub mod MapFaults
 pub mod Meetings
-pub mod Overwriting
 pub mod ReadBack
 pub mod Laws
 pub mod SetReadBack

@@ -1,24 +1,18 @@
-//! The elements of a map.
+//! The elements of a map: a range and a value each.
 ghost use Rattle.std.specs.Prelude.{◌≡◌, ◌⊎◌, Some, None, IfOk, OnOk, IfErr};
 ghost use Rattle.serde_json.specs.View.{view};
-ghost use Rattle.range_algebra.specs.Range.{IsEmptyRange, IsKnownRange};
-ghost use Rattle.range_change.specs.Bindings.{IsBoundAfter};
-ghost use Rattle.range_change.specs.Frames.{IsInsertionFrame};
-ghost use Rattle.range_change.specs.Lookups.{MeetsSome, MeetAlso};
-ghost use Rattle.range_change.specs.Stored.{IsStored};
 ghost use Rattle.range_json.specs.MapFaults.{IsElementRead, element_fault, value_fault};
-ghost use Rattle.range_json.specs.declared.error.JsonError.TheVariants.{Memory, Meets};
+ghost use Rattle.range_json.specs.Shapes.{pair_shape, range_shape};
+ghost use Rattle.range_json.specs.Values.{IsRangeValue};
+ghost use Rattle.range_json.specs.declared.error.JsonError.TheVariants.{Memory};
 
 use crate::error::{JsonError, ReadError};
 use crate::json::Json;
-use crate::range::{element_range, pair};
+use crate::range::{element_range, pair, range_to_json};
 use range_algebra::any::AnyRange;
-use range_algebra::inner;
-use range_keys::traits::Measure;
-use range_map::map::{NotFree, RangeMap};
-use range_store::storage::{Item, Storage};
+use range_store::storage::Item;
 use serde_json::Value;
-use std::alloc::Global;
+use std::alloc::{AllocError, Global};
 
 /// The value of the element at `index`.
 fn value_from_json<V: Json>(alloc: Global, value: &Value, index: usize) -> Result<V, JsonError>
@@ -55,37 +49,18 @@ pub fn element_from_json<K: Json, V: Json>(
     }
 }
 
-/// Binds the keys of the element at `index`, where its range meets no stored one.
-pub(crate) fn insert_element<K: Measure, V: Eq + Drop, C: Storage<Item<AnyRange<K>, V>>>(
-    map: &mut RangeMap<K, V, C>,
-    item: Item<AnyRange<K>, V>,
-    index: usize,
-) -> Result<(), JsonError>
-    ensures known { IsKnownRange K.order item.key }
-    ensures apart { OnOk result
-        (¬ ((¬ IsEmptyRange K.order item.key)
-        × MeetsSome K.order (C.items map.old) item.key)) }
-    ensures bound { OnOk result
-        (IsBoundAfter K.order V.eq (C.items map.old) (C.items map.new) item.key item.value) }
-    ensures meets { OnOk result
-        ((¬ IsEmptyRange K.order item.key)
-        → MeetAlso K.order (C.items map.old) (C.items map.new) item.key) }
-    ensures frame { OnOk result
-        ((¬ IsEmptyRange K.order item.key)
-        → IsInsertionFrame K.order V.eq (C.items map.old) (C.items map.new) item.key
-        item.value) }
-    ensures form { IsStored K.order V.eq (C.items map.new) }
-    ensures empty_unchanged { IsEmptyRange K.order item.key → C.items map.new ≡ C.items map.old }
-    ensures met { IfErr result
-        (λ e. (e ≡ Memory)
-        ⊎ ((e ≡ Meets index)
-        × (¬ IsEmptyRange K.order item.key) × MeetsSome K.order (C.items map.old) item.key)) }
+/// A range and its value, as an array of two.
+pub fn pair_to_json<K: Json, V: Json>(
+    alloc: Global,
+    range: &AnyRange<K>,
+    value: &V,
+) -> Result<Value, AllocError>
+    ensures written { IfOk result
+        (λ v. view v ≡ pair_shape (range_shape K.shape range.now) (V.shape value.now)) }
+    ensures values { OnOk result (IsRangeValue K.is_value range.now × V.is_value value.now) }
 {
-    let Item { key, value } = item;
-    inner::known(&key);
-    match map.try_insert(key, value) {
-        Ok(()) => Ok(()),
-        Err(NotFree::Occupied(_, _)) => Err(JsonError::Meets(index)),
-        Err(NotFree::Memory(_, _)) => Err(JsonError::Memory),
-    }
+    let mut both = Vec::with_capacity(alloc, 2)?;
+    both.push(range_to_json(alloc, range)?)?;
+    both.push(value.to_json(alloc)?)?;
+    Ok(Value::Array(both))
 }

@@ -1,4 +1,4 @@
-//! Ranges and maps as JSON values.
+//! Keys, values and ranges as JSON values.
 ghost use Rattle.std.specs.Prelude.{◌≡◌, Bool, true, false, IsTrue, IfOk, OnOk, IsErrOf};
 ghost use Rattle.serde_json.specs.Data.{Data};
 ghost use Rattle.serde_json.specs.View.{view};
@@ -7,8 +7,6 @@ ghost use Rattle.range_json.specs.declared.error.ReadError.TheVariants.{Memory, 
 pub use crate::error::{JsonError, ReadError};
 pub use crate::explanation::Explanation;
 pub use crate::laws::{maps_are_read_back, ranges_are_read_back, read_maps_have_no_fault};
-pub use crate::map::{map_from_json, map_to_json};
-pub use crate::overwriting::map_from_json_overwriting;
 pub use crate::range::{range_from_json, range_to_json};
 use serde_json::Value;
 use std::alloc::{AllocError, Global};

@@ -1,4 +1,4 @@
-//! Ranges and maps as JSON values, and what JSON values are read as.
+//! Keys, values, ranges and elements of maps as JSON values, and what JSON values are read as.
 //!
 //! Where to find what:
 //!
@@ -6,14 +6,12 @@
 //!   `specs/Keys.antt`, read back by `specs/ReadBack.antt`
 //! - bounds and ranges as JSON values: `src/{bound,range}.rt`, `specs/Shapes.antt`; their faults in
 //!   `specs/Faults.antt`
-//! - a map in either shape, its elements and its faults: `src/{map,version,element}.rt`,
-//!   `specs/MapFaults.antt`, the loop in `proofs/MapReading.antt`
+//! - the two shapes of a map, its elements and its faults: `src/{version,element}.rt`,
+//!   `specs/MapFaults.antt`
 //! - what an error of JSON found, in the value that it is given again:
 //!   `src/{explanation,found}.rt`
 //! - which earlier element one meets, looked for by the explanation alone: `src/meeting.rt`,
 //!   `specs/Meetings.antt`, `proofs/Meetings.antt`
-//! - a map of which the last element counts: `src/overwriting.rt`, `specs/Overwriting.antt`,
-//!   `proofs/OverwritingLoop.antt`
 //! - std's `BTreeSet` as an array of its values: `src/value_set.rt`,
 //!   `specs/{ValueSets,SetReadBack}.antt`, `proofs/ValueSets.antt`
 //! - what is written is read back: laws for users: `src/laws.rt`, `specs/{Laws,Values}.antt`,
@@ -30,9 +28,7 @@ mod found;
 pub mod inner;
 pub mod json;
 mod laws;
-mod map;
 mod meeting;
-mod overwriting;
 mod plain;
 mod range;
 mod signed;

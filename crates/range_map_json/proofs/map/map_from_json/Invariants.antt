@@ -1,6 +1,6 @@
 use Rattle.std.proofs.Common.{take}
-use Rattle.range_json.proofs.MapReading.{IsMapSoFar}
-use Rattle.range_json.proofs.map.map_from_json.Given as goal
+use Rattle.range_map_json.proofs.MapReading.{IsMapSoFar}
+use Rattle.range_map_json.proofs.map.map_from_json.Given as goal
 
 abbrev pub invariant-loop-index : goal.invariant-loop-index
 invariant-loop-index g l =

@@ -4,13 +4,13 @@ use Rattle.std.proofs.lemmas.List.{take_more, length-take-le, take-append-drop}
 use Rattle.serde_json.specs.View.{view}
 use Rattle.range_json.specs.Faults.{first_fault}
 use Rattle.range_json.specs.MapFaults.{element_fault}
-use Rattle.range_json.specs.Overwriting.{fault_of_elements, overwriting_fault}
+use Rattle.range_map_json.specs.Overwriting.{fault_of_elements, overwriting_fault}
 use Rattle.range_json.specs.declared.error.JsonError.TheVariants.{Memory}
 use Rattle.range_change.proofs.Results.{error_has_no_value}
-use Rattle.range_json.proofs.MapReading.{none_stored}
-use Rattle.range_json.proofs.OverwritingLoop.{IsOverwrittenSoFar, overwriting_begun, overwriting_more, overwriting_fails}
+use Rattle.range_map_json.proofs.MapReading.{none_stored}
+use Rattle.range_map_json.proofs.OverwritingLoop.{IsOverwrittenSoFar, overwriting_begun, overwriting_more, overwriting_fails}
 use Rattle.range_json.proofs.Reading.{append_one_more}
-use Rattle.range_json.proofs.overwriting.map_from_json_overwriting.Goals as goal
+use Rattle.range_map_json.proofs.overwriting.map_from_json_overwriting.Goals as goal
 
 pub loop-index-init : goal.loop-index-init
 loop-index-init g c =

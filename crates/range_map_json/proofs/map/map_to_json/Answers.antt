@@ -5,7 +5,7 @@ use Rattle.range_json.specs.Shapes.{range_shape, pair_shape, versioned_shape}
 use Rattle.range_json.specs.Values.{IsRangeValue, AreItemValues}
 use Rattle.range_change.proofs.Results.{error_has_no_value}
 use Rattle.range_json.proofs.Writing.{written_more, values_more, all_written, all_values, shorter, on_ok}
-use Rattle.range_json.proofs.map.map_to_json.Goals as goal
+use Rattle.range_map_json.proofs.map.map_to_json.Goals as goal
 
 pub loop-range-preserved : goal.loop-range-preserved
 loop-range-preserved g c =

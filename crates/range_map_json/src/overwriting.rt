@@ -5,15 +5,13 @@ ghost use Rattle.range_algebra.specs.Range.{ClonesAreEqual, IsEmptyRange, IsKnow
 ghost use Rattle.range_change.specs.Bindings.{IsBoundAfter};
 ghost use Rattle.range_change.specs.Frames.{IsInsertionFrame};
 ghost use Rattle.range_change.specs.Stored.{IsStored};
-ghost use Rattle.range_json.specs.Overwriting.{overwriting_fault, IsMapOverwritten};
+ghost use Rattle.range_map_json.specs.Overwriting.{overwriting_fault, IsMapOverwritten};
 ghost use Rattle.range_json.specs.declared.error.JsonError.TheVariants.{Memory};
 
-use crate::element::element_from_json;
-use crate::error::JsonError;
-use crate::json::Json;
-use crate::version::elements_of_map;
 use range_algebra::any::AnyRange;
 use range_algebra::inner;
+use range_json::inner::{element_from_json, elements_of_map};
+use range_json::json::{Json, JsonError};
 use range_keys::traits::Measure;
 use range_map::map::{MapError, RangeMap};
 use range_store::storage::{Item, Storage};

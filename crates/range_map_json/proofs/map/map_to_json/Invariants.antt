@@ -2,7 +2,7 @@ use Rattle.std.proofs.Common.{length}
 use Rattle.range_json.proofs.Writing.{HasWritten, AreValuesSoFar}
 use Rattle.range_json.specs.Shapes.{range_shape, pair_shape}
 use Rattle.range_json.specs.Values.{IsRangeValue}
-use Rattle.range_json.proofs.map.map_to_json.Given as goal
+use Rattle.range_map_json.proofs.map.map_to_json.Given as goal
 
 abbrev pub invariant-loop-range : goal.invariant-loop-range
 invariant-loop-range g l = record {

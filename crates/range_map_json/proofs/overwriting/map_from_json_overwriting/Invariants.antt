@@ -1,6 +1,6 @@
 use Rattle.std.proofs.Common.{take}
-use Rattle.range_json.proofs.OverwritingLoop.{IsOverwrittenSoFar}
-use Rattle.range_json.proofs.overwriting.map_from_json_overwriting.Given as goal
+use Rattle.range_map_json.proofs.OverwritingLoop.{IsOverwrittenSoFar}
+use Rattle.range_map_json.proofs.overwriting.map_from_json_overwriting.Given as goal
 
 abbrev pub invariant-loop-index : goal.invariant-loop-index
 invariant-loop-index g l =

@@ -1,38 +1,59 @@
 //! Maps as JSON values.
 ghost use Rattle.std.specs.Prelude.{◌≡◌, ◌⊎◌, IfOk, OnOk, IfErr};
 ghost use Rattle.serde_json.specs.View.{view};
+ghost use Rattle.range_algebra.specs.Range.{IsEmptyRange, IsKnownRange};
+ghost use Rattle.range_change.specs.Bindings.{IsBoundAfter};
+ghost use Rattle.range_change.specs.Frames.{IsInsertionFrame};
+ghost use Rattle.range_change.specs.Lookups.{MeetsSome, MeetAlso};
 ghost use Rattle.range_change.specs.Stored.{IsStored};
-ghost use Rattle.range_json.specs.Shapes.{map_shape, pair_shape, range_shape};
+ghost use Rattle.range_json.specs.Shapes.{map_shape};
 ghost use Rattle.range_json.specs.MapFaults.{IsMapRead, IsMapFault};
-ghost use Rattle.range_json.specs.Values.{IsRangeValue, AreItemValues};
-ghost use Rattle.range_json.specs.declared.error.JsonError.TheVariants.{Memory};
+ghost use Rattle.range_json.specs.Values.{AreItemValues};
+ghost use Rattle.range_json.specs.declared.error.JsonError.TheVariants.{Memory, Meets};
 
-use crate::element::{element_from_json, insert_element};
-use crate::error::JsonError;
-use crate::json::Json;
-use crate::range::range_to_json;
-use crate::version::{elements_of_map, versioned};
 use range_algebra::any::AnyRange;
+use range_algebra::inner;
+use range_json::inner::{element_from_json, elements_of_map, pair_to_json, versioned};
+use range_json::json::{Json, JsonError};
 use range_keys::traits::{Measure, PartialEnum};
-use range_map::map::RangeMap;
+use range_map::map::{NotFree, RangeMap};
 use range_store::storage::{Item, Storage};
 use serde_json::Value;
 use std::alloc::{AllocError, Global};
 
-/// A range and its value, as an array of two.
-pub fn pair_to_json<K: Json, V: Json>(
-    alloc: Global,
-    range: &AnyRange<K>,
-    value: &V,
-) -> Result<Value, AllocError>
-    ensures written { IfOk result
-        (λ v. view v ≡ pair_shape (range_shape K.shape range.now) (V.shape value.now)) }
-    ensures values { OnOk result (IsRangeValue K.is_value range.now × V.is_value value.now) }
+/// Binds the keys of the element at `index`, where its range meets no stored one.
+fn insert_element<K: Measure, V: Eq + Drop, C: Storage<Item<AnyRange<K>, V>>>(
+    map: &mut RangeMap<K, V, C>,
+    item: Item<AnyRange<K>, V>,
+    index: usize,
+) -> Result<(), JsonError>
+    ensures known { IsKnownRange K.order item.key }
+    ensures apart { OnOk result
+        (¬ ((¬ IsEmptyRange K.order item.key)
+        × MeetsSome K.order (C.items map.old) item.key)) }
+    ensures bound { OnOk result
+        (IsBoundAfter K.order V.eq (C.items map.old) (C.items map.new) item.key item.value) }
+    ensures meets { OnOk result
+        ((¬ IsEmptyRange K.order item.key)
+        → MeetAlso K.order (C.items map.old) (C.items map.new) item.key) }
+    ensures frame { OnOk result
+        ((¬ IsEmptyRange K.order item.key)
+        → IsInsertionFrame K.order V.eq (C.items map.old) (C.items map.new) item.key
+        item.value) }
+    ensures form { IsStored K.order V.eq (C.items map.new) }
+    ensures empty_unchanged { IsEmptyRange K.order item.key → C.items map.new ≡ C.items map.old }
+    ensures met { IfErr result
+        (λ e. (e ≡ Memory)
+        ⊎ ((e ≡ Meets index)
+        × (¬ IsEmptyRange K.order item.key) × MeetsSome K.order (C.items map.old) item.key)) }
 {
-    let mut both = Vec::with_capacity(alloc, 2)?;
-    both.push(range_to_json(alloc, range)?)?;
-    both.push(value.to_json(alloc)?)?;
-    Ok(Value::Array(both))
+    let Item { key, value } = item;
+    inner::known(&key);
+    match map.try_insert(key, value) {
+        Ok(()) => Ok(()),
+        Err(NotFree::Occupied(_, _)) => Err(JsonError::Meets(index)),
+        Err(NotFree::Memory(_, _)) => Err(JsonError::Memory),
+    }
 }
 
 /// An object with the stored ranges and their values, in order, as the array `items`, and with the

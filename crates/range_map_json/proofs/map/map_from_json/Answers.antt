@@ -5,9 +5,9 @@ use Rattle.serde_json.specs.View.{view}
 use Rattle.range_json.specs.MapFaults.{IsMapFault, IsFirstFault, IsFaultOf}
 use Rattle.range_json.specs.declared.error.JsonError.TheVariants.{Memory, Meets}
 use Rattle.range_change.proofs.Results.{error_has_no_value}
-use Rattle.range_json.proofs.MapReading.{IsMapSoFar, IsPut, map_begun, map_more, map_fails, map_meets, none_stored}
+use Rattle.range_map_json.proofs.MapReading.{IsMapSoFar, IsPut, map_begun, map_more, map_fails, map_meets, none_stored}
 use Rattle.range_json.proofs.Reading.{append_one_more}
-use Rattle.range_json.proofs.map.map_from_json.Goals as goal
+use Rattle.range_map_json.proofs.map.map_from_json.Goals as goal
 
 pub loop-index-init : goal.loop-index-init
 loop-index-init g c =

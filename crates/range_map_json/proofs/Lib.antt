@@ -1,0 +1,2 @@
+pub mod MapReading
+pub mod OverwritingLoop
