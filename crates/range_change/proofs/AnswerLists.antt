@@ -1,29 +1,6 @@
 -- Answers put one after the other, those that touch with equal values as one.
-use Rattle.std.proofs.Common.{◌≡◌, refl, sym, ap, ◌∙◌, ℕ, zero, suc, ◌+◌, ◌-◌, ◌<◌, Option, Some, None, Bool, true, List, [], ◌∷◌, ◌++◌, inl, inr, ◌↔◌, length, get_or, arith}
-use Rattle.std.specs.List.{AllByRecursion as Every}
-use Rattle.std.specs.Prelude.{slice_set}
-use Rattle.std.specs.declared.ops.Bound.{Bound}
-use Rattle.std.specs.declared.cmp.Ordering.TheVariants.{Equal}
-use Rattle.std.specs.Cmp.{IsEquivalence, tied_back}
-use Rattle.range_keys.specs.Order.{KeyOrder, IsLawful}
-use Rattle.range_keys.specs.Position.{start_position, end_position, position_cmp}
-use Rattle.range_keys.specs.PositionOrder.{position_total}
-use Rattle.range_keys.specs.declared.inner.position.Position.{Position}
-use Rattle.range_algebra.specs.declared.any.AnyRange.{AnyRange}
-use Rattle.range_algebra.specs.Cuts.{past, lower, upper}
-use Rattle.range_algebra.specs.Clones.{IsBoundClone, SameBound, same_start}
-use Rattle.range_algebra.specs.Range.{IsKnownRange}
-use Rattle.range_algebra.specs.Intervals.{Any}
-use Rattle.range_change.proofs.PlaceOrder.{lt_le, eq_le, eq_ge, le_trans, cases, le_lt_trans, lt_le_trans, PLe, PLt}
-use Rattle.range_algebra.proofs.Lists.{any_left, any_right, any_split, every_weaker, every_append, every_left, every_right}
-use Rattle.range_change.specs.Chains.{line_of, Leads, Respects}
+use Rattle.range_change.proofs.Common.{◌≡◌, refl, sym, ap, ◌∙◌, ℕ, zero, suc, ◌+◌, ◌-◌, ◌<◌, Option, Some, None, Bool, true, List, [], ◌∷◌, ◌++◌, inl, inr, ◌↔◌, length, get_or, arith, Every, slice_set, Bound, Equal, IsEquivalence, tied_back, KeyOrder, IsLawful, start_position, end_position, position_cmp, position_total, Position, AnyRange, past, lower, upper, IsBoundClone, SameBound, same_start, IsKnownRange, Any, lt_le, eq_le, eq_ge, le_trans, cases, le_lt_trans, lt_le_trans, PLe, PLt, any_left, any_right, any_split, every_weaker, every_append, every_left, every_right, line_of, Leads, Respects, Touches, Item, Answered, JoinsNoLast, IsPut, with_end, item_lower}
 use Rattle.range_change.proofs.Chains.{strictly_leads, chain_left, chain_right, chain_before, chains_join, same_is_symmetric}
-use Rattle.range_algebra.specs.Relations.{Touches}
-use Rattle.range_store.specs.declared.storage.Item.{Item}
-use Rattle.range_change.specs.Answers.{Answered}
-use Rattle.range_change.specs.Put.{JoinsNoLast, IsPut}
-use Rattle.range_change.specs.Edits.{with_end}
-use Rattle.range_change.specs.Stored.{item_lower}
 use Rattle.range_change.proofs.CutParts.{same_past}
 use Rattle.range_change.proofs.RangePieces.{any_end}
 use Rattle.range_change.proofs.Forms.{Known, Chained, Hold, touches_is}

@@ -1,34 +1,9 @@
 -- A range that lies apart from all stored ones, and the list with it.
-use Rattle.std.proofs.Common.{◌≡◌, ℕ, ◌+◌, ◌<◌, List, [], ◌∷◌, ◌++◌, length, take, drop, get_or, refl, ap, sym, subst, ◌∙◌, arith, Option, Some, None, Bool, true, false, ◌&&◌, IsTrue, ◌⊎◌, ◌↔◌, inl, inr}
-use Rattle.std.specs.List.{AllByRecursion as Every}
-use Rattle.std.specs.Prelude.{insert, IfSome, MatchOption}
-use Rattle.std.specs.Option.{ForSome}
-use Rattle.std.specs.Cmp.{IsEquivalence}
-use Rattle.std.specs.declared.ops.Bound.{Bound}
-use Rattle.range_keys.specs.Order.{KeyOrder, IsLawful}
-use Rattle.range_keys.specs.Position.{end_position, position_cmp, start_position}
-use Rattle.range_keys.specs.declared.inner.position.Position.{Position}
-use Rattle.range_keys.proofs.Orderings.{less_or_not}
-use Rattle.range_change.specs.Chains.{line_of, IsBoundTo}
+use Rattle.range_change.proofs.Common.{◌≡◌, ℕ, ◌+◌, ◌<◌, List, [], ◌∷◌, ◌++◌, length, take, drop, get_or, refl, ap, sym, subst, ◌∙◌, arith, Option, Some, None, Bool, true, false, ◌&&◌, IsTrue, ◌⊎◌, ◌↔◌, inl, inr, Every, insert, IfSome, MatchOption, ForSome, IsEquivalence, Bound, KeyOrder, IsLawful, end_position, position_cmp, start_position, Position, less_or_not, line_of, IsBoundTo, flipped, starts_at_end, lower, upper, Le, Lt, eq_ge, eq_le, le_lt_trans, le_refl, le_trans, lt_le, lt_le_trans, lt_not_le, lt_trans, not_le, IsEmptyRange, IsKnownRange, AnyRange, drop_all, list_is_take_and_drop, any_none, any_split, every_append, every_left, every_right, every_weaker, flipped_bound_is_past, IsAt, place_before, Item, IsBoundAfter, item_lower, item_upper, IsStored, IsConnectedTo, IsConnectedToSome, Overlap, LiesBefore, Touches, IsFound, IsJustBefore}
 use Rattle.range_change.proofs.Chains.{chain_above, chain_before, chain_right, strictly_leads, strictly_trails}
 use Rattle.range_change.proofs.ChainSides.{left_whole, right_whole}
 use Rattle.range_change.proofs.ChainJoins.{places_between_are_bound, left_apart, right_apart}
-use Rattle.range_algebra.specs.Compared.{flipped, starts_at_end}
-use Rattle.range_algebra.specs.Cuts.{lower, upper}
-use Rattle.range_algebra.specs.Intervals.{Le, Lt}
-use Rattle.range_change.proofs.PlaceOrder.{eq_ge, eq_le, le_lt_trans, le_refl, le_trans, lt_le, lt_le_trans, lt_not_le, lt_trans, not_le}
-use Rattle.range_algebra.specs.Range.{IsEmptyRange, IsKnownRange}
-use Rattle.range_algebra.specs.declared.any.AnyRange.{AnyRange}
-use Rattle.range_algebra.proofs.Lists.{drop_all, list_is_take_and_drop, any_none, any_split, every_append, every_left, every_right, every_weaker}
-use Rattle.range_algebra.proofs.Places.{flipped_bound_is_past}
-use Rattle.range_store.specs.ListPlaces.{IsAt, place_before}
-use Rattle.range_store.specs.declared.storage.Item.{Item}
-use Rattle.range_change.specs.Bindings.{IsBoundAfter}
 use Rattle.range_change.specs.Apart.{LiesApartAt, IsAnswerAt, IsGap, LiesApart}
-use Rattle.range_change.specs.Stored.{item_lower, item_upper, IsStored}
-use Rattle.range_change.specs.Lookups.{IsConnectedTo, IsConnectedToSome, Overlap}
-use Rattle.range_algebra.specs.Relations.{LiesBefore, Touches}
-use Rattle.range_change.specs.Window.{IsFound, IsJustBefore}
 use Rattle.range_change.proofs.Forms.{known_take, known_drop, Chained, Known, before_is, bound_after, chain_stored, nonempty_good, stored_chain, stored_known, touches_by, touches_is}
 use Rattle.range_change.proofs.Overlaps.{any_at}
 use Rattle.range_change.proofs.Comparisons.{touching_same}

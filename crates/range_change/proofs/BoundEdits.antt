@@ -1,19 +1,6 @@
 -- How edits of one bound on each side of a run change a list.
-use Rattle.std.proofs.Common.{◌≡◌, ℕ, ◌+◌, ◌<◌, ◌≤◌, List, [], ◌∷◌, ◌++◌, length, take, drop, get_or, refl, ap, sym, ◌∙◌, arith, Option, Some, None, append_assoc}
-use Rattle.std.proofs.Math.ListN.{set, length-set}
-use Rattle.std.proofs.lemmas.List.{append-nil, get_or-drop, take-set, take-set-le, take_more_set, drop-set, drop-set-lt}
-use Rattle.std.specs.declared.ops.Bound.{Bound}
-use Rattle.std.specs.declared.ops.Bound.TheVariants.{Unbounded}
-use Rattle.range_algebra.specs.declared.any.AnyRange.{AnyRange}
-use Rattle.range_store.specs.declared.storage.Item.{Item}
-use Rattle.std.specs.Option.{ForSome}
-use Rattle.range_store.specs.ListPlaces.{place_before}
-use Rattle.range_change.specs.Edits.{with_start, with_end}
-use Rattle.range_change.specs.Window.{option_items}
+use Rattle.range_change.proofs.Common.{◌≡◌, ℕ, ◌+◌, ◌<◌, ◌≤◌, List, [], ◌∷◌, ◌++◌, length, take, drop, get_or, refl, ap, sym, ◌∙◌, arith, Option, Some, None, append_assoc, set, length-set, append-nil, get_or-drop, take-set, take-set-le, take_more_set, drop-set, drop-set-lt, Bound, Unbounded, AnyRange, Item, ForSome, place_before, with_start, with_end, option_items, BorderSide, IsBorderShape, joined_count, border_at, IsGoodBorder, IsLeftShape, IsRightShape, IsLeftEdited, IsRightEdited, Border, Plain, Cut, Joined}
 use Rattle.range_change.proofs.ItemPlaces.{listed_at}
-use Rattle.range_change.specs.Borders.{BorderSide, IsBorderShape, joined_count, border_at, IsGoodBorder, IsLeftShape, IsRightShape, IsLeftEdited, IsRightEdited}
-use Rattle.range_change.specs.declared.borders.Border.{Border}
-use Rattle.range_change.specs.declared.borders.Border.TheVariants.{Plain, Cut, Joined}
 
 pub opening_regroups : {X : Type 0} (a b c e : List X) (m : X)
     → (a ++ b) ++ m ∷ (c ++ e) ≡ a ++ b ++ (m ∷ []) ++ c ++ e

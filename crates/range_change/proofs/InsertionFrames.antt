@@ -1,30 +1,8 @@
 -- Which items give way to a range, and what stands in their place.
-use Rattle.std.proofs.Common.{◌≡◌, ℕ, zero, suc, ◌+◌, ◌-◌, ◌<◌, ◌≤◌, List, [], ◌∷◌, ◌++◌, length, take, drop, get_or, refl, ap, sym, ◌∙◌, arith, subst, Option, Some, None, Bool, true, IsTrue, ◌⊎◌, inl, inr, length-append, length-drop, append_assoc}
-use Rattle.std.proofs.lemmas.List.{append-nil, get_or-drop, get_or-take, drop-take, drop-drop, length-take-le}
-use Rattle.std.specs.Cmp.{IsEquivalence}
-use Rattle.std.specs.List.{AllByRecursion as Every}
-use Rattle.std.specs.Option.{unwrap_or}
-use Rattle.std.specs.declared.ops.Bound.{Bound}
-use Rattle.range_keys.specs.Order.{KeyOrder, IsLawful}
-use Rattle.range_algebra.specs.declared.any.AnyRange.{AnyRange}
-use Rattle.range_algebra.specs.Range.{IsKnownRange}
-use Rattle.range_algebra.specs.Intervals.{Any}
-use Rattle.range_change.proofs.PlaceOrder.{lt_trans, lt_not_le, le_lt_trans, PLt}
-use Rattle.range_change.specs.Chains.{line_of}
+use Rattle.range_change.proofs.Common.{◌≡◌, ℕ, zero, suc, ◌+◌, ◌-◌, ◌<◌, ◌≤◌, List, [], ◌∷◌, ◌++◌, length, take, drop, get_or, refl, ap, sym, ◌∙◌, arith, subst, Option, Some, None, Bool, true, IsTrue, ◌⊎◌, inl, inr, length-append, length-drop, append_assoc, append-nil, get_or-drop, get_or-take, drop-take, drop-drop, length-take-le, IsEquivalence, Every, unwrap_or, Bound, KeyOrder, IsLawful, AnyRange, IsKnownRange, Any, lt_trans, lt_not_le, le_lt_trans, PLt, line_of, upper, list_is_take_and_drop, every_at, any_left, any_right, any_none, every_weaker, every_append, every_left, every_right, Item, item_lower, LiesBefore, MeetsSome, Overlap, IsWindow, option_items, Window, IsStartOf, IsEndOf, HasValue, IsNewItem, IsInsertionFrame, IsPart, IsRemovalFrame, joined_item, IsLeftFrame, IsRightFrame}
 use Rattle.range_change.proofs.Chains.{chain_before, chain_left}
-use Rattle.range_algebra.specs.Cuts.{upper}
-use Rattle.range_algebra.proofs.Lists.{list_is_take_and_drop, every_at, any_left, any_right, any_none, every_weaker, every_append, every_left, every_right}
 use Rattle.range_change.proofs.CoveredPlaces.{chained_items_have_places}
 use Rattle.range_change.proofs.ItemPlaces.{element_at, element_at_is_read, listed_at, upto_item}
-use Rattle.range_store.specs.declared.storage.Item.{Item}
-use Rattle.range_change.specs.Stored.{item_lower}
-use Rattle.range_algebra.specs.Relations.{LiesBefore}
-use Rattle.range_change.specs.Lookups.{MeetsSome, Overlap}
-use Rattle.range_change.specs.Window.{IsWindow, option_items}
-use Rattle.range_change.specs.declared.window.Window.{Window}
-use Rattle.range_change.specs.Frames.{IsStartOf, IsEndOf, HasValue, IsNewItem, IsInsertionFrame, IsPart, IsRemovalFrame}
-use Rattle.range_change.specs.Borders.{joined_item}
-use Rattle.range_change.specs.Plans.{IsLeftFrame, IsRightFrame}
 use Rattle.range_change.proofs.Forms.{before_is, stored_known, stored_chain, known_take, known_drop}
 use Rattle.range_change.proofs.Lengths.{one_item}
 use Rattle.range_change.proofs.Windows.{every_both}

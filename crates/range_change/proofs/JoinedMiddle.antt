@@ -1,41 +1,6 @@
 -- A middle that comes to stand within a range, and what joins it there.
-use Rattle.std.proofs.Common.{◌≡◌, ℕ, ◌+◌, ◌-◌, ◌<◌, ◌≤◌, List, [], ◌∷◌, ◌++◌, length, take, drop, refl, ap, sym, ◌∙◌, arith, subst, Option, Some, None, Bool, true, false, IsTrue, Bor, ◌⊎◌, inl, inr, append_assoc}
-use Rattle.std.proofs.lemmas.List.{append-nil}
-use Rattle.std.specs.List.{AllByRecursion as Every}
-use Rattle.std.specs.Prelude.{slice_get, option_copied, MatchOption}
-use Rattle.std.specs.Cmp.{IsEquivalence, tied_itself}
-use Rattle.std.specs.Option.{unwrap_or}
-use Rattle.std.specs.declared.cmp.Ordering.TheVariants.{Equal}
-use Rattle.std.specs.declared.ops.Bound.{Bound}
-use Rattle.range_keys.specs.Order.{KeyOrder, IsLawful}
-use Rattle.range_keys.specs.Position.{start_position, end_position}
-use Rattle.range_keys.specs.PositionOrder.{position_total}
-use Rattle.range_keys.specs.declared.inner.position.Position.{Position}
-use Rattle.range_algebra.proofs.Lists.{any_left, any_right, every_weaker, every_append, every_left, every_right}
-use Rattle.range_change.specs.Chains.{line_of, IsLeftOf, IsRightOf, IsSpliced}
+use Rattle.range_change.proofs.Common.{◌≡◌, ℕ, ◌+◌, ◌-◌, ◌<◌, ◌≤◌, List, [], ◌∷◌, ◌++◌, length, take, drop, refl, ap, sym, ◌∙◌, arith, subst, Option, Some, None, Bool, true, false, IsTrue, Bor, ◌⊎◌, inl, inr, append_assoc, append-nil, Every, slice_get, option_copied, MatchOption, IsEquivalence, tied_itself, unwrap_or, Equal, Bound, KeyOrder, IsLawful, start_position, end_position, position_total, Position, any_left, any_right, every_weaker, every_append, every_left, every_right, line_of, IsLeftOf, IsRightOf, IsSpliced, flipped, past, lower, upper, Le, Lt, Any, eq_ge, le_lt_trans, le_refl, lt_le, eq_le, le_trans, lt_trans, lt_le_trans, lt_not_le, not_lt, PLe, PLt, IsKnownBound, IsKnownRange, Touches, AnyRange, reaching_is_before_past, flipped_bound_is_past, flipped_known, Item, IsAt, Border, Window, IsLeftShape, IsRightShape, IsRunStart, left_side, right_side, joined_count, seam_border, TouchesBefore, TouchesNoneBefore, TouchesAfter, TouchesNoneAfter, with_start, HasValue, item_lower, item_upper, IsStored, LiesIn, IsLeftPlan, IsRightPlan, ReachesBefore, ReachesAfter, AreWithin, with_first_start, with_last_end, IsLeftCutting, IsRightCutting, IsLeftSeam, IsRightSeam, IsWindow, option_items}
 use Rattle.range_change.proofs.Chains.{chain_before, chain_right, follows_above}
-use Rattle.range_algebra.specs.Compared.{flipped}
-use Rattle.range_algebra.specs.Cuts.{past, lower, upper}
-use Rattle.range_algebra.specs.Intervals.{Le, Lt, Any}
-use Rattle.range_change.proofs.PlaceOrder.{eq_ge, le_lt_trans, le_refl, lt_le, eq_le, le_trans, lt_trans, lt_le_trans, lt_not_le, not_lt, PLe, PLt}
-use Rattle.range_algebra.specs.Range.{IsKnownBound, IsKnownRange}
-use Rattle.range_algebra.specs.Relations.{Touches}
-use Rattle.range_algebra.specs.declared.any.AnyRange.{AnyRange}
-use Rattle.range_algebra.proofs.Places.{reaching_is_before_past, flipped_bound_is_past, flipped_known}
-use Rattle.range_store.specs.declared.storage.Item.{Item}
-use Rattle.range_store.specs.ListPlaces.{IsAt}
-use Rattle.range_change.specs.declared.borders.Border.{Border}
-use Rattle.range_change.specs.declared.window.Window.{Window}
-use Rattle.range_change.specs.Borders.{IsLeftShape, IsRightShape, IsRunStart, left_side, right_side, joined_count, seam_border, TouchesBefore, TouchesNoneBefore, TouchesAfter, TouchesNoneAfter}
-use Rattle.range_change.specs.Edits.{with_start}
-use Rattle.range_change.specs.Frames.{HasValue}
-use Rattle.range_change.specs.Stored.{item_lower, item_upper, IsStored}
-use Rattle.range_change.specs.Pieces.{LiesIn}
-use Rattle.range_change.specs.Plans.{IsLeftPlan, IsRightPlan}
-use Rattle.range_change.specs.Reach.{ReachesBefore, ReachesAfter}
-use Rattle.range_change.specs.Replaced.{AreWithin}
-use Rattle.range_change.specs.Seams.{with_first_start, with_last_end, IsLeftCutting, IsRightCutting, IsLeftSeam, IsRightSeam}
-use Rattle.range_change.specs.Window.{IsWindow, option_items}
 use Rattle.range_change.proofs.CutParts.{ends_never}
 use Rattle.range_change.proofs.OuterBounds.{last_of, item_with_end, with_last, started_last}
 use Rattle.range_change.proofs.Forms.{places, Known, Chained, stored_known, stored_chain, known_take, known_drop}

@@ -1,14 +1,5 @@
 -- How long a list is once it was changed.
-use Rattle.std.proofs.Common.{◌≡◌, ℕ, ◌+◌, ◌≤◌, List, ◌∷◌, ◌++◌, length, take, drop, refl, ap, arith, length-append, length-drop}
-use Rattle.std.specs.Prelude.{Option, Some, None}
-use Rattle.std.specs.declared.ops.Bound.{Bound}
-use Rattle.std.proofs.lemmas.List.{length-take-le}
-use Rattle.range_algebra.specs.declared.any.AnyRange.{AnyRange}
-use Rattle.range_store.specs.declared.storage.Item.{Item}
-use Rattle.range_change.specs.declared.borders.Border.{Border}
-use Rattle.range_change.specs.declared.borders.Border.TheVariants.{Plain, Cut, Joined}
-use Rattle.range_change.specs.Borders.{BorderSide, IsBorderShape, joined_count}
-use Rattle.range_change.specs.Window.{option_items}
+use Rattle.range_change.proofs.Common.{◌≡◌, ℕ, ◌+◌, ◌≤◌, List, ◌∷◌, ◌++◌, length, take, drop, refl, ap, arith, length-append, length-drop, Option, Some, None, Bound, length-take-le, AnyRange, Item, Border, Plain, Cut, Joined, BorderSide, IsBorderShape, joined_count, option_items}
 
 -- an option names at most one item
 pub one_item : {T : Type 0} (o : Option T) → length (option_items o) ≤ 1

@@ -1,21 +1,6 @@
 -- What a range that is changed meets or is merged with, and that all else stands.
-use Rattle.std.proofs.Common.{◌≡◌, refl, Bool, List, [], ◌∷◌, ◌++◌, ◌⊎◌, inl, inr}
-use Rattle.std.specs.Cmp.{IsEquivalence}
-use Rattle.std.specs.List.{AllByRecursion as Every}
-use Rattle.range_keys.specs.Order.{KeyOrder, IsLawful}
-use Rattle.range_algebra.proofs.Lists.{any_left, any_right, every_weaker, every_append, every_left, every_right}
-use Rattle.range_change.specs.Chains.{line_of}
+use Rattle.range_change.proofs.Common.{◌≡◌, refl, Bool, List, [], ◌∷◌, ◌++◌, ◌⊎◌, inl, inr, IsEquivalence, Every, KeyOrder, IsLawful, any_left, any_right, every_weaker, every_append, every_left, every_right, line_of, lower, upper, Any, le_lt_trans, lt_le_trans, lt_trans, lt_not_le, PLt, IsKnownRange, AnyRange, reaching_is_before_past, Item, IsMergedInto, IsUpdateFrame, IsSpliceFrame, item_lower, item_upper, IsConnectedTo, Overlap}
 use Rattle.range_change.proofs.Chains.{chain_right, chain_before, follows_above}
-use Rattle.range_algebra.specs.Cuts.{lower, upper}
-use Rattle.range_algebra.specs.Intervals.{Any}
-use Rattle.range_change.proofs.PlaceOrder.{le_lt_trans, lt_le_trans, lt_trans, lt_not_le, PLt}
-use Rattle.range_algebra.specs.Range.{IsKnownRange}
-use Rattle.range_algebra.specs.declared.any.AnyRange.{AnyRange}
-use Rattle.range_algebra.proofs.Places.{reaching_is_before_past}
-use Rattle.range_store.specs.declared.storage.Item.{Item}
-use Rattle.range_change.specs.Frames.{IsMergedInto, IsUpdateFrame, IsSpliceFrame}
-use Rattle.range_change.specs.Stored.{item_lower, item_upper}
-use Rattle.range_change.specs.Lookups.{IsConnectedTo, Overlap}
 use Rattle.range_change.proofs.RangePieces.{every_with, IsFull}
 use Rattle.range_change.proofs.Forms.{Chained}
 use Rattle.range_change.proofs.ApartRanges.{apart_not}

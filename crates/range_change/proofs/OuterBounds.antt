@@ -1,19 +1,5 @@
 -- A list whose first item has another start, and its last another end.
-use Rattle.std.proofs.Common.{◌≡◌, ◌+◌, ◌-◌, ◌<◌, ◌≤◌, ℕ, suc, List, [], ◌∷◌, ◌++◌, length, take, drop, get_or, refl, ap, sym, ◌∙◌, arith, Option, Some, None, Bool, inl, inr, length-append, append_assoc}
-use Rattle.std.proofs.lemmas.List.{append-nil, take_at, drop_at, drop-drop, length-take-le}
-use Rattle.std.proofs.Math.ListN.{set}
-use Rattle.std.specs.List.{AllByRecursion as Every}
-use Rattle.std.specs.Prelude.{slice_get}
-use Rattle.std.specs.Cmp.{IsEquivalence}
-use Rattle.std.specs.declared.ops.Bound.{Bound}
-use Rattle.range_keys.specs.Order.{KeyOrder}
-use Rattle.range_algebra.proofs.Lists.{every_weaker}
-use Rattle.range_algebra.specs.Intervals.{Any}
-use Rattle.range_algebra.specs.declared.any.AnyRange.{AnyRange}
-use Rattle.range_store.specs.declared.storage.Item.{Item}
-use Rattle.range_change.specs.Edits.{with_start, with_end}
-use Rattle.range_change.specs.Frames.{HasValue}
-use Rattle.range_change.specs.Seams.{with_first_start, with_last_end}
+use Rattle.range_change.proofs.Common.{◌≡◌, ◌+◌, ◌-◌, ◌<◌, ◌≤◌, ℕ, suc, List, [], ◌∷◌, ◌++◌, length, take, drop, get_or, refl, ap, sym, ◌∙◌, arith, Option, Some, None, Bool, inl, inr, length-append, append_assoc, append-nil, take_at, drop_at, drop-drop, length-take-le, set, Every, slice_get, IsEquivalence, Bound, KeyOrder, every_weaker, Any, AnyRange, Item, with_start, with_end, HasValue, with_first_start, with_last_end}
 
 -- the last of some items
 pub last_of : {X : Type 0} (x : X) (xs : List X)

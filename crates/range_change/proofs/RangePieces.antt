@@ -1,30 +1,8 @@
 -- Parts that share out a range are its pieces.
-use Rattle.std.proofs.Common.{◌≡◌, refl, sym, subst, ap, ◌∙◌, ℕ, ◌<◌, length, get_or, Option, Some, None, Bool, true, false, List, [], ◌∷◌, ◌++◌, ◌⊎◌, inl, inr, map, if◌then◌else◌}
-use Rattle.std.specs.List.{AllByRecursion as Every}
-use Rattle.std.specs.declared.cmp.Ordering.TheVariants.{Equal}
-use Rattle.std.specs.Ordering.{is_gt}
-use Rattle.std.specs.Cmp.{IsEquivalence, tied_back}
-use Rattle.range_keys.specs.Order.{KeyOrder, IsLawful}
-use Rattle.range_keys.specs.Position.{start_position, end_position, position_cmp}
-use Rattle.range_keys.specs.PositionOrder.{position_total}
-use Rattle.range_keys.specs.declared.inner.position.Position.{Position}
-use Rattle.range_keys.proofs.Orderings.{gt_is_greater, equal_then_equal}
-use Rattle.range_algebra.specs.declared.any.AnyRange.{AnyRange}
-use Rattle.range_algebra.specs.Range.{IsKnownRange}
+use Rattle.range_change.proofs.Common.{◌≡◌, refl, sym, subst, ap, ◌∙◌, ℕ, ◌<◌, length, get_or, Option, Some, None, Bool, true, false, List, [], ◌∷◌, ◌++◌, ◌⊎◌, inl, inr, map, if◌then◌else◌, Every, Equal, is_gt, IsEquivalence, tied_back, KeyOrder, IsLawful, start_position, end_position, position_cmp, position_total, Position, gt_is_greater, equal_then_equal, AnyRange, IsKnownRange, Le, Lt, Any, le_refl, lt_le, eq_le, eq_ge, le_trans, lt_not_le, cases, both, le_lt_trans, lt_le_trans, every_at, every_weaker, line_of, common, gt_le, later_is, earlier_is, lower, upper, LiesBefore, Item, EachNext, later, earlier, IsCommonPart, LiesIn, IsFreePart, IsPiece, ArePieces, Overlap}
 use Rattle.range_algebra.specs.RangeOrder.{range_cmp}
-use Rattle.range_algebra.specs.Intervals.{Le, Lt, Any}
-use Rattle.range_change.proofs.PlaceOrder.{le_refl, lt_le, eq_le, eq_ge, le_trans, lt_not_le, cases, both, le_lt_trans, lt_le_trans}
-use Rattle.range_algebra.proofs.Lists.{every_at, every_weaker}
-use Rattle.range_change.specs.Chains.{line_of}
 use Rattle.range_change.proofs.Chains.{follows_above, chain_tail}
-use Rattle.range_algebra.specs.Combined.{common}
-use Rattle.range_algebra.proofs.Commons.{gt_le, later_is, earlier_is, later_over as starts_over, earlier_under as ends_under}
-use Rattle.range_algebra.specs.Cuts.{lower, upper}
-use Rattle.range_algebra.specs.Relations.{LiesBefore}
-use Rattle.range_store.specs.declared.storage.Item.{Item}
-use Rattle.range_change.specs.Neighbours.{EachNext}
-use Rattle.range_change.specs.Pieces.{later, earlier, IsCommonPart, LiesIn, IsFreePart, IsPiece, ArePieces}
-use Rattle.range_change.specs.Lookups.{Overlap}
+use Rattle.range_algebra.proofs.Commons.{later_over as starts_over, earlier_under as ends_under}
 use Rattle.range_change.proofs.Extents.{past_le, end_le}
 use Rattle.range_change.proofs.Forms.{Known, Chained, before_is, nonempty_good}
 

@@ -1,42 +1,15 @@
 -- What stands on each side of a range, and the list in which it is bound or unbound.
-use Rattle.std.proofs.Common.{◌≡◌, ℕ, zero, suc, ◌+◌, ◌-◌, ◌<◌, ◌≤◌, List, [], ◌∷◌, ◌++◌, length, take, drop, get_or, refl, ap, sym, ◌∙◌, arith, subst, Option, Some, None, Bool, true, false, length-drop}
-use Rattle.std.proofs.lemmas.List.{append-nil, get_or-drop}
-use Rattle.std.specs.Cmp.{IsEquivalence}
-use Rattle.std.specs.List.{AllByRecursion as Every}
-use Rattle.range_keys.specs.Order.{KeyOrder, IsLawful}
-use Rattle.range_keys.specs.PositionOrder.{position_total}
-use Rattle.range_algebra.specs.declared.any.AnyRange.{AnyRange}
-use Rattle.range_algebra.specs.Range.{IsKnownRange}
-use Rattle.range_store.specs.declared.storage.Item.{Item}
-use Rattle.range_change.proofs.PlaceOrder.{lt_le, le_trans, PLe, PLt}
-use Rattle.range_change.specs.Chains.{line_of, Leads, Trails, IsLeft, IsRight, IsLeftOf, IsRightOf}
+use Rattle.range_change.proofs.Common.{◌≡◌, ℕ, zero, suc, ◌+◌, ◌-◌, ◌<◌, ◌≤◌, List, [], ◌∷◌, ◌++◌, length, take, drop, get_or, refl, ap, sym, ◌∙◌, arith, subst, Option, Some, None, Bool, true, false, length-drop, append-nil, get_or-drop, IsEquivalence, Every, KeyOrder, IsLawful, position_total, AnyRange, IsKnownRange, Item, lt_le, le_trans, PLe, PLt, line_of, Leads, Trails, IsLeft, IsRight, IsLeftOf, IsRightOf, lower, upper, item_lower, item_upper, IsWindow, option_items, Window, every_at, list_is_take_and_drop, every_weaker, every_append, every_right, tied_itself, Bound, Touches, IsInserted, IsRemoved, Overlap, IsPart, IsRemovalFrame, IsLeftFrame, IsRightFrame, ReachesBefore, ReachesAfter, flipped_bound, with_end, SameBound, IsKnownBound, joined_item, IsLeftRest, IsRightRest, IsLeftBorder, IsRightBorder, TouchesNoneBefore, TouchesNoneAfter}
 use Rattle.range_change.proofs.Chains.{chain_above, chain_before, chain_right}
 use Rattle.range_change.proofs.ChainSides.{left_whole, left_cut, right_whole, right_cut}
 use Rattle.range_change.proofs.ChainJoins.{places_between_are_unbound, left_apart, left_joined, right_apart, right_joined, leading_last, trailing_first, places_between_are_bound}
-use Rattle.range_algebra.specs.Cuts.{lower, upper}
-use Rattle.range_change.specs.Stored.{item_lower, item_upper}
-use Rattle.range_change.specs.Window.{IsWindow, option_items}
-use Rattle.range_change.specs.declared.window.Window.{Window}
 use Rattle.range_change.proofs.Forms.{nonempty_good, Known, Chained, stored_known, stored_chain, known_take, known_drop, chain_stored, unbound_after}
-use Rattle.range_algebra.proofs.Lists.{every_at, list_is_take_and_drop, every_weaker, every_append, every_right}
-use Rattle.std.specs.Cmp.{tied_itself}
-use Rattle.std.specs.declared.ops.Bound.{Bound}
-use Rattle.range_algebra.specs.Relations.{Touches}
-use Rattle.range_change.specs.Changes.{IsInserted, IsRemoved}
-use Rattle.range_change.specs.Lookups.{Overlap}
-use Rattle.range_change.specs.Frames.{IsPart, IsRemovalFrame}
-use Rattle.range_change.specs.Plans.{IsLeftFrame, IsRightFrame}
 use Rattle.range_change.proofs.InsertionFrames.{insertion_frame, cut_way, not_cut}
 use Rattle.range_change.proofs.Forms.{before_is}
 use Rattle.range_change.proofs.Windows.{every_both}
-use Rattle.range_change.specs.Reach.{ReachesBefore, ReachesAfter}
-use Rattle.range_change.specs.Edits.{flipped_bound, with_end}
-use Rattle.range_algebra.specs.Clones.{SameBound}
-use Rattle.range_algebra.specs.Range.{IsKnownBound}
 use Rattle.range_change.proofs.CoveredPlaces.{meets_bound}
 use Rattle.range_change.proofs.BoundEdits.{opening_regroups, regrouped_out}
 use Rattle.range_change.proofs.CutParts.{cut_end, cut_start}
-use Rattle.range_change.specs.Borders.{joined_item, IsLeftRest, IsRightRest, IsLeftBorder, IsRightBorder, TouchesNoneBefore, TouchesNoneAfter}
 use Rattle.range_change.proofs.Forms.{touches_is, bound_after}
 use Rattle.range_change.proofs.ItemPlaces.{element_at, element_at_is_read, listed_at, upto_item, from_item}
 

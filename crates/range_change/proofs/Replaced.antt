@@ -1,28 +1,5 @@
 -- The list in which a middle stands for what a range held.
-use Rattle.std.proofs.Common.{◌≡◌, ℕ, ◌+◌, ◌-◌, ◌≤◌, List, ◌++◌, length, take, drop, ap, ◌∙◌, arith, subst, Option, Bool, IsTrue, ◌⊎◌, inl, inr, append_assoc}
-use Rattle.std.specs.Cmp.{IsEquivalence}
-use Rattle.std.specs.List.{AllByRecursion as Every}
-use Rattle.std.specs.Prelude.{slice_get}
-use Rattle.std.specs.declared.ops.Bound.{Bound}
-use Rattle.range_keys.specs.Order.{KeyOrder, IsLawful}
-use Rattle.range_keys.specs.declared.inner.position.Position.TheVariants.{Beside}
-use Rattle.range_keys.specs.declared.inner.position.Side.TheVariants.{At}
-use Rattle.range_algebra.specs.Clones.{SameBound}
-use Rattle.range_algebra.specs.Intervals.{Any}
-use Rattle.range_algebra.specs.Range.{IsKnownBound, IsKnownRange, IsEmptyRange}
-use Rattle.range_algebra.specs.declared.any.AnyRange.{AnyRange}
-use Rattle.range_algebra.proofs.Lists.{list_is_take_and_drop, any_left, any_right, every_weaker, every_append, every_left, every_right}
-use Rattle.range_algebra.proofs.Places.{held_between}
-use Rattle.range_store.specs.declared.storage.Item.{Item}
-use Rattle.range_change.specs.declared.borders.Border.{Border}
-use Rattle.range_change.specs.Edits.{flipped_bound}
-use Rattle.range_change.specs.Frames.{HasValue}
-use Rattle.range_change.specs.Lookups.{Overlap}
-use Rattle.range_change.specs.Replaced.{AreWithin, IsReplaced}
-use Rattle.range_change.specs.Borders.{IsRunStart, seam_border, right_side}
-use Rattle.range_change.specs.Seams.{with_first_start, with_last_end, IsLeftSeam, IsRightSeam}
-use Rattle.range_change.specs.Stored.{IsStored}
-use Rattle.range_change.specs.Window.{option_items}
+use Rattle.range_change.proofs.Common.{◌≡◌, ℕ, ◌+◌, ◌-◌, ◌≤◌, List, ◌++◌, length, take, drop, ap, ◌∙◌, arith, subst, Option, Bool, IsTrue, ◌⊎◌, inl, inr, append_assoc, IsEquivalence, Every, slice_get, Bound, KeyOrder, IsLawful, Beside, At, SameBound, Any, IsKnownBound, IsKnownRange, IsEmptyRange, AnyRange, list_is_take_and_drop, any_left, any_right, every_weaker, every_append, every_left, every_right, held_between, Item, Border, flipped_bound, HasValue, Overlap, AreWithin, IsReplaced, IsRunStart, seam_border, right_side, with_first_start, with_last_end, IsLeftSeam, IsRightSeam, IsStored, option_items}
 use Rattle.range_change.proofs.CutParts.{known_turned, same_turned}
 use Rattle.range_change.proofs.OuterBounds.{every_started, every_ended, any_ended, own_values}
 use Rattle.range_change.proofs.RangePieces.{any_with}

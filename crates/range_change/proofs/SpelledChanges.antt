@@ -1,29 +1,7 @@
 -- That what a change puts in the place of a range is spelled as what it replaces.
-use Rattle.std.proofs.Common.{◌≡◌, refl, sym, ap, subst, ◌∙◌, ℕ, ◌+◌, ◌-◌, ◌<◌, ◌≤◌, arith, Option, Some, None, Bool, List, [], ◌∷◌, ◌++◌, inl, inr, length, get_or, take, drop}
+use Rattle.range_change.proofs.Common.{◌≡◌, refl, sym, ap, subst, ◌∙◌, ℕ, ◌+◌, ◌-◌, ◌<◌, ◌≤◌, arith, Option, Some, None, Bool, List, [], ◌∷◌, ◌++◌, inl, inr, length, get_or, take, drop, IsEquivalence, Every, Bound, KeyOrder, IsLawful, AnyRange, same_itself, lower, upper, lt_le, eq_le, eq_ge, lt_not_le, lt_trans, PLt, IsKnownRange, every_weaker, every_append, every_left, every_right, list_is_take_and_drop, reaching_is_before_past, Item, IsInserted, IsRemoved, IsLeftShape, IsRightShape, joined_count, seam_border, flipped_bound, IsStartOf, IsEndOf, IsNewItem, IsPart, ReachesBefore, ReachesAfter, IsReach, IsSurrounded, with_first_start, with_last_end, IsStartAsIn, IsEndAsIn, IsSpelledAsIn, KeepsSpelling, IsStored, item_lower, option_items, Window}
 use Rattle.std.proofs.lemmas.Option.{same_Some}
-use Rattle.std.specs.Cmp.{IsEquivalence}
-use Rattle.std.specs.List.{AllByRecursion as Every}
-use Rattle.std.specs.declared.ops.Bound.{Bound}
-use Rattle.range_keys.specs.Order.{KeyOrder, IsLawful}
-use Rattle.range_algebra.specs.declared.any.AnyRange.{AnyRange}
-use Rattle.range_algebra.specs.Clones.{same_itself}
-use Rattle.range_algebra.specs.Cuts.{lower, upper}
-use Rattle.range_change.proofs.PlaceOrder.{lt_le, eq_le, eq_ge, lt_not_le, lt_trans, PLt}
-use Rattle.range_algebra.specs.Range.{IsKnownRange}
-use Rattle.range_algebra.proofs.Lists.{every_weaker, every_append, every_left, every_right, list_is_take_and_drop}
-use Rattle.range_algebra.proofs.Places.{reaching_is_before_past}
-use Rattle.range_store.specs.declared.storage.Item.{Item}
-use Rattle.range_change.specs.Changes.{IsInserted, IsRemoved}
-use Rattle.range_change.specs.Borders.{IsLeftShape, IsRightShape, joined_count, seam_border}
-use Rattle.range_change.specs.Edits.{flipped_bound}
-use Rattle.range_change.specs.Frames.{IsStartOf, IsEndOf, IsNewItem, IsPart}
-use Rattle.range_change.specs.Reach.{ReachesBefore, ReachesAfter, IsReach, IsSurrounded}
-use Rattle.range_change.specs.Seams.{with_first_start, with_last_end}
-use Rattle.range_change.specs.Spelling.{IsStartAsIn, IsEndAsIn, IsSpelledAsIn, KeepsSpelling}
-use Rattle.range_change.specs.Stored.{IsStored, item_lower}
-use Rattle.range_change.specs.Window.{option_items}
 use Rattle.range_change.specs.declared.reach.Reach.{Reach}
-use Rattle.range_change.specs.declared.window.Window.{Window}
 use Rattle.range_change.proofs.RangePieces.{any_use, item_at}
 use Rattle.range_change.proofs.ItemPlaces.{listed_at, from_item}
 use Rattle.range_change.proofs.Extents.{past_le, end_le}

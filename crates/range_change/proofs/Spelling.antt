@@ -1,30 +1,5 @@
 -- Which bounds are written as those of a list that lie at the same places.
-use Rattle.std.proofs.Common.{◌≡◌, refl, sym, subst, ◌∙◌, ℕ, zero, suc, ◌-◌, arith, Option, Some, None, Bool, List, [], ◌∷◌, ◌++◌, ◌⊎◌, inl, inr, length, get_or, append_assoc, if◌then◌else◌}
-use Rattle.std.specs.List.{AllByRecursion as Every}
-use Rattle.std.specs.Prelude.{slice_set}
-use Rattle.std.specs.declared.ops.Bound.{Bound}
-use Rattle.std.specs.declared.cmp.Ordering.{Ordering}
-use Rattle.std.specs.declared.cmp.Ordering.TheVariants.{Less, Equal, Greater}
-use Rattle.std.specs.Ordering.{is_lt, is_gt}
-use Rattle.std.specs.Cmp.{IsEquivalence, tied_back}
-use Rattle.range_keys.specs.Order.{KeyOrder, IsLawful}
-use Rattle.range_keys.specs.Position.{start_position, end_position}
-use Rattle.range_keys.specs.PositionOrder.{position_total}
-use Rattle.range_keys.specs.declared.inner.position.Position.{Position}
-use Rattle.range_algebra.specs.declared.any.AnyRange.{AnyRange}
-use Rattle.range_algebra.specs.Clones.{IsBoundClone, SameBound, same_start, same_end, same_itself}
-use Rattle.range_algebra.specs.Combined.{common}
-use Rattle.range_algebra.specs.Cuts.{past, lower, upper}
-use Rattle.range_change.proofs.PlaceOrder.{le_refl, lt_le, eq_le, eq_ge, lt_not_le, lt_le_trans, le_lt_trans, PLe, PLt}
-use Rattle.range_algebra.specs.Range.{IsKnownRange}
-use Rattle.range_algebra.proofs.Commons.{gt_le}
-use Rattle.range_algebra.proofs.Lists.{every_weaker, every_append, every_left, every_right, every_at}
-use Rattle.range_algebra.proofs.Places.{reaching_is_before_past}
-use Rattle.range_store.specs.declared.storage.Item.{Item}
-use Rattle.range_change.specs.Put.{IsPut}
-use Rattle.range_change.specs.Chains.{line_of}
-use Rattle.range_change.specs.Edits.{flipped_bound, with_end}
-use Rattle.range_change.specs.Spelling.{IsStartAsIn, IsEndAsIn, IsSpelledAsIn, KeepsSpelling}
+use Rattle.range_change.proofs.Common.{◌≡◌, refl, sym, subst, ◌∙◌, ℕ, zero, suc, ◌-◌, arith, Option, Some, None, Bool, List, [], ◌∷◌, ◌++◌, ◌⊎◌, inl, inr, length, get_or, append_assoc, if◌then◌else◌, Every, slice_set, Bound, Ordering, Less, Equal, Greater, is_lt, is_gt, IsEquivalence, tied_back, KeyOrder, IsLawful, start_position, end_position, position_total, Position, AnyRange, IsBoundClone, SameBound, same_start, same_end, same_itself, common, past, lower, upper, le_refl, lt_le, eq_le, eq_ge, lt_not_le, lt_le_trans, le_lt_trans, PLe, PLt, IsKnownRange, gt_le, every_weaker, every_append, every_left, every_right, every_at, reaching_is_before_past, Item, IsPut, line_of, flipped_bound, with_end, IsStartAsIn, IsEndAsIn, IsSpelledAsIn, KeepsSpelling}
 use Rattle.range_change.proofs.Chains.{chain_before, chain_right, follows_above}
 use Rattle.range_change.proofs.CutParts.{cut_end, cut_start, known_turned, same_turned}
 use Rattle.range_change.proofs.RangePieces.{every_with}

@@ -1,24 +1,7 @@
 -- The items that a range meets, by places.
-use Rattle.std.proofs.Common.{◌≡◌, ℕ, suc, ◌+◌, ◌-◌, ◌<◌, ◌≤◌, List, [], ◌∷◌, ◌++◌, length, take, drop, get_or, arith, ◌∙◌, sym, ap, Option, Bool, length-drop}
-use Rattle.std.specs.Cmp.{IsEquivalence}
-use Rattle.std.proofs.lemmas.List.{drop_more, take_more, get_or-drop}
-use Rattle.std.specs.List.{AllByRecursion as Every}
-use Rattle.range_keys.specs.Order.{KeyOrder, IsLawful}
-use Rattle.range_keys.specs.Position.{start_position, end_position}
-use Rattle.range_keys.specs.declared.inner.position.Position.{Position}
-use Rattle.range_algebra.specs.declared.any.AnyRange.{AnyRange}
-use Rattle.range_algebra.specs.Range.{IsEmptyRange, IsKnownRange}
-use Rattle.range_store.specs.declared.storage.Item.{Item}
-use Rattle.range_store.specs.ListPlaces.{place_before}
-use Rattle.range_change.specs.Chains.{line_of}
+use Rattle.range_change.proofs.Common.{◌≡◌, ℕ, suc, ◌+◌, ◌-◌, ◌<◌, ◌≤◌, List, [], ◌∷◌, ◌++◌, length, take, drop, get_or, arith, ◌∙◌, sym, ap, Option, Bool, length-drop, IsEquivalence, drop_more, take_more, get_or-drop, Every, KeyOrder, IsLawful, start_position, end_position, Position, AnyRange, IsEmptyRange, IsKnownRange, Item, place_before, line_of, lower, upper, item_lower, IsStored, IsFound, IsWalk, IsWindow, reaching_is_before_past, every_at, list_is_take_and_drop, every_weaker, every_left, every_right, PLe, PLt}
 use Rattle.range_change.proofs.Chains.{chain_above, chain_right}
-use Rattle.range_algebra.specs.Cuts.{lower, upper}
-use Rattle.range_change.specs.Stored.{item_lower, IsStored}
-use Rattle.range_change.specs.Window.{IsFound, IsWalk, IsWindow}
-use Rattle.range_algebra.proofs.Places.{reaching_is_before_past}
 use Rattle.range_change.proofs.Forms.{places, before_is, Known, Chained, stored_known, stored_chain}
-use Rattle.range_algebra.proofs.Lists.{every_at, list_is_take_and_drop, every_weaker, every_left, every_right}
-use Rattle.range_change.proofs.PlaceOrder.{PLe, PLt}
 
 pub every_both : {X : Type 0} (P Q : X → Type 0) (xs : List X) → Every P xs → Every Q xs
     → Every (λ x. P x × Q x) xs

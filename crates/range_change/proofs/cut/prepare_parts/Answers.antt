@@ -1,6 +1,4 @@
-use Rattle.std.proofs.Common.{◌≡◌, get_or, refl}
-use Rattle.std.proofs.lemmas.Bool.{false≢true}
-use Rattle.std.proofs.lemmas.List.{get_or_read}
+use Rattle.range_change.proofs.Common.{◌≡◌, get_or, refl, false≢true, get_or_read}
 use Rattle.range_change.proofs.Results.{error_has_no_value}
 use Rattle.range_change.proofs.cut.prepare_parts.Goals as goal
 

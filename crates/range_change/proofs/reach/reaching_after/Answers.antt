@@ -1,13 +1,5 @@
-use Rattle.std.proofs.lemmas.Grind.{common_steps}
-use Rattle.std.proofs.Common.{◌≡◌, ◌+◌, ◌-◌, ◌<◌, length, get_or, ap, sym, ◌∙◌, arith, subst}
-use Rattle.std.proofs.lemmas.List.{get_or_read}
-use Rattle.range_keys.specs.Position.{position_cmp}
-use Rattle.range_keys.specs.PositionOrder.{position_total}
-use Rattle.range_algebra.specs.Cuts.{upper}
-use Rattle.range_algebra.specs.Intervals.{Le}
+use Rattle.range_change.proofs.Common.{common_steps, ◌≡◌, ◌+◌, ◌-◌, ◌<◌, length, get_or, ap, sym, ◌∙◌, arith, subst, get_or_read, position_cmp, position_total, upper, Le, place_before, item_upper}
 use Rattle.range_algebra.specs.Orders.{not_lt}
-use Rattle.range_store.specs.ListPlaces.{place_before}
-use Rattle.range_change.specs.Stored.{item_upper}
 use Rattle.range_change.proofs.Tests.{not_both}
 use Rattle.range_change.proofs.reach.reaching_after.Goals as goal
 

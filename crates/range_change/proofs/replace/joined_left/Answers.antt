@@ -1,14 +1,5 @@
-use Rattle.std.proofs.lemmas.Bool.{false≢true}
-use Rattle.std.proofs.Common.{◌≡◌, refl, ap, inl, inr}
-use Rattle.std.specs.Prelude.{option_copied}
-use Rattle.std.specs.declared.cmp.Ordering.TheVariants.{Equal}
-use Rattle.range_keys.specs.PositionOrder.{position_total}
-use Rattle.range_algebra.specs.Cuts.{lower}
-use Rattle.range_algebra.specs.Intervals.{Lt}
+use Rattle.range_change.proofs.Common.{false≢true, ◌≡◌, refl, ap, inl, inr, option_copied, Equal, position_total, lower, Lt, AnyRange, Item, item_lower}
 use Rattle.range_algebra.specs.Orders.{both, not_lt}
-use Rattle.range_algebra.specs.declared.any.AnyRange.{AnyRange}
-use Rattle.range_store.specs.declared.storage.Item.{Item}
-use Rattle.range_change.specs.Stored.{item_lower}
 use Rattle.range_change.proofs.Forms.{places}
 use Rattle.range_change.proofs.InsertionPlans.{left_cut_out}
 use Rattle.range_change.proofs.JoinedMiddle.{got_only, got_none}

@@ -1,9 +1,4 @@
-use Rattle.std.proofs.Common.{◌≡◌, ◌+◌, ◌≤◌, ◌∷◌, ◌++◌, length, take, drop, ap, ◌∙◌, arith}
-use Rattle.std.specs.Option.{unwrap_or}
-use Rattle.range_algebra.specs.declared.any.AnyRange.{AnyRange}
-use Rattle.range_store.specs.declared.storage.Item.{Item}
-use Rattle.range_store.specs.ListPlaces.{place_before}
-use Rattle.range_change.specs.Window.{option_items}
+use Rattle.range_change.proofs.Common.{◌≡◌, ◌+◌, ◌≤◌, ◌∷◌, ◌++◌, length, take, drop, ap, ◌∙◌, arith, unwrap_or, AnyRange, Item, place_before, option_items}
 use Rattle.range_change.proofs.BoundEdits.{kept_place, opening_regroups, regrouped_out}
 use Rattle.range_change.proofs.Lengths.{removed_length, replaced_length}
 use Rattle.range_change.proofs.splice.change.Goals as goal

@@ -1,13 +1,5 @@
-use Rattle.std.proofs.lemmas.Bool.{true≢false}
-use Rattle.std.proofs.Common.{◌≡◌, ◌+◌, ◌-◌, ◌<◌, length, refl, arith, sym, ◌∙◌}
-use Rattle.std.proofs.lemmas.List.{get_or_read}
-use Rattle.range_keys.specs.Directed.{reference_position}
-use Rattle.range_keys.specs.Position.{start_position, position_cmp}
-use Rattle.range_keys.specs.PositionOrder.{position_total}
-use Rattle.range_algebra.specs.Intervals.{Lt}
+use Rattle.range_change.proofs.Common.{true≢false, ◌≡◌, ◌+◌, ◌-◌, ◌<◌, length, refl, arith, sym, ◌∙◌, get_or_read, reference_position, start_position, position_cmp, position_total, Lt, place_before, at_place}
 use Rattle.range_algebra.specs.Orders.{not_le}
-use Rattle.range_store.specs.ListPlaces.{place_before}
-use Rattle.range_store.proofs.ListPlaces.{at_place}
 use Rattle.range_change.proofs.WalkStarts.{place_is_in_range}
 use Rattle.range_change.proofs.window.walk.Goals as goal
 
