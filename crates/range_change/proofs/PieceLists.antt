@@ -3,7 +3,7 @@ use Rattle.range_change.proofs.Common.{◌≡◌, refl, sym, ◌∙◌, List, []
 use Rattle.range_change.proofs.Chains.{chain_above, chain_right, follows_above}
 use Rattle.range_change.proofs.Forms.{Known, Chained, before_is, stored_chain, stored_known, nonempty_good}
 use Rattle.range_change.proofs.RangePieces.{Rises, IsFull, IsRight, IsInside, AreCut, all_full, any_over, any_with, common_is, common_place_is_not_clear, common_within, cut_all, every_with, free_apart, free_inside}
-use Rattle.range_change.proofs.Spelling.{IsKeptIn, gap_start_is_kept, gap_end_is_kept, common_start_is_kept, common_end_is_kept}
+use Rattle.range_change.proofs.Spelling.{IsKeptIn, gap_is_kept, common_is_kept}
 use Rattle.range_change.proofs.Tests.{not_both}
 
 -- the range starts no later than another and ends past where that starts
@@ -156,10 +156,7 @@ module _ {K : Type 0} {order : KeyOrder K} (lawful : IsLawful order) {V : Type 0
                   (le_trans lawful _ _ _ ends h.0, le_trans lawful _ _ _ h.1 over)) some_item)
             ];
           },
-          (
-            gap_start_is_kept order lawful same equal items listed chained gap (is_known, room) free,
-            gap_end_is_kept order lawful same equal items listed chained gap (is_known, room) free,
-          ),
+          gap_is_kept lawful equal items listed chained gap (is_known, room) free,
         ) ends (λ m h k before. elim (cases lawful m to) [
           | inl l ↦ inl (le_trans lawful _ _ _ upto h, lt_le_trans lawful _ _ _ l over)
           | inr le ↦ inr (h, le)
@@ -236,12 +233,7 @@ module _ {K : Type 0} {order : KeyOrder K} (lawful : IsLawful order) {V : Type 0
         part_within.2,
       ),
       among _ (common_is order lawful r x.key, refl),
-      (
-        common_start_is_kept order lawful same equal items listed chained done rest x ready.list r
-            known starts ends,
-        common_end_is_kept order lawful same equal items listed chained done rest x ready.list r
-            known starts ends,
-      ),
+      common_is_kept lawful equal items listed chained done rest x ready.list r known starts ends,
     )
 
     part_after : Le' from (Low Part)
