@@ -4,7 +4,7 @@ use Rattle.range_change.proofs.Chains.{chain_above, chain_before, chain_right, s
 use Rattle.range_change.proofs.ChainSides.{left_whole, right_whole}
 use Rattle.range_change.proofs.ChainJoins.{places_between_are_bound, left_apart, right_apart}
 use Rattle.range_change.specs.Apart.{LiesApartAt, IsAnswerAt, IsGap, LiesApart}
-use Rattle.range_change.proofs.Forms.{known_take, known_drop, Chained, Known, before_is, bound_after, chain_stored, nonempty_good, stored_chain, stored_known, touches_by, touches_is}
+use Rattle.range_change.proofs.Forms.{Chained, Known, before_is, bound_after, chain_stored, nonempty_good, stored_chain, touches_by, touches_is, every_front, every_back}
 use Rattle.range_change.proofs.Overlaps.{any_at}
 use Rattle.range_change.proofs.Comparisons.{touching_same}
 use Rattle.range_change.proofs.CoveredPlaces.{chained_items_have_places}
@@ -119,7 +119,7 @@ module _ {K : Type 0} (order : KeyOrder K) (lawful : IsLawful order) where
           → IsKnownRange order x.key
       known_at n x within read =
           item_at (λ i. IsKnownRange order i.key) items n x
-          (stored_known order lawful same equal items stored) within read
+          stored.known within read
 
       clear_front : (n : ℕ) (x : Item (AnyRange K) V) → n < length items → x ≡ get_or items n x
           → LiesApart order x.key r → Every (Before r) (take (n + 1) items)
@@ -344,7 +344,7 @@ module _ {K : Type 0} (order : KeyOrder K) (lawful : IsLawful order) where
             let split = list_is_take_and_drop items place in
             let both =
             every_both (λ i. IsKnownRange order i.key) Good items
-            (stored_known order lawful same equal items stored)
+            stored.known
             (chained_items_have_places order lawful same equal items in_order) in
             let all = rw split at both in
             let some : IsConnectedToSome order (take place items ++ drop place items) r =
@@ -381,7 +381,7 @@ module _ {K : Type 0} (order : KeyOrder K) (lawful : IsLawful order) where
             let d = upper order r in
             let new = take place items ++ x ∷ drop place items in
             let parts = list_is_take_and_drop items place in
-            let all = stored_known order lawful same equal items stored in
+            let all = stored.known in
             let whole : Chained order lawful same equal (take place items ++ drop place items) =
             rw parts at in_order in
             let left =
@@ -407,8 +407,8 @@ module _ {K : Type 0} (order : KeyOrder K) (lawful : IsLawful order) where
             (equal.refl v)) in
             let new_known : Known order lawful same equal new =
             every_append (λ i. IsKnownRange order i.key) (take place items)
-            (x ∷ drop place items) (known_take order lawful same equal items place all)
-            (known, known_drop order lawful same equal items place all) in (
+            (x ∷ drop place items) (every_front _ place items all)
+            (known, every_back _ place items all) in (
               chain_stored order lawful same equal new new_known changed.chain,
               bound_after order lawful same equal items new r v known all new_known changed,
             )

@@ -3,7 +3,7 @@ use Rattle.range_change.proofs.Common.{◌≡◌, ℕ, zero, suc, ◌+◌, ◌-�
 use Rattle.range_change.proofs.Chains.{chain_before, chain_left}
 use Rattle.range_change.proofs.CoveredPlaces.{chained_items_have_places}
 use Rattle.range_change.proofs.ItemPlaces.{element_at, element_at_is_read, listed_at, upto_item}
-use Rattle.range_change.proofs.Forms.{before_is, stored_known, stored_chain, known_take, known_drop}
+use Rattle.range_change.proofs.Forms.{before_is, stored_chain, every_front, every_back}
 use Rattle.range_change.proofs.Lengths.{one_item}
 use Rattle.range_change.proofs.Windows.{every_both}
 
@@ -120,13 +120,13 @@ module _ {K : Type 0} {order : KeyOrder K} (lawful : IsLawful order) {V : Type 0
         every_weaker _ _ (drop place items) (λ i h k. lt_not_le lawful _ _ h.1
         ((before_is order lawful i.key.end r.start h.0.1 window.known.0).0 k))
         (every_both (λ i. IsKnownRange order i.key) _ (drop place items)
-        (known_drop order lawful same equal items place
-        (stored_known order lawful same equal items window.stored)) window.above)
+        (every_back _ place items
+        window.stored.known) window.above)
 
     window_items_reach_range : 0 < w.count
         → Every (λ i. LiesBefore order r i.key → ⊥) (take (place + w.count) items)
     window_items_reach_range some =
-        let all = stored_known order lawful same equal items window.stored in
+        let all = window.stored.known in
         let end = place + w.count in
         let k = end - 1 in
         let within : k < length items = omega (arith, some, window.in_range) in
@@ -150,7 +150,7 @@ module _ {K : Type 0} {order : KeyOrder K} (lawful : IsLawful order) {V : Type 0
         every_weaker _ _ (take end items) (λ i h k. lt_not_le lawful _ _ h.1
         ((before_is order lawful r.end i.key.start window.known.1 h.0.0).0 k))
         (every_both (λ i. IsKnownRange order i.key) _ (take end items)
-        (known_take order lawful same equal items end all) starts)
+        (every_front _ end items all) starts)
 
     -- each item of the window meets the range
     meets_by : (n : ℕ) → w.count ≡ n

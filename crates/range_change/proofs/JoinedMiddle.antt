@@ -3,7 +3,7 @@ use Rattle.range_change.proofs.Common.{◌≡◌, ℕ, ◌+◌, ◌-◌, ◌<◌
 use Rattle.range_change.proofs.Chains.{chain_before, chain_right, follows_above}
 use Rattle.range_change.proofs.CutParts.{ends_never}
 use Rattle.range_change.proofs.OuterBounds.{last_of, item_with_end, with_last, started_last}
-use Rattle.range_change.proofs.Forms.{places, Known, Chained, stored_known, stored_chain, known_take, known_drop}
+use Rattle.range_change.proofs.Forms.{places, Known, Chained, stored_chain, every_front, every_back}
 use Rattle.range_change.proofs.BoundEdits.{cut_joins_none}
 use Rattle.range_change.proofs.Lengths.{border_joins_none}
 use Rattle.range_change.proofs.InsertionPlans.{left_plan_free, left_plan_joined, right_plan_joined, right_plan_plain}
@@ -198,10 +198,10 @@ module _ {K : Type 0} (order : KeyOrder K) (lawful : IsLawful order) {V : Type 0
               every_append _ (take plan.at items ++ option_items plan.rest)
               (with_first_start plan.start (m ∷ ms))
               (every_append _ (take plan.at items) (option_items plan.rest)
-              (known_take order lawful same equal items plan.at
-              (stored_known order lawful same equal items stored)) plan.side.known)
+              (every_front _ plan.at items
+              stored.known) plan.side.known)
               (start_known plan.start m ms plan.side.known_start
-              (stored_known order lawful same equal (m ∷ ms) middle));
+              middle.known);
           extra = plan.frame.extra;
           split = plan.frame.split;
           touched =
@@ -236,9 +236,9 @@ module _ {K : Type 0} (order : KeyOrder K) (lawful : IsLawful order) {V : Type 0
           known =
               every_append _ (take place items ++ option_items cut.rest) middle
               (every_append _ (take place items) (option_items cut.rest)
-              (known_take order lawful same equal items place
-              (stored_known order lawful same equal items stored)) cut.side.known)
-              (stored_known order lawful same equal middle others);
+              (every_front _ place items
+              stored.known) cut.side.known)
+              others.known;
           extra = [];
           split = sym (append-nil (take place items));
           touched = tt;
@@ -376,8 +376,8 @@ module _ {K : Type 0} (order : KeyOrder K) (lawful : IsLawful order) {V : Type 0
         (every_append _ s.0 (other ∷ []) (every_left _ s.0 (z ∷ []) own_all)
         (ended_known plan.finish z known_z.0 plan.side.known_end, tt))
         (every_append _ (option_items plan.rest) (drop plan.end items) plan.side.known
-        (known_drop order lawful same equal items plan.end
-        (stored_known order lawful same equal items stored)))) in
+        (every_back _ plan.end items
+        stored.known))) in
         record {
           upto = plan.upto;
           end = plan.end;
@@ -441,8 +441,8 @@ module _ {K : Type 0} (order : KeyOrder K) (lawful : IsLawful order) {V : Type 0
           known =
               every_append _ (front ++ with_first_start start middle) behind known
               (every_append _ (option_items cut.rest) (drop (place + count) items) cut.side.known
-              (known_drop order lawful same equal items (place + count)
-              (stored_known order lawful same equal items stored)));
+              (every_back _ (place + count) items
+              stored.known));
           extra = [];
           split = refl;
           touched = tt;

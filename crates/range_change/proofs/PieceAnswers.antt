@@ -1,11 +1,10 @@
 -- The answers to the pieces of a range, one after the other.
 use Rattle.range_change.proofs.Common.{ℕ, ◌+◌, take, drop, ◌≡◌, refl, sym, ap, ◌∙◌, Option, Some, None, Bool, true, List, [], ◌∷◌, ◌++◌, append_assoc, inl, inr, ◌↔◌, map, Result, Ok, append-nil, drop-drop, map-append, Shared, Bor, Every, Bound, IsEquivalence, KeyOrder, IsLawful, Position, Beside, At, AnyRange, IsBoundClone, SameBound, Any, every_append, every_right, every_weaker, list_is_take_and_drop, held_between, Item, MayAnswer, MayBeAsked, Answered, IsAsAnswered, AnswersPiece, IsGathered, piece_of, Binds, pieces_of, IsPut, AreOverlapping, KeepsSpelling, IsWindow, Window, le_refl, le_trans, lt_not_le, PLe, PLt, lower, upper}
 use Rattle.range_change.proofs.AnswerLists.{IsFilledUpTo, Gives, Alike, filled_none, fill_more}
-use Rattle.range_change.proofs.Forms.{Known, Hold, before_is, binds_hold, bound_hold, chain_stored, stored_known}
+use Rattle.range_change.proofs.Forms.{Known, Hold, before_is, binds_hold, bound_hold, chain_stored, every_back, every_front}
 use Rattle.range_change.proofs.InsertionFrames.{all_meet}
 use Rattle.range_change.proofs.PieceLists.{pieces_are, pieces_are_cut, pieces_are_kept}
 use Rattle.range_change.proofs.RangePieces.{Rises, IsRight, AreCut, any_unmap, any_use, any_with, every_unmap, every_with, lies_in, rises_right}
-use Rattle.range_change.proofs.RunItems.{every_back, every_front}
 use Rattle.range_change.proofs.Spelling.{put_keeps_spelling}
 
 module _ {K : Type 0} (order : KeyOrder K) (lawful : IsLawful order) {V : Type 0}
@@ -104,7 +103,7 @@ module _ {K : Type 0} {order : KeyOrder K} (lawful : IsLawful order) {V : Type 0
   Pieces = pieces_of order r Met
 
   listed : Known order lawful same equal items
-  listed = stored_known order lawful same equal items window.stored
+  listed = window.stored.known
 
   met : AreOverlapping order items r Met
   met = record {

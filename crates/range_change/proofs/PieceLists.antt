@@ -1,7 +1,7 @@
 -- The pieces that are read off from the items that meet a range are its pieces.
 use Rattle.range_change.proofs.Common.{◌≡◌, refl, sym, ◌∙◌, List, [], ◌∷◌, ◌++◌, ◌⊎◌, inl, inr, Option, Some, None, Bool, true, false, map, if◌then◌else◌, append_assoc, append-nil, IsEquivalence, tied_itself, Every, Equal, Bound, Unbounded, KeyOrder, IsLawful, start_position, end_position, position_cmp, position_total, Position, common, flipped, starts_past_end, past, lower, upper, Le, Lt, Any, IsEmptyRange, IsKnownBound, IsKnownRange, AnyRange, common_known, later_is, earlier_is, any_right, every_weaker, every_append, every_left, every_right, reaching_is_before_past, flipped_bound_is_past, flipped_back, flipped_known, unbounded_start, unbounded_end, Item, line_of, Overlap, free_piece, bound_piece, free_between, pieces_from, pieces_of, IsFreePart, ArePieces, AreOverlapping, IsStored, le_refl, lt_le, eq_le, eq_ge, le_trans, cases, not_le, not_lt, lt_not_le, lt_le_trans, PLe, PLt}
 use Rattle.range_change.proofs.Chains.{chain_above, chain_right, follows_above}
-use Rattle.range_change.proofs.Forms.{Known, Chained, before_is, stored_chain, stored_known, nonempty_good}
+use Rattle.range_change.proofs.Forms.{Known, Chained, before_is, stored_chain, nonempty_good}
 use Rattle.range_change.proofs.RangePieces.{Rises, IsFull, IsRight, IsInside, AreCut, all_full, any_over, any_with, common_is, common_place_is_not_clear, common_within, cut_all, every_with, free_apart, free_inside}
 use Rattle.range_change.proofs.Spelling.{IsKeptIn, gap_is_kept, common_is_kept}
 use Rattle.range_change.proofs.Tests.{not_both}
@@ -37,7 +37,7 @@ module _ {K : Type 0} {order : KeyOrder K} (lawful : IsLawful order) {V : Type 0
   chained = stored_chain order lawful same equal items stored
 
   listed : Known order lawful same equal items
-  listed = stored_known order lawful same equal items stored
+  listed = stored.known
 
   full : Every (IsFull order lawful items r) items
   full = all_full order lawful same equal r items listed chained

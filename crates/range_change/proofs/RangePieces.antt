@@ -3,6 +3,8 @@ use Rattle.range_change.proofs.Common.{◌≡◌, refl, sym, subst, ap, ◌∙�
 use Rattle.range_algebra.specs.RangeOrder.{range_cmp}
 use Rattle.range_change.proofs.Chains.{follows_above, chain_tail}
 use Rattle.range_algebra.proofs.Commons.{later_over as starts_over, earlier_under as ends_under}
+use Rattle.range_change.proofs.CoveredPlaces.{chained_items_have_places}
+use Rattle.range_change.proofs.Windows.{every_both}
 use Rattle.range_change.proofs.Extents.{past_le, end_le}
 use Rattle.range_change.proofs.Forms.{Known, Chained, before_is, nonempty_good}
 
@@ -454,10 +456,7 @@ module _ {K : Type 0} (order : KeyOrder K) (lawful : IsLawful order) where
           → AreCut pieces
           → ArePieces order items r pieces
       cut_all same equal full chain pieces was =
-          let each =
-          every_with (λ p. IsInside p.key) (λ p. IsRight p.key p.value)
-          (λ p. IsInside p.key × IsRight p.key p.value) pieces was.inside was.right
-          (λ p h k. (h, k)) in
+          let each = every_both _ _ pieces was.inside was.right in
           record {
             each =
                 every_weaker (λ p. IsInside p.key × IsRight p.key p.value)
@@ -477,14 +476,8 @@ module _ {K : Type 0} (order : KeyOrder K) (lawful : IsLawful order) where
 
 module _ {K : Type 0} (order : KeyOrder K) (lawful : IsLawful order) {V : Type 0}
     (same : V → V → Bool) (equal : IsEquivalence same) (r : AnyRange K) where
-  full_by : (xs items : List (Item (AnyRange K) V)) → Known order lawful same equal xs
-      → Chained order lawful same equal xs → Every (IsFull order lawful items r) xs
-  full_by [] items known chain = tt
-  full_by (x ∷ []) items known chain = ((known.0, chain.0), tt)
-  full_by (x ∷ y ∷ ys) items known chain =
-      ((known.0, chain.0), full_by (y ∷ ys) items known.1 chain.1.1)
-
   -- stored ranges are known, and each starts below the place where it ends
   pub all_full : (items : List (Item (AnyRange K) V)) → Known order lawful same equal items
       → Chained order lawful same equal items → Every (IsFull order lawful items r) items
-  all_full items known chain = full_by items items known chain
+  all_full items known chain =
+      every_both _ _ items known (chained_items_have_places order lawful same equal items chain)

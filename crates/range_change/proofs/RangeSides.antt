@@ -3,7 +3,7 @@ use Rattle.range_change.proofs.Common.{◌≡◌, ℕ, zero, suc, ◌+◌, ◌-�
 use Rattle.range_change.proofs.Chains.{chain_above, chain_before, chain_right}
 use Rattle.range_change.proofs.ChainSides.{left_whole, left_cut, right_whole, right_cut}
 use Rattle.range_change.proofs.ChainJoins.{places_between_are_unbound, left_apart, left_joined, right_apart, right_joined, leading_last, trailing_first, places_between_are_bound}
-use Rattle.range_change.proofs.Forms.{nonempty_good, Known, Chained, stored_known, stored_chain, known_take, known_drop, chain_stored, unbound_after}
+use Rattle.range_change.proofs.Forms.{nonempty_good, Known, Chained, stored_chain, chain_stored, unbound_after, every_front, every_back}
 use Rattle.range_change.proofs.InsertionFrames.{insertion_frame, cut_way, not_cut}
 use Rattle.range_change.proofs.Forms.{before_is}
 use Rattle.range_change.proofs.Windows.{every_both}
@@ -31,7 +31,7 @@ module _ {K : Type 0} {order : KeyOrder K} (lawful : IsLawful order) {V : Type 0
         → IsKnownRange order x.key
     known_at n x within read = let at =
         every_at (λ i. IsKnownRange order i.key) items n x
-        (stored_known order lawful same equal items window.stored) within in rw (← read) at at
+        window.stored.known within in rw (← read) at at
 
     -- the first item of the window ends after the range starts, and the last starts before it ends
     pub first_reaches : (x : Item (AnyRange K) V) → x ≡ get_or items place x → 0 < w.count
@@ -325,8 +325,8 @@ module _ {K : Type 0} {order : KeyOrder K} (lawful : IsLawful order) {V : Type 0
     right_border_none end v within rest none =
         let plus : end + 0 ≡ end = omega arith in
         let others =
-        known_drop order lawful same equal items end
-        (stored_known order lawful same equal items window.stored) in
+        every_back _ end items
+        window.stored.known in
         record {
           in_range = within;
           right =
@@ -357,7 +357,7 @@ module _ {K : Type 0} {order : KeyOrder K} (lawful : IsLawful order) {V : Type 0
     borders_insert new v u at end left right start finish on_left on_right frame_left frame_right
         few values own_value changed =
         let m : Item (AnyRange K) V = joined_item (record { key = r; value = u }) start finish in
-        let all = stored_known order lawful same equal items window.stored in
+        let all = window.stored.known in
         let front = take at items ++ option_items left in
         let behind = option_items right ++ drop end items in
         let list : new ≡ front ++ m ∷ behind =
@@ -370,10 +370,10 @@ module _ {K : Type 0} {order : KeyOrder K} (lawful : IsLawful order) {V : Type 0
         let known_m : IsKnownRange order m.key = (on_left.known_start, on_right.known_end) in
         let others = every_append _ front (m ∷ behind)
         (every_append _ (take at items) (option_items left)
-        (known_take order lawful same equal items at all) on_left.known) (
+        (every_front _ at items all) on_left.known) (
           known_m,
           every_append _ (option_items right) (drop end items) on_right.known
-              (known_drop order lawful same equal items end all),
+              (every_back _ end items all),
         ) in
         record {
           stored = rw list
@@ -401,7 +401,7 @@ module _ {K : Type 0} {order : KeyOrder K} (lawful : IsLawful order) {V : Type 0
         new ≡ take at items ++ option_items left ++ [] ++ option_items right ++ drop end items →
         IsRemoved order same items new r
     removed_by new at end left right on_left on_right frame changed =
-        let all = stored_known order lawful same equal items window.stored in
+        let all = window.stored.known in
         let front = take at items ++ option_items left in
         let behind = option_items right ++ drop end items in
         let list : new ≡ front ++ behind =
@@ -413,10 +413,10 @@ module _ {K : Type 0} {order : KeyOrder K} (lawful : IsLawful order) {V : Type 0
         (lower order r) (upper order r) on_left.left on_right.right range_has_places in
         let known_front =
         every_append _ (take at items) (option_items left)
-        (known_take order lawful same equal items at all) on_left.known in
+        (every_front _ at items all) on_left.known in
         let known_behind =
         every_append _ (option_items right) (drop end items) on_right.known
-        (known_drop order lawful same equal items end all) in
+        (every_back _ end items all) in
         let others = every_append _ front behind known_front known_behind in
         let before =
         every_weaker _ _ front (λ i h m.

@@ -3,7 +3,7 @@ use Rattle.range_change.proofs.Common.{◌≡◌, ℕ, ◌+◌, ◌-◌, ◌≤�
 use Rattle.range_change.proofs.CutParts.{known_turned, same_turned}
 use Rattle.range_change.proofs.OuterBounds.{every_started, every_ended, any_ended, own_values}
 use Rattle.range_change.proofs.RangePieces.{any_with}
-use Rattle.range_change.proofs.Forms.{Known, nonempty_good, stored_known, chain_stored, same_binds, unheld_lies_outside}
+use Rattle.range_change.proofs.Forms.{Known, nonempty_good, chain_stored, same_binds, unheld_lies_outside}
 use Rattle.range_change.proofs.InsertionFrames.{parts_of, append_reassociates, reassociate_pieces}
 use Rattle.range_change.proofs.MergedItems.{crossing_meets}
 use Rattle.range_change.proofs.Lengths.{border_length}
@@ -64,8 +64,8 @@ module _ {K : Type 0} (order : KeyOrder K) (lawful : IsLawful order) {V : Type 0
       let run = left.extra ++ met ++ right.extra in
       let whole = (front ++ rest ++ body) ++ (beyond ++ tail) in
       let list : new ≡ whole = changed ∙ append_assoc (front ++ rest ++ body) beyond tail in
-      let all = stored_known order lawful same equal items stored in
-      let known_middle = stored_known order lawful same equal middle others in
+      let all = stored.known in
+      let known_middle = others.known in
       let regroup : run ≡ left.extra ++ (met ++ right.extra) =
       append_assoc left.extra met right.extra in
       let own =

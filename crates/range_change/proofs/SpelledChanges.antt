@@ -5,7 +5,7 @@ use Rattle.range_change.specs.declared.reach.Reach.{Reach}
 use Rattle.range_change.proofs.RangePieces.{any_use, item_at}
 use Rattle.range_change.proofs.ItemPlaces.{listed_at, from_item}
 use Rattle.range_change.proofs.Extents.{past_le, end_le}
-use Rattle.range_change.proofs.Forms.{Known, Chained, stored_known, stored_chain, nonempty_good}
+use Rattle.range_change.proofs.Forms.{Known, Chained, stored_chain, nonempty_good}
 use Rattle.range_change.proofs.Spelling.{StartSide, EndSide, own_spelling, within_is_kept, cut_end_is_kept, cut_start_is_kept}
 use Rattle.range_change.proofs.Surrounded.{reach_is_met}
 
@@ -32,7 +32,7 @@ module _ {K : Type 0} {order : KeyOrder K} (lawful : IsLawful order) {V : Type 0
     {same : V → V → Bool} (equal : IsEquivalence same) {items : List (Item (AnyRange K) V)}
     (stored : IsStored order same items) where
   known : Known order lawful same equal items
-  known = stored_known order lawful same equal items stored
+  known = stored.known
 
   chain : Chained order lawful same equal items
   chain = stored_chain order lawful same equal items stored

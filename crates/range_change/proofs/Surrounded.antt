@@ -5,7 +5,7 @@ use Rattle.range_change.specs.declared.reach.Reach.{Reach}
 use Rattle.range_change.proofs.RangePieces.{IsFull, all_full, item_at}
 use Rattle.range_change.proofs.ItemPlaces.{listed_at}
 use Rattle.range_change.proofs.RangeSides.{borders_insert, borders_remove, left_border_at, right_border_at, first_reaches, last_starts, left_rest_cut, right_rest_cut, left_border_rest, right_border_rest}
-use Rattle.range_change.proofs.Forms.{Chained, stored_known, stored_chain, nonempty_good}
+use Rattle.range_change.proofs.Forms.{Chained, stored_chain, nonempty_good}
 use Rattle.range_change.proofs.Lengths.{changed_length}
 use Rattle.range_change.proofs.MergedItems.{surrounded_alone}
 use Rattle.range_change.proofs.BoundEdits.{standing_item_splits_list}
@@ -206,7 +206,7 @@ module _ {K : Type 0} {order : KeyOrder K} (lawful : IsLawful order) {V : Type 0
   full : Every (IsFull order lawful items r) items
   full =
       all_full order lawful same equal r items
-      (stored_known order lawful same equal items within.window.stored) chain
+      within.window.stored.known chain
 
   good : PLt lawful (lower order r) (upper order r)
   good = (nonempty_good order lawful r within.window.known).0 within.window.nonempty

@@ -1,7 +1,7 @@
 -- The items that a range meets, by places.
 use Rattle.range_change.proofs.Common.{◌≡◌, ℕ, suc, ◌+◌, ◌-◌, ◌<◌, ◌≤◌, List, [], ◌∷◌, ◌++◌, length, take, drop, get_or, arith, ◌∙◌, sym, ap, Option, Bool, length-drop, IsEquivalence, drop_more, take_more, get_or-drop, Every, KeyOrder, IsLawful, start_position, end_position, Position, AnyRange, IsEmptyRange, IsKnownRange, Item, place_before, line_of, lower, upper, item_lower, IsStored, IsFound, IsWalk, IsWindow, reaching_is_before_past, every_at, list_is_take_and_drop, every_weaker, every_left, every_right, PLe, PLt}
 use Rattle.range_change.proofs.Chains.{chain_above, chain_right}
-use Rattle.range_change.proofs.Forms.{places, before_is, Known, Chained, stored_known, stored_chain}
+use Rattle.range_change.proofs.Forms.{places, before_is, Known, Chained, stored_chain}
 
 pub every_both : {X : Type 0} (P Q : X → Type 0) (xs : List X) → Every P xs → Every Q xs
     → Every (λ x. P x × Q x) xs
@@ -35,7 +35,7 @@ module _ {K : Type 0} (order : KeyOrder K) (lawful : IsLawful order) {V : Type 0
       at_end found walk =
       let cmp = places order lawful in
       let place = place_before rank (length items) from in
-      let all = stored_known order lawful same equal items stored in
+      let all = stored.known in
       let chain = stored_chain order lawful same equal items stored in
       let known_parts : (n : ℕ) → Known order lawful same equal (take n items ++ drop n items) =
       λ n. rw (list_is_take_and_drop items n) at all in
