@@ -15,6 +15,23 @@ pub regrouped_last : {X : Type 0} (a b c : List X) (z : X)
     → (a ++ (b ++ z ∷ [])) ++ c ≡ (a ++ b) ++ z ∷ c
 regrouped_last a b c z = simp append_assoc
 
+-- what stands before a cursor that put the items before, and what comes later
+put_parts : {X : Type 0} (before now done : List X) (place left less : ℕ)
+    → now ≡ take place before ++ done ++ drop (place + (left - less)) before
+    → place + left ≤ length before → (take (place + length done) now ≡ take place before ++ done)
+    × ((n : ℕ) → drop (place + length done + n) now ≡ drop (place + (left - less) + n) before)
+put_parts before now done place left less was within =
+    let size : length (take place before ++ done) ≡ place + length done =
+    length-append (take place before) done
+    ∙ ap (λ n. n + length done) (length-take-le place before (omega (arith, within))) in
+    let rest = drop (place + (left - less)) before in
+    let at = place + length done in (
+      ap (take at) was ∙ take_at (take place before ++ done) rest at size,
+      λ n. sym (drop-drop n at now)
+          ∙ (ap (drop n) (ap (drop at) was ∙ drop_at (take place before ++ done) rest at size)
+          ∙ drop-drop n (place + (left - less)) before),
+    )
+
 -- some of a run gave way to the items before, and one more gives way
 pub put_next : {X : Type 0} (before now new done : List X) (place left less fewer : ℕ) (x : X)
     → now ≡ take place before ++ done ++ drop (place + (left - less)) before
@@ -22,28 +39,13 @@ pub put_next : {X : Type 0} (before now new done : List X) (place left less fewe
     → new ≡ take (place + length done) now ++ x ∷ drop (place + length done + (less - fewer)) now
     → new ≡ take place before ++ (done ++ x ∷ []) ++ drop (place + (left - fewer)) before
 put_next before now new done place left less fewer x was few within one changed =
-    let size : length (take place before ++ done) ≡ place + length done =
-    length-append (take place before) done
-    ∙ ap (λ n. n + length done) (length-take-le place before (omega (arith, within))) in
-    let kept : take (place + length done) now ≡ take place before ++ done =
-    ap (take (place + length done)) was
-    ∙ take_at (take place before ++ done) (drop (place + (left - less)) before)
-    (place + length done) size in
-    let rest : drop (place + length done) now ≡ drop (place + (left - less)) before =
-    ap (drop (place + length done)) was
-    ∙ drop_at (take place before ++ done) (drop (place + (left - less)) before)
-    (place + length done) size in
+    let parts = put_parts before now done place left less was within in
     let index : place + (left - less) + (less - fewer) ≡ place + (left - fewer) =
     omega (arith, few, one) in
-    let tail : drop (place + length done + (less - fewer)) now
-    ≡ drop (place + (left - fewer)) before =
-    sym (drop-drop (less - fewer) (place + length done) now)
-    ∙ (ap (drop (less - fewer)) rest
-    ∙ (drop-drop (less - fewer) (place + (left - less)) before ∙ ap (λ n. drop n before) index))
-    in
     changed
-    ∙ (ap (λ ys. ys ++ x ∷ drop (place + length done + (less - fewer)) now) kept
-    ∙ (ap (λ ys. (take place before ++ done) ++ x ∷ ys) tail
+    ∙ (ap (λ ys. ys ++ x ∷ drop (place + length done + (less - fewer)) now) parts.0
+    ∙ (ap (λ ys. (take place before ++ done) ++ x ∷ ys)
+    (parts.1 (less - fewer) ∙ ap (λ n. drop n before) index)
     ∙ sym (regrouped_last (take place before) done (drop (place + (left - fewer)) before) x)))
 
 -- the rest of the run is removed
@@ -53,25 +55,12 @@ pub put_all : {X : Type 0} (before now new done : List X) (place left less : ℕ
     → new ≡ take (place + length done) now ++ drop (place + length done + less) now
     → new ≡ take place before ++ done ++ drop (place + left) before
 put_all before now new done place left less was few within changed =
-    let size : length (take place before ++ done) ≡ place + length done =
-    length-append (take place before) done
-    ∙ ap (λ n. n + length done) (length-take-le place before (omega (arith, within))) in
-    let kept : take (place + length done) now ≡ take place before ++ done =
-    ap (take (place + length done)) was
-    ∙ take_at (take place before ++ done) (drop (place + (left - less)) before)
-    (place + length done) size in
-    let rest : drop (place + length done) now ≡ drop (place + (left - less)) before =
-    ap (drop (place + length done)) was
-    ∙ drop_at (take place before ++ done) (drop (place + (left - less)) before)
-    (place + length done) size in
+    let parts = put_parts before now done place left less was within in
     let index : place + (left - less) + less ≡ place + left = omega (arith, few) in
-    let tail : drop (place + length done + less) now ≡ drop (place + left) before =
-    sym (drop-drop less (place + length done) now)
-    ∙ (ap (drop less) rest
-    ∙ (drop-drop less (place + (left - less)) before ∙ ap (λ n. drop n before) index)) in
     changed
-    ∙ (ap (λ ys. ys ++ drop (place + length done + less) now) kept
-    ∙ ap (λ ys. (take place before ++ done) ++ ys) tail)
+    ∙ (ap (λ ys. ys ++ drop (place + length done + less) now) parts.0
+    ∙ ap (λ ys. (take place before ++ done) ++ ys)
+    (parts.1 less ∙ ap (λ n. drop n before) index))
 
 module _ {K V : Type 0} where
   abbrev pub item_with_end : Option (Bound K) → Item (AnyRange K) V → Item (AnyRange K) V

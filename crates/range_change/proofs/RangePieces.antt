@@ -233,18 +233,13 @@ module _ {K : Type 0} (order : KeyOrder K) (lawful : IsLawful order) where
           known = inside.0;
           nonempty = (nonempty_good order lawful key inside.0).1 inside.2;
           within = lies_in key r inside.0 known_r inside.1 inside.3;
-          free =
-              every_with (λ i. PLe (Hi i.key) (Lo key) ⊎ PLe (Hi key) (Lo i.key)) IsFull
-              (λ i. Overlap order i.key key → ⊥) items h.free full
-              (λ i a f. apart_not i.key key f.0 inside.0 a);
+          free = every_with _ _ _ items h.free full (λ i a f. apart_not i.key key f.0 inside.0 a);
         }
 
         pub free_apart : (key : AnyRange K) → IsFreePart order items r key
             → Every (λ i. IsFull i × (PLe (Hi i.key) (Lo key) ⊎ PLe (Hi key) (Lo i.key))) items
         free_apart key h =
-            every_with (λ i. Overlap order i.key key → ⊥) IsFull
-            (λ i. IsFull i × (PLe (Hi i.key) (Lo key) ⊎ PLe (Hi key) (Lo i.key))) items h.free
-            full (λ i n f. (f, apart_of i.key key f.0 h.known n))
+            every_with _ _ _ items h.free full (λ i n f. (f, apart_of i.key key f.0 h.known n))
 
         pub free_inside : (key : AnyRange K) → IsFreePart order items r key → IsInside key
         free_inside key h =
@@ -259,9 +254,7 @@ module _ {K : Type 0} (order : KeyOrder K) (lawful : IsLawful order) where
             elim h.left [
               | inl le ↦ le_trans lawful _ _ _ le from
               | inr bounded ↦
-                  any_use (λ i. PLe (Lo key) (Hi i.key) × PLe (Hi i.key) (Lo key))
-                  (λ i. IsFull i × (PLe (Hi i.key) (Lo other) ⊎ PLe (Hi other) (Lo i.key))) items
-                  bounded apart (λ i at a. elim a.1 [
+                  any_use _ _ items bounded apart (λ i at a. elim a.1 [
                     | inl le ↦ le_trans lawful _ _ _ at.0 le
                     | inr le ↦
                         absurd (lt_not_le lawful _ _ meets (le_trans lawful _ _ _ le
@@ -276,9 +269,7 @@ module _ {K : Type 0} (order : KeyOrder K) (lawful : IsLawful order) where
             elim h.right [
               | inl le ↦ le_trans lawful _ _ _ upto le
               | inr bounded ↦
-                  any_use (λ i. PLe (Hi key) (Lo i.key) × PLe (Lo i.key) (Hi key))
-                  (λ i. IsFull i × (PLe (Hi i.key) (Lo other) ⊎ PLe (Hi other) (Lo i.key))) items
-                  bounded apart (λ i at a. elim a.1 [
+                  any_use _ _ items bounded apart (λ i at a. elim a.1 [
                     | inl le ↦
                         absurd (lt_not_le lawful _ _ meets (le_trans lawful _ _ _ at.0
                         (le_trans lawful _ _ _ (lt_le lawful _ _ a.0.1) le)))
@@ -341,12 +332,10 @@ module _ {K : Type 0} (order : KeyOrder K) (lawful : IsLawful order) where
               inr (both_held p P Q xs (chain_tail (line_of order lawful same equal) x xs chain.1) h
               k)
           both_held p P Q (x ∷ xs) chain (inl h) (inr k) =
-              any_use (λ i. Q i × Holding p i) (λ i. PLe (Hi x.key) (Lo i.key)) xs k
-              (follows_above (line_of order lawful same equal) x xs chain.1) (λ i g le.
+              any_use _ _ xs k (follows_above (line_of order lawful same equal) x xs chain.1) (λ i g le.
               absurd (lt_not_le lawful _ _ h.1.1 (le_trans lawful _ _ _ le g.1.0)))
           both_held p P Q (x ∷ xs) chain (inr h) (inl k) =
-              any_use (λ i. P i × Holding p i) (λ i. PLe (Hi x.key) (Lo i.key)) xs h
-              (follows_above (line_of order lawful same equal) x xs chain.1) (λ i g le.
+              any_use _ _ xs h (follows_above (line_of order lawful same equal) x xs chain.1) (λ i g le.
               absurd (lt_not_le lawful _ _ k.1.1 (le_trans lawful _ _ _ le g.1.0)))
 
           common_held : (p : Position K) (key : AnyRange K) (v : V) → IsKnownRange order key
@@ -354,9 +343,7 @@ module _ {K : Type 0} (order : KeyOrder K) (lawful : IsLawful order) where
               → PLt p (Hi key)
               → Any (λ i. (IsCommonPart order r i.key key × (i.value ≡ v)) × Holding p i) items
           common_held p key v known h from upto =
-              any_with (λ i. IsCommonPart order r i.key key × (i.value ≡ v)) IsFull
-              (λ i. (IsCommonPart order r i.key key × (i.value ≡ v)) × Holding p i) items h full
-              (λ i c f.
+              any_with _ _ _ items h full (λ i c f.
               let within = common_within r i.key key known_r f.0 known c.0 in (
                 c,
                 (
@@ -372,13 +359,9 @@ module _ {K : Type 0} (order : KeyOrder K) (lawful : IsLawful order) where
               → Every (λ i. PLe (Hi i.key) (Lo clear) ⊎ PLe (Hi clear) (Lo i.key)) items
               → PLe (Lo clear) p → PLt p (Hi clear) → ⊥
           common_place_is_not_clear p key clear v known h from upto free from' upto' =
-              any_use (λ i. (IsCommonPart order r i.key key × (i.value ≡ v)) × Holding p i)
-              (λ i. PLe (Hi i.key) (Lo clear) ⊎ PLe (Hi clear) (Lo i.key)) items
-              (common_held p key v known h from upto) free (λ i g a. elim a [
-                | inl le ↦
-                    lt_not_le lawful _ _ g.1.1 (le_trans lawful _ _ _ le from')
-                | inr le ↦
-                    lt_not_le lawful _ _ upto' (le_trans lawful _ _ _ le g.1.0)
+              any_use _ _ items (common_held p key v known h from upto) free (λ i g a. elim a [
+                | inl le ↦ lt_not_le lawful _ _ g.1.1 (le_trans lawful _ _ _ le from')
+                | inr le ↦ lt_not_le lawful _ _ upto' (le_trans lawful _ _ _ le g.1.0)
               ])
 
           any_here : {R : Type 0} (P : Item (AnyRange K) V → Type 0)
@@ -399,19 +382,12 @@ module _ {K : Type 0} (order : KeyOrder K) (lawful : IsLawful order) where
               let held = common_held (Lo part) key w inside.0 h from upto in
               let other =
               common_held (Lo part) part v known piece.1 (le_refl lawful (Lo part)) good in
-              any_here (λ i. (IsCommonPart order r i.key key × (i.value ≡ w))
-              × (IsCommonPart order r i.key part × (i.value ≡ v))) items
-              (both_held (Lo part) (λ i. IsCommonPart order r i.key key × (i.value ≡ w))
-              (λ i. IsCommonPart order r i.key part × (i.value ≡ v)) items chain held other)
+              any_here _ items (both_held (Lo part) _ _ items chain held other)
               (λ i g. (same_common i.key key part g.0.0 g.1.0, ap Some (sym g.0.1 ∙ g.1.1)))
           same_piece key part (Some w) None chain inside h known piece from upto =
               let others = free_inside part piece.0 in
-              let apart =
-              every_weaker (λ i. IsFull i
-              × (PLe (Hi i.key) (Lo part) ⊎ PLe (Hi part) (Lo i.key)))
-              (λ i. PLe (Hi i.key) (Lo part) ⊎ PLe (Hi part) (Lo i.key)) items (λ i a. a.1)
-              (free_apart part piece.0) in
-              absurd (common_place_is_not_clear (Lo part) key part w inside.0 h from upto apart
+              absurd (common_place_is_not_clear (Lo part) key part w inside.0 h from upto
+              (every_weaker _ _ items (λ i a. a.1) (free_apart part piece.0))
               (le_refl lawful (Lo part)) others.2)
           same_piece key part None (Some v) chain inside h known piece from upto =
               let good = (nonempty_good order lawful part known).0 piece.0 in
@@ -433,8 +409,7 @@ module _ {K : Type 0} (order : KeyOrder K) (lawful : IsLawful order) where
             lt_le_trans lawful _ _ _ h.2 h.3,
           )
       piece_inside full part (Some v) known piece =
-          any_use (λ i. IsCommonPart order r i.key part × (i.value ≡ v)) IsFull items piece.1 full
-          (λ i c f.
+          any_use _ _ items piece.1 full (λ i c f.
           let within = common_within r i.key part known_r f.0 known c.0 in (
             within.0,
             lt_le_trans lawful _ _ _ ((nonempty_good order lawful part known).0 piece.0) within.2,
@@ -459,17 +434,11 @@ module _ {K : Type 0} (order : KeyOrder K) (lawful : IsLawful order) where
           let each = every_both _ _ pieces was.inside was.right in
           record {
             each =
-                every_weaker (λ p. IsInside p.key × IsRight p.key p.value)
-                (λ p. IsPiece order items r p.key p.value) pieces
-                (λ p h. a_piece full p.key p.value h.0 h.1) each;
+                every_weaker _ _ pieces (λ p h. a_piece full p.key p.value h.0 h.1) each;
             rising = rising_apart pieces was.inside was.rising;
             all = λ part binding known piece.
                 let at = piece_inside full part binding known piece in
-                any_with (λ p. PLe (Lo p.key) (Lo part) × PLt (Lo part) (Hi p.key))
-                (λ p. IsInside p.key × IsRight p.key p.value)
-                (λ p. (range_cmp order p.key part ≡ Equal) × (p.value ≡ binding)) pieces
-                (was.covered (Lo part) at.0 at.1) each
-                (λ p h k.
+                any_with _ _ _ pieces (was.covered (Lo part) at.0 at.1) each (λ p h k.
                 same_piece full same equal p.key part p.value binding chain k.0 k.1 known piece
                 h.0 h.1);
           }

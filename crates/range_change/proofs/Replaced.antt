@@ -5,7 +5,7 @@ use Rattle.range_change.proofs.OuterBounds.{every_started, every_ended, any_ende
 use Rattle.range_change.proofs.RangePieces.{any_with}
 use Rattle.range_change.proofs.Forms.{Known, nonempty_good, chain_stored, same_binds, unheld_lies_outside}
 use Rattle.range_change.proofs.InsertionFrames.{parts_of, append_reassociates, reassociate_pieces}
-use Rattle.range_change.proofs.MergedItems.{crossing_meets}
+use Rattle.range_change.proofs.CoveredPlaces.{overlap_is}
 use Rattle.range_change.proofs.Lengths.{border_length}
 use Rattle.range_change.proofs.JoinedMiddle.{seam_count, Crosses, TakesStartOf, IsLeftFill, IsRightFill, left_fill, right_fill}
 
@@ -38,7 +38,7 @@ module _ {K : Type 0} (order : KeyOrder K) (lawful : IsLawful order) {V : Type 0
       any_left _ (rest ++ body) beyond
       (any_right _ rest body (any_with _ _
       (λ j. B j × Overlap order j.key r × IsTrue (same i.value j.value)) body h all
-      (λ j g own. (g.0, crossing_meets order lawful j.key r own known g.1.0 g.1.1, g.2))))
+      (λ j g own. (g.0, (overlap_is order lawful j.key r own known).1 g.1, g.2))))
 
   pub replacement_is_made : (new middle : List (Item (AnyRange K) V)) (first last : Option P)
       (border behind : Border K P) (from : Option P) → IsStored order same items
