@@ -1,5 +1,5 @@
 -- What is left of an item that a range cuts, by places.
-use Rattle.range_change.proofs.Common.{◌≡◌, refl, sym, ◌∙◌, ◌↔◌, Some, None, false, IsTrue, Bound, Included, Excluded, Unbounded, Ordering, Less, Equal, Greater, is_gt, is_le, tied_back, tied_itself, KeyOrder, IsLawful, start_position, end_position, position_total, AnyRange, IsKnownBound, IsKnownRange, flipped, SameBound, same_start, eq_le, eq_ge, le_lt_trans, lt_not_le, PLt, past, upper, flipped_bound, reaching_is_before_past, flipped_bound_is_past, flipped_known, unbounded_start, unbounded_end}
+use Rattle.range_change.proofs.Common.{same_itself, ◌≡◌, refl, sym, ◌∙◌, ◌↔◌, Some, None, false, IsTrue, Bound, Included, Excluded, Unbounded, Ordering, Less, Equal, Greater, is_gt, is_le, tied_back, tied_itself, KeyOrder, IsLawful, start_position, end_position, position_total, AnyRange, IsKnownBound, IsKnownRange, flipped, SameBound, same_start, eq_le, eq_ge, le_lt_trans, lt_not_le, PLt, past, upper, flipped_bound, reaching_is_before_past, flipped_bound_is_past, flipped_known, unbounded_start, unbounded_end}
 use Rattle.range_change.proofs.Forms.{places}
 
 module _ {K : Type 0} (order : KeyOrder K) (lawful : IsLawful order) where
@@ -28,11 +28,6 @@ module _ {K : Type 0} (order : KeyOrder K) (lawful : IsLawful order) where
   same_past (Excluded a) Unbounded h = absurd h
   same_past Unbounded (Included b) h = absurd h
   same_past Unbounded (Excluded b) h = absurd h
-
-  same_itself : (b : Bound K) → SameBound order b b
-  same_itself (Included a) = tied_itself lawful.total a
-  same_itself (Excluded a) = tied_itself lawful.total a
-  same_itself Unbounded = tt
 
   pub known_turned : (b : Bound K) → IsKnownBound order b → IsKnownBound order (flipped_bound b)
   known_turned (Included a) h = h
@@ -86,7 +81,7 @@ module _ {K : Type 0} (order : KeyOrder K) (lawful : IsLawful order) where
       absurd (lt_not_le lawful _ _ l (unbounded_end order lawful a known))
 
   pub same_turned : (b : Bound K) → SameBound order (flipped_bound b) (flipped_bound b)
-  same_turned b = same_itself (flipped_bound b)
+  same_turned b = same_itself order lawful (flipped_bound b)
 
   not_past_all : (e a : Bound K) → None ≡ flipped e → IsKnownBound order a
       → PLt lawful (past order (end_position order e)) (past order (end_position order a)) → ⊥

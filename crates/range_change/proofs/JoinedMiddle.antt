@@ -280,13 +280,6 @@ module _ {K : Type 0} (order : KeyOrder K) (lawful : IsLawful order) {V : Type 0
     alike_value (x ∷ xs) v u e (inl h) = inl (equal.congr u v x.value e ∙ h)
     alike_value (x ∷ xs) v u e (inr h) = inr (alike_value xs v u e h)
 
-    ended_lower : (finish : Option (Bound K)) (z : Item (AnyRange K) V)
-        → places order lawful (item_lower order (item_with_end finish z)) (item_lower order z)
-        ≡ Equal
-    ended_lower None z = tied_itself (position_total order.cmp lawful.total) (item_lower order z)
-    ended_lower (Some b) z =
-        tied_itself (position_total order.cmp lawful.total) (item_lower order z)
-
     ended_upper : (finish : Option (Bound K)) (z : Item (AnyRange K) V)
         → places order lawful (item_upper order z) (upper order r) ≡ Equal
         → places order lawful (item_upper order (item_with_end finish z))
@@ -295,26 +288,11 @@ module _ {K : Type 0} (order : KeyOrder K) (lawful : IsLawful order) {V : Type 0
     ended_upper (Some b) z at =
         tied_itself (position_total order.cmp lawful.total) (past order (end_position order b))
 
-    ended_value : (finish : Option (Bound K)) (z : Item (AnyRange K) V)
-        → same (item_with_end finish z).value z.value ≡ true
-    ended_value None z = equal.refl z.value
-    ended_value (Some b) z = equal.refl z.value
-
     ended_known : (finish : Option (Bound K)) (z : Item (AnyRange K) V) → IsKnownRange order z.key
         → IsKnownBound order (unwrap_or finish r.end)
         → IsKnownRange order (item_with_end finish z).key
     ended_known None z known end = known
     ended_known (Some b) z known end = (known.0, end)
-
-    ended_end : (finish : Option (Bound K)) (z i : Item (AnyRange K) V) → finish ≡ Some i.key.end
-        → (item_with_end finish z).key.end ≡ i.key.end
-    ended_end None z i is = absurd (cc)
-    ended_end (Some b) z i is = cc
-
-    ended_same : (finish : Option (Bound K)) (z : Item (AnyRange K) V)
-        → (item_with_end finish z).value ≡ z.value
-    ended_same None z = refl
-    ended_same (Some b) z = refl
 
     right_joining : (middle front init : List (Item (AnyRange K) V)) (m : Item (AnyRange K) V)
         (start : Option (Bound K)) (last : Option P) (border : Border K P) → IsStored order same
@@ -355,21 +333,17 @@ module _ {K : Type 0} (order : KeyOrder K) (lawful : IsLawful order) {V : Type 0
         let full =
         (chain_right (line_of order lawful same equal) s.0 (z ∷ [])
         (chain_right (line_of order lawful same equal) front (s.0 ++ z ∷ []) filled.chain)).0 in
-        let under =
-        le_lt_trans lawful _ _ _ (eq_le lawful _ _ (ended_lower plan.finish z))
-        (lt_le_trans lawful _ _ _ full (eq_le lawful _ _ z_ends))
-        in
+        let under = lt_le_trans lawful _ _ _ full (eq_le lawful _ _ z_ends) in
         let above =
         lt_le_trans lawful _ _ _ good plan.side.right.above in
         let over =
         lt_le_trans lawful _ _ _ above (eq_ge lawful _ _
         (ended_upper plan.finish z z_ends)) in
-        let same_value : m.value ≡ other.value = sym (ended_same plan.finish z ∙ s.4) in
         let done =
         spliced_joined (line_of order lawful same equal) items front s.0 middle behind z other
-        (lower order r) (upper order r) e filled good z_ends right (ended_lower plan.finish z)
-        (ended_upper plan.finish z z_ends)
-        (ended_value plan.finish z) in
+        (lower order r) (upper order r) e filled good z_ends right
+        (tied_itself (position_total order.cmp lawful.total) (item_lower order z))
+        (ended_upper plan.finish z z_ends) (equal.refl z.value) in
         let known_new =
         every_append _ front ((s.0 ++ other ∷ []) ++ behind) (every_left _ front _ all)
         (every_append _ (s.0 ++ other ∷ []) behind
@@ -397,9 +371,9 @@ module _ {K : Type 0} (order : KeyOrder K) (lawful : IsLawful order) {V : Type 0
                 subst (λ ys. TakesEndOf i ys) (sym body_end)
                     (any_right _ s.0 (other ∷ [])
                     (inl (
-                      ended_end plan.finish z i h.2,
+                      ap (λ o. unwrap_or o z.key.end) h.2,
                       (under, over),
-                      subst (λ v. IsTrue (same i.value v)) same_value h.1,
+                      subst (λ v. IsTrue (same i.value v)) (sym s.4) h.1,
                     ))),
               )) plan.frame.touched;
           reaches = λ b is. subst (λ o. Lt cmp (lower order r)

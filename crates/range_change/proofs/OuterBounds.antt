@@ -1,5 +1,5 @@
 -- A list whose first item has another start, and its last another end.
-use Rattle.range_change.proofs.Common.{◌≡◌, ◌+◌, ◌-◌, ◌<◌, ◌≤◌, ℕ, suc, List, [], ◌∷◌, ◌++◌, length, take, drop, get_or, refl, ap, sym, ◌∙◌, arith, Option, Some, None, Bool, inl, inr, length-append, append_assoc, append-nil, take_at, drop_at, drop-drop, length-take-le, set, Every, slice_get, IsEquivalence, Bound, KeyOrder, every_weaker, Any, AnyRange, Item, with_start, with_end, HasValue, with_first_start, with_last_end}
+use Rattle.range_change.proofs.Common.{unwrap_or, ◌≡◌, ◌+◌, ◌-◌, ◌<◌, ◌≤◌, ℕ, suc, List, [], ◌∷◌, ◌++◌, length, take, drop, get_or, refl, ap, sym, ◌∙◌, arith, Option, Some, None, Bool, inl, inr, length-append, append_assoc, append-nil, take_at, drop_at, drop-drop, length-take-le, set, Every, slice_get, IsEquivalence, Bound, KeyOrder, every_weaker, Any, AnyRange, Item, with_start, with_end, HasValue, with_first_start, with_last_end}
 
 -- the last of some items
 pub last_of : {X : Type 0} (x : X) (xs : List X)
@@ -64,8 +64,7 @@ put_all before now new done place left less was few within changed =
 
 module _ {K V : Type 0} where
   abbrev pub item_with_end : Option (Bound K) → Item (AnyRange K) V → Item (AnyRange K) V
-  item_with_end None z = z
-  item_with_end (Some b) z = with_end z b
+  item_with_end finish z = with_end z (unwrap_or finish z.key.end)
 
   pub with_last : (finish : Option (Bound K)) (front : List (Item (AnyRange K) V))
       (z : Item (AnyRange K) V)
