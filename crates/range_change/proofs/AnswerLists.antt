@@ -79,8 +79,7 @@ module _ {K : Type 0} (order : KeyOrder K) (lawful : IsLawful order) {V : Type 0
       (upto : PLe lawful (upper order key) n) where
     later_place_is_not_before : PLe lawful m n
     later_place_is_not_before =
-        le_trans lawful _ _ _
-        from (le_trans lawful _ _ _ (lt_le lawful _ _ inside.2) upto)
+        le_trans lawful _ _ _ from (le_trans lawful _ _ _ (lt_le lawful _ _ inside.2) upto)
 
     lies_up_to_later_place : (j : Item (AnyRange K) V) → LiesUpTo m j → LiesUpTo n j
     lies_up_to_later_place j h = (
@@ -328,11 +327,9 @@ module _ {K : Type 0} (order : KeyOrder K) (lawful : IsLawful order) {V : Type 0
           let within = every_right (LiesUpTo m) parts.0 (last ∷ []) was_parts.inside in
           let known =
           every_right (λ i. IsKnownRange order i.key) parts.0 (last ∷ []) was_parts.known in
-          let before =
-          le_trans lawful _ _ _ within.0.2 from in
+          let before = le_trans lawful _ _ _ within.0.2 from in
           rw list (filled_on v value parts.0 last put.end was_parts (known.0.0, put.known)
           (tied_back (position_total order.cmp lawful.total) (upper order key)
           (past_of put.end) (same_past order lawful key.end put.end
           (clones key.end put.end put.end_clone)))
-          ((touches_is order lawful last.key.end key inside.0 inside.2 before).0 joins.0)
-          joins.1)
+          ((touches_is order lawful last.key.end key inside.0 inside.2 before).0 joins.0) joins.1)

@@ -118,8 +118,7 @@ module _ {K : Type 0} (order : KeyOrder K) (lawful : IsLawful order) where
       known_at : (n : ℕ) (x : Item (AnyRange K) V) → n < length items → x ≡ get_or items n x
           → IsKnownRange order x.key
       known_at n x within read =
-          item_at (λ i. IsKnownRange order i.key) items n x
-          stored.known within read
+          item_at (λ i. IsKnownRange order i.key) items n x stored.known within read
 
       clear_front : (n : ℕ) (x : Item (AnyRange K) V) → n < length items → x ≡ get_or items n x
           → LiesApart order x.key r → Every (Before r) (take (n + 1) items)

@@ -106,8 +106,7 @@ module _ {K : Type 0} {order : KeyOrder K} (lawful : IsLawful order) {V : Type 0
         every_weaker _ _ (drop place items) (λ i h k. lt_not_le lawful _ _ h.1
         ((before_is order lawful i.key.end r.start h.0.1 window.known.0).0 k))
         (every_both (λ i. IsKnownRange order i.key) _ (drop place items)
-        (every_back _ place items
-        window.stored.known) window.above)
+        (every_back _ place items window.stored.known) window.above)
 
     window_items_reach_range : 0 < w.count
         → Every (λ i. LiesBefore order r i.key → ⊥) (take (place + w.count) items)

@@ -1,5 +1,5 @@
 -- A middle that comes to stand within a range, and what joins it there.
-use Rattle.range_change.proofs.Common.{◌≡◌, ℕ, ◌+◌, ◌-◌, ◌<◌, ◌≤◌, List, [], ◌∷◌, ◌++◌, length, take, drop, refl, ap, sym, ◌∙◌, arith, subst, Option, Some, None, Bool, true, false, IsTrue, Bor, ◌⊎◌, inl, inr, append_assoc, append-nil, Every, slice_get, option_copied, MatchOption, IsEquivalence, tied_itself, unwrap_or, Equal, Bound, KeyOrder, IsLawful, start_position, end_position, position_total, Position, any_left, any_right, every_weaker, every_append, every_left, every_right, line_of, IsLeftOf, IsRightOf, IsSpliced, flipped, past, lower, upper, Le, Lt, Any, eq_ge, le_lt_trans, le_refl, lt_le, eq_le, le_trans, lt_trans, lt_le_trans, lt_not_le, not_lt, PLe, PLt, IsKnownBound, IsKnownRange, Touches, AnyRange, reaching_is_before_past, flipped_bound_is_past, flipped_known, Item, IsAt, Border, Window, IsLeftShape, IsRightShape, IsRunStart, left_side, right_side, joined_count, seam_border, TouchesBefore, TouchesNoneBefore, TouchesAfter, TouchesNoneAfter, with_start, HasValue, item_lower, item_upper, IsStored, LiesIn, IsLeftPlan, IsRightPlan, ReachesBefore, ReachesAfter, AreWithin, with_first_start, with_last_end, IsLeftCutting, IsRightCutting, IsLeftSeam, IsRightSeam, IsWindow, option_items}
+use Rattle.range_change.proofs.Common.{Line, ◌≡◌, ℕ, ◌+◌, ◌-◌, ◌<◌, ◌≤◌, List, [], ◌∷◌, ◌++◌, length, take, drop, refl, ap, sym, ◌∙◌, arith, subst, Option, Some, None, Bool, true, false, IsTrue, Bor, ◌⊎◌, inl, inr, append_assoc, append-nil, Every, slice_get, option_copied, MatchOption, IsEquivalence, tied_itself, unwrap_or, Equal, Bound, KeyOrder, IsLawful, start_position, end_position, position_total, Position, any_left, any_right, every_weaker, every_append, every_left, every_right, line_of, IsLeftOf, IsRightOf, IsSpliced, flipped, past, lower, upper, Le, Lt, Any, eq_ge, le_lt_trans, le_refl, lt_le, eq_le, le_trans, lt_trans, lt_le_trans, lt_not_le, not_lt, PLe, PLt, IsKnownBound, IsKnownRange, Touches, AnyRange, reaching_is_before_past, flipped_bound_is_past, flipped_known, Item, IsAt, Border, Window, IsLeftShape, IsRightShape, IsRunStart, left_side, right_side, joined_count, seam_border, TouchesBefore, TouchesNoneBefore, TouchesAfter, TouchesNoneAfter, with_start, HasValue, item_lower, item_upper, IsStored, LiesIn, IsLeftPlan, IsRightPlan, ReachesBefore, ReachesAfter, AreWithin, with_first_start, with_last_end, IsLeftCutting, IsRightCutting, IsLeftSeam, IsRightSeam, IsWindow, option_items}
 use Rattle.range_change.proofs.Chains.{chain_before, chain_right, follows_above}
 use Rattle.range_change.proofs.CutParts.{ends_never}
 use Rattle.range_change.proofs.OuterBounds.{last_of, item_with_end, with_last, started_last}
@@ -51,15 +51,18 @@ seam_count (Some q) reaching b = refl
 
 module _ {K : Type 0} (order : KeyOrder K) (lawful : IsLawful order) {V : Type 0}
     (same : V → V → Bool) (equal : IsEquivalence same) where
+  abbrev line : Line (Position K) V (Item (AnyRange K) V)
+  line = line_of order lawful same equal
+
   abbrev pub Filled : List (Item (AnyRange K) V) → List (Item (AnyRange K) V)
       → List (Item (AnyRange K) V) → List (Item (AnyRange K) V) → Position K → Type 0
   Filled items front wide middle c =
-      IsFilled (line_of order lawful same equal) items front wide middle c
+      IsFilled line items front wide middle c
 
   abbrev pub Spliced : List (Item (AnyRange K) V) → List (Item (AnyRange K) V)
       → List (Item (AnyRange K) V) → AnyRange K → Type 0
   Spliced items middle new r =
-      IsSpliced (line_of order lawful same equal) items middle new (lower order r) (upper order r)
+      IsSpliced line items middle new (lower order r) (upper order r)
 
   module _ {P : Type 0} (is_good : P → Type 0) (rank : P → ℕ) (items : List (Item (AnyRange K) V))
       (r : AnyRange K) (place count : ℕ) where
@@ -129,19 +132,18 @@ module _ {K : Type 0} (order : KeyOrder K) (lawful : IsLawful order) {V : Type 0
 
     start_filled : (start : Option (Bound K)) (front ms : List (Item (AnyRange K) V))
         (m : Item (AnyRange K) V)
-        → IsLeftOf (line_of order lawful same equal) items front (lower order r)
+        → IsLeftOf line items front (lower order r)
         (start_position order (unwrap_or start r.start)) m.value
         → Chained order lawful same equal (m ∷ ms)
         → places order lawful (item_lower order m) (lower order r) ≡ Equal
         → Filled items front (with_first_start start (m ∷ ms)) (m ∷ ms) (lower order r)
     start_filled None front ms m left chain at =
-        filled_joined (line_of order lawful same equal) items front m m ms (lower order r)
-        (lower order r) left chain at at
+        filled_joined line items front m m ms (lower order r) (lower order r) left chain at at
         (tied_itself (position_total order.cmp lawful.total) (item_upper order m))
         (equal.refl m.value)
     start_filled (Some b) front ms m left chain at =
         let total = position_total order.cmp lawful.total in
-        filled_joined (line_of order lawful same equal) items front m (with_start m b) ms
+        filled_joined line items front m (with_start m b) ms
         (lower order r) (start_position order b) left chain at
         (tied_itself total (start_position order b)) (tied_itself total (item_upper order m))
         (equal.refl m.value)
@@ -181,8 +183,7 @@ module _ {K : Type 0} (order : KeyOrder K) (lawful : IsLawful order) {V : Type 0
     left_joining m ms first border from good stored middle at plan =
         let chain = stored_chain order lawful same equal (m ∷ ms) middle in
         let le = plan.side.left.below in
-        let over =
-        le_lt_trans lawful _ _ _ (eq_ge lawful _ _ at) chain.0 in
+        let over = le_lt_trans lawful _ _ _ (eq_ge lawful _ _ at) chain.0 in
         record {
           at = plan.at;
           begin = plan.begin;
@@ -198,10 +199,8 @@ module _ {K : Type 0} (order : KeyOrder K) (lawful : IsLawful order) {V : Type 0
               every_append _ (take plan.at items ++ option_items plan.rest)
               (with_first_start plan.start (m ∷ ms))
               (every_append _ (take plan.at items) (option_items plan.rest)
-              (every_front _ plan.at items
-              stored.known) plan.side.known)
-              (start_known plan.start m ms plan.side.known_start
-              middle.known);
+              (every_front _ plan.at items stored.known) plan.side.known)
+              (start_known plan.start m ms plan.side.known_start middle.known);
           extra = plan.frame.extra;
           split = plan.frame.split;
           touched =
@@ -230,15 +229,13 @@ module _ {K : Type 0} (order : KeyOrder K) (lawful : IsLawful order) {V : Type 0
           run = cut.run;
           begins = omega (arith, none);
           filled =
-              filled_apart (line_of order lawful same equal) items
+              filled_apart line items
               (take place items ++ option_items cut.rest) middle (lower order r) cut.side.left
               (stored_chain order lawful same equal middle others) starts;
           known =
               every_append _ (take place items ++ option_items cut.rest) middle
               (every_append _ (take place items) (option_items cut.rest)
-              (every_front _ place items
-              stored.known) cut.side.known)
-              others.known;
+              (every_front _ place items stored.known) cut.side.known) others.known;
           extra = [];
           split = sym (append-nil (take place items));
           touched = tt;
@@ -249,7 +246,7 @@ module _ {K : Type 0} (order : KeyOrder K) (lawful : IsLawful order) {V : Type 0
         → Chained order lawful same equal (m ∷ ms) → PLt lawful (lower order r) (item_lower order m)
         → Every (λ i. PLt lawful (lower order r) (item_lower order i)) (m ∷ ms)
     all_later m ms chain later =
-        let above = follows_above (line_of order lawful same equal) m ms chain.1 in (
+        let above = follows_above line m ms chain.1 in (
           later,
           every_weaker _ _ ms (λ i h.
               lt_le_trans lawful _ _ _ (lt_trans lawful _ _ _ later chain.0) h) above,
@@ -323,7 +320,7 @@ module _ {K : Type 0} (order : KeyOrder K) (lawful : IsLawful order) {V : Type 0
         (upper order r) ≡ Equal) (sym s.3) at in
         let e = past order (end_position order (unwrap_or plan.finish r.end)) in
         let right =
-        subst (λ (v : V). IsRightOf (line_of order lawful same equal) items behind
+        subst (λ (v : V). IsRightOf line items behind
         (upper order r) e v) (sym s.4) plan.side.right in
         let filled = subst (λ ys. Filled items front ys middle (lower order r)) body fill in
         let all : Known order lawful same equal (front ++ (s.0 ++ z ∷ [])) = rw body at known in
@@ -331,16 +328,13 @@ module _ {K : Type 0} (order : KeyOrder K) (lawful : IsLawful order) {V : Type 0
         let known_z = every_right _ s.0 (z ∷ []) own_all in
         let cmp = places order lawful in
         let full =
-        (chain_right (line_of order lawful same equal) s.0 (z ∷ [])
-        (chain_right (line_of order lawful same equal) front (s.0 ++ z ∷ []) filled.chain)).0 in
+        (chain_right line s.0 (z ∷ []) (chain_right line front (s.0 ++ z ∷ []) filled.chain)).0 in
         let under = lt_le_trans lawful _ _ _ full (eq_le lawful _ _ z_ends) in
-        let above =
-        lt_le_trans lawful _ _ _ good plan.side.right.above in
+        let above = lt_le_trans lawful _ _ _ good plan.side.right.above in
         let over =
-        lt_le_trans lawful _ _ _ above (eq_ge lawful _ _
-        (ended_upper plan.finish z z_ends)) in
+        lt_le_trans lawful _ _ _ above (eq_ge lawful _ _ (ended_upper plan.finish z z_ends)) in
         let done =
-        spliced_joined (line_of order lawful same equal) items front s.0 middle behind z other
+        spliced_joined line items front s.0 middle behind z other
         (lower order r) (upper order r) e filled good z_ends right
         (tied_itself (position_total order.cmp lawful.total) (item_lower order z))
         (ended_upper plan.finish z z_ends) (equal.refl z.value) in
@@ -350,8 +344,7 @@ module _ {K : Type 0} (order : KeyOrder K) (lawful : IsLawful order) {V : Type 0
         (every_append _ s.0 (other ∷ []) (every_left _ s.0 (z ∷ []) own_all)
         (ended_known plan.finish z known_z.0 plan.side.known_end, tt))
         (every_append _ (option_items plan.rest) (drop plan.end items) plan.side.known
-        (every_back _ plan.end items
-        stored.known))) in
+        (every_back _ plan.end items stored.known))) in
         record {
           upto = plan.upto;
           end = plan.end;
@@ -409,14 +402,13 @@ module _ {K : Type 0} (order : KeyOrder K) (lawful : IsLawful order) {V : Type 0
           ends = omega (arith, none, cut.ends);
           in_range = within;
           spliced =
-              spliced_apart (line_of order lawful same equal) items front
+              spliced_apart line items front
               (with_first_start start middle) middle behind (lower order r) u
               (upper order r) fill le lt all cut.side.right;
           known =
               every_append _ (front ++ with_first_start start middle) behind known
               (every_append _ (option_items cut.rest) (drop (place + count) items) cut.side.known
-              (every_back _ (place + count) items
-              stored.known));
+              (every_back _ (place + count) items stored.known));
           extra = [];
           split = refl;
           touched = tt;
@@ -439,8 +431,7 @@ module _ {K : Type 0} (order : KeyOrder K) (lawful : IsLawful order) {V : Type 0
         absurd (let e = h.1 in cc)
     right_fill [] front start last border stored others within good in_range fill known (inr h) =
         right_cutting [] front start last border (lower order r) stored in_range
-        (le_refl lawful (lower order r))
-        good tt fill known h.1
+        (le_refl lawful (lower order r)) good tt fill known h.1
     right_fill (x ∷ xs) front start last border stored others within good in_range fill known
         (inl h) =
         let end = last_of x xs in
@@ -458,12 +449,11 @@ module _ {K : Type 0} (order : KeyOrder K) (lawful : IsLawful order) {V : Type 0
         let chain =
         subst (λ ys. Chained order lawful same equal ys) end.2
         (stored_chain order lawful same equal (x ∷ xs) others) in
-        let full = (chain_right (line_of order lawful same equal) end.0 (m ∷ []) chain).0 in
-        let before = chain_before (line_of order lawful same equal) end.0 m [] chain in
+        let full = (chain_right line end.0 (m ∷ []) chain).0 in
+        let before = chain_before line end.0 m [] chain in
         let below =
         every_append (λ i. Le cmp (item_upper order i) (item_upper order m)) end.0 (m ∷ [])
-        (every_weaker _ _ end.0 (λ i k.
-        le_trans lawful _ _ _ k.0 (lt_le lawful _ _ full)) before)
+        (every_weaker _ _ end.0 (λ i k. le_trans lawful _ _ _ k.0 (lt_le lawful _ _ full)) before)
         (le_refl lawful (item_upper order m), tt) in
         let inside =
         every_right (λ i. LiesIn order i.key r) end.0 (m ∷ [])

@@ -59,8 +59,7 @@ put_all before now new done place left less was few within changed =
     let index : place + (left - less) + less ≡ place + left = omega (arith, few) in
     changed
     ∙ (ap (λ ys. ys ++ drop (place + length done + less) now) parts.0
-    ∙ ap (λ ys. (take place before ++ done) ++ ys)
-    (parts.1 less ∙ ap (λ n. drop n before) index))
+    ∙ ap (λ ys. (take place before ++ done) ++ ys) (parts.1 less ∙ ap (λ n. drop n before) index))
 
 module _ {K V : Type 0} where
   abbrev pub item_with_end : Option (Bound K) → Item (AnyRange K) V → Item (AnyRange K) V

@@ -80,31 +80,20 @@ module _ {K : Type 0} (order : KeyOrder K) (lawful : IsLawful order) where
   rises_right [] ys h = h
   rises_right (x ∷ xs) ys h = rises_right xs ys h.1
 
-  later_by : (p q : Position K) (b : Bool) → is_gt (position_cmp order.cmp p q) ≡ b
-      → PLe p (if b then p else q) × PLe q (if b then p else q)
-  later_by p q true e = (
-    le_refl lawful p,
-    gt_le (position_cmp order.cmp) (position_total order.cmp lawful.total) p q
-        (gt_is_greater (position_cmp order.cmp p q) e),
-  )
-  later_by p q false e =
-      (e, le_refl lawful q)
+  chosen_by : (p q : Position K) (b : Bool) → is_gt (position_cmp order.cmp p q) ≡ b
+      → (PLe p (if b then p else q) × PLe q (if b then p else q))
+      × (PLe (if b then q else p) p × PLe (if b then q else p) q)
+  chosen_by p q true e = let le =
+      gt_le (position_cmp order.cmp) (position_total order.cmp lawful.total) p q
+      (gt_is_greater (position_cmp order.cmp p q) e) in
+      ((le_refl lawful p, le), (le, le_refl lawful q))
+  chosen_by p q false e = ((e, le_refl lawful q), (le_refl lawful p, e))
 
   pub later_over : (p q : Position K) → PLe p (later order p q) × PLe q (later order p q)
-  later_over p q = later_by p q (is_gt (position_cmp order.cmp p q)) refl
-
-  earlier_by : (p q : Position K) (b : Bool) → is_gt (position_cmp order.cmp p q) ≡ b
-      → PLe (if b then q else p) p × PLe (if b then q else p) q
-  earlier_by p q true e = (
-    gt_le (position_cmp order.cmp) (position_total order.cmp lawful.total) p q
-        (gt_is_greater (position_cmp order.cmp p q) e),
-    le_refl lawful q,
-  )
-  earlier_by p q false e =
-      (le_refl lawful p, e)
+  later_over p q = (chosen_by p q (is_gt (position_cmp order.cmp p q)) refl).0
 
   pub earlier_under : (p q : Position K) → PLe (earlier order p q) p × PLe (earlier order p q) q
-  earlier_under p q = earlier_by p q (is_gt (position_cmp order.cmp p q)) refl
+  earlier_under p q = (chosen_by p q (is_gt (position_cmp order.cmp p q)) refl).1
 
   pub either_choice_holds : (P : Position K → Type 0) (b : Bool) (p q : Position K) → P p → P q
       → P (if b then p else q)

@@ -45,8 +45,7 @@ module _ {K : Type 0} (order : KeyOrder K) (lawful : IsLawful order) {V : Type 0
       → IsStored order same middle → IsKnownRange order r
       → Every (λ i. Overlap order i.key r) (take count (drop place items)) →
       (left : IsLeftFill order lawful same equal is_good rank items r place count middle first
-      border
-      from)
+      border from)
       → (right : IsRightFill order lawful same equal is_good rank items r place count middle
       (take left.at items ++ option_items left.rest) left.start last behind) →
       new ≡ take left.at items ++ option_items left.rest
@@ -177,18 +176,15 @@ module _ {K : Type 0} (order : KeyOrder K) (lawful : IsLawful order) {V : Type 0
       let left =
       left_fill order lawful same equal is_good rank items r place count middle first
       (seam_border joined first before) from good stored others
-      (subst (λ o.
-      IsLeftSeam order same lawful equal is_good rank items r place count o first
+      (subst (λ o. IsLeftSeam order same lawful equal is_good rank items r place count o first
       (seam_border joined first before) from) is_first
       (on_left before from (known_turned order lawful r.start known.0)
       (same_turned order lawful r.start) begins)) in
       let right =
       right_fill order lawful same equal is_good rank items r place count middle
       (take left.at items ++ option_items left.rest) left.start last
-      (seam_border other last behind) stored others within good in_range left.filled
-      left.known
-      (subst (λ o.
-      IsRightSeam order same lawful equal is_good rank items r place count o last
+      (seam_border other last behind) stored others within good in_range left.filled left.known
+      (subst (λ o. IsRightSeam order same lawful equal is_good rank items r place count o last
       (seam_border other last behind)) is_last
       (on_right behind (known_turned order lawful r.end known.1)
       (same_turned order lawful r.end))) in

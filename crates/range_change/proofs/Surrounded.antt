@@ -205,8 +205,7 @@ module _ {K : Type 0} {order : KeyOrder K} (lawful : IsLawful order) {V : Type 0
 
   full : Every (IsFull order lawful items r) items
   full =
-      all_full order lawful same equal r items
-      within.window.stored.known chain
+      all_full order lawful same equal r items within.window.stored.known chain
 
   good : PLt lawful (lower order r) (upper order r)
   good = (nonempty_good order lawful r within.window.known).0 within.window.nonempty
