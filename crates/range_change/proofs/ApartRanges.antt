@@ -1,5 +1,7 @@
 -- A range that lies apart from all stored ones, and the list with it.
 use Rattle.range_change.proofs.Common.{◌≡◌, ℕ, ◌+◌, ◌<◌, List, [], ◌∷◌, ◌++◌, length, take, drop, get_or, refl, ap, sym, subst, ◌∙◌, arith, Option, Some, None, Bool, true, false, ◌&&◌, IsTrue, ◌⊎◌, ◌↔◌, inl, inr, Every, insert, IfSome, MatchOption, ForSome, IsEquivalence, Bound, KeyOrder, IsLawful, end_position, position_cmp, start_position, Position, less_or_not, line_of, IsBoundTo, flipped, starts_at_end, lower, upper, Le, Lt, eq_ge, eq_le, le_lt_trans, le_refl, le_trans, lt_le, lt_le_trans, lt_not_le, lt_trans, not_le, IsEmptyRange, IsKnownRange, AnyRange, drop_all, list_is_take_and_drop, any_none, any_split, every_append, every_right, every_weaker, flipped_bound_is_past, IsAt, place_before, Item, IsBoundAfter, item_lower, item_upper, IsStored, IsConnectedTo, IsConnectedToSome, Overlap, LiesBefore, Touches, IsFound, IsJustBefore}
+use Rattle.std.proofs.lemmas.Bool.{and_parts, true_from_ne_false}
+use Rattle.range_change.proofs.Tests.{not_both}
 use Rattle.range_change.proofs.Chains.{chain_above, chain_before, chain_right, strictly_leads, strictly_trails}
 use Rattle.range_change.proofs.ChainSides.{left_whole, right_whole}
 use Rattle.range_change.proofs.ChainJoins.{places_between_are_bound, left_apart, right_apart}
@@ -31,20 +33,12 @@ last_place : {X P : Type 0} (is_good : P → Type 0) (rank : P → ℕ) (items :
 last_place is_good rank items None at = rw at refl
 last_place is_good rank items (Some p) at = at
 
-true_by : (b : Bool) → (IsTrue b → ⊥) ⊎ IsTrue b
-true_by true = inr refl
-true_by false = inl (λ e. cc)
-
 must_touch : (A : Type 0) (t : Bool) → A → (A × (IsTrue t → ⊥) → ⊥) → IsTrue t
-must_touch A t a h = elim (true_by t) [ inl k ↦ absurd (h (a, k)) | inr k ↦ k ]
+must_touch A t a h = true_from_ne_false t (λ e. h (a, λ is. not_both e is))
 
 one_fails : (free a b : Bool) → free ≡ (a && b) → free ≡ false → (a ≡ false) ⊎ (b ≡ false)
 one_fails free true b e f = inr (sym e ∙ f)
 one_fails free false b e f = inl refl
-
-both_hold : (free a b : Bool) → free ≡ (a && b) → IsTrue free → IsTrue a × IsTrue b
-both_hold free true b e f = (refl, sym e ∙ f)
-both_hold free false b e f = absurd (let clash : false ≡ true = sym e ∙ f in cc)
 
 module _ {K : Type 0} (order : KeyOrder K) (lawful : IsLawful order) where
   abbrev PLe : Position K → Position K → Type 0
@@ -262,7 +256,7 @@ module _ {K : Type 0} (order : KeyOrder K) (lawful : IsLawful order) where
             record {
               position = found.position;
               apart = λ h.
-                  let both_are = both_hold free a b both h in record {
+                  let both_are = and_parts a b (sym both ∙ h) in record {
                     in_range = found.in_range;
                     before = clear_before before place a found.previous first both_are.0;
                     behind = clear_after from place b found.position second both_are.1;

@@ -49,6 +49,23 @@ pub seam_count : {K P : Type 0} (joined reaching : Option P) (b : Bound K)
 seam_count None reaching b = cut_joins_none reaching b
 seam_count (Some q) reaching b = refl
 
+module _ {K : Type 0} {order : KeyOrder K} (lawful : IsLawful order) {V : Type 0} (r : AnyRange K)
+    (same : V → V → Bool) where
+  -- the item starts before the range ends, and ends after the range starts
+  abbrev pub Crosses : Item (AnyRange K) V → Type 0
+  Crosses i =
+      PLt lawful (item_lower order i) (upper order r)
+      × PLt lawful (lower order r) (item_upper order i)
+
+  -- one that crosses the range has the start of an item, and an equal value
+  abbrev pub TakesStartOf : Item (AnyRange K) V → List (Item (AnyRange K) V) → Type 0
+  TakesStartOf i xs =
+      Any (λ j. (j.key.start ≡ i.key.start) × Crosses j × IsTrue (same i.value j.value)) xs
+
+  abbrev pub TakesEndOf : Item (AnyRange K) V → List (Item (AnyRange K) V) → Type 0
+  TakesEndOf i xs =
+      Any (λ j. (j.key.end ≡ i.key.end) × Crosses j × IsTrue (same i.value j.value)) xs
+
 module _ {K : Type 0} (order : KeyOrder K) (lawful : IsLawful order) {V : Type 0}
     (same : V → V → Bool) (equal : IsEquivalence same) where
   abbrev line : Line (Position K) V (Item (AnyRange K) V)
@@ -66,21 +83,6 @@ module _ {K : Type 0} (order : KeyOrder K) (lawful : IsLawful order) {V : Type 0
 
   module _ {P : Type 0} (is_good : P → Type 0) (rank : P → ℕ) (items : List (Item (AnyRange K) V))
       (r : AnyRange K) (place count : ℕ) where
-    -- the item starts before the range ends, and ends after the range starts
-    abbrev pub Crosses : Item (AnyRange K) V → Type 0
-    Crosses i =
-        PLt lawful (item_lower order i) (upper order r)
-        × PLt lawful (lower order r) (item_upper order i)
-
-    -- one that crosses the range has the start of an item, and an equal value
-    abbrev pub TakesStartOf : Item (AnyRange K) V → List (Item (AnyRange K) V) → Type 0
-    TakesStartOf i xs =
-        Any (λ j. (j.key.start ≡ i.key.start) × Crosses j × IsTrue (same i.value j.value)) xs
-
-    abbrev pub TakesEndOf : Item (AnyRange K) V → List (Item (AnyRange K) V) → Type 0
-    TakesEndOf i xs =
-        Any (λ j. (j.key.end ≡ i.key.end) × Crosses j × IsTrue (same i.value j.value)) xs
-
     -- the items up to the range, and the middle with the start that it joins
     pub record IsLeftFill (middle : List (Item (AnyRange K) V)) (first : Option P)
         (border : Border K P)
@@ -99,7 +101,7 @@ module _ {K : Type 0} (order : KeyOrder K) (lawful : IsLawful order) {V : Type 0
       pub extra : List (Item (AnyRange K) V)
       pub split : take place items ≡ take at items ++ extra
       pub touched : Every (λ i. Touches order i.key r
-          × TakesStartOf i (with_first_start start middle)) extra
+          × TakesStartOf lawful r same i (with_first_start start middle)) extra
       pub valued : Every (λ j.
           HasValue order same (extra ++ take count (drop place items)) j.value ⊎ HasValue order same
           middle j.value) (option_items rest)
@@ -123,7 +125,7 @@ module _ {K : Type 0} (order : KeyOrder K) (lawful : IsLawful order) {V : Type 0
       pub extra : List (Item (AnyRange K) V)
       pub split : drop (place + count) items ≡ extra ++ drop end items
       pub touched : Every (λ i. Touches order r i.key
-          × TakesEndOf i (with_last_end finish (with_first_start start middle))) extra
+          × TakesEndOf lawful r same i (with_last_end finish (with_first_start start middle))) extra
       pub reaches : (b : Bound K) → finish ≡ Some b
           → PLt lawful (lower order r) (past order (end_position order b))
       pub valued : Every (λ j.
@@ -160,7 +162,7 @@ module _ {K : Type 0} (order : KeyOrder K) (lawful : IsLawful order) {V : Type 0
         → PLe lawful (start_position order (unwrap_or start r.start)) (lower order r)
         → PLt lawful (lower order r) (upper order r)
         → PLt lawful (lower order r) (item_upper order m) → IsTrue (same i.value m.value)
-        → TakesStartOf i (with_first_start start (m ∷ ms))
+        → TakesStartOf lawful r same i (with_first_start start (m ∷ ms))
     takes_start None m ms i is le good over alike = absurd (cc)
     takes_start (Some b) m ms i is le good over alike =
         let bound : b ≡ i.key.start = cc in
@@ -361,7 +363,7 @@ module _ {K : Type 0} (order : KeyOrder K) (lawful : IsLawful order) {V : Type 0
               every_weaker _ _ plan.frame.extra
               (λ i h. (
                 h.0,
-                subst (λ ys. TakesEndOf i ys) (sym body_end)
+                subst (λ ys. TakesEndOf lawful r same i ys) (sym body_end)
                     (any_right _ s.0 (other ∷ [])
                     (inl (
                       ap (λ o. unwrap_or o z.key.end) h.2,

@@ -1,5 +1,6 @@
 -- What stands on each side of a range, and the list in which it is bound or unbound.
 use Rattle.range_change.proofs.Common.{Line, Position, ◌≡◌, ℕ, zero, suc, ◌+◌, ◌-◌, ◌<◌, ◌≤◌, List, [], ◌∷◌, ◌++◌, length, take, drop, get_or, refl, ap, sym, ◌∙◌, arith, subst, Option, Some, None, Bool, true, false, length-drop, append-nil, get_or-drop, IsEquivalence, Every, KeyOrder, IsLawful, position_total, AnyRange, IsKnownRange, Item, lt_le, le_trans, PLe, PLt, line_of, Leads, Trails, IsLeft, IsRight, IsLeftOf, IsRightOf, lower, upper, item_lower, item_upper, IsWindow, option_items, Window, every_at, list_is_take_and_drop, every_weaker, every_append, every_right, tied_itself, Bound, Touches, IsInserted, IsRemoved, Overlap, IsPart, IsRemovalFrame, IsLeftFrame, IsRightFrame, ReachesBefore, ReachesAfter, flipped_bound, with_end, SameBound, IsKnownBound, joined_item, IsLeftRest, IsRightRest, IsLeftBorder, IsRightBorder, TouchesNoneBefore, TouchesNoneAfter}
+use Rattle.range_change.proofs.Tests.{not_both}
 use Rattle.range_change.proofs.Chains.{chain_above, chain_before, chain_right}
 use Rattle.range_change.proofs.ChainSides.{left_whole, left_cut, right_whole, right_cut}
 use Rattle.range_change.proofs.ChainJoins.{places_between_are_unbound, left_apart, left_joined, right_apart, right_joined, leading_last, trailing_first, places_between_are_bound}
@@ -12,9 +13,6 @@ use Rattle.range_change.proofs.BoundEdits.{opening_regroups, regrouped_out}
 use Rattle.range_change.proofs.CutParts.{cut_end, cut_start}
 use Rattle.range_change.proofs.Forms.{touches_is, bound_after}
 use Rattle.range_change.proofs.ItemPlaces.{element_at, element_at_is_read, listed_at, upto_item, from_item}
-
-both_truths : (b : Bool) → b ≡ true → b ≡ false → ⊥
-both_truths b e f = let clash : true ≡ false = sym e ∙ f in cc
 
 module _ {K : Type 0} {order : KeyOrder K} (lawful : IsLawful order) {V : Type 0}
     {same : V → V → Bool} (equal : IsEquivalence same) where
@@ -224,7 +222,7 @@ module _ {K : Type 0} {order : KeyOrder K} (lawful : IsLawful order) {V : Type 0
           left =
               left_apart line items (take place items ++ y ∷ []) (lower order r) v rest.left
               (leading_last line (take place items) y (lower order r) v rest.left.chain
-              (ends.0, λ k t. both_truths (same y.value v) t values));
+              (ends.0, λ k t. not_both values t));
           known = rest.known;
           known_start = window.known.0;
         }
@@ -293,7 +291,7 @@ module _ {K : Type 0} {order : KeyOrder K} (lawful : IsLawful order) {V : Type 0
               (upper order r) v rest.right.chain (
                 rest.right.starts.0,
                 λ k t.
-                    both_truths (same y.value v) (equal.symm y.value v ∙ t) values,
+                    not_both values (equal.symm y.value v ∙ t),
               ));
           known = rest.known;
           known_end = window.known.1;

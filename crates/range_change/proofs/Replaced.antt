@@ -12,26 +12,16 @@ use Rattle.range_change.proofs.JoinedMiddle.{seam_count, Crosses, TakesStartOf, 
 module _ {K : Type 0} (order : KeyOrder K) (lawful : IsLawful order) {V : Type 0}
     (same : V → V → Bool) (equal : IsEquivalence same) {P : Type 0} (is_good : P → Type 0)
     (rank : P → ℕ) (items : List (Item (AnyRange K) V)) (r : AnyRange K) (place count : ℕ) where
-  value_left : (run more middle made : List (Item (AnyRange K) V))
+  value_within : (run wider middle made : List (Item (AnyRange K) V))
+      → ((Q : Item (AnyRange K) V → Type 0) → Any Q run → Any Q wider)
       → Every (λ j. HasValue order same run j.value ⊎ HasValue order same middle j.value) made
-      → Every (λ j. HasValue order same (run ++ more) j.value ⊎ HasValue order same middle j.value)
-      made
-  value_left run more middle made all =
-      every_weaker _ _ made (λ j h. elim h [ inl k ↦ inl (any_left _ run more k) | inr k ↦ inr k ])
-      all
-
-  value_right : (more run middle made : List (Item (AnyRange K) V))
-      → Every (λ j. HasValue order same run j.value ⊎ HasValue order same middle j.value) made
-      → Every (λ j. HasValue order same (more ++ run) j.value ⊎ HasValue order same middle j.value)
-      made
-  value_right more run middle made all =
-      every_weaker _ _ made (λ j h. elim h [ inl k ↦ inl (any_right _ more run k) | inr k ↦ inr k ])
-      all
+      → Every (λ j. HasValue order same wider j.value ⊎ HasValue order same middle j.value) made
+  value_within run wider middle made f all =
+      every_weaker _ _ made (λ j h. elim h [ inl k ↦ inl (f _ k) | inr k ↦ inr k ]) all
 
   within_pieces : (rest body beyond : List (Item (AnyRange K) V)) (B : Item (AnyRange K) V → Type 0)
       (i : Item (AnyRange K) V) → IsKnownRange order r → Known order lawful same equal body
-      → Any (λ j. B j × Crosses order lawful same equal is_good rank items r place count j
-      × IsTrue (same i.value j.value)) body
+      → Any (λ j. B j × Crosses lawful r same j × IsTrue (same i.value j.value)) body
       → Any (λ j. B j × Overlap order j.key r × IsTrue (same i.value j.value))
       (rest ++ body ++ beyond)
   within_pieces rest body beyond B i known all h =
@@ -73,19 +63,20 @@ module _ {K : Type 0} (order : KeyOrder K) (lawful : IsLawful order) {V : Type 0
       (every_started (λ v. HasValue order same run v ⊎ HasValue order same middle v)
       left.start middle (every_weaker _ _ middle (λ j h. inr h)
       (own_values order same equal middle))) in
-      let on_left = value_left (left.extra ++ met) right.extra middle rest left.valued in
+      let on_left =
+      value_within (left.extra ++ met) run middle rest
+      (λ Q h. any_left Q (left.extra ++ met) right.extra h) left.valued in
       let on_right : Every (λ j.
       HasValue order same run j.value ⊎ HasValue order same middle j.value) beyond =
-      rw regroup (value_right left.extra (met ++ right.extra) middle beyond right.valued) in
+      rw regroup (value_within (met ++ right.extra) (left.extra ++ (met ++ right.extra)) middle
+      beyond (λ Q h. any_right Q left.extra (met ++ right.extra) h) right.valued) in
       let known_body =
       every_right _ (front ++ rest) body
       (every_left _ (front ++ rest ++ body) (beyond ++ tail) right.known) in
       let took_start =
       λ (i : Item (AnyRange K) V)
-      (h : TakesStartOf order lawful same equal is_good rank items r place count i
-      (with_first_start left.start middle)). any_ended
-      (λ j. (j.key.start ≡ i.key.start)
-      × Crosses order lawful same equal is_good rank items r place count j
+      (h : TakesStartOf lawful r same i (with_first_start left.start middle)). any_ended
+      (λ j. (j.key.start ≡ i.key.start) × Crosses lawful r same j
       × IsTrue (same i.value j.value)) right.finish (with_first_start left.start middle)
       (λ j b is g. (g.0, (g.1.0, right.reaches b is), g.2)) h in
       record {
