@@ -1,29 +1,6 @@
 -- Answers put one after the other, those that touch with equal values as one.
-use Rattle.std.proofs.Common.{◌≡◌, refl, sym, ap, ◌∙◌, ℕ, zero, suc, ◌+◌, ◌-◌, ◌<◌, Option, Some, None, Bool, true, List, [], ◌∷◌, ◌++◌, inl, inr, ◌↔◌, length, get_or, arith}
-use Rattle.std.specs.List.{AllByRecursion as Every}
-use Rattle.std.specs.Prelude.{slice_set}
-use Rattle.std.specs.declared.ops.Bound.{Bound}
-use Rattle.std.specs.declared.cmp.Ordering.TheVariants.{Equal}
-use Rattle.std.specs.Cmp.{IsEquivalence, tied_back}
-use Rattle.range_keys.specs.Order.{KeyOrder, IsLawful}
-use Rattle.range_keys.specs.Position.{start_position, end_position, position_cmp}
-use Rattle.range_keys.specs.PositionOrder.{position_total}
-use Rattle.range_keys.specs.declared.inner.position.Position.{Position}
-use Rattle.range_algebra.specs.declared.any.AnyRange.{AnyRange}
-use Rattle.range_algebra.specs.Cuts.{past, lower, upper}
-use Rattle.range_algebra.specs.Clones.{IsBoundClone, SameBound, same_start}
-use Rattle.range_algebra.specs.Range.{IsKnownRange}
-use Rattle.range_algebra.specs.Intervals.{Any}
-use Rattle.range_change.proofs.PlaceOrder.{lt_le, eq_le, eq_ge, le_trans, cases, le_lt_trans, lt_le_trans, PLe, PLt}
-use Rattle.range_algebra.proofs.Lists.{any_left, any_right, any_split, every_weaker, every_append, every_left, every_right}
-use Rattle.range_change.specs.Chains.{line_of, Leads, Respects}
+use Rattle.range_change.proofs.Common.{◌⊎◌, ◌≡◌, refl, ap, ◌∙◌, ℕ, zero, suc, ◌+◌, ◌-◌, ◌<◌, Option, Some, None, Bool, true, List, [], ◌∷◌, ◌++◌, inl, inr, ◌↔◌, length, get_or, arith, Every, slice_set, Bound, Equal, IsEquivalence, tied_back, KeyOrder, IsLawful, start_position, end_position, position_cmp, position_total, Position, AnyRange, past, lower, upper, IsBoundClone, SameBound, same_start, IsKnownRange, Any, lt_le, eq_le, eq_ge, le_trans, cases, le_lt_trans, lt_le_trans, PLe, PLt, any_left, any_split, every_weaker, every_append, every_left, every_right, line_of, Leads, Respects, Touches, Item, Answered, JoinsNoLast, IsPut, with_end, item_lower}
 use Rattle.range_change.proofs.Chains.{strictly_leads, chain_left, chain_right, chain_before, chains_join, same_is_symmetric}
-use Rattle.range_algebra.specs.Relations.{Touches}
-use Rattle.range_store.specs.declared.storage.Item.{Item}
-use Rattle.range_change.specs.Answers.{Answered}
-use Rattle.range_change.specs.Put.{JoinsNoLast, IsPut}
-use Rattle.range_change.specs.Edits.{with_end}
-use Rattle.range_change.specs.Stored.{item_lower}
 use Rattle.range_change.proofs.CutParts.{same_past}
 use Rattle.range_change.proofs.RangePieces.{any_end}
 use Rattle.range_change.proofs.Forms.{Known, Chained, Hold, touches_is}
@@ -38,6 +15,14 @@ split_last (x ∷ z ∷ zs) zero size = absurd (omega (arith, size))
 split_last (x ∷ z ∷ zs) (suc k) size =
     let rest = split_last (z ∷ zs) k (omega (arith, size)) in
     (x ∷ rest.0, rest.1, ap (λ ys. x ∷ ys) rest.2, rest.3, λ y. ap (λ ys. x ∷ ys) (rest.4 y))
+
+-- what some item is, one of the others or the last is
+any_but_end : {X : Type 0} (P : X → Type 0) (xs : List X) (y : X) → Any P (xs ++ y ∷ [])
+    → Any P xs ⊎ P y
+any_but_end P xs y h = elim (any_split P xs (y ∷ []) h) [
+  | inl k ↦ inl k
+  | inr k ↦ elim k [ inl e ↦ inr e | inr e ↦ absurd e ]
+]
 
 module _ {K : Type 0} (order : KeyOrder K) (lawful : IsLawful order) {V : Type 0}
     (same : V → V → Bool) (equal : IsEquivalence same) (r : AnyRange K) where
@@ -94,8 +79,7 @@ module _ {K : Type 0} (order : KeyOrder K) (lawful : IsLawful order) {V : Type 0
       (upto : PLe lawful (upper order key) n) where
     later_place_is_not_before : PLe lawful m n
     later_place_is_not_before =
-        le_trans lawful _ _ _
-        from (le_trans lawful _ _ _ (lt_le lawful _ _ inside.2) upto)
+        le_trans lawful _ _ _ from (le_trans lawful _ _ _ (lt_le lawful _ _ inside.2) upto)
 
     lies_up_to_later_place : (j : Item (AnyRange K) V) → LiesUpTo m j → LiesUpTo n j
     lies_up_to_later_place j h = (
@@ -125,37 +109,32 @@ module _ {K : Type 0} (order : KeyOrder K) (lawful : IsLawful order) {V : Type 0
               let P = λ (b : Answered K V). HoldsAt p b.key × Gives W b.answer in
               let old = was.has p W alike in (
                 λ h. any_left P answers (a ∷ []) (old.0 h),
-                λ h.
-                    elim (any_split P answers (a ∷ []) h) [
-                      | inl g ↦ old.1 g
-                      | inr g ↦ elim g [ inl e ↦ absurd e.1 | inr e ↦ absurd e ]
-                    ],
+                λ h. elim (any_but_end P answers a h) [ inl g ↦ old.1 g | inr e ↦ absurd e.1 ],
               );
           valued = more_valued a middle was.valued;
         }
 
-    lead_all : (v : V) (j : Item (AnyRange K) V)
-        → position_cmp order.cmp (lower order j.key) (lower order key) ≡ Equal → j.value ≡ v
-        → (xs : List (Item (AnyRange K) V)) → Chained order lawful same equal xs
+    lead_all : (j : Item (AnyRange K) V)
+        → position_cmp order.cmp (lower order j.key) (lower order key) ≡ Equal → (xs : List (Item (AnyRange K) V)) → Chained order lawful same equal xs
         → Every (LiesUpTo m) xs
         → ((k : ℕ) (d : Item (AnyRange K) V) → k + 1 ≡ length xs
-        → Touches order (get_or xs k d).key key → same (get_or xs k d).value v ≡ true → ⊥)
+        → Touches order (get_or xs k d).key key → same (get_or xs k d).value j.value ≡ true → ⊥)
         → Every (λ x. Leads (line_of order lawful same equal) x (item_lower order j) j.value) xs
-    lead_all v j at is [] chain within apart = tt
-    lead_all v j at is (x ∷ []) chain within apart =
+    lead_all j at [] chain within apart = tt
+    lead_all j at (x ∷ []) chain within apart =
         let before =
         le_trans lawful _ _ _ within.0.2 from in (
           (
             le_trans lawful _ _ _ before (eq_ge lawful _ _ at),
             λ le alike. apart 0 x refl
                 ((touches_is order lawful x.key.end key inside.0 inside.2 before).1
-                (le_trans lawful _ _ _ (eq_ge lawful _ _ at) le)) (rw is at alike),
+                (le_trans lawful _ _ _ (eq_ge lawful _ _ at) le)) alike,
           ),
           tt,
         )
-    lead_all v j at is (x ∷ y ∷ ys) chain within apart =
+    lead_all j at (x ∷ y ∷ ys) chain within apart =
         let rest =
-        lead_all v j at is (y ∷ ys) chain.1.1 within.1
+        lead_all j at (y ∷ ys) chain.1.1 within.1
         (λ k d size. apart (suc k) d (omega (arith, size))) in
         let strict =
         le_lt_trans lawful _ _ _ chain.1.0.0 (lt_le_trans lawful _ _ _ chain.1.1.0 rest.0.0) in (
@@ -163,20 +142,17 @@ module _ {K : Type 0} (order : KeyOrder K) (lawful : IsLawful order) {V : Type 0
           rest,
         )
 
-    filled_with_item_after : (v : V) (value : Option V) (j : Item (AnyRange K) V)
+    filled_with_item_after : (v : V) (value : Option V) (own : AnyRange K)
         (middle : List (Item (AnyRange K) V)) → IsFilledUpTo m answers middle
-        → IsKnownRange order j.key
-        → position_cmp order.cmp (lower order j.key) (lower order key) ≡ Equal
-        → position_cmp order.cmp (upper order j.key) (upper order key) ≡ Equal → j.value ≡ v
+        → IsKnownRange order own
+        → position_cmp order.cmp (lower order own) (lower order key) ≡ Equal
+        → position_cmp order.cmp (upper order own) (upper order key) ≡ Equal
         → JoinsNoLast order same middle key v
         → IsFilledUpTo n (answers ++ record { key = key; value = value; answer = Some v } ∷ [])
-        (middle ++ j ∷ [])
-    filled_with_item_after v value j middle was known at to is apart =
+        (middle ++ record { key = own; value = v } ∷ [])
+    filled_with_item_after v value own middle was known at to apart =
         let a : Answered K V = record { key = key; value = value; answer = Some v } in
-        let lo = lower order key in
-        let hi = upper order key in
-        let p0 = lower order j.key in
-        let q0 = upper order j.key in
+        let j : Item (AnyRange K) V = record { key = own; value = v } in
         let good =
         lt_le_trans lawful _ _ _ (le_lt_trans lawful _ _ _ (eq_le lawful _ _ at) inside.2)
         (eq_ge lawful _ _ to) in
@@ -185,7 +161,7 @@ module _ {K : Type 0} (order : KeyOrder K) (lawful : IsLawful order) {V : Type 0
               every_append (λ i. IsKnownRange order i.key) middle (j ∷ []) was.known (known, tt);
           chain =
               chains_join (line_of order lawful same equal) middle j [] was.chain (good, tt)
-              (lead_all v j at is middle was.chain was.inside
+              (lead_all j at middle was.chain was.inside
               (λ k d size. let last : k
               ≡ length middle - 1 =
               omega (arith, size) in rw last (apart d (omega (arith, size)))));
@@ -203,64 +179,51 @@ module _ {K : Type 0} (order : KeyOrder K) (lawful : IsLawful order) {V : Type 0
               let P = λ (b : Answered K V). HoldsAt p b.key × Gives W b.answer in
               let Q = λ (i : Item (AnyRange K) V). HoldsAt p i.key × (W i.value ≡ true) in
               let old = was.has p W alike in (
-                λ h. elim (any_split Q middle (j ∷ []) h) [
+                λ h. elim (any_but_end Q middle j h) [
                   | inl g ↦ any_left P answers (a ∷ []) (old.0 g)
-                  | inr g ↦ elim g [
-                    | inl e ↦
-                        any_end P answers a (
-                          (
-                            le_trans lawful _ _ _ (eq_ge lawful _ _ at) e.0.0,
-                            lt_le_trans lawful _ _ _ e.0.1 (eq_le lawful _ _ to),
-                          ),
-                          rw is at e.1,
-                        )
-                    | inr e ↦ absurd e
-                  ]
+                  | inr e ↦
+                      any_end P answers a (
+                        (
+                          le_trans lawful _ _ _ (eq_ge lawful _ _ at) e.0.0,
+                          lt_le_trans lawful _ _ _ e.0.1 (eq_le lawful _ _ to),
+                        ),
+                        e.1,
+                      )
                 ],
-                λ h. elim (any_split P answers (a ∷ []) h) [
+                λ h. elim (any_but_end P answers a h) [
                   | inl g ↦ any_left Q middle (j ∷ []) (old.1 g)
-                  | inr g ↦ elim g [
-                    | inl e ↦
-                        any_end Q middle j (
-                          (
-                            le_trans lawful _ _ _ (eq_le lawful _ _ at) e.0.0,
-                            lt_le_trans lawful _ _ _ e.0.1 (eq_ge lawful _ _ to),
-                          ),
-                          rw is e.1,
-                        )
-                    | inr e ↦ absurd e
-                  ]
+                  | inr e ↦
+                      any_end Q middle j (
+                        (
+                          le_trans lawful _ _ _ (eq_le lawful _ _ at) e.0.0,
+                          lt_le_trans lawful _ _ _ e.0.1 (eq_ge lawful _ _ to),
+                        ),
+                        e.1,
+                      )
                 ],
               );
           valued =
               every_append (λ i. Any (λ b. b.answer ≡ Some i.value) (answers ++ a ∷ [])) middle
               (j ∷ []) (more_valued a middle was.valued)
-              (any_end (λ b. b.answer ≡ Some j.value) answers a (ap Some (sym is)), tt);
+              (any_end (λ b. b.answer ≡ Some j.value) answers a refl, tt);
         }
 
     filled_on : (v : V) (value : Option V) (front : List (Item (AnyRange K) V))
-        (last j : Item (AnyRange K) V) → IsFilledUpTo m answers (front ++ last ∷ [])
-        → IsKnownRange order j.key → lower order j.key ≡ lower order last.key
-        → position_cmp order.cmp (upper order j.key) (upper order key) ≡ Equal
-        → j.value ≡ last.value → PLe lawful (lower order key) (upper order last.key)
-        → same last.value v ≡ true
+        (last : Item (AnyRange K) V) (e : Bound K) → IsFilledUpTo m answers (front ++ last ∷ [])
+        → IsKnownRange order (with_end last e).key
+        → position_cmp order.cmp (past_of e) (upper order key) ≡ Equal
+        → PLe lawful (lower order key) (upper order last.key) → same last.value v ≡ true
         → IsFilledUpTo n (answers ++ record { key = key; value = value; answer = Some v } ∷ [])
-        (front ++ j ∷ [])
-    filled_on v value front last j was known at to is touches alike_values =
+        (front ++ with_end last e ∷ [])
+    filled_on v value front last e was known to touches alike_values =
         let a : Answered K V = record { key = key; value = value; answer = Some v } in
-        let lo = lower order key in
-        let hi = upper order key in
-        let q0 = upper order j.key in
-        let low = lower order last.key in
-        let high = upper order last.key in
+        let j = with_end last e in
         let tail = chain_right (line_of order lawful same equal) front (last ∷ []) was.chain in
         let within = every_right (LiesUpTo m) front (last ∷ []) was.inside in
-        let before : PLe lawful high lo = le_trans lawful _ _ _ within.0.2 from in
-        let past_lo : PLt lawful low hi =
-        lt_le_trans lawful _ _ _ tail.0
-        (le_trans lawful _ _ _ before (lt_le lawful _ _ inside.2)) in
-        let good : PLt lawful (lower order j.key) q0 =
-        rw at (lt_le_trans lawful _ _ _ past_lo (eq_ge lawful _ _ to)) in
+        let before = le_trans lawful _ _ _ within.0.2 from in
+        let upto_hi = le_trans lawful _ _ _ before (lt_le lawful _ _ inside.2) in
+        let good = lt_le_trans lawful _ _ _ (lt_le_trans lawful _ _ _ tail.0 upto_hi)
+        (eq_ge lawful _ _ to) in
         let leads = chain_before (line_of order lawful same equal) front last [] was.chain in
         let old_valued =
         every_right (λ i. Any (λ b. b.answer ≡ Some i.value) answers) front
@@ -272,13 +235,13 @@ module _ {K : Type 0} (order : KeyOrder K) (lawful : IsLawful order) {V : Type 0
           chain =
               chains_join (line_of order lawful same equal) front j []
               (chain_left (line_of order lawful same equal) front (last ∷ []) was.chain) (good, tt)
-              (rw (at, is) leads);
+              leads;
           inside =
               every_append (LiesUpTo n) front (j ∷ [])
               (every_weaker (LiesUpTo m) (LiesUpTo n) front lies_up_to_later_place
               (every_left (LiesUpTo m) front (last ∷ []) was.inside)) (
                 (
-                  rw at within.0.0,
+                  within.0.0,
                   le_trans lawful _ _ _ (eq_le lawful _ _ to) inside.3,
                   le_trans lawful _ _ _ (eq_le lawful _ _ to) upto,
                 ),
@@ -287,60 +250,46 @@ module _ {K : Type 0} (order : KeyOrder K) (lawful : IsLawful order) {V : Type 0
           has = λ p W alike.
               let P = λ (b : Answered K V). HoldsAt p b.key × Gives W b.answer in
               let Q = λ (i : Item (AnyRange K) V). HoldsAt p i.key × (W i.value ≡ true) in
-              let old = was.has p W alike in
-              let into : PLt lawful p hi → PLt lawful p q0 =
-              λ l. lt_le_trans lawful _ _ _ l (eq_ge lawful _ _ to) in (
-                λ h. elim (any_split Q front (j ∷ []) h) [
+              let old = was.has p W alike in (
+                λ h. elim (any_but_end Q front j h) [
                   | inl g ↦ any_left P answers (a ∷ []) (old.0 (any_left Q front (last ∷ []) g))
-                  | inr g ↦ elim g [
-                    | inl e ↦ elim (cases lawful p high) [
-                      | inl l ↦
-                          any_left P answers (a ∷ [])
-                          (old.0 (any_right Q front (last ∷ [])
-                          (inl ((rw at at e.0.0, l), rw is at e.1))))
-                      | inr le ↦
-                          any_end P answers a (
-                            (
-                              le_trans lawful _ _ _ touches le,
-                              lt_le_trans lawful _ _ _ e.0.1 (eq_le lawful _ _ to),
-                            ),
-                            alike last.value v alike_values (rw is at e.1),
-                          )
-                    ]
-                    | inr e ↦ absurd e
+                  | inr e ↦ elim (cases lawful p (upper order last.key)) [
+                    | inl l ↦
+                        any_left P answers (a ∷ []) (old.0 (any_end Q front last ((e.0.0, l), e.1)))
+                    | inr le ↦
+                        any_end P answers a (
+                          (
+                            le_trans lawful _ _ _ touches le,
+                            lt_le_trans lawful _ _ _ e.0.1 (eq_le lawful _ _ to),
+                          ),
+                          alike last.value v alike_values e.1,
+                        )
                   ]
                 ],
-                λ h. elim (any_split P answers (a ∷ []) h) [
-                  | inl g ↦ elim (any_split Q front (last ∷ []) (old.1 g)) [
+                λ h. elim (any_but_end P answers a h) [
+                  | inl g ↦ elim (any_but_end Q front last (old.1 g)) [
                     | inl f ↦ any_left Q front (j ∷ []) f
-                    | inr f ↦ elim f [
-                      | inl e ↦
-                          any_end Q front j (
-                            (
-                              rw at e.0.0,
-                              into (lt_le_trans lawful _ _ _ e.0.1 (le_trans lawful _ _ _ before
-                                  (lt_le lawful _ _ inside.2))),
-                            ),
-                            rw is e.1,
-                          )
-                      | inr e ↦ absurd e
-                    ]
-                  ]
-                  | inr g ↦ elim g [
-                    | inl e ↦
+                    | inr e ↦
                         any_end Q front j (
                           (
-                            rw at (le_trans lawful _ _ _ (le_trans lawful _ _ _
-                                (lt_le lawful _ _ tail.0) before)
-                                e.0.0),
-                            into e.0.1,
+                            e.0.0,
+                            lt_le_trans lawful _ _ _ (lt_le_trans lawful _ _ _ e.0.1 upto_hi)
+                                (eq_ge lawful _ _ to),
                           ),
-                          rw is (alike v last.value
-                              (same_is_symmetric (line_of order lawful same equal) last.value v
-                              alike_values) e.1),
+                          e.1,
                         )
-                    | inr e ↦ absurd e
                   ]
+                  | inr e ↦
+                      any_end Q front j (
+                        (
+                          le_trans lawful _ _ _ (le_trans lawful _ _ _ (lt_le lawful _ _ tail.0)
+                              before) e.0.0,
+                          lt_le_trans lawful _ _ _ e.0.1 (eq_ge lawful _ _ to),
+                        ),
+                        alike v last.value
+                            (same_is_symmetric (line_of order lawful same equal) last.value v
+                            alike_values) e.1,
+                      )
                 ],
               );
           valued =
@@ -348,7 +297,7 @@ module _ {K : Type 0} (order : KeyOrder K) (lawful : IsLawful order) {V : Type 0
               (j ∷ []) (more_valued a front
               (every_left (λ i. Any (λ b. b.answer ≡ Some i.value) answers) front
               (last ∷ []) was.valued))
-              (any_left (λ b. b.answer ≡ Some j.value) answers (a ∷ []) (rw is old_valued.0), tt);
+              (any_left (λ b. b.answer ≡ Some j.value) answers (a ∷ []) old_valued.0, tt);
         }
 
     module _ (is_clone : K → K → Type 0)
@@ -361,13 +310,12 @@ module _ {K : Type 0} (order : KeyOrder K) (lawful : IsLawful order) {V : Type 0
       fill_more value None old new was put = rw put (filled_free value old was)
       fill_more value (Some v) old new was (inl put) =
           rw put.list (filled_with_item_after v value
-          (record { key = record { start = put.start; end = put.end }; value = v }) old was
-          put.known (tied_back (position_total order.cmp lawful.total) (lower order key)
+          (record { start = put.start; end = put.end }) old was put.known (tied_back (position_total order.cmp lawful.total) (lower order key)
           (start_position order put.start) (same_start order lawful key.start put.start
           (clones key.start put.start put.start_clone)))
           (tied_back (position_total order.cmp lawful.total) (upper order key)
           (past_of put.end) (same_past order lawful key.end put.end
-          (clones key.end put.end put.end_clone))) refl put.apart)
+          (clones key.end put.end put.end_clone))) put.apart)
       fill_more value (Some v) old new was (inr put) =
           let some : 0 < length old = put.joins.0 in
           let parts = split_last old (length old - 1) (omega (arith, some)) in
@@ -379,11 +327,9 @@ module _ {K : Type 0} (order : KeyOrder K) (lawful : IsLawful order) {V : Type 0
           let within = every_right (LiesUpTo m) parts.0 (last ∷ []) was_parts.inside in
           let known =
           every_right (λ i. IsKnownRange order i.key) parts.0 (last ∷ []) was_parts.known in
-          let before =
-          le_trans lawful _ _ _ within.0.2 from in
-          rw list (filled_on v value parts.0 last j was_parts (known.0.0, put.known) refl
+          let before = le_trans lawful _ _ _ within.0.2 from in
+          rw list (filled_on v value parts.0 last put.end was_parts (known.0.0, put.known)
           (tied_back (position_total order.cmp lawful.total) (upper order key)
           (past_of put.end) (same_past order lawful key.end put.end
-          (clones key.end put.end put.end_clone))) refl
-          ((touches_is order lawful last.key.end key inside.0 inside.2 before).0 joins.0)
-          joins.1)
+          (clones key.end put.end put.end_clone)))
+          ((touches_is order lawful last.key.end key inside.0 inside.2 before).0 joins.0) joins.1)

@@ -1,35 +1,12 @@
 -- A range that lies apart from all stored ones, and the list with it.
-use Rattle.std.proofs.Common.{◌≡◌, ℕ, ◌+◌, ◌<◌, List, [], ◌∷◌, ◌++◌, length, take, drop, get_or, refl, ap, sym, subst, ◌∙◌, arith, Option, Some, None, Bool, true, false, ◌&&◌, IsTrue, ◌⊎◌, ◌↔◌, inl, inr}
-use Rattle.std.specs.List.{AllByRecursion as Every}
-use Rattle.std.specs.Prelude.{insert, IfSome, MatchOption}
-use Rattle.std.specs.Option.{ForSome}
-use Rattle.std.specs.Cmp.{IsEquivalence}
-use Rattle.std.specs.declared.ops.Bound.{Bound}
-use Rattle.range_keys.specs.Order.{KeyOrder, IsLawful}
-use Rattle.range_keys.specs.Position.{end_position, position_cmp, start_position}
-use Rattle.range_keys.specs.declared.inner.position.Position.{Position}
-use Rattle.range_keys.proofs.Orderings.{less_or_not}
-use Rattle.range_change.specs.Chains.{line_of, IsBoundTo}
+use Rattle.range_change.proofs.Common.{◌≡◌, ℕ, ◌+◌, ◌<◌, List, [], ◌∷◌, ◌++◌, length, take, drop, get_or, refl, ap, sym, subst, ◌∙◌, arith, Option, Some, None, Bool, true, false, ◌&&◌, IsTrue, ◌⊎◌, ◌↔◌, inl, inr, Every, insert, IfSome, MatchOption, ForSome, IsEquivalence, Bound, KeyOrder, IsLawful, end_position, position_cmp, start_position, Position, less_or_not, line_of, IsBoundTo, flipped, starts_at_end, lower, upper, Le, Lt, eq_ge, eq_le, le_lt_trans, le_refl, le_trans, lt_le, lt_le_trans, lt_not_le, lt_trans, not_le, IsEmptyRange, IsKnownRange, AnyRange, drop_all, list_is_take_and_drop, any_none, any_split, every_append, every_right, every_weaker, flipped_bound_is_past, IsAt, place_before, Item, IsBoundAfter, item_lower, item_upper, IsStored, IsConnectedTo, IsConnectedToSome, Overlap, LiesBefore, Touches, IsFound, IsJustBefore}
+use Rattle.std.proofs.lemmas.Bool.{and_parts, true_from_ne_false}
+use Rattle.range_change.proofs.Tests.{not_both}
 use Rattle.range_change.proofs.Chains.{chain_above, chain_before, chain_right, strictly_leads, strictly_trails}
 use Rattle.range_change.proofs.ChainSides.{left_whole, right_whole}
 use Rattle.range_change.proofs.ChainJoins.{places_between_are_bound, left_apart, right_apart}
-use Rattle.range_algebra.specs.Compared.{flipped, starts_at_end}
-use Rattle.range_algebra.specs.Cuts.{lower, upper}
-use Rattle.range_algebra.specs.Intervals.{Le, Lt}
-use Rattle.range_change.proofs.PlaceOrder.{eq_ge, eq_le, le_lt_trans, le_refl, le_trans, lt_le, lt_le_trans, lt_not_le, lt_trans, not_le}
-use Rattle.range_algebra.specs.Range.{IsEmptyRange, IsKnownRange}
-use Rattle.range_algebra.specs.declared.any.AnyRange.{AnyRange}
-use Rattle.range_algebra.proofs.Lists.{drop_all, list_is_take_and_drop, any_none, any_split, every_append, every_left, every_right, every_weaker}
-use Rattle.range_algebra.proofs.Places.{flipped_bound_is_past}
-use Rattle.range_store.specs.ListPlaces.{IsAt, place_before}
-use Rattle.range_store.specs.declared.storage.Item.{Item}
-use Rattle.range_change.specs.Bindings.{IsBoundAfter}
 use Rattle.range_change.specs.Apart.{LiesApartAt, IsAnswerAt, IsGap, LiesApart}
-use Rattle.range_change.specs.Stored.{item_lower, item_upper, IsStored}
-use Rattle.range_change.specs.Lookups.{IsConnectedTo, IsConnectedToSome, Overlap}
-use Rattle.range_algebra.specs.Relations.{LiesBefore, Touches}
-use Rattle.range_change.specs.Window.{IsFound, IsJustBefore}
-use Rattle.range_change.proofs.Forms.{known_take, known_drop, Chained, Known, before_is, bound_after, chain_stored, nonempty_good, stored_chain, stored_known, touches_by, touches_is}
+use Rattle.range_change.proofs.Forms.{Chained, Known, before_is, bound_after, chain_stored, nonempty_good, stored_chain, touches_by, touches_is, every_front, every_back}
 use Rattle.range_change.proofs.Overlaps.{any_at}
 use Rattle.range_change.proofs.Comparisons.{touching_same}
 use Rattle.range_change.proofs.CoveredPlaces.{chained_items_have_places}
@@ -56,20 +33,12 @@ last_place : {X P : Type 0} (is_good : P → Type 0) (rank : P → ℕ) (items :
 last_place is_good rank items None at = rw at refl
 last_place is_good rank items (Some p) at = at
 
-true_by : (b : Bool) → (IsTrue b → ⊥) ⊎ IsTrue b
-true_by true = inr refl
-true_by false = inl (λ e. cc)
-
 must_touch : (A : Type 0) (t : Bool) → A → (A × (IsTrue t → ⊥) → ⊥) → IsTrue t
-must_touch A t a h = elim (true_by t) [ inl k ↦ absurd (h (a, k)) | inr k ↦ k ]
+must_touch A t a h = true_from_ne_false t (λ e. h (a, λ is. not_both e is))
 
 one_fails : (free a b : Bool) → free ≡ (a && b) → free ≡ false → (a ≡ false) ⊎ (b ≡ false)
 one_fails free true b e f = inr (sym e ∙ f)
 one_fails free false b e f = inl refl
-
-both_hold : (free a b : Bool) → free ≡ (a && b) → IsTrue free → IsTrue a × IsTrue b
-both_hold free true b e f = (refl, sym e ∙ f)
-both_hold free false b e f = absurd (let clash : false ≡ true = sym e ∙ f in cc)
 
 module _ {K : Type 0} (order : KeyOrder K) (lawful : IsLawful order) where
   abbrev PLe : Position K → Position K → Type 0
@@ -143,8 +112,7 @@ module _ {K : Type 0} (order : KeyOrder K) (lawful : IsLawful order) where
       known_at : (n : ℕ) (x : Item (AnyRange K) V) → n < length items → x ≡ get_or items n x
           → IsKnownRange order x.key
       known_at n x within read =
-          item_at (λ i. IsKnownRange order i.key) items n x
-          (stored_known order lawful same equal items stored) within read
+          item_at (λ i. IsKnownRange order i.key) items n x stored.known within read
 
       clear_front : (n : ℕ) (x : Item (AnyRange K) V) → n < length items → x ≡ get_or items n x
           → LiesApart order x.key r → Every (Before r) (take (n + 1) items)
@@ -178,167 +146,131 @@ module _ {K : Type 0} (order : KeyOrder K) (lawful : IsLawful order) where
           rw (from_item items n x within read) (every_weaker _ _ (x ∷ drop (n + 1) items)
           (λ y h. lt_le_trans lawful _ _ _ own h) above)
 
-      clear_before : {P : Type 0} (is_good : P → Type 0) (rank : P → ℕ)
-          (good_in_range : (p : P) → is_good p → rank p < length items) (before : Option P)
-          (place : ℕ) (b : Bool) → IsJustBefore is_good rank before place
-          → IsAnswerAt order (λ i. LiesApart order i.key r) rank items before b → IsTrue b
-          → Every (Before r) (take place items)
-      clear_before is_good rank good_in_range None place b at answer h = rw at tt
-      clear_before is_good rank good_in_range (Some q) place b at answer h =
-          let within = good_in_range q at.0 in
-          let x = element_at items (rank q) within in
-          let read = element_at_is_read items (rank q) within x in
-          rw (← at.1) (clear_front (rank q) x within read ((answer x read).0 h))
+      -- by the answers at positions of a container
+      module _ {P : Type 0} (is_good : P → Type 0) (rank : P → ℕ)
+          (good_in_range : (p : P) → is_good p → rank p < length items) where
+        clear_before : (before : Option P) (place : ℕ) (b : Bool)
+            → IsJustBefore is_good rank before place
+            → IsAnswerAt order (λ i. LiesApart order i.key r) rank items before b → IsTrue b
+            → Every (Before r) (take place items)
+        clear_before None place b at answer h = rw at tt
+        clear_before (Some q) place b at answer h =
+            let within = good_in_range q at.0 in
+            let x = element_at items (rank q) within in
+            let read = element_at_is_read items (rank q) within x in
+            rw (← at.1) (clear_front (rank q) x within read ((answer x read).0 h))
 
-      clear_after : {P : Type 0} (is_good : P → Type 0) (rank : P → ℕ)
-          (good_in_range : (p : P) → is_good p → rank p < length items) (from : Option P)
-          (place : ℕ) (b : Bool) → IsAt is_good rank (length items) from place
-          → IsAnswerAt order (λ i. LiesApart order r i.key) rank items from b → IsTrue b
-          → Every (Behind r) (drop place items)
-      clear_after is_good rank good_in_range None place b at answer h =
-          rw (drop_all items place at) tt
-      clear_after is_good rank good_in_range (Some q) place b at answer h =
-          let within = good_in_range q at.0 in
-          let x = element_at items (rank q) within in
-          let read = element_at_is_read items (rank q) within x in
-          rw (← at.1) (clear_back (rank q) x within read ((answer x read).0 h))
+        clear_after : (from : Option P) (place : ℕ) (b : Bool)
+            → IsAt is_good rank (length items) from place
+            → IsAnswerAt order (λ i. LiesApart order r i.key) rank items from b → IsTrue b
+            → Every (Behind r) (drop place items)
+        clear_after None place b at answer h = rw (drop_all items place at) tt
+        clear_after (Some q) place b at answer h =
+            let within = good_in_range q at.0 in
+            let x = element_at items (rank q) within in
+            let read = element_at_is_read items (rank q) within x in
+            rw (← at.1) (clear_back (rank q) x within read ((answer x read).0 h))
 
-      -- where the last of all lies apart, the range can follow it
-      pub all_before : {P : Type 0} (is_good : P → Type 0) (rank : P → ℕ)
-          (good_in_range : (p : P) → is_good p → rank p < length items) (last : Option P) (b : Bool)
-          → MatchOption last (items ≡ []) (λ p. is_good p × (rank p + 1 ≡ length items))
-          → IsAnswerAt order (λ i. LiesApart order i.key r) rank items last b → IsTrue b
-          → LiesApartAt order items r (length items)
-      all_before is_good rank good_in_range last b at answer h =
+        -- where the last of all lies apart, the range can follow it
+        pub all_before : (last : Option P) (b : Bool)
+            → MatchOption last (items ≡ []) (λ p. is_good p × (rank p + 1 ≡ length items))
+            → IsAnswerAt order (λ i. LiesApart order i.key r) rank items last b → IsTrue b
+            → LiesApartAt order items r (length items)
+        all_before last b at answer h = record {
+          in_range = omega arith;
+          before =
+              clear_before last (length items) b (last_place is_good rank items last at) answer h;
+          behind = rw (drop_all items (length items) refl) tt;
+        }
+
+        -- where the first of all lies apart, the range can stand before it
+        pub all_behind : (first : Option P) (b : Bool) → IsAt is_good rank (length items) first 0
+            → IsAnswerAt order (λ i. LiesApart order r i.key) rank items first b → IsTrue b
+            → IfSome first (λ p. is_good p × LiesApartAt order items r (rank p))
+        all_behind None b at answer h = tt
+        all_behind (Some p) b at answer h = (
+          at.0,
           record {
-            in_range = omega arith;
-            before =
-                clear_before is_good rank good_in_range last (length items) b
-                (last_place is_good rank items last at) answer h;
-            behind = rw (drop_all items (length items) refl) tt;
-          }
+            in_range = omega (arith, at.1);
+            before = rw at.1 tt;
+            behind = clear_after (Some p) (rank p) b (at.0, refl) answer h;
+          },
+        )
 
-      -- where the first of all lies apart, the range can stand before it
-      pub all_behind : {P : Type 0} (is_good : P → Type 0) (rank : P → ℕ)
-          (good_in_range : (p : P) → is_good p → rank p < length items) (first : Option P)
-          (b : Bool) → IsAt is_good rank (length items) first 0
-          → IsAnswerAt order (λ i. LiesApart order r i.key) rank items first b → IsTrue b
-          → IfSome first (λ p. is_good p × LiesApartAt order items r (rank p))
-      all_behind is_good rank good_in_range None b at answer h = tt
-      all_behind is_good rank good_in_range (Some p) b at answer h = (
-        at.0,
-        record {
-          in_range = omega (arith, at.1);
-          before = rw at.1 tt;
-          behind =
-              clear_after is_good rank good_in_range (Some p) (rank p) b (at.0, refl) answer h;
-        },
-      )
+        refused_previous_is_connected : (before : Option P) (place : ℕ) (b : Bool)
+            → IsJustBefore is_good rank before place
+            → IsAnswerAt order (λ i. LiesApart order i.key r) rank items before b
+            → Every (λ i. PLt (end_position order i.key.end) (lower order r)) (take place items)
+            → b ≡ false → IsConnectedToSome order items r
+        refused_previous_is_connected None place b at answer below f =
+            absurd (let clash : false ≡ true = sym f ∙ answer in cc)
+        refused_previous_is_connected (Some q) place b at answer below f =
+            let within = good_in_range q at.0 in
+            let x = element_at items (rank q) within in
+            let read = element_at_is_read items (rank q) within x in
+            let last =
+            every_right (λ i. PLt (end_position order i.key.end) (lower order r))
+            (take (rank q) items) (x ∷ [])
+            (rw (upto_item items (rank q) place x at.1 within read) at below) in
+            let refused : LiesApart order x.key r → ⊥ = λ h. let t =
+            (answer x read).1 h in let clash : false ≡ true = sym f ∙ t in cc in
+            any_at (λ i. IsConnectedTo order i.key r) items (rank q) x within read
+            (inr (inl (must_touch (LiesBefore order x.key r)
+            (starts_at_end order x.key.end (lower order r)) last.0 refused)))
 
-      refused_previous_is_connected : {P : Type 0} (is_good : P → Type 0) (rank : P → ℕ)
-          (good_in_range : (p : P) → is_good p → rank p < length items) (before : Option P)
-          (place : ℕ) (b : Bool) → IsJustBefore is_good rank before place
-          → IsAnswerAt order (λ i. LiesApart order i.key r) rank items before b
-          → Every (λ i. PLt (end_position order i.key.end) (lower order r)) (take place items)
-          → b ≡ false → IsConnectedToSome order items r
-      refused_previous_is_connected is_good rank good_in_range None place b at answer below f =
-          absurd (let clash : false ≡ true = sym f ∙ answer in cc)
-      refused_previous_is_connected is_good rank good_in_range (Some q) place b at answer below f =
-          let within = good_in_range q at.0 in
-          let x = element_at items (rank q) within in
-          let read = element_at_is_read items (rank q) within x in
-          let last =
-          every_right (λ i. PLt (end_position order i.key.end) (lower order r))
-          (take (rank q) items) (x ∷ [])
-          (rw (upto_item items (rank q) place x at.1 within read) at below) in
-          let refused : LiesApart order x.key r → ⊥ = λ h. let t =
-          (answer x read).1 h in let clash : false ≡ true = sym f ∙ t in cc in
-          any_at (λ i. IsConnectedTo order i.key r) items (rank q) x within read
-          (inr
-          (inl (must_touch (LiesBefore order x.key r)
-          (starts_at_end order x.key.end (lower order r)) last.0 refused)))
+        refused_next_is_connected : (from : Option P) (place : ℕ) (b : Bool)
+            → IsAt is_good rank (length items) from place
+            → IsAnswerAt order (λ i. LiesApart order r i.key) rank items from b
+            → Every (λ i. PLe (lower order r) (end_position order i.key.end)) (drop place items)
+            → b ≡ false → IsConnectedToSome order items r
+        refused_next_is_connected None place b at answer above f =
+            absurd (let clash : false ≡ true = sym f ∙ answer in cc)
+        refused_next_is_connected (Some q) place b at answer above f =
+            let within = good_in_range q at.0 in
+            let x = element_at items (rank q) within in
+            let read = element_at_is_read items (rank q) within x in
+            let more : drop place items ≡ x ∷ drop (rank q + 1) items =
+            ap (λ n. drop n items) (sym at.1) ∙ from_item items (rank q) x within read in
+            let ends : Every (λ i. PLe (lower order r) (end_position order i.key.end))
+            (x ∷ drop (rank q + 1) items) = rw more at above in
+            let refused : LiesApart order r x.key → ⊥ = λ h. let t =
+            (answer x read).1 h in let clash : false ≡ true = sym f ∙ t in cc in
+            any_at (λ i. IsConnectedTo order i.key r) items (rank q) x within read
+            (elim (less_or_not (position_cmp order.cmp (end_position order r.end)
+            (lower order x.key))) [
+              | inl l ↦
+                  inr (inr (must_touch (LiesBefore order r x.key)
+                  (starts_at_end order r.end (lower order x.key)) l refused))
+              | inr l ↦ inl (λ k. lt_not_le lawful _ _ k ends.0, l)
+            ])
 
-      refused_next_is_connected : {P : Type 0} (is_good : P → Type 0) (rank : P → ℕ)
-          (good_in_range : (p : P) → is_good p → rank p < length items) (from : Option P)
-          (place : ℕ) (b : Bool) → IsAt is_good rank (length items) from place
-          → IsAnswerAt order (λ i. LiesApart order r i.key) rank items from b
-          → Every (λ i. PLe (lower order r) (end_position order i.key.end)) (drop place items)
-          → b ≡ false → IsConnectedToSome order items r
-      refused_next_is_connected is_good rank good_in_range None place b at answer above f =
-          absurd (let clash : false ≡ true = sym f ∙ answer in cc)
-      refused_next_is_connected is_good rank good_in_range (Some q) place b at answer above f =
-          let cmp = position_cmp order.cmp in
-          let within = good_in_range q at.0 in
-          let x = element_at items (rank q) within in
-          let read = element_at_is_read items (rank q) within x in
-          let more : drop place items ≡ x ∷ drop (rank q + 1) items =
-          ap (λ n. drop n items) (sym at.1) ∙ from_item items (rank q) x within read in
-          let ends : Every (λ i. PLe (lower order r) (end_position order i.key.end))
-          (x ∷ drop (rank q + 1) items) = rw more at above in
-          let refused : LiesApart order r x.key → ⊥ = λ h. let t =
-          (answer x read).1 h in let clash : false ≡ true = sym f ∙ t in cc in
-          any_at (λ i. IsConnectedTo order i.key r) items (rank q) x within read
-          (elim (less_or_not (cmp (end_position order r.end) (lower order x.key))) [
-            | inl l ↦
-                inr
-                (inr (must_touch (LiesBefore order r x.key)
-                (starts_at_end order r.end (lower order x.key)) l refused))
-            | inr l ↦
-                inl (
-                  λ k. lt_not_le lawful _ _ k ends.0,
-                  l,
-                )
-          ])
-
-      taken_by : {P : Type 0} (is_good : P → Type 0) (rank : P → ℕ)
-          (good_in_range : (p : P) → is_good p → rank p < length items) (before from : Option P)
-          (place : ℕ) (free a b : Bool) → IsJustBefore is_good rank before place
-          → IsAt is_good rank (length items) from place
-          → Every (λ i. PLt (end_position order i.key.end) (lower order r)) (take place items)
-          → Every (λ i. PLe (lower order r) (end_position order i.key.end)) (drop place items)
-          → IsAnswerAt order (λ i. LiesApart order i.key r) rank items before a
-          → IsAnswerAt order (λ i. LiesApart order r i.key) rank items from b → free ≡ (a && b)
-          → free ≡ false → IsConnectedToSome order items r
-      taken_by is_good rank good_in_range before from place free a b previous position below above
-          first second both f =
-          elim (one_fails free a b both f) [
-            | inl e ↦
-                refused_previous_is_connected is_good rank good_in_range before place a previous
-                first below e
-            | inr e ↦
-                refused_next_is_connected is_good rank good_in_range from place b position second
-                above e
-          ]
-
-      -- what the answers for its neighbours say of a range
-      pub gap_is : {P : Type 0} (is_good : P → Type 0) (rank : P → ℕ)
-          (good_in_range : (p : P) → is_good p → rank p < length items) (p : Position K)
-          (before from : Option P) (free a b : Bool) → p ≡ lower order r
-          → IsFound order is_good rank items p before from → IsAnswerAt order
-          (λ i. LiesApart order i.key r) rank items before a
-          → IsAnswerAt order (λ i. LiesApart order r i.key) rank items from b → free ≡ (a && b)
-          → IsGap order is_good rank items r (record { is_free = free; from = from })
-          (place_before rank (length items) from)
-      gap_is is_good rank good_in_range p before from free a b start found first second both =
-          let place = place_before rank (length items) from in
-          record {
-            position = found.position;
-            apart =
-                λ h. let both_are = both_hold free a b both h in record {
-                  in_range = found.in_range;
-                  before =
-                      clear_before is_good rank good_in_range before place a found.previous first
-                      both_are.0;
-                  behind =
-                      clear_after is_good rank good_in_range from place b found.position second
-                      both_are.1;
-                };
-            taken =
-                λ f.
-                taken_by is_good rank good_in_range before from place free a b found.previous
-                found.position (rw start at found.below)
-                (rw start at found.above) first second both f;
-          }
+        -- what the answers for its neighbours say of a range
+        pub gap_is : (p : Position K) (before from : Option P) (free a b : Bool) → p ≡ lower order r
+            → IsFound order is_good rank items p before from
+            → IsAnswerAt order (λ i. LiesApart order i.key r) rank items before a
+            → IsAnswerAt order (λ i. LiesApart order r i.key) rank items from b → free ≡ (a && b)
+            → IsGap order is_good rank items r (record { is_free = free; from = from })
+            (place_before rank (length items) from)
+        gap_is p before from free a b start found first second both =
+            let place = place_before rank (length items) from in
+            record {
+              position = found.position;
+              apart = λ h.
+                  let both_are = and_parts a b (sym both ∙ h) in record {
+                    in_range = found.in_range;
+                    before = clear_before before place a found.previous first both_are.0;
+                    behind = clear_after from place b found.position second both_are.1;
+                  };
+              taken = λ f.
+                  elim (one_fails free a b both f) [
+                    | inl e ↦
+                        refused_previous_is_connected before place a found.previous first
+                        (rw start at found.below) e
+                    | inr e ↦
+                        refused_next_is_connected from place b found.position second
+                        (rw start at found.above) e
+                  ];
+            }
 
       module _ (place : ℕ) (front : Every (Before r) (take place items))
           (back : Every (Behind r) (drop place items)) where
@@ -367,31 +299,21 @@ module _ {K : Type 0} (order : KeyOrder K) (lawful : IsLawful order) where
         pub free_not : IsConnectedToSome order items r → ⊥
         free_not h =
             let split = list_is_take_and_drop items place in
-            let both =
-            every_both (λ i. IsKnownRange order i.key) Good items
-            (stored_known order lawful same equal items stored)
+            let all =
+            every_both _ Good items stored.known
             (chained_items_have_places order lawful same equal items in_order) in
-            let all = rw split at both in
             let some : IsConnectedToSome order (take place items ++ drop place items) r =
             rw split at h in
-            let first =
-            every_both (λ i. IsKnownRange order i.key × Good i) (Before r)
-            (take place items) (every_left (λ i. IsKnownRange order i.key × Good i)
-            (take place items) (drop place items) all) front in
-            let second =
-            every_both (λ i. IsKnownRange order i.key × Good i) (Behind r)
-            (drop place items) (every_right (λ i. IsKnownRange order i.key × Good i)
-            (take place items) (drop place items) all) back in
             elim (any_split (λ i. IsConnectedTo order i.key r) (take place items)
             (drop place items) some) [
               | inl k ↦
-                  any_none (λ i. IsConnectedTo order i.key r)
-                  (λ i. (IsKnownRange order i.key × Good i) × Before r i)
-                  (take place items) first item_before_is_unconnected k
+                  any_none _ _ (take place items)
+                  (every_both _ (Before r) _ (every_front _ place items all) front)
+                  item_before_is_unconnected k
               | inr k ↦
-                  any_none (λ i. IsConnectedTo order i.key r)
-                  (λ i. (IsKnownRange order i.key × Good i) × Behind r i)
-                  (drop place items) second item_after_is_unconnected k
+                  any_none _ _ (drop place items)
+                  (every_both _ (Behind r) _ (every_back _ place items all) back)
+                  item_after_is_unconnected k
             ]
 
         -- and can be put in there
@@ -406,7 +328,7 @@ module _ {K : Type 0} (order : KeyOrder K) (lawful : IsLawful order) where
             let d = upper order r in
             let new = take place items ++ x ∷ drop place items in
             let parts = list_is_take_and_drop items place in
-            let all = stored_known order lawful same equal items stored in
+            let all = stored.known in
             let whole : Chained order lawful same equal (take place items ++ drop place items) =
             rw parts at in_order in
             let left =
@@ -432,8 +354,8 @@ module _ {K : Type 0} (order : KeyOrder K) (lawful : IsLawful order) where
             (equal.refl v)) in
             let new_known : Known order lawful same equal new =
             every_append (λ i. IsKnownRange order i.key) (take place items)
-            (x ∷ drop place items) (known_take order lawful same equal items place all)
-            (known, known_drop order lawful same equal items place all) in (
+            (x ∷ drop place items) (every_front _ place items all)
+            (known, every_back _ place items all) in (
               chain_stored order lawful same equal new new_known changed.chain,
               bound_after order lawful same equal items new r v known all new_known changed,
             )

@@ -1,17 +1,5 @@
 -- A range that is put between two items and joins neither.
-use Rattle.std.proofs.Common.{◌≡◌, ℕ, List, [], ◌∷◌, ◌++◌, take, drop, sym, ◌∙◌, arith, Bool, Some, append_assoc, None}
-use Rattle.std.specs.Prelude.{insert}
-use Rattle.std.specs.Cmp.{IsEquivalence}
-use Rattle.std.specs.Option.{unwrap_or}
-use Rattle.std.proofs.lemmas.List.{append-nil}
-use Rattle.range_keys.specs.Order.{KeyOrder, IsLawful}
-use Rattle.range_algebra.specs.declared.any.AnyRange.{AnyRange}
-use Rattle.range_store.specs.declared.storage.Item.{Item}
-use Rattle.range_change.specs.Changes.{IsInserted}
-use Rattle.range_change.specs.Plans.{IsLeftPlan, IsRightPlan}
-use Rattle.range_change.specs.Window.{IsWindow, option_items}
-use Rattle.range_change.specs.declared.borders.Border.TheVariants.{Plain}
-use Rattle.range_change.specs.declared.window.Window.{Window}
+use Rattle.range_change.proofs.Common.{◌≡◌, ℕ, List, [], ◌∷◌, ◌++◌, take, drop, sym, ◌∙◌, arith, Bool, Some, append_assoc, None, insert, IsEquivalence, unwrap_or, append-nil, KeyOrder, IsLawful, AnyRange, Item, IsInserted, IsLeftPlan, IsRightPlan, IsWindow, option_items, Plain, Window}
 use Rattle.range_change.proofs.Planned.{planned_insert}
 
 pub put_between : {K : Type 0} {order : KeyOrder K} (lawful : IsLawful order) {V : Type 0}

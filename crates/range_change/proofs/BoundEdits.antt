@@ -1,19 +1,6 @@
 -- How edits of one bound on each side of a run change a list.
-use Rattle.std.proofs.Common.{◌≡◌, ℕ, ◌+◌, ◌<◌, ◌≤◌, List, [], ◌∷◌, ◌++◌, length, take, drop, get_or, refl, ap, sym, ◌∙◌, arith, Option, Some, None, append_assoc}
-use Rattle.std.proofs.Math.ListN.{set, length-set}
-use Rattle.std.proofs.lemmas.List.{append-nil, get_or-drop, take-set, take-set-le, take_more_set, drop-set, drop-set-lt}
-use Rattle.std.specs.declared.ops.Bound.{Bound}
-use Rattle.std.specs.declared.ops.Bound.TheVariants.{Unbounded}
-use Rattle.range_algebra.specs.declared.any.AnyRange.{AnyRange}
-use Rattle.range_store.specs.declared.storage.Item.{Item}
-use Rattle.std.specs.Option.{ForSome}
-use Rattle.range_store.specs.ListPlaces.{place_before}
-use Rattle.range_change.specs.Edits.{with_start, with_end}
-use Rattle.range_change.specs.Window.{option_items}
+use Rattle.range_change.proofs.Common.{◌≡◌, ℕ, ◌+◌, ◌<◌, ◌≤◌, List, [], ◌∷◌, ◌++◌, length, take, drop, get_or, refl, ap, sym, ◌∙◌, arith, Option, Some, None, append_assoc, set, length-set, append-nil, get_or-drop, take-set, take-set-le, take_more_set, drop-set, drop-set-lt, Bound, Unbounded, AnyRange, Item, ForSome, place_before, with_start, with_end, option_items, BorderSide, IsBorderShape, joined_count, border_at, IsGoodBorder, IsLeftShape, IsRightShape, IsLeftEdited, IsRightEdited, Border, Plain, Cut, Joined}
 use Rattle.range_change.proofs.ItemPlaces.{listed_at}
-use Rattle.range_change.specs.Borders.{BorderSide, IsBorderShape, joined_count, border_at, IsGoodBorder, IsLeftShape, IsRightShape, IsLeftEdited, IsRightEdited}
-use Rattle.range_change.specs.declared.borders.Border.{Border}
-use Rattle.range_change.specs.declared.borders.Border.TheVariants.{Plain, Cut, Joined}
 
 pub opening_regroups : {X : Type 0} (a b c e : List X) (m : X)
     → (a ++ b) ++ m ∷ (c ++ e) ≡ a ++ b ++ (m ∷ []) ++ c ++ e
@@ -75,11 +62,8 @@ module _ {K V P : Type 0} (is_good : P → Type 0) (rank : P → ℕ) (items : L
   }
   left_opened new (Cut p b) at from rest start given shape edited =
       let x = shape.4.0 in
-      let item : get_or items (rank p) x ≡ x = ap (λ n. get_or items n x) shape.1 ∙ sym shape.4.1 in
       let new_is : new ≡ set items at (with_end x b) =
-      edited.0 x
-      ∙ (ap (λ y. set items (rank p) (with_end y b)) item
-      ∙ ap (λ n. set items n (with_end x b)) shape.1) in
+      rw (shape.1, sym shape.4.1) at (edited.0 x) in
       let within : at < length items = omega (arith, shape.1, in_range p shape.0) in
       record {
         front = rw (shape.2, new_is, shape.4.2) (take_more_set items at (with_end x b) within);
@@ -90,11 +74,8 @@ module _ {K V P : Type 0} (is_good : P → Type 0) (rank : P → ℕ) (items : L
       }
   left_opened new (Joined p) at from rest start given shape edited =
       let x = shape.4.0 in
-      let item : get_or items (rank p) x ≡ x = sym shape.4.1 in
       let new_is : new ≡ set items at (with_start x Unbounded) =
-      (edited x).0
-      ∙ (ap (λ y. set items (rank p) (with_start y Unbounded)) item
-      ∙ ap (λ n. set items n (with_start x Unbounded)) shape.1) in
+      rw (sym shape.4.1, shape.1) at (edited x).0 in
       record {
         front =
             rw (shape.2, shape.3, new_is)
@@ -102,9 +83,7 @@ module _ {K V P : Type 0} (is_good : P → Type 0) (rank : P → ℕ) (items : L
         behind = λ n le. let lt : at < n =
             omega (arith, shape.2, le) in rw new_is
             (drop-set-lt n items at (with_start x Unbounded) lt);
-        same_start =
-            (edited x).1
-            ∙ (ap (λ (y : Item (AnyRange K) V). Some y.key.start) item ∙ sym shape.4.2);
+        same_start = rw (sym shape.4.1) at (edited x).1 ∙ sym shape.4.2;
         size = rw new_is (length-set items at (with_start x Unbounded));
       }
 
@@ -136,13 +115,8 @@ module _ {K V P : Type 0} (is_good : P → Type 0) (rank : P → ℕ) (items : L
       (Cut p b) upto end rest finish given le shape edited =
       let x = shape.4.0 in
       let index : rank' p ≡ upto = ranks p shape.0 ∙ shape.1 in
-      let item : get_or base (rank' p) x ≡ x =
-      ap (λ n. get_or base n x) index
-      ∙ (same_at base items upto x (kept upto (omega arith)) ∙ sym shape.4.1) in
-      let new_is : new ≡ set base upto (with_start x b) =
-      edited.0 x
-      ∙ (ap (λ y. set base (rank' p) (with_start y b)) item
-      ∙ ap (λ n. set base n (with_start x b)) index) in
+      let item = same_at base items upto x (kept upto (omega arith)) ∙ sym shape.4.1 in
+      let new_is : new ≡ set base upto (with_start x b) = rw (index, item) at (edited.0 x) in
       let within : upto < length base = omega (arith, shape.1, in_range p shape.0, same_size) in
       record {
         front = λ n l. let below : n ≤ upto =
@@ -160,13 +134,8 @@ module _ {K V P : Type 0} (is_good : P → Type 0) (rank : P → ℕ) (items : L
       let i = rank p in
       let index : rank' p ≡ i = ranks p shape.0 in
       let from : clear ≤ i = omega (arith, shape.1) in
-      let item : get_or base (rank' p) x ≡ x =
-      ap (λ n. get_or base n x) index
-      ∙ (same_at base items i x (kept i from) ∙ sym shape.4.1) in
-      let new_is : new ≡ set base i (with_end x Unbounded) =
-      (edited x).0
-      ∙ (ap (λ y. set base (rank' p) (with_end y Unbounded)) item
-      ∙ ap (λ n. set base n (with_end x Unbounded)) index) in
+      let item = same_at base items i x (kept i from) ∙ sym shape.4.1 in
+      let new_is : new ≡ set base i (with_end x Unbounded) = rw (index, item) at (edited x).0 in
       let lt : i < upto = omega (arith, shape.1) in
       record {
         front = λ n l. let below : n ≤ i =
@@ -174,8 +143,7 @@ module _ {K V P : Type 0} (is_good : P → Type 0) (rank : P → ℕ) (items : L
         behind =
             rw (new_is, shape.3) (drop-set-lt upto base i (with_end x Unbounded) lt
             ∙ (kept upto (omega arith) ∙ ap (λ n. drop n items) (sym shape.2)));
-        same_end =
-            (edited x).1 ∙ (ap (λ (y : Item (AnyRange K) V). Some y.key.end) item ∙ sym shape.4.2);
+        same_end = rw (index, item) at (edited x).1 ∙ sym shape.4.2;
         size = rw new_is (length-set base i (with_end x Unbounded));
       }
 

@@ -1,10 +1,6 @@
 -- Chains in parts, and chains that are joined.
-use Rattle.std.proofs.Common.{◌≡◌, ◌∙◌, true, List, [], ◌∷◌, ◌++◌}
-use Rattle.std.specs.List.{AllByRecursion as Every}
-use Rattle.std.specs.declared.cmp.Ordering.TheVariants.{Equal}
-use Rattle.range_algebra.specs.Intervals.{Le, Lt}
+use Rattle.range_change.proofs.Common.{◌≡◌, ◌∙◌, true, List, [], ◌∷◌, ◌++◌, Every, Equal, Le, Lt, Line, Leads, Trails, Follows, IsChain}
 use Rattle.range_algebra.specs.Orders.{le_refl, lt_le, eq_le, le_trans, lt_not_le, lt_le_trans, le_lt_trans}
-use Rattle.range_change.specs.Chains.{Line, Leads, Trails, Follows, IsChain}
 
 module _ {L V X : Type 0} (line : Line L V X) where
   pub same_is_symmetric : (a b : V) → line.same a b ≡ true → line.same b a ≡ true

@@ -1,26 +1,5 @@
 -- What one comparison of an element says of the items after it.
-use Rattle.std.proofs.Common.{◌≡◌, ℕ, zero, suc, ◌<◌, ◌≤◌, List, [], ◌∷◌, length, get_or, refl, sym, ◌∙◌, arith, Bool, true, false, not, ◌||◌, IsTrue}
-use Rattle.std.specs.List.{AllByRecursion as Every}
-use Rattle.std.specs.declared.ops.Bound.{Bound}
-use Rattle.std.specs.declared.ops.Bound.TheVariants.{Included, Excluded, Unbounded}
-use Rattle.std.specs.declared.cmp.Ordering.TheVariants.{Equal}
-use Rattle.std.specs.Ordering.{is_gt, is_lt, is_eq}
-use Rattle.range_keys.specs.Order.{KeyOrder, IsLawful}
-use Rattle.range_keys.specs.Position.{start_position, end_position, position_cmp}
-use Rattle.range_keys.specs.PositionOrder.{position_total}
-use Rattle.range_keys.specs.declared.inner.position.Position.{Position}
-use Rattle.range_keys.proofs.Orderings.{eq_is_equal, lt_is_less, not_greater}
-use Rattle.range_algebra.specs.declared.any.AnyRange.{AnyRange}
-use Rattle.range_algebra.specs.Range.{IsKnownRange, IsEmptyRange}
-use Rattle.range_algebra.specs.Compared.{starts_at_end}
-use Rattle.range_algebra.specs.Cuts.{past}
-use Rattle.range_algebra.specs.Intervals.{Lt}
-use Rattle.range_change.proofs.PlaceOrder.{eq_ge, lt_not_le, le_lt_trans, lt_trans}
-use Rattle.range_algebra.proofs.Lists.{every_at, every_weaker}
-use Rattle.range_algebra.proofs.Places.{flipped_bound_is_past}
-use Rattle.range_store.specs.declared.storage.Item.{Item}
-use Rattle.range_change.specs.Neighbours.{EachNext}
-use Rattle.range_algebra.specs.Relations.{LiesBefore}
+use Rattle.range_change.proofs.Common.{◌≡◌, ℕ, zero, suc, ◌<◌, ◌≤◌, List, [], ◌∷◌, length, get_or, refl, sym, ◌∙◌, arith, Bool, true, false, not, ◌||◌, IsTrue, Every, Bound, Included, Excluded, Unbounded, Equal, is_gt, is_lt, is_eq, KeyOrder, IsLawful, start_position, end_position, position_cmp, position_total, Position, eq_is_equal, lt_is_less, not_greater, AnyRange, IsKnownRange, IsEmptyRange, starts_at_end, past, Lt, eq_ge, lt_not_le, le_lt_trans, lt_trans, every_at, every_weaker, flipped_bound_is_past, Item, EachNext, LiesBefore}
 use Rattle.range_change.specs.Searches.{ElementIsBefore}
 use Rattle.range_change.proofs.Forms.{before_is}
 use Rattle.range_change.proofs.Listed.{before_by_parts}

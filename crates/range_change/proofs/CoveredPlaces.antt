@@ -1,20 +1,5 @@
 -- Which ranges meet a list in which a range was bound, by the places that the list covers.
-use Rattle.std.proofs.Common.{ℕ, refl, true, Bool, Result, Ok, Err, OnOk, List, [], ◌∷◌, ◌++◌, take, drop, ◌⊎◌, inl, inr, ◌↔◌}
-use Rattle.std.specs.List.{AllByRecursion as Every}
-use Rattle.std.specs.Prelude.{insert}
-use Rattle.std.specs.Cmp.{IsEquivalence}
-use Rattle.range_keys.specs.Order.{KeyOrder, IsLawful}
-use Rattle.range_keys.specs.declared.inner.position.Position.{Position}
-use Rattle.range_algebra.specs.declared.any.AnyRange.{AnyRange}
-use Rattle.range_algebra.specs.Range.{IsKnownRange}
-use Rattle.range_algebra.specs.Cuts.{lower, upper}
-use Rattle.range_change.specs.Chains.{line_of, IsBoundTo}
-use Rattle.range_algebra.specs.Intervals.{Any}
-use Rattle.range_algebra.proofs.Lists.{list_is_take_and_drop, any_left, any_right, any_split}
-use Rattle.range_change.proofs.PlaceOrder.{le_refl, lt_le, le_lt_trans, lt_not_le, cases, not_le, PLe, PLt}
-use Rattle.range_store.specs.declared.storage.Item.{Item}
-use Rattle.range_change.specs.Stored.{item_lower, item_upper}
-use Rattle.range_change.specs.Lookups.{MeetsSome, MeetAlso, Overlap}
+use Rattle.range_change.proofs.Common.{ℕ, refl, true, Bool, Result, Ok, Err, OnOk, List, [], ◌∷◌, ◌++◌, take, drop, ◌⊎◌, inl, inr, ◌↔◌, Every, insert, IsEquivalence, KeyOrder, IsLawful, Position, AnyRange, IsKnownRange, lower, upper, line_of, IsBoundTo, Any, list_is_take_and_drop, any_left, any_right, any_split, le_refl, lt_le, le_lt_trans, lt_not_le, cases, not_le, PLe, PLt, Item, item_lower, item_upper, MeetsSome, MeetAlso, Overlap}
 use Rattle.range_change.proofs.Forms.{nonempty_good, before_is, Known, Chained, Hold, respects_any}
 
 pub on_ok : {A E : Type 0} (P Q : Type 0) (r : Result A E) → (P → Q) → OnOk r P → OnOk r Q
@@ -23,7 +8,7 @@ on_ok P Q (Err e) f h = tt
 
 module _ {K : Type 0} (order : KeyOrder K) (lawful : IsLawful order) where
   -- two ranges meet where each starts below the other's end
-  overlap_is : (r s : AnyRange K) → IsKnownRange order r → IsKnownRange order s → Overlap order r s
+  pub overlap_is : (r s : AnyRange K) → IsKnownRange order r → IsKnownRange order s → Overlap order r s
       ↔ (PLt lawful (lower order r) (upper order s) × PLt lawful (lower order s) (upper order r))
   overlap_is r s known others =
       let before = before_is order lawful r.end s.start known.1 others.0 in

@@ -1,22 +1,5 @@
 -- What is left of an item that a range cuts, by places.
-use Rattle.std.proofs.Common.{◌≡◌, refl, sym, ◌∙◌, ◌↔◌, Some, None, false, IsTrue}
-use Rattle.std.specs.declared.ops.Bound.{Bound}
-use Rattle.std.specs.declared.ops.Bound.TheVariants.{Included, Excluded, Unbounded}
-use Rattle.std.specs.declared.cmp.Ordering.{Ordering}
-use Rattle.std.specs.declared.cmp.Ordering.TheVariants.{Less, Equal, Greater}
-use Rattle.std.specs.Ordering.{is_gt, is_le}
-use Rattle.std.specs.Cmp.{tied_back, tied_itself}
-use Rattle.range_keys.specs.Order.{KeyOrder, IsLawful}
-use Rattle.range_keys.specs.Position.{start_position, end_position}
-use Rattle.range_keys.specs.PositionOrder.{position_total}
-use Rattle.range_algebra.specs.declared.any.AnyRange.{AnyRange}
-use Rattle.range_algebra.specs.Range.{IsKnownBound, IsKnownRange}
-use Rattle.range_algebra.specs.Compared.{flipped}
-use Rattle.range_algebra.specs.Clones.{SameBound, same_start}
-use Rattle.range_change.proofs.PlaceOrder.{eq_le, eq_ge, le_lt_trans, lt_not_le, PLt}
-use Rattle.range_algebra.specs.Cuts.{past, upper}
-use Rattle.range_change.specs.Edits.{flipped_bound}
-use Rattle.range_algebra.proofs.Places.{reaching_is_before_past, flipped_bound_is_past, flipped_known, unbounded_start, unbounded_end}
+use Rattle.range_change.proofs.Common.{same_itself, ◌≡◌, refl, sym, ◌∙◌, ◌↔◌, Some, None, false, IsTrue, Bound, Included, Excluded, Unbounded, Ordering, Less, Equal, Greater, is_gt, is_le, tied_back, tied_itself, KeyOrder, IsLawful, start_position, end_position, position_total, AnyRange, IsKnownBound, IsKnownRange, flipped, SameBound, same_start, eq_le, eq_ge, le_lt_trans, lt_not_le, PLt, past, upper, flipped_bound, reaching_is_before_past, flipped_bound_is_past, flipped_known, unbounded_start, unbounded_end}
 use Rattle.range_change.proofs.Forms.{places}
 
 module _ {K : Type 0} (order : KeyOrder K) (lawful : IsLawful order) where
@@ -45,11 +28,6 @@ module _ {K : Type 0} (order : KeyOrder K) (lawful : IsLawful order) where
   same_past (Excluded a) Unbounded h = absurd h
   same_past Unbounded (Included b) h = absurd h
   same_past Unbounded (Excluded b) h = absurd h
-
-  same_itself : (b : Bound K) → SameBound order b b
-  same_itself (Included a) = tied_itself lawful.total a
-  same_itself (Excluded a) = tied_itself lawful.total a
-  same_itself Unbounded = tt
 
   pub known_turned : (b : Bound K) → IsKnownBound order b → IsKnownBound order (flipped_bound b)
   known_turned (Included a) h = h
@@ -103,7 +81,7 @@ module _ {K : Type 0} (order : KeyOrder K) (lawful : IsLawful order) where
       absurd (lt_not_le lawful _ _ l (unbounded_end order lawful a known))
 
   pub same_turned : (b : Bound K) → SameBound order (flipped_bound b) (flipped_bound b)
-  same_turned b = same_itself (flipped_bound b)
+  same_turned b = same_itself order lawful (flipped_bound b)
 
   not_past_all : (e a : Bound K) → None ≡ flipped e → IsKnownBound order a
       → PLt lawful (past order (end_position order e)) (past order (end_position order a)) → ⊥

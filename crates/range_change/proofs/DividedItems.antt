@@ -1,7 +1,5 @@
 -- A list in which an item was divided.
-use Rattle.std.proofs.Common.{◌≡◌, ℕ, ◌+◌, ◌<◌, List, [], ◌∷◌, ◌++◌, length, take, drop, ap, sym, ◌∙◌, arith, append_assoc}
-use Rattle.std.proofs.Math.ListN.{set}
-use Rattle.std.proofs.lemmas.List.{append-nil, take_more_set, drop-set-lt, take_at, drop_at, length_push, length-take-le}
+use Rattle.range_change.proofs.Common.{◌≡◌, ℕ, ◌+◌, ◌<◌, List, [], ◌∷◌, ◌++◌, length, take, drop, ap, sym, ◌∙◌, arith, append_assoc, set, append-nil, take_more_set, drop-set-lt, take_at, drop_at, length_push, length-take-le}
 
 -- an item that is edited where it stands, and another put after it
 parted : {X : Type 0} (xs edited new : List X) (n : ℕ) (x y : X) → n < length xs

@@ -1,23 +1,7 @@
 -- The ends of ranges and the places past them lie in the same order.
-use Rattle.std.proofs.Common.{◌≡◌, refl, Option, Some, None, false}
-use Rattle.std.specs.declared.ops.Bound.{Bound}
-use Rattle.std.specs.declared.ops.Bound.TheVariants.{Included, Excluded, Unbounded}
-use Rattle.std.specs.declared.cmp.Ordering.TheVariants.{Less, Equal, Greater}
-use Rattle.std.specs.Ordering.{is_gt}
-use Rattle.range_keys.specs.Order.{KeyOrder, IsLawful, Tells, SameAnswer}
-use Rattle.range_keys.specs.Position.{start_position, end_position, position_cmp, at_told}
-use Rattle.range_keys.specs.declared.inner.position.Position.{Position}
-use Rattle.range_keys.specs.declared.inner.position.Position.TheVariants.{MinusInfinity, Beside, PlusInfinity}
-use Rattle.range_keys.specs.declared.inner.position.Side.TheVariants.{Before, At, After}
+use Rattle.range_change.proofs.Common.{◌≡◌, refl, Option, Some, None, false, Bound, Included, Excluded, Unbounded, Less, Equal, Greater, is_gt, KeyOrder, IsLawful, Tells, SameAnswer, start_position, end_position, position_cmp, at_told, Position, MinusInfinity, Beside, PlusInfinity, Before, At, After, less_unless_greater, less_unless_equal, less_unless_less, less_then_any, IsKnownBound, flipped, Le, Lt, eq_le, eq_ge, le_trans, lt_not_le, not_lt, le_lt_trans, past, reaching_is_before_past, flipped_bound_is_past, flipped_known, unbounded_end}
 use Rattle.range_keys.proofs.BoundPositions.{IsEnd, ends_lie_at_ends}
-use Rattle.range_keys.proofs.Orderings.{less_unless_greater, less_unless_equal, less_unless_less, less_then_any}
-use Rattle.range_algebra.specs.Range.{IsKnownBound}
-use Rattle.range_algebra.specs.Compared.{flipped}
-use Rattle.range_algebra.specs.Intervals.{Le, Lt}
 use Rattle.range_algebra.specs.Orders
-use Rattle.range_change.proofs.PlaceOrder.{eq_le, eq_ge, le_trans, lt_not_le, not_lt, le_lt_trans}
-use Rattle.range_algebra.specs.Cuts.{past}
-use Rattle.range_algebra.proofs.Places.{reaching_is_before_past, flipped_bound_is_past, flipped_known, unbounded_end}
 
 module _ {K : Type 0} (order : KeyOrder K) (lawful : IsLawful order) where
   abbrev PLe : Position K → Position K → Type 0

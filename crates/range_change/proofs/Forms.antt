@@ -1,31 +1,14 @@
 -- What is stored and bound, by places.
-use Rattle.std.proofs.Common.{◌≡◌, ℕ, take, drop, refl, sym, ◌∙◌, ◌↔◌, Option, Some, None, Bool, true, IsTrue, List, [], ◌∷◌, ◌⊎◌, inl, inr}
-use Rattle.std.specs.List.{AllByRecursion as Every}
-use Rattle.std.specs.declared.ops.Bound.{Bound}
-use Rattle.std.specs.declared.ops.Bound.TheVariants.{Included, Excluded, Unbounded}
-use Rattle.std.specs.declared.cmp.Ordering.{Ordering}
-use Rattle.std.specs.declared.cmp.Ordering.TheVariants.{Less}
-use Rattle.std.specs.Cmp.{IsEquivalence}
-use Rattle.range_keys.specs.Order.{KeyOrder, IsLawful}
-use Rattle.range_keys.specs.Position.{start_position, end_position, position_cmp}
-use Rattle.range_keys.specs.PositionOrder.{position_total}
-use Rattle.range_keys.specs.declared.inner.position.Position.{Position}
-use Rattle.range_keys.specs.declared.inner.position.Position.TheVariants.{Beside}
-use Rattle.range_keys.specs.declared.inner.position.Side.TheVariants.{At}
-use Rattle.range_keys.proofs.Orderings.{not_both_greater_and_not, eq_is_equal, not_greater}
-use Rattle.range_algebra.specs.declared.any.AnyRange.{AnyRange}
-use Rattle.range_algebra.specs.Range.{Holds, IsKnownBound, IsKnownRange, IsEmptyRange}
-use Rattle.range_algebra.specs.Compared.{flipped, start_is_at, starts_at_end}
-use Rattle.range_store.specs.declared.storage.Item.{Item}
-use Rattle.range_algebra.specs.Intervals.{Le, Lt}
-use Rattle.range_change.proofs.PlaceOrder.{eq_ge, le_trans, lt_not_le, cases, not_le, not_lt, both}
-use Rattle.range_change.specs.Chains.{line_of, IsChain, Has, Respects, IsBoundTo, IsUnbound}
-use Rattle.range_algebra.specs.Cuts.{past, lower, upper}
-use Rattle.range_change.specs.Stored.{IsStored}
-use Rattle.range_change.specs.Bindings.{IsBound, BindsTo, Binds, IsSomeOf, IsBoundAfter, IsUnboundAfter}
+use Rattle.range_change.proofs.Common.{◌≡◌, ℕ, take, drop, refl, sym, ◌∙◌, ◌↔◌, Option, Some, None, Bool, true, IsTrue, List, [], ◌∷◌, ◌⊎◌, inl, inr, Every, Bound, Included, Excluded, Unbounded, Ordering, Less, IsEquivalence, KeyOrder, IsLawful, start_position, end_position, position_cmp, position_total, Position, Beside, At, not_both_greater_and_not, eq_is_equal, not_greater, AnyRange, Holds, IsKnownBound, IsKnownRange, IsEmptyRange, flipped, start_is_at, starts_at_end, Item, Le, Lt, eq_ge, le_trans, lt_not_le, cases, not_le, not_lt, both, line_of, IsChain, Has, Respects, IsBoundTo, IsUnbound, past, lower, upper, IsStored, IsBound, BindsTo, Binds, IsSomeOf, IsBoundAfter, IsUnboundAfter, list_is_take_and_drop, every_left, every_right, reaching_is_before_past, flipped_bound_is_past, unbounded_end, held_between}
 use Rattle.range_change.proofs.Listed.{IsListed, stored_list_is_listed, stored_by}
-use Rattle.range_algebra.proofs.Lists.{list_is_take_and_drop, every_left, every_right}
-use Rattle.range_algebra.proofs.Places.{reaching_is_before_past, flipped_bound_is_past, unbounded_end, held_between}
+
+pub every_front : {X : Type 0} (P : X → Type 0) (n : ℕ) (xs : List X) → Every P xs
+    → Every P (take n xs)
+every_front P n xs h = every_left P _ _ (rw (list_is_take_and_drop xs n) at h)
+
+pub every_back : {X : Type 0} (P : X → Type 0) (n : ℕ) (xs : List X) → Every P xs
+    → Every P (drop n xs)
+every_back P n xs h = every_right P _ _ (rw (list_is_take_and_drop xs n) at h)
 
 module _ {K : Type 0} (order : KeyOrder K) (lawful : IsLawful order) where
   abbrev pub places : Position K → Position K → Ordering
@@ -94,31 +77,25 @@ module _ {K : Type 0} (order : KeyOrder K) (lawful : IsLawful order) where
     abbrev pub Hold : (V → Bool) → Position K → List (Item (AnyRange K) V) → Type 0
     Hold W p items = Has (line_of order lawful same equal) W p items
 
-    listed_known : (items : List (Item (AnyRange K) V)) → IsListed order lawful same items
-        → Known items
-    listed_known [] h = tt
-    listed_known (i ∷ []) h = (h.0, tt)
-    listed_known (i ∷ j ∷ rest) h = (h.0, listed_known (j ∷ rest) h.4)
-
     pub stored_known : (items : List (Item (AnyRange K) V)) → IsStored order same items
         → Known items
-    stored_known items h = listed_known items (stored_list_is_listed order lawful same items h)
+    stored_known items h = h.known
 
-    listed_chain : (items : List (Item (AnyRange K) V)) → IsListed order lawful same items
-        → Chained items
-    listed_chain [] h = tt
-    listed_chain (i ∷ []) h = ((nonempty_good i.key h.0).0 h.1, tt)
-    listed_chain (i ∷ j ∷ rest) h =
-        let known = listed_known (j ∷ rest) h.4 in
-        let chain = listed_chain (j ∷ rest) h.4 in
-        let le = (before_is i.key.end j.key.start h.0.1 known.0.0).0 h.2 in (
-          (nonempty_good i.key h.0).0 h.1,
-          ((le, λ k s. h.3 ((touches_is i.key.end j.key known.0 chain.0 le).1 k) s), chain),
+    listed_chain : (items : List (Item (AnyRange K) V)) → Known items
+        → IsListed order lawful same items → Chained items
+    listed_chain [] known h = tt
+    listed_chain (i ∷ []) known h = ((nonempty_good i.key known.0).0 h.1, tt)
+    listed_chain (i ∷ j ∷ rest) known h =
+        let chain = listed_chain (j ∷ rest) known.1 h.4 in
+        let le = (before_is i.key.end j.key.start known.0.1 known.1.0.0).0 h.2 in (
+          (nonempty_good i.key known.0).0 h.1,
+          ((le, λ k s. h.3 ((touches_is i.key.end j.key known.1.0 chain.0 le).1 k) s), chain),
         )
 
     pub stored_chain : (items : List (Item (AnyRange K) V)) → IsStored order same items
         → Chained items
-    stored_chain items h = listed_chain items (stored_list_is_listed order lawful same items h)
+    stored_chain items h =
+        listed_chain items h.known (stored_list_is_listed order lawful same items h)
 
     chain_listed : (items : List (Item (AnyRange K) V)) → Known items → Chained items
         → IsListed order lawful same items
@@ -251,13 +228,3 @@ module _ {K : Type 0} (order : KeyOrder K) (lawful : IsLawful order) where
           (λ W alike. changed.outside (Beside k At) W alike
           (unheld_lies_outside r k known_range key h));
     }
-
-    pub known_take : (items : List (Item (AnyRange K) V)) (n : ℕ)
-        → Known items → Known (take n items)
-    known_take items n known =
-        every_left _ (take n items) (drop n items) (rw (list_is_take_and_drop items n) at known)
-
-    pub known_drop : (items : List (Item (AnyRange K) V)) (n : ℕ)
-        → Known items → Known (drop n items)
-    known_drop items n known =
-        every_right _ (take n items) (drop n items) (rw (list_is_take_and_drop items n) at known)

@@ -1,34 +1,10 @@
 -- What a search among stored items finds.
-use Rattle.std.proofs.Common.{◌≡◌, ◌↔◌, ℕ, zero, suc, ◌+◌, ◌<◌, List, [], ◌∷◌, ◌++◌, length, take, drop, get_or, refl, ap, sym, subst, arith, Option, None, Some, Bool, true, false, inl, inr}
-use Rattle.std.specs.List.{AllByRecursion as Every}
-use Rattle.std.specs.Prelude.{MatchOption}
-use Rattle.std.specs.declared.cmp.Ordering.{Ordering}
-use Rattle.std.specs.declared.cmp.Ordering.TheVariants.{Less, Equal, Greater}
-use Rattle.std.specs.Ordering.{is_gt, is_le, is_lt}
-use Rattle.std.specs.Cmp.{IsEquivalence}
+use Rattle.range_change.proofs.Common.{◌≡◌, ◌↔◌, ℕ, zero, suc, ◌+◌, ◌<◌, List, [], ◌∷◌, ◌++◌, length, take, drop, get_or, refl, ap, sym, subst, arith, Option, None, Some, Bool, true, false, inl, inr, Every, MatchOption, Ordering, Less, Equal, Greater, is_gt, is_le, is_lt, IsEquivalence, take_more, KeyOrder, IsLawful, start_position, end_position, Position, Beside, At, lt_is_less, not_greater, AnyRange, Holds, IsEmptyRange, Item, IsAt, IsFrontOf, place_at, Any, Le, Lt, lt_le, lt_not_le, le_trans, not_le, not_lt, lt_le_trans, le_lt_trans, lt_trans, PLe, PLt, IsStored, IsItemFor, IsStoredFor, IsBound, BindsTo, IsFound, IsJustBefore, IsLastStarting, place_after, every_append, every_at, every_right, every_take, every_drop, list_is_take_and_drop, every_weaker}
 use Rattle.std.specs.List.Sorted.{IsPartitionedBy}
-use Rattle.std.proofs.lemmas.List.{take_more}
-use Rattle.range_keys.specs.Order.{KeyOrder, IsLawful}
-use Rattle.range_keys.specs.Position.{start_position, end_position}
-use Rattle.range_keys.specs.declared.inner.position.Position.{Position}
-use Rattle.range_keys.specs.declared.inner.position.Position.TheVariants.{Beside}
-use Rattle.range_keys.specs.declared.inner.position.Side.TheVariants.{At}
-use Rattle.range_keys.proofs.Orderings.{lt_is_less, not_greater}
-use Rattle.range_algebra.specs.declared.any.AnyRange.{AnyRange}
-use Rattle.range_algebra.specs.Range.{Holds, IsEmptyRange}
 use Rattle.range_algebra.proofs.Holding.{holds_by_position}
-use Rattle.range_store.specs.declared.storage.Item.{Item}
-use Rattle.range_store.specs.ListPlaces.{IsAt, IsFrontOf}
-use Rattle.range_store.proofs.ListPlaces.{place_at}
-use Rattle.range_algebra.specs.Intervals.{Any, Le, Lt}
 use Rattle.range_algebra.specs.Orders.{lt_of}
-use Rattle.range_change.proofs.PlaceOrder.{lt_le, lt_not_le, le_trans, not_le, not_lt, lt_le_trans, le_lt_trans, lt_trans, PLe, PLt}
-use Rattle.range_change.specs.Stored.{IsStored}
-use Rattle.range_change.specs.Bindings.{IsItemFor, IsStoredFor, IsBound, BindsTo}
-use Rattle.range_change.specs.Window.{IsFound, IsJustBefore, IsLastStarting, place_after}
 use Rattle.range_change.proofs.Forms.{places}
 use Rattle.range_change.proofs.Listed.{IsListed, stored_list_is_listed}
-use Rattle.range_algebra.proofs.Lists.{every_append, every_at, every_right, every_take, every_drop, list_is_take_and_drop, every_weaker}
 
 pub not_less : (o : Ordering) → is_lt o ≡ false → o ≡ Less → ⊥
 not_less Less h e = cc

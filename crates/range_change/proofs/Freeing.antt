@@ -1,14 +1,5 @@
--- Where a range meets no stored one, no item is cut beside it, and what is made of the list is in
--- its
--- form.
-use Rattle.std.proofs.Common.{◌≡◌, refl, Bool, List, Option, Some, None, Result, Ok, Err, OnOk, OnErr}
-use Rattle.std.specs.declared.ops.Bound.{Bound}
-use Rattle.range_keys.specs.Order.{KeyOrder}
-use Rattle.range_algebra.specs.declared.any.AnyRange.{AnyRange}
-use Rattle.range_store.specs.declared.storage.Item.{Item}
-use Rattle.range_change.specs.Changes.{IsInserted}
-use Rattle.range_change.specs.Borders.{seam_border}
-use Rattle.range_change.specs.Stored.{IsStored}
+-- Where a range meets no stored one, no item is cut beside it; what is made of a list keeps its form.
+use Rattle.range_change.proofs.Common.{◌≡◌, refl, Bool, List, Option, Some, None, Result, Ok, Err, OnOk, OnErr, Bound, KeyOrder, AnyRange, Item, IsInserted, seam_border, IsStored}
 
 -- so it is the same where it would be cut
 pub seam_alike : {K P : Type 0} (found : Option P) (b c : Bound K)

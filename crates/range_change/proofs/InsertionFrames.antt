@@ -1,39 +1,12 @@
 -- Which items give way to a range, and what stands in their place.
-use Rattle.std.proofs.Common.{◌≡◌, ℕ, zero, suc, ◌+◌, ◌-◌, ◌<◌, ◌≤◌, List, [], ◌∷◌, ◌++◌, length, take, drop, get_or, refl, ap, sym, ◌∙◌, arith, subst, Option, Some, None, Bool, true, IsTrue, ◌⊎◌, inl, inr, length-append, length-drop, append_assoc}
-use Rattle.std.proofs.lemmas.List.{append-nil, get_or-drop, get_or-take, drop-take, drop-drop, length-take-le}
-use Rattle.std.specs.Cmp.{IsEquivalence}
-use Rattle.std.specs.List.{AllByRecursion as Every}
-use Rattle.std.specs.Option.{unwrap_or}
-use Rattle.std.specs.declared.ops.Bound.{Bound}
-use Rattle.range_keys.specs.Order.{KeyOrder, IsLawful}
-use Rattle.range_algebra.specs.declared.any.AnyRange.{AnyRange}
-use Rattle.range_algebra.specs.Range.{IsKnownRange}
-use Rattle.range_algebra.specs.Intervals.{Any}
-use Rattle.range_change.proofs.PlaceOrder.{lt_trans, lt_not_le, le_lt_trans, PLt}
-use Rattle.range_change.specs.Chains.{line_of}
+use Rattle.range_change.proofs.Common.{◌≡◌, ℕ, zero, suc, ◌+◌, ◌-◌, ◌<◌, ◌≤◌, List, [], ◌∷◌, ◌++◌, length, take, drop, get_or, refl, ap, sym, ◌∙◌, arith, subst, Option, Some, None, Bool, true, IsTrue, ◌⊎◌, inl, inr, length-append, length-drop, append_assoc, append-nil, get_or-drop, get_or-take, drop-take, drop-drop, length-take-le, IsEquivalence, Every, unwrap_or, Bound, KeyOrder, IsLawful, AnyRange, IsKnownRange, Any, lt_trans, lt_not_le, le_lt_trans, PLt, line_of, upper, list_is_take_and_drop, every_at, any_left, any_right, any_none, every_weaker, every_append, every_left, every_right, Item, item_lower, LiesBefore, MeetsSome, Overlap, IsWindow, option_items, Window, IsEndOf, HasValue, IsNewItem, IsInsertionFrame, IsPart, IsRemovalFrame, joined_item, IsLeftFrame, IsRightFrame}
 use Rattle.range_change.proofs.Chains.{chain_before, chain_left}
-use Rattle.range_algebra.specs.Cuts.{upper}
-use Rattle.range_algebra.proofs.Lists.{list_is_take_and_drop, every_at, any_left, any_right, any_none, every_weaker, every_append, every_left, every_right}
 use Rattle.range_change.proofs.CoveredPlaces.{chained_items_have_places}
 use Rattle.range_change.proofs.ItemPlaces.{element_at, element_at_is_read, listed_at, upto_item}
-use Rattle.range_store.specs.declared.storage.Item.{Item}
-use Rattle.range_change.specs.Stored.{item_lower}
-use Rattle.range_algebra.specs.Relations.{LiesBefore}
-use Rattle.range_change.specs.Lookups.{MeetsSome, Overlap}
-use Rattle.range_change.specs.Window.{IsWindow, option_items}
-use Rattle.range_change.specs.declared.window.Window.{Window}
-use Rattle.range_change.specs.Frames.{IsStartOf, IsEndOf, HasValue, IsNewItem, IsInsertionFrame, IsPart, IsRemovalFrame}
-use Rattle.range_change.specs.Borders.{joined_item}
-use Rattle.range_change.specs.Plans.{IsLeftFrame, IsRightFrame}
-use Rattle.range_change.proofs.Forms.{before_is, stored_known, stored_chain, known_take, known_drop}
+use Rattle.range_change.proofs.Forms.{before_is, stored_chain, every_front, every_back}
 use Rattle.range_change.proofs.Lengths.{one_item}
+use Rattle.range_change.proofs.Overlaps.{any_at}
 use Rattle.range_change.proofs.Windows.{every_both}
-
-any_at : {X : Type 0} (P : X → Type 0) (xs : List X) (k : ℕ) (d : X) → k < length xs
-    → P (get_or xs k d) → Any P xs
-any_at P [] k d within h = absurd (omega arith)
-any_at P (x ∷ xs) zero d within h = inl h
-any_at P (x ∷ xs) (suc k) d within h = inr (any_at P xs k d (omega arith) h)
 
 pub run_size : {X : Type 0} (xs : List X) (place count : ℕ) → place + count ≤ length xs
     → length (take count (drop place xs)) ≡ count
@@ -48,7 +21,7 @@ any_of_run P xs place count k x within lt read h =
     let size = run_size xs place count within in
     let there : get_or (take count (drop place xs)) k x ≡ x =
     get_or-take count (drop place xs) k x lt ∙ (get_or-drop place xs k x ∙ sym read) in
-    any_at P (take count (drop place xs)) k x (omega (arith, size)) (rw there h)
+    any_at P (take count (drop place xs)) k x (omega (arith, size)) (sym there) h
 
 none_left : {X : Type 0} (xs ys : List X) → xs ++ ys ≡ [] → xs ≡ []
 none_left [] ys e = refl
@@ -85,21 +58,12 @@ module _ {K : Type 0} {order : KeyOrder K} (lawful : IsLawful order) {V : Type 0
   abbrev Stored : Type 0
   Stored = Item (AnyRange K) V
 
-  start_within : (run wider : List (Item (AnyRange K) V))
-      → ((Q : Item (AnyRange K) V → Type 0) → Any Q run → Any Q wider) → (r : AnyRange K)
-      (b : Bound K) → IsStartOf order run r b → IsStartOf order wider r b
-  start_within run wider inside r b h = elim h [
-    | inl own ↦ inl own
-    | inr other ↦ inr (elim other [ inl k ↦ inl (inside (λ i. b ≡ i.key.start) k) | inr k ↦ inr k ])
-  ]
-
-  end_within : (run wider : List (Item (AnyRange K) V))
-      → ((Q : Item (AnyRange K) V → Type 0) → Any Q run → Any Q wider) → (r : AnyRange K)
-      (b : Bound K) → IsEndOf order run r b → IsEndOf order wider r b
-  end_within run wider inside r b h = elim h [
-    | inl own ↦ inl own
-    | inr other ↦ inr (elim other [ inl k ↦ inl (inside (λ i. b ≡ i.key.end) k) | inr k ↦ inr k ])
-  ]
+  -- where some item of a run is the reason, one of a wider run is
+  within_wider : {A B : Type 0} {some wide : Type 0} → (some → wide) → A ⊎ (some ⊎ B)
+      → A ⊎ (wide ⊎ B)
+  within_wider f (inl own) = inl own
+  within_wider f (inr (inl one)) = inr (inl (f one))
+  within_wider f (inr (inr turned)) = inr (inr turned)
 
   -- what is put in the place of a run is put so in that of a wider one
   made_within : (run wider made : List (Item (AnyRange K) V))
@@ -108,8 +72,8 @@ module _ {K : Type 0} {order : KeyOrder K} (lawful : IsLawful order) {V : Type 0
   made_within run wider made inside r v all =
       every_weaker _ _ made (λ j h.
       record {
-        start = start_within run wider inside r j.key.start h.start;
-        end = end_within run wider inside r j.key.end h.end;
+        start = within_wider (inside (λ i. j.key.start ≡ i.key.start)) h.start;
+        end = within_wider (inside (λ i. j.key.end ≡ i.key.end)) h.end;
         value = elim h.value [
           | inl e ↦ inl e
           | inr k ↦ inr (inside (λ i. IsTrue (same j.value i.value)) k)
@@ -142,13 +106,12 @@ module _ {K : Type 0} {order : KeyOrder K} (lawful : IsLawful order) {V : Type 0
         every_weaker _ _ (drop place items) (λ i h k. lt_not_le lawful _ _ h.1
         ((before_is order lawful i.key.end r.start h.0.1 window.known.0).0 k))
         (every_both (λ i. IsKnownRange order i.key) _ (drop place items)
-        (known_drop order lawful same equal items place
-        (stored_known order lawful same equal items window.stored)) window.above)
+        (every_back _ place items window.stored.known) window.above)
 
     window_items_reach_range : 0 < w.count
         → Every (λ i. LiesBefore order r i.key → ⊥) (take (place + w.count) items)
     window_items_reach_range some =
-        let all = stored_known order lawful same equal items window.stored in
+        let all = window.stored.known in
         let end = place + w.count in
         let k = end - 1 in
         let within : k < length items = omega (arith, some, window.in_range) in
@@ -172,7 +135,7 @@ module _ {K : Type 0} {order : KeyOrder K} (lawful : IsLawful order) {V : Type 0
         every_weaker _ _ (take end items) (λ i h k. lt_not_le lawful _ _ h.1
         ((before_is order lawful r.end i.key.start window.known.1 h.0.0).0 k))
         (every_both (λ i. IsKnownRange order i.key) _ (take end items)
-        (known_take order lawful same equal items end all) starts)
+        (every_front _ end items all) starts)
 
     -- each item of the window meets the range
     meets_by : (n : ℕ) → w.count ≡ n
@@ -199,6 +162,7 @@ module _ {K : Type 0} {order : KeyOrder K} (lawful : IsLawful order) {V : Type 0
     meets_some some =
         let within : place < length items = omega (arith, some, window.in_range) in
         let x = element_at items place within in
+        let read = element_at_is_read items place within x in
         let size = run_size items place w.count window.in_range in
         let met =
         every_at (λ i. Overlap order i.key r) (take w.count (drop place items)) 0 x all_meet
@@ -207,8 +171,8 @@ module _ {K : Type 0} {order : KeyOrder K} (lawful : IsLawful order) {V : Type 0
         let there : get_or (take w.count (drop place items)) 0 x ≡ get_or items place x =
         get_or-take w.count (drop place items) 0 x some
         ∙ (get_or-drop place items 0 x ∙ ap (λ n. get_or items n x) plus) in
-        any_at (λ i. Overlap order i.key r) items place x within
-        (subst (λ (y : Item (AnyRange K) V). Overlap order y.key r) there met)
+        any_at (λ i. Overlap order i.key r) items place x within read
+        (subst (λ (y : Item (AnyRange K) V). Overlap order y.key r) (there ∙ sym read) met)
 
     pub some_meets : 0 < w.count → Every (λ i. Overlap order i.key r → ⊥) items → ⊥
     some_meets some none =
@@ -297,13 +261,11 @@ module _ {K : Type 0} {order : KeyOrder K} (lawful : IsLawful order) {V : Type 0
         (option_items right) (λ Q h. any_right Q on_left.extra (met ++ on_right.extra) h) r v
         on_right.made) in
         let own_end : IsEndOf order run r (unwrap_or finish r.end) =
-        rw regroup (end_within (met ++ on_right.extra) (on_left.extra ++ (met ++ on_right.extra))
-        (λ Q h. any_right Q on_left.extra (met ++ on_right.extra) h) r
-        (unwrap_or finish r.end) on_right.end_of) in
+        rw regroup (within_wider (any_right (λ i. unwrap_or finish r.end ≡ i.key.end)
+        on_left.extra (met ++ on_right.extra)) on_right.end_of) in
         let own : IsNewItem order same run r v m = record {
           start =
-              start_within (on_left.extra ++ met) run on_start r
-              (unwrap_or start r.start) on_left.start_of;
+              within_wider (on_start (λ i. unwrap_or start r.start ≡ i.key.start)) on_left.start_of;
           end = own_end;
           value = inl values;
         } in

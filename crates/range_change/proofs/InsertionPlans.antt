@@ -1,30 +1,8 @@
 -- What is to become of the items on each side of a range that is bound.
-use Rattle.std.proofs.Common.{◌≡◌, ℕ, ◌+◌, ◌-◌, ◌<◌, List, length, get_or, refl, ap, sym, ◌∙◌, arith, subst, Option, Some, None, Bool, true, false, IsTrue, [], ◌∷◌, ◌++◌, take, drop, inl, inr}
-use Rattle.std.proofs.lemmas.List.{append-nil}
-use Rattle.range_algebra.proofs.Lists.{any_left, any_right}
-use Rattle.range_algebra.specs.Intervals.{Any}
-use Rattle.range_algebra.specs.Relations.{Touches}
-use Rattle.range_change.specs.Frames.{IsPart, IsNewItem}
-use Rattle.range_change.specs.Seams.{IsLeftCutting, IsRightCutting}
+use Rattle.range_change.proofs.Common.{◌≡◌, ℕ, ◌+◌, ◌-◌, ◌<◌, List, length, get_or, refl, ap, sym, ◌∙◌, arith, subst, Option, Some, None, Bool, true, false, IsTrue, [], ◌∷◌, ◌++◌, take, drop, inl, inr, append-nil, any_left, any_right, Any, Touches, IsPart, IsNewItem, IsLeftCutting, IsRightCutting, IsEquivalence, Bound, KeyOrder, IsLawful, AnyRange, IsKnownBound, SameBound, Item, IsAt, IsWindow, option_items, Window, flipped_bound, with_start, with_end, ReachesBefore, ReachesAfter, border_at, TouchesBefore, TouchesNoneBefore, TouchesAfter, TouchesNoneAfter, IsLeftFrame, IsRightFrame, IsLeftPlan, IsRightPlan, Plain, Cut, Joined, lt_le}
 use Rattle.range_change.proofs.InsertionFrames.{any_of_run, run_some}
-use Rattle.std.specs.Cmp.{IsEquivalence}
-use Rattle.std.specs.declared.ops.Bound.{Bound}
-use Rattle.range_keys.specs.Order.{KeyOrder, IsLawful}
-use Rattle.range_algebra.specs.declared.any.AnyRange.{AnyRange}
-use Rattle.range_algebra.specs.Range.{IsKnownBound}
-use Rattle.range_algebra.specs.Clones.{SameBound}
-use Rattle.range_store.specs.declared.storage.Item.{Item}
-use Rattle.range_store.specs.ListPlaces.{IsAt}
-use Rattle.range_change.specs.Window.{IsWindow, option_items}
-use Rattle.range_change.specs.declared.window.Window.{Window}
-use Rattle.range_change.specs.Edits.{flipped_bound, with_start, with_end}
-use Rattle.range_change.specs.Reach.{ReachesBefore, ReachesAfter}
-use Rattle.range_change.specs.Borders.{border_at, TouchesBefore, TouchesNoneBefore, TouchesAfter, TouchesNoneAfter}
-use Rattle.range_change.specs.Plans.{IsLeftFrame, IsRightFrame, IsLeftPlan, IsRightPlan}
-use Rattle.range_change.specs.declared.borders.Border.TheVariants.{Plain, Cut, Joined}
 use Rattle.range_change.proofs.RangeSides.{left_rest_whole, left_rest_cut, right_rest_whole, right_rest_cut, left_border_at, left_border_rest, left_border_none, right_border_at, right_border_rest, right_border_none, first_reaches, last_starts, touching_before, touching_after}
 use Rattle.range_change.proofs.ItemPlaces.{element_at, element_at_is_read, upto_item, from_item}
-use Rattle.range_change.proofs.PlaceOrder.{lt_le}
 
 none_last : {X : Type 0} (xs : List X) (y : X) → xs ++ y ∷ [] ≡ [] → ⊥
 none_last [] y e = cc

@@ -1,7 +1,5 @@
 -- An item at a place of a list, and what stands on each side of it.
-use Rattle.std.proofs.Common.{◌≡◌, ℕ, zero, suc, ◌+◌, ◌<◌, List, [], ◌∷◌, ◌++◌, length, take, drop, get_or, refl, ap, sym, ◌∙◌, arith}
-use Rattle.std.proofs.lemmas.List.{drop_more, take_more}
-use Rattle.range_algebra.proofs.Lists.{parts_at}
+use Rattle.range_change.proofs.Common.{◌≡◌, ℕ, zero, suc, ◌+◌, ◌<◌, List, [], ◌∷◌, ◌++◌, length, take, drop, get_or, refl, ap, sym, ◌∙◌, arith, drop_more, take_more, parts_at}
 
 pub element_at : {X : Type 0} (xs : List X) (n : ℕ) → n < length xs → X
 element_at [] n within = absurd (omega arith)

@@ -1,44 +1,9 @@
 -- A middle that comes to stand within a range, and what joins it there.
-use Rattle.std.proofs.Common.{◌≡◌, ℕ, ◌+◌, ◌-◌, ◌<◌, ◌≤◌, List, [], ◌∷◌, ◌++◌, length, take, drop, refl, ap, sym, ◌∙◌, arith, subst, Option, Some, None, Bool, true, false, IsTrue, Bor, ◌⊎◌, inl, inr, append_assoc}
-use Rattle.std.proofs.lemmas.List.{append-nil}
-use Rattle.std.specs.List.{AllByRecursion as Every}
-use Rattle.std.specs.Prelude.{slice_get, option_copied, MatchOption}
-use Rattle.std.specs.Cmp.{IsEquivalence, tied_itself}
-use Rattle.std.specs.Option.{unwrap_or}
-use Rattle.std.specs.declared.cmp.Ordering.TheVariants.{Equal}
-use Rattle.std.specs.declared.ops.Bound.{Bound}
-use Rattle.range_keys.specs.Order.{KeyOrder, IsLawful}
-use Rattle.range_keys.specs.Position.{start_position, end_position}
-use Rattle.range_keys.specs.PositionOrder.{position_total}
-use Rattle.range_keys.specs.declared.inner.position.Position.{Position}
-use Rattle.range_algebra.proofs.Lists.{any_left, any_right, every_weaker, every_append, every_left, every_right}
-use Rattle.range_change.specs.Chains.{line_of, IsLeftOf, IsRightOf, IsSpliced}
+use Rattle.range_change.proofs.Common.{Line, ◌≡◌, ℕ, ◌+◌, ◌-◌, ◌<◌, ◌≤◌, List, [], ◌∷◌, ◌++◌, length, take, drop, refl, ap, sym, ◌∙◌, arith, subst, Option, Some, None, Bool, true, false, IsTrue, Bor, ◌⊎◌, inl, inr, append_assoc, append-nil, Every, slice_get, option_copied, MatchOption, IsEquivalence, tied_itself, unwrap_or, Equal, Bound, KeyOrder, IsLawful, start_position, end_position, position_total, Position, any_left, any_right, every_weaker, every_append, every_left, every_right, line_of, IsLeftOf, IsRightOf, IsSpliced, flipped, past, lower, upper, Le, Lt, Any, eq_ge, le_lt_trans, le_refl, lt_le, eq_le, le_trans, lt_trans, lt_le_trans, lt_not_le, not_lt, PLe, PLt, IsKnownBound, IsKnownRange, Touches, AnyRange, reaching_is_before_past, flipped_bound_is_past, flipped_known, Item, IsAt, Border, Window, IsLeftShape, IsRightShape, IsRunStart, left_side, right_side, joined_count, seam_border, TouchesBefore, TouchesNoneBefore, TouchesAfter, TouchesNoneAfter, with_start, HasValue, item_lower, item_upper, IsStored, LiesIn, IsLeftPlan, IsRightPlan, ReachesBefore, ReachesAfter, AreWithin, with_first_start, with_last_end, IsLeftCutting, IsRightCutting, IsLeftSeam, IsRightSeam, IsWindow, option_items}
 use Rattle.range_change.proofs.Chains.{chain_before, chain_right, follows_above}
-use Rattle.range_algebra.specs.Compared.{flipped}
-use Rattle.range_algebra.specs.Cuts.{past, lower, upper}
-use Rattle.range_algebra.specs.Intervals.{Le, Lt, Any}
-use Rattle.range_change.proofs.PlaceOrder.{eq_ge, le_lt_trans, le_refl, lt_le, eq_le, le_trans, lt_trans, lt_le_trans, lt_not_le, not_lt, PLe, PLt}
-use Rattle.range_algebra.specs.Range.{IsKnownBound, IsKnownRange}
-use Rattle.range_algebra.specs.Relations.{Touches}
-use Rattle.range_algebra.specs.declared.any.AnyRange.{AnyRange}
-use Rattle.range_algebra.proofs.Places.{reaching_is_before_past, flipped_bound_is_past, flipped_known}
-use Rattle.range_store.specs.declared.storage.Item.{Item}
-use Rattle.range_store.specs.ListPlaces.{IsAt}
-use Rattle.range_change.specs.declared.borders.Border.{Border}
-use Rattle.range_change.specs.declared.window.Window.{Window}
-use Rattle.range_change.specs.Borders.{IsLeftShape, IsRightShape, IsRunStart, left_side, right_side, joined_count, seam_border, TouchesBefore, TouchesNoneBefore, TouchesAfter, TouchesNoneAfter}
-use Rattle.range_change.specs.Edits.{with_start}
-use Rattle.range_change.specs.Frames.{HasValue}
-use Rattle.range_change.specs.Stored.{item_lower, item_upper, IsStored}
-use Rattle.range_change.specs.Pieces.{LiesIn}
-use Rattle.range_change.specs.Plans.{IsLeftPlan, IsRightPlan}
-use Rattle.range_change.specs.Reach.{ReachesBefore, ReachesAfter}
-use Rattle.range_change.specs.Replaced.{AreWithin}
-use Rattle.range_change.specs.Seams.{with_first_start, with_last_end, IsLeftCutting, IsRightCutting, IsLeftSeam, IsRightSeam}
-use Rattle.range_change.specs.Window.{IsWindow, option_items}
 use Rattle.range_change.proofs.CutParts.{ends_never}
 use Rattle.range_change.proofs.OuterBounds.{last_of, item_with_end, with_last, started_last}
-use Rattle.range_change.proofs.Forms.{places, Known, Chained, stored_known, stored_chain, known_take, known_drop}
+use Rattle.range_change.proofs.Forms.{places, Known, Chained, stored_chain, every_front, every_back}
 use Rattle.range_change.proofs.BoundEdits.{cut_joins_none}
 use Rattle.range_change.proofs.Lengths.{border_joins_none}
 use Rattle.range_change.proofs.InsertionPlans.{left_plan_free, left_plan_joined, right_plan_joined, right_plan_plain}
@@ -84,35 +49,40 @@ pub seam_count : {K P : Type 0} (joined reaching : Option P) (b : Bound K)
 seam_count None reaching b = cut_joins_none reaching b
 seam_count (Some q) reaching b = refl
 
+module _ {K : Type 0} {order : KeyOrder K} (lawful : IsLawful order) {V : Type 0} (r : AnyRange K)
+    (same : V → V → Bool) where
+  -- the item starts before the range ends, and ends after the range starts
+  abbrev pub Crosses : Item (AnyRange K) V → Type 0
+  Crosses i =
+      PLt lawful (item_lower order i) (upper order r)
+      × PLt lawful (lower order r) (item_upper order i)
+
+  -- one that crosses the range has the start of an item, and an equal value
+  abbrev pub TakesStartOf : Item (AnyRange K) V → List (Item (AnyRange K) V) → Type 0
+  TakesStartOf i xs =
+      Any (λ j. (j.key.start ≡ i.key.start) × Crosses j × IsTrue (same i.value j.value)) xs
+
+  abbrev pub TakesEndOf : Item (AnyRange K) V → List (Item (AnyRange K) V) → Type 0
+  TakesEndOf i xs =
+      Any (λ j. (j.key.end ≡ i.key.end) × Crosses j × IsTrue (same i.value j.value)) xs
+
 module _ {K : Type 0} (order : KeyOrder K) (lawful : IsLawful order) {V : Type 0}
     (same : V → V → Bool) (equal : IsEquivalence same) where
+  abbrev line : Line (Position K) V (Item (AnyRange K) V)
+  line = line_of order lawful same equal
+
   abbrev pub Filled : List (Item (AnyRange K) V) → List (Item (AnyRange K) V)
       → List (Item (AnyRange K) V) → List (Item (AnyRange K) V) → Position K → Type 0
   Filled items front wide middle c =
-      IsFilled (line_of order lawful same equal) items front wide middle c
+      IsFilled line items front wide middle c
 
   abbrev pub Spliced : List (Item (AnyRange K) V) → List (Item (AnyRange K) V)
       → List (Item (AnyRange K) V) → AnyRange K → Type 0
   Spliced items middle new r =
-      IsSpliced (line_of order lawful same equal) items middle new (lower order r) (upper order r)
+      IsSpliced line items middle new (lower order r) (upper order r)
 
   module _ {P : Type 0} (is_good : P → Type 0) (rank : P → ℕ) (items : List (Item (AnyRange K) V))
       (r : AnyRange K) (place count : ℕ) where
-    -- the item starts before the range ends, and ends after the range starts
-    abbrev pub Crosses : Item (AnyRange K) V → Type 0
-    Crosses i =
-        PLt lawful (item_lower order i) (upper order r)
-        × PLt lawful (lower order r) (item_upper order i)
-
-    -- one that crosses the range has the start of an item, and an equal value
-    abbrev pub TakesStartOf : Item (AnyRange K) V → List (Item (AnyRange K) V) → Type 0
-    TakesStartOf i xs =
-        Any (λ j. (j.key.start ≡ i.key.start) × Crosses j × IsTrue (same i.value j.value)) xs
-
-    abbrev pub TakesEndOf : Item (AnyRange K) V → List (Item (AnyRange K) V) → Type 0
-    TakesEndOf i xs =
-        Any (λ j. (j.key.end ≡ i.key.end) × Crosses j × IsTrue (same i.value j.value)) xs
-
     -- the items up to the range, and the middle with the start that it joins
     pub record IsLeftFill (middle : List (Item (AnyRange K) V)) (first : Option P)
         (border : Border K P)
@@ -131,7 +101,7 @@ module _ {K : Type 0} (order : KeyOrder K) (lawful : IsLawful order) {V : Type 0
       pub extra : List (Item (AnyRange K) V)
       pub split : take place items ≡ take at items ++ extra
       pub touched : Every (λ i. Touches order i.key r
-          × TakesStartOf i (with_first_start start middle)) extra
+          × TakesStartOf lawful r same i (with_first_start start middle)) extra
       pub valued : Every (λ j.
           HasValue order same (extra ++ take count (drop place items)) j.value ⊎ HasValue order same
           middle j.value) (option_items rest)
@@ -155,7 +125,7 @@ module _ {K : Type 0} (order : KeyOrder K) (lawful : IsLawful order) {V : Type 0
       pub extra : List (Item (AnyRange K) V)
       pub split : drop (place + count) items ≡ extra ++ drop end items
       pub touched : Every (λ i. Touches order r i.key
-          × TakesEndOf i (with_last_end finish (with_first_start start middle))) extra
+          × TakesEndOf lawful r same i (with_last_end finish (with_first_start start middle))) extra
       pub reaches : (b : Bound K) → finish ≡ Some b
           → PLt lawful (lower order r) (past order (end_position order b))
       pub valued : Every (λ j.
@@ -164,19 +134,18 @@ module _ {K : Type 0} (order : KeyOrder K) (lawful : IsLawful order) {V : Type 0
 
     start_filled : (start : Option (Bound K)) (front ms : List (Item (AnyRange K) V))
         (m : Item (AnyRange K) V)
-        → IsLeftOf (line_of order lawful same equal) items front (lower order r)
+        → IsLeftOf line items front (lower order r)
         (start_position order (unwrap_or start r.start)) m.value
         → Chained order lawful same equal (m ∷ ms)
         → places order lawful (item_lower order m) (lower order r) ≡ Equal
         → Filled items front (with_first_start start (m ∷ ms)) (m ∷ ms) (lower order r)
     start_filled None front ms m left chain at =
-        filled_joined (line_of order lawful same equal) items front m m ms (lower order r)
-        (lower order r) left chain at at
+        filled_joined line items front m m ms (lower order r) (lower order r) left chain at at
         (tied_itself (position_total order.cmp lawful.total) (item_upper order m))
         (equal.refl m.value)
     start_filled (Some b) front ms m left chain at =
         let total = position_total order.cmp lawful.total in
-        filled_joined (line_of order lawful same equal) items front m (with_start m b) ms
+        filled_joined line items front m (with_start m b) ms
         (lower order r) (start_position order b) left chain at
         (tied_itself total (start_position order b)) (tied_itself total (item_upper order m))
         (equal.refl m.value)
@@ -193,7 +162,7 @@ module _ {K : Type 0} (order : KeyOrder K) (lawful : IsLawful order) {V : Type 0
         → PLe lawful (start_position order (unwrap_or start r.start)) (lower order r)
         → PLt lawful (lower order r) (upper order r)
         → PLt lawful (lower order r) (item_upper order m) → IsTrue (same i.value m.value)
-        → TakesStartOf i (with_first_start start (m ∷ ms))
+        → TakesStartOf lawful r same i (with_first_start start (m ∷ ms))
     takes_start None m ms i is le good over alike = absurd (cc)
     takes_start (Some b) m ms i is le good over alike =
         let bound : b ≡ i.key.start = cc in
@@ -216,8 +185,7 @@ module _ {K : Type 0} (order : KeyOrder K) (lawful : IsLawful order) {V : Type 0
     left_joining m ms first border from good stored middle at plan =
         let chain = stored_chain order lawful same equal (m ∷ ms) middle in
         let le = plan.side.left.below in
-        let over =
-        le_lt_trans lawful _ _ _ (eq_ge lawful _ _ at) chain.0 in
+        let over = le_lt_trans lawful _ _ _ (eq_ge lawful _ _ at) chain.0 in
         record {
           at = plan.at;
           begin = plan.begin;
@@ -233,10 +201,8 @@ module _ {K : Type 0} (order : KeyOrder K) (lawful : IsLawful order) {V : Type 0
               every_append _ (take plan.at items ++ option_items plan.rest)
               (with_first_start plan.start (m ∷ ms))
               (every_append _ (take plan.at items) (option_items plan.rest)
-              (known_take order lawful same equal items plan.at
-              (stored_known order lawful same equal items stored)) plan.side.known)
-              (start_known plan.start m ms plan.side.known_start
-              (stored_known order lawful same equal (m ∷ ms) middle));
+              (every_front _ plan.at items stored.known) plan.side.known)
+              (start_known plan.start m ms plan.side.known_start middle.known);
           extra = plan.frame.extra;
           split = plan.frame.split;
           touched =
@@ -265,15 +231,13 @@ module _ {K : Type 0} (order : KeyOrder K) (lawful : IsLawful order) {V : Type 0
           run = cut.run;
           begins = omega (arith, none);
           filled =
-              filled_apart (line_of order lawful same equal) items
+              filled_apart line items
               (take place items ++ option_items cut.rest) middle (lower order r) cut.side.left
               (stored_chain order lawful same equal middle others) starts;
           known =
               every_append _ (take place items ++ option_items cut.rest) middle
               (every_append _ (take place items) (option_items cut.rest)
-              (known_take order lawful same equal items place
-              (stored_known order lawful same equal items stored)) cut.side.known)
-              (stored_known order lawful same equal middle others);
+              (every_front _ place items stored.known) cut.side.known) others.known;
           extra = [];
           split = sym (append-nil (take place items));
           touched = tt;
@@ -284,7 +248,7 @@ module _ {K : Type 0} (order : KeyOrder K) (lawful : IsLawful order) {V : Type 0
         → Chained order lawful same equal (m ∷ ms) → PLt lawful (lower order r) (item_lower order m)
         → Every (λ i. PLt lawful (lower order r) (item_lower order i)) (m ∷ ms)
     all_later m ms chain later =
-        let above = follows_above (line_of order lawful same equal) m ms chain.1 in (
+        let above = follows_above line m ms chain.1 in (
           later,
           every_weaker _ _ ms (λ i h.
               lt_le_trans lawful _ _ _ (lt_trans lawful _ _ _ later chain.0) h) above,
@@ -315,13 +279,6 @@ module _ {K : Type 0} (order : KeyOrder K) (lawful : IsLawful order) {V : Type 0
     alike_value (x ∷ xs) v u e (inl h) = inl (equal.congr u v x.value e ∙ h)
     alike_value (x ∷ xs) v u e (inr h) = inr (alike_value xs v u e h)
 
-    ended_lower : (finish : Option (Bound K)) (z : Item (AnyRange K) V)
-        → places order lawful (item_lower order (item_with_end finish z)) (item_lower order z)
-        ≡ Equal
-    ended_lower None z = tied_itself (position_total order.cmp lawful.total) (item_lower order z)
-    ended_lower (Some b) z =
-        tied_itself (position_total order.cmp lawful.total) (item_lower order z)
-
     ended_upper : (finish : Option (Bound K)) (z : Item (AnyRange K) V)
         → places order lawful (item_upper order z) (upper order r) ≡ Equal
         → places order lawful (item_upper order (item_with_end finish z))
@@ -330,26 +287,11 @@ module _ {K : Type 0} (order : KeyOrder K) (lawful : IsLawful order) {V : Type 0
     ended_upper (Some b) z at =
         tied_itself (position_total order.cmp lawful.total) (past order (end_position order b))
 
-    ended_value : (finish : Option (Bound K)) (z : Item (AnyRange K) V)
-        → same (item_with_end finish z).value z.value ≡ true
-    ended_value None z = equal.refl z.value
-    ended_value (Some b) z = equal.refl z.value
-
     ended_known : (finish : Option (Bound K)) (z : Item (AnyRange K) V) → IsKnownRange order z.key
         → IsKnownBound order (unwrap_or finish r.end)
         → IsKnownRange order (item_with_end finish z).key
     ended_known None z known end = known
     ended_known (Some b) z known end = (known.0, end)
-
-    ended_end : (finish : Option (Bound K)) (z i : Item (AnyRange K) V) → finish ≡ Some i.key.end
-        → (item_with_end finish z).key.end ≡ i.key.end
-    ended_end None z i is = absurd (cc)
-    ended_end (Some b) z i is = cc
-
-    ended_same : (finish : Option (Bound K)) (z : Item (AnyRange K) V)
-        → (item_with_end finish z).value ≡ z.value
-    ended_same None z = refl
-    ended_same (Some b) z = refl
 
     right_joining : (middle front init : List (Item (AnyRange K) V)) (m : Item (AnyRange K) V)
         (start : Option (Bound K)) (last : Option P) (border : Border K P) → IsStored order same
@@ -380,7 +322,7 @@ module _ {K : Type 0} (order : KeyOrder K) (lawful : IsLawful order) {V : Type 0
         (upper order r) ≡ Equal) (sym s.3) at in
         let e = past order (end_position order (unwrap_or plan.finish r.end)) in
         let right =
-        subst (λ (v : V). IsRightOf (line_of order lawful same equal) items behind
+        subst (λ (v : V). IsRightOf line items behind
         (upper order r) e v) (sym s.4) plan.side.right in
         let filled = subst (λ ys. Filled items front ys middle (lower order r)) body fill in
         let all : Known order lawful same equal (front ++ (s.0 ++ z ∷ [])) = rw body at known in
@@ -388,31 +330,23 @@ module _ {K : Type 0} (order : KeyOrder K) (lawful : IsLawful order) {V : Type 0
         let known_z = every_right _ s.0 (z ∷ []) own_all in
         let cmp = places order lawful in
         let full =
-        (chain_right (line_of order lawful same equal) s.0 (z ∷ [])
-        (chain_right (line_of order lawful same equal) front (s.0 ++ z ∷ []) filled.chain)).0 in
-        let under =
-        le_lt_trans lawful _ _ _ (eq_le lawful _ _ (ended_lower plan.finish z))
-        (lt_le_trans lawful _ _ _ full (eq_le lawful _ _ z_ends))
-        in
-        let above =
-        lt_le_trans lawful _ _ _ good plan.side.right.above in
+        (chain_right line s.0 (z ∷ []) (chain_right line front (s.0 ++ z ∷ []) filled.chain)).0 in
+        let under = lt_le_trans lawful _ _ _ full (eq_le lawful _ _ z_ends) in
+        let above = lt_le_trans lawful _ _ _ good plan.side.right.above in
         let over =
-        lt_le_trans lawful _ _ _ above (eq_ge lawful _ _
-        (ended_upper plan.finish z z_ends)) in
-        let same_value : m.value ≡ other.value = sym (ended_same plan.finish z ∙ s.4) in
+        lt_le_trans lawful _ _ _ above (eq_ge lawful _ _ (ended_upper plan.finish z z_ends)) in
         let done =
-        spliced_joined (line_of order lawful same equal) items front s.0 middle behind z other
-        (lower order r) (upper order r) e filled good z_ends right (ended_lower plan.finish z)
-        (ended_upper plan.finish z z_ends)
-        (ended_value plan.finish z) in
+        spliced_joined line items front s.0 middle behind z other
+        (lower order r) (upper order r) e filled good z_ends right
+        (tied_itself (position_total order.cmp lawful.total) (item_lower order z))
+        (ended_upper plan.finish z z_ends) (equal.refl z.value) in
         let known_new =
         every_append _ front ((s.0 ++ other ∷ []) ++ behind) (every_left _ front _ all)
         (every_append _ (s.0 ++ other ∷ []) behind
         (every_append _ s.0 (other ∷ []) (every_left _ s.0 (z ∷ []) own_all)
         (ended_known plan.finish z known_z.0 plan.side.known_end, tt))
         (every_append _ (option_items plan.rest) (drop plan.end items) plan.side.known
-        (known_drop order lawful same equal items plan.end
-        (stored_known order lawful same equal items stored)))) in
+        (every_back _ plan.end items stored.known))) in
         record {
           upto = plan.upto;
           end = plan.end;
@@ -429,12 +363,12 @@ module _ {K : Type 0} (order : KeyOrder K) (lawful : IsLawful order) {V : Type 0
               every_weaker _ _ plan.frame.extra
               (λ i h. (
                 h.0,
-                subst (λ ys. TakesEndOf i ys) (sym body_end)
+                subst (λ ys. TakesEndOf lawful r same i ys) (sym body_end)
                     (any_right _ s.0 (other ∷ [])
                     (inl (
-                      ended_end plan.finish z i h.2,
+                      ap (λ o. unwrap_or o z.key.end) h.2,
                       (under, over),
-                      subst (λ v. IsTrue (same i.value v)) same_value h.1,
+                      subst (λ v. IsTrue (same i.value v)) (sym s.4) h.1,
                     ))),
               )) plan.frame.touched;
           reaches = λ b is. subst (λ o. Lt cmp (lower order r)
@@ -470,14 +404,13 @@ module _ {K : Type 0} (order : KeyOrder K) (lawful : IsLawful order) {V : Type 0
           ends = omega (arith, none, cut.ends);
           in_range = within;
           spliced =
-              spliced_apart (line_of order lawful same equal) items front
+              spliced_apart line items front
               (with_first_start start middle) middle behind (lower order r) u
               (upper order r) fill le lt all cut.side.right;
           known =
               every_append _ (front ++ with_first_start start middle) behind known
               (every_append _ (option_items cut.rest) (drop (place + count) items) cut.side.known
-              (known_drop order lawful same equal items (place + count)
-              (stored_known order lawful same equal items stored)));
+              (every_back _ (place + count) items stored.known));
           extra = [];
           split = refl;
           touched = tt;
@@ -500,8 +433,7 @@ module _ {K : Type 0} (order : KeyOrder K) (lawful : IsLawful order) {V : Type 0
         absurd (let e = h.1 in cc)
     right_fill [] front start last border stored others within good in_range fill known (inr h) =
         right_cutting [] front start last border (lower order r) stored in_range
-        (le_refl lawful (lower order r))
-        good tt fill known h.1
+        (le_refl lawful (lower order r)) good tt fill known h.1
     right_fill (x ∷ xs) front start last border stored others within good in_range fill known
         (inl h) =
         let end = last_of x xs in
@@ -519,12 +451,11 @@ module _ {K : Type 0} (order : KeyOrder K) (lawful : IsLawful order) {V : Type 0
         let chain =
         subst (λ ys. Chained order lawful same equal ys) end.2
         (stored_chain order lawful same equal (x ∷ xs) others) in
-        let full = (chain_right (line_of order lawful same equal) end.0 (m ∷ []) chain).0 in
-        let before = chain_before (line_of order lawful same equal) end.0 m [] chain in
+        let full = (chain_right line end.0 (m ∷ []) chain).0 in
+        let before = chain_before line end.0 m [] chain in
         let below =
         every_append (λ i. Le cmp (item_upper order i) (item_upper order m)) end.0 (m ∷ [])
-        (every_weaker _ _ end.0 (λ i k.
-        le_trans lawful _ _ _ k.0 (lt_le lawful _ _ full)) before)
+        (every_weaker _ _ end.0 (λ i k. le_trans lawful _ _ _ k.0 (lt_le lawful _ _ full)) before)
         (le_refl lawful (item_upper order m), tt) in
         let inside =
         every_right (λ i. LiesIn order i.key r) end.0 (m ∷ [])

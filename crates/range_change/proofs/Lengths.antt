@@ -1,14 +1,5 @@
 -- How long a list is once it was changed.
-use Rattle.std.proofs.Common.{◌≡◌, ℕ, ◌+◌, ◌≤◌, List, ◌∷◌, ◌++◌, length, take, drop, refl, ap, arith, length-append, length-drop}
-use Rattle.std.specs.Prelude.{Option, Some, None}
-use Rattle.std.specs.declared.ops.Bound.{Bound}
-use Rattle.std.proofs.lemmas.List.{length-take-le}
-use Rattle.range_algebra.specs.declared.any.AnyRange.{AnyRange}
-use Rattle.range_store.specs.declared.storage.Item.{Item}
-use Rattle.range_change.specs.declared.borders.Border.{Border}
-use Rattle.range_change.specs.declared.borders.Border.TheVariants.{Plain, Cut, Joined}
-use Rattle.range_change.specs.Borders.{BorderSide, IsBorderShape, joined_count}
-use Rattle.range_change.specs.Window.{option_items}
+use Rattle.range_change.proofs.Common.{◌≡◌, ℕ, ◌+◌, ◌≤◌, List, ◌++◌, length, take, drop, refl, ap, arith, length-append, length-drop, Option, Some, None, Bound, length-take-le, AnyRange, Item, Border, Plain, Cut, Joined, BorderSide, IsBorderShape, joined_count, option_items}
 
 -- an option names at most one item
 pub one_item : {T : Type 0} (o : Option T) → length (option_items o) ≤ 1
@@ -31,28 +22,17 @@ changed_length items new a b d at end within within_end made =
       length-drop end items,
     )
 
--- where a run was removed, and where one item stands for it
-pub removed_length : {T : Type 0} (items new : List T) (at left : ℕ) → at + left ≤ length items
-    → new ≡ take at items ++ drop (at + left) items → length new + left ≡ length items
-removed_length items new at left within made =
+-- where some items stand for a run
+pub replaced_length : {T : Type 0} (items new put : List T) (at left : ℕ)
+    → at + left ≤ length items → new ≡ take at items ++ (put ++ drop (at + left) items)
+    → length new + left ≡ length items + length put
+replaced_length items new put at left within made =
     omega (
       arith,
       ap length made,
       within,
-      length-append (take at items) (drop (at + left) items),
-      length-take-le at items (omega (arith, within)),
-      length-drop (at + left) items,
-    )
-
-pub replaced_length : {T : Type 0} (items new : List T) (x : T) (at left : ℕ)
-    → at + left ≤ length items → new ≡ take at items ++ x ∷ drop (at + left) items
-    → length new + left ≡ length items + 1
-replaced_length items new x at left within made =
-    omega (
-      arith,
-      ap length made,
-      within,
-      length-append (take at items) (x ∷ drop (at + left) items),
+      length-append (take at items) (put ++ drop (at + left) items),
+      length-append put (drop (at + left) items),
       length-take-le at items (omega (arith, within)),
       length-drop (at + left) items,
     )

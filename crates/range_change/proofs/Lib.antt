@@ -5,6 +5,7 @@ pub mod BoundEdits
 pub mod ChainJoins
 pub mod ChainSides
 pub mod Chains
+pub mod Common
 pub mod Comparisons
 pub mod CoveredPlaces
 pub mod CutParts

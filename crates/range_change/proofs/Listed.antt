@@ -1,19 +1,6 @@
 -- The form of a stored list, item by item.
-use Rattle.std.proofs.Common.{refl, ◌↔◌, Bool, true, false, not, ◌||◌, if◌then◌else◌, IsTrue, List, [], ◌∷◌}
-use Rattle.std.specs.Ordering.{is_gt, is_lt, is_eq}
-use Rattle.std.specs.List.{AllByRecursion}
-use Rattle.range_keys.specs.Order.{KeyOrder, IsLawful}
-use Rattle.range_keys.specs.Position.{start_position, end_position, position_cmp}
-use Rattle.range_keys.proofs.Orderings.{lt_is_less, not_greater}
-use Rattle.range_algebra.specs.Range.{IsKnownRange, IsEmptyRange}
-use Rattle.range_algebra.specs.Compared.{starts_at_end, is_before}
+use Rattle.range_change.proofs.Common.{Every, refl, ◌↔◌, Bool, true, false, not, ◌||◌, if◌then◌else◌, IsTrue, List, [], ◌∷◌, is_gt, is_lt, is_eq, KeyOrder, IsLawful, start_position, end_position, position_cmp, lt_is_less, not_greater, IsKnownRange, IsEmptyRange, starts_at_end, is_before, le_lt_trans, AnyRange, Item, EachNext, LiesBefore, Touches, IsFollowedBy, IsStored}
 use Rattle.range_algebra.specs.declared.ordering.RangeOrdering.TheVariants.{Before, Intersecting, After}
-use Rattle.range_change.proofs.PlaceOrder.{le_lt_trans}
-use Rattle.range_algebra.specs.declared.any.AnyRange.{AnyRange}
-use Rattle.range_store.specs.declared.storage.Item.{Item}
-use Rattle.range_change.specs.Neighbours.{EachNext}
-use Rattle.range_algebra.specs.Relations.{LiesBefore, Touches}
-use Rattle.range_change.specs.Stored.{IsFollowedBy, IsStored}
 
 one_false_is_not_both : (t c : Bool) → IsTrue (not t || not c) ↔ (IsTrue t → IsTrue c → ⊥)
 one_false_is_not_both true true = (λ h _ _. cc, λ h. absurd (h refl refl))
@@ -68,8 +55,8 @@ module _ {K : Type 0} (order : KeyOrder K) (lawful : IsLawful order) {V : Type 0
       )
 
   by_parts : (items : List (Item (AnyRange K) V))
-      → AllByRecursion (λ i. IsKnownRange order i.key) items
-      → AllByRecursion (λ i. IsEmptyRange order i.key → ⊥) items
+      → Every (λ i. IsKnownRange order i.key) items
+      → Every (λ i. IsEmptyRange order i.key → ⊥) items
       → EachNext (IsFollowedBy order same) items → IsListed items
   by_parts [] known full rising = tt
   by_parts (i ∷ []) known full rising = (known.0, full.0)
@@ -82,13 +69,13 @@ module _ {K : Type 0} (order : KeyOrder K) (lawful : IsLawful order) {V : Type 0
   stored_list_is_listed items h = by_parts items h.known h.nonempty h.rising
 
   all_known : (items : List (Item (AnyRange K) V)) → IsListed items
-      → AllByRecursion (λ i. IsKnownRange order i.key) items
+      → Every (λ i. IsKnownRange order i.key) items
   all_known [] h = tt
   all_known (i ∷ []) h = (h.0, tt)
   all_known (i ∷ j ∷ rest) h = (h.0, all_known (j ∷ rest) h.4)
 
   all_full : (items : List (Item (AnyRange K) V)) → IsListed items
-      → AllByRecursion (λ i. IsEmptyRange order i.key → ⊥) items
+      → Every (λ i. IsEmptyRange order i.key → ⊥) items
   all_full [] h = tt
   all_full (i ∷ []) h = (h.1, tt)
   all_full (i ∷ j ∷ rest) h = (h.1, all_full (j ∷ rest) h.4)

@@ -1,23 +1,9 @@
 -- What a range that is changed meets or is merged with, and that all else stands.
-use Rattle.std.proofs.Common.{◌≡◌, refl, Bool, List, [], ◌∷◌, ◌++◌, ◌⊎◌, inl, inr}
-use Rattle.std.specs.Cmp.{IsEquivalence}
-use Rattle.std.specs.List.{AllByRecursion as Every}
-use Rattle.range_keys.specs.Order.{KeyOrder, IsLawful}
-use Rattle.range_algebra.proofs.Lists.{any_left, any_right, every_weaker, every_append, every_left, every_right}
-use Rattle.range_change.specs.Chains.{line_of}
+use Rattle.range_change.proofs.Common.{Touches, ◌≡◌, refl, Bool, List, [], ◌∷◌, ◌++◌, ◌⊎◌, inl, inr, IsEquivalence, Every, KeyOrder, IsLawful, any_left, any_right, every_weaker, every_append, every_left, every_right, line_of, lower, upper, Any, le_lt_trans, lt_le_trans, lt_trans, PLt, IsKnownRange, AnyRange, Item, IsMergedInto, IsUpdateFrame, IsSpliceFrame, item_lower, item_upper, IsConnectedTo, Overlap}
 use Rattle.range_change.proofs.Chains.{chain_right, chain_before, follows_above}
-use Rattle.range_algebra.specs.Cuts.{lower, upper}
-use Rattle.range_algebra.specs.Intervals.{Any}
-use Rattle.range_change.proofs.PlaceOrder.{le_lt_trans, lt_le_trans, lt_trans, lt_not_le, PLt}
-use Rattle.range_algebra.specs.Range.{IsKnownRange}
-use Rattle.range_algebra.specs.declared.any.AnyRange.{AnyRange}
-use Rattle.range_algebra.proofs.Places.{reaching_is_before_past}
-use Rattle.range_store.specs.declared.storage.Item.{Item}
-use Rattle.range_change.specs.Frames.{IsMergedInto, IsUpdateFrame, IsSpliceFrame}
-use Rattle.range_change.specs.Stored.{item_lower, item_upper}
-use Rattle.range_change.specs.Lookups.{IsConnectedTo, Overlap}
 use Rattle.range_change.proofs.RangePieces.{every_with, IsFull}
 use Rattle.range_change.proofs.Forms.{Chained}
+use Rattle.range_change.proofs.CoveredPlaces.{overlap_is}
 use Rattle.range_change.proofs.ApartRanges.{apart_not}
 
 -- each item is one of the list
@@ -26,17 +12,6 @@ each_is_one [] = tt
 each_is_one (x ∷ xs) = (inl refl, every_weaker _ _ xs (λ y h. inr h) (each_is_one xs))
 
 module _ {K : Type 0} (order : KeyOrder K) (lawful : IsLawful order) where
-  -- ranges meet where each starts before the other ends
-  pub crossing_meets : (s r : AnyRange K) → IsKnownRange order s → IsKnownRange order r
-      → PLt lawful (lower order s) (upper order r) → PLt lawful (lower order r) (upper order s)
-      → Overlap order s r
-  crossing_meets s r known others under over = (
-    λ l. lt_not_le lawful _ _ l
-        ((reaching_is_before_past order lawful r.start s.end others.0 known.1).1 over),
-    λ l. lt_not_le lawful _ _ l
-        ((reaching_is_before_past order lawful s.start r.end known.0 others.1).1 under),
-  )
-
   module _ {V : Type 0} (same : V → V → Bool) (equal : IsEquivalence same)
       (items : List (Item (AnyRange K) V)) (r : AnyRange K) (known : IsKnownRange order r)
       (some : PLt lawful (lower order r) (upper order r))
@@ -48,32 +23,30 @@ module _ {K : Type 0} (order : KeyOrder K) (lawful : IsLawful order) where
     abbrev IsAlone : Item (AnyRange K) V → Type 0
     IsAlone i = IsConnectedTo order i.key r → Overlap order i.key r
 
+    alone_by : (i : Item (AnyRange K) V) → (Touches order i.key r → ⊥) → (Touches order r i.key → ⊥)
+        → IsAlone i
+    alone_by i before after h = elim h [
+      | inl meets ↦ meets
+      | inr (inl touches) ↦ absurd (before touches)
+      | inr (inr touches) ↦ absurd (after touches)
+    ]
+
     alone_before : (i : Item (AnyRange K) V) → IsFull order lawful items r i
         → PLt lawful (item_upper order i) (lower order r) → IsAlone i
     alone_before i own l =
         let apart = apart_not order lawful i.key r own.0 known own.1 some l in
-        λ h.
-        elim h [
-          | inl meets ↦ meets
-          | inr (inl touches) ↦ absurd (apart.1 touches)
-          | inr (inr touches) ↦ absurd (apart.2 touches)
-        ]
+        alone_by i apart.1 apart.2
 
     alone_after : (i : Item (AnyRange K) V) → IsFull order lawful items r i
         → PLt lawful (upper order r) (item_lower order i) → IsAlone i
     alone_after i own l =
         let apart = apart_not order lawful r i.key known own.0 some own.1 l in
-        λ h.
-        elim h [
-          | inl meets ↦ meets
-          | inr (inl touches) ↦ absurd (apart.2 touches)
-          | inr (inr touches) ↦ absurd (apart.1 touches)
-        ]
+        alone_by i apart.2 apart.1
 
     alone_around : IsFull order lawful items r x → IsAlone x
     alone_around own = λ h.
-        crossing_meets x.key r own.0 known (lt_trans lawful _ _ _ starts some)
-        (lt_trans lawful _ _ _ some ends)
+        (overlap_is order lawful x.key r own.0 known).1
+        (lt_trans lawful _ _ _ starts some, lt_trans lawful _ _ _ some ends)
 
     -- no other item touches a range that one surrounds
     pub surrounded_alone : Every (λ i. IsConnectedTo order i.key r → Overlap order i.key r) items

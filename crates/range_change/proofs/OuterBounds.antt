@@ -1,19 +1,5 @@
 -- A list whose first item has another start, and its last another end.
-use Rattle.std.proofs.Common.{◌≡◌, ◌+◌, ◌-◌, ◌<◌, ◌≤◌, ℕ, suc, List, [], ◌∷◌, ◌++◌, length, take, drop, get_or, refl, ap, sym, ◌∙◌, arith, Option, Some, None, Bool, inl, inr, length-append, append_assoc}
-use Rattle.std.proofs.lemmas.List.{append-nil, take_at, drop_at, drop-drop, length-take-le}
-use Rattle.std.proofs.Math.ListN.{set}
-use Rattle.std.specs.List.{AllByRecursion as Every}
-use Rattle.std.specs.Prelude.{slice_get}
-use Rattle.std.specs.Cmp.{IsEquivalence}
-use Rattle.std.specs.declared.ops.Bound.{Bound}
-use Rattle.range_keys.specs.Order.{KeyOrder}
-use Rattle.range_algebra.proofs.Lists.{every_weaker}
-use Rattle.range_algebra.specs.Intervals.{Any}
-use Rattle.range_algebra.specs.declared.any.AnyRange.{AnyRange}
-use Rattle.range_store.specs.declared.storage.Item.{Item}
-use Rattle.range_change.specs.Edits.{with_start, with_end}
-use Rattle.range_change.specs.Frames.{HasValue}
-use Rattle.range_change.specs.Seams.{with_first_start, with_last_end}
+use Rattle.range_change.proofs.Common.{unwrap_or, ◌≡◌, ◌+◌, ◌-◌, ◌<◌, ◌≤◌, ℕ, suc, List, [], ◌∷◌, ◌++◌, length, take, drop, get_or, refl, ap, sym, ◌∙◌, arith, Option, Some, None, Bool, inl, inr, length-append, append_assoc, append-nil, take_at, drop_at, drop-drop, length-take-le, set, Every, slice_get, IsEquivalence, Bound, KeyOrder, every_weaker, Any, AnyRange, Item, with_start, with_end, HasValue, with_first_start, with_last_end}
 
 -- the last of some items
 pub last_of : {X : Type 0} (x : X) (xs : List X)
@@ -29,6 +15,23 @@ pub regrouped_last : {X : Type 0} (a b c : List X) (z : X)
     → (a ++ (b ++ z ∷ [])) ++ c ≡ (a ++ b) ++ z ∷ c
 regrouped_last a b c z = simp append_assoc
 
+-- what stands before a cursor that put the items before, and what comes later
+put_parts : {X : Type 0} (before now done : List X) (place left less : ℕ)
+    → now ≡ take place before ++ done ++ drop (place + (left - less)) before
+    → place + left ≤ length before → (take (place + length done) now ≡ take place before ++ done)
+    × ((n : ℕ) → drop (place + length done + n) now ≡ drop (place + (left - less) + n) before)
+put_parts before now done place left less was within =
+    let size : length (take place before ++ done) ≡ place + length done =
+    length-append (take place before) done
+    ∙ ap (λ n. n + length done) (length-take-le place before (omega (arith, within))) in
+    let rest = drop (place + (left - less)) before in
+    let at = place + length done in (
+      ap (take at) was ∙ take_at (take place before ++ done) rest at size,
+      λ n. sym (drop-drop n at now)
+          ∙ (ap (drop n) (ap (drop at) was ∙ drop_at (take place before ++ done) rest at size)
+          ∙ drop-drop n (place + (left - less)) before),
+    )
+
 -- some of a run gave way to the items before, and one more gives way
 pub put_next : {X : Type 0} (before now new done : List X) (place left less fewer : ℕ) (x : X)
     → now ≡ take place before ++ done ++ drop (place + (left - less)) before
@@ -36,28 +39,13 @@ pub put_next : {X : Type 0} (before now new done : List X) (place left less fewe
     → new ≡ take (place + length done) now ++ x ∷ drop (place + length done + (less - fewer)) now
     → new ≡ take place before ++ (done ++ x ∷ []) ++ drop (place + (left - fewer)) before
 put_next before now new done place left less fewer x was few within one changed =
-    let size : length (take place before ++ done) ≡ place + length done =
-    length-append (take place before) done
-    ∙ ap (λ n. n + length done) (length-take-le place before (omega (arith, within))) in
-    let kept : take (place + length done) now ≡ take place before ++ done =
-    ap (take (place + length done)) was
-    ∙ take_at (take place before ++ done) (drop (place + (left - less)) before)
-    (place + length done) size in
-    let rest : drop (place + length done) now ≡ drop (place + (left - less)) before =
-    ap (drop (place + length done)) was
-    ∙ drop_at (take place before ++ done) (drop (place + (left - less)) before)
-    (place + length done) size in
+    let parts = put_parts before now done place left less was within in
     let index : place + (left - less) + (less - fewer) ≡ place + (left - fewer) =
     omega (arith, few, one) in
-    let tail : drop (place + length done + (less - fewer)) now
-    ≡ drop (place + (left - fewer)) before =
-    sym (drop-drop (less - fewer) (place + length done) now)
-    ∙ (ap (drop (less - fewer)) rest
-    ∙ (drop-drop (less - fewer) (place + (left - less)) before ∙ ap (λ n. drop n before) index))
-    in
     changed
-    ∙ (ap (λ ys. ys ++ x ∷ drop (place + length done + (less - fewer)) now) kept
-    ∙ (ap (λ ys. (take place before ++ done) ++ x ∷ ys) tail
+    ∙ (ap (λ ys. ys ++ x ∷ drop (place + length done + (less - fewer)) now) parts.0
+    ∙ (ap (λ ys. (take place before ++ done) ++ x ∷ ys)
+    (parts.1 (less - fewer) ∙ ap (λ n. drop n before) index)
     ∙ sym (regrouped_last (take place before) done (drop (place + (left - fewer)) before) x)))
 
 -- the rest of the run is removed
@@ -67,30 +55,15 @@ pub put_all : {X : Type 0} (before now new done : List X) (place left less : ℕ
     → new ≡ take (place + length done) now ++ drop (place + length done + less) now
     → new ≡ take place before ++ done ++ drop (place + left) before
 put_all before now new done place left less was few within changed =
-    let size : length (take place before ++ done) ≡ place + length done =
-    length-append (take place before) done
-    ∙ ap (λ n. n + length done) (length-take-le place before (omega (arith, within))) in
-    let kept : take (place + length done) now ≡ take place before ++ done =
-    ap (take (place + length done)) was
-    ∙ take_at (take place before ++ done) (drop (place + (left - less)) before)
-    (place + length done) size in
-    let rest : drop (place + length done) now ≡ drop (place + (left - less)) before =
-    ap (drop (place + length done)) was
-    ∙ drop_at (take place before ++ done) (drop (place + (left - less)) before)
-    (place + length done) size in
+    let parts = put_parts before now done place left less was within in
     let index : place + (left - less) + less ≡ place + left = omega (arith, few) in
-    let tail : drop (place + length done + less) now ≡ drop (place + left) before =
-    sym (drop-drop less (place + length done) now)
-    ∙ (ap (drop less) rest
-    ∙ (drop-drop less (place + (left - less)) before ∙ ap (λ n. drop n before) index)) in
     changed
-    ∙ (ap (λ ys. ys ++ drop (place + length done + less) now) kept
-    ∙ ap (λ ys. (take place before ++ done) ++ ys) tail)
+    ∙ (ap (λ ys. ys ++ drop (place + length done + less) now) parts.0
+    ∙ ap (λ ys. (take place before ++ done) ++ ys) (parts.1 less ∙ ap (λ n. drop n before) index))
 
 module _ {K V : Type 0} where
   abbrev pub item_with_end : Option (Bound K) → Item (AnyRange K) V → Item (AnyRange K) V
-  item_with_end None z = z
-  item_with_end (Some b) z = with_end z b
+  item_with_end finish z = with_end z (unwrap_or finish z.key.end)
 
   pub with_last : (finish : Option (Bound K)) (front : List (Item (AnyRange K) V))
       (z : Item (AnyRange K) V)

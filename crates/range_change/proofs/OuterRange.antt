@@ -1,17 +1,7 @@
 -- A range that comes before or after all stored ones.
-use Rattle.std.proofs.Common.{◌≡◌, ℕ, ◌≤◌, ◌+◌, ◌++◌, ◌∷◌, ◌∙◌, List, [], length, take, drop, refl, sym, ap, append_assoc, Bool, inl, arith}
-use Rattle.std.specs.Prelude.{insert}
-use Rattle.std.specs.Cmp.{IsEquivalence}
-use Rattle.std.proofs.lemmas.List.{append-nil}
+use Rattle.range_change.proofs.Common.{◌≡◌, ℕ, ◌≤◌, ◌+◌, ◌++◌, ◌∷◌, ◌∙◌, List, [], length, take, drop, refl, sym, ap, append_assoc, Bool, inl, arith, insert, IsEquivalence, append-nil, KeyOrder, IsLawful, IsEmptyRange, IsKnownRange, AnyRange, list_is_take_and_drop, Item, IsInserted, IsStored}
 use Rattle.std.proofs.lemmas.List.Edits.{length-insert}
-use Rattle.range_keys.specs.Order.{KeyOrder, IsLawful}
-use Rattle.range_algebra.specs.Range.{IsEmptyRange, IsKnownRange}
-use Rattle.range_algebra.specs.declared.any.AnyRange.{AnyRange}
-use Rattle.range_algebra.proofs.Lists.{list_is_take_and_drop}
-use Rattle.range_store.specs.declared.storage.Item.{Item}
-use Rattle.range_change.specs.Changes.{IsInserted}
 use Rattle.range_change.specs.Apart.{LiesApartAt}
-use Rattle.range_change.specs.Stored.{IsStored}
 use Rattle.range_change.proofs.CoveredPlaces.{meets_put}
 use Rattle.range_change.proofs.ApartRanges.{put_in}
 

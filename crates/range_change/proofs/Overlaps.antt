@@ -1,27 +1,9 @@
 -- Which stored ranges a range meets, and which keys both then hold.
-use Rattle.std.proofs.Common.{◌≡◌, ℕ, zero, suc, ◌+◌, ◌<◌, Bool, List, [], ◌∷◌, ◌++◌, length, take, drop, get_or, refl, sym, arith, true, false, inl, inr, not, IsTrue, ◌↔◌, Option, Some, None}
+use Rattle.range_change.proofs.Common.{common, common_known, earlier_is, later_is, ◌≡◌, ℕ, zero, suc, ◌+◌, ◌<◌, Bool, List, [], ◌∷◌, ◌++◌, length, take, drop, get_or, refl, sym, arith, true, false, inl, inr, not, IsTrue, ◌↔◌, Option, Some, None, Every, option_copied, is_some, Bound, is_lt, KeyOrder, IsLawful, IsComplete, start_position, end_position, position_cmp, Position, not_both_greater_and_not, not_greater, AnyRange, Holds, IsKnownRange, IsEmptyRange, Le, Lt, Any, le_trans, lt_not_le, not_lt, list_is_take_and_drop, any_none, any_split, Item, IsBound, BindsTo, Binds, IsStored, MeetsSome, BindsKeyOf, Overlap}
 use Rattle.std.specs.Borrow.{Bor}
-use Rattle.std.specs.List.{AllByRecursion as Every}
-use Rattle.std.specs.Option.{option_copied, is_some}
-use Rattle.std.specs.declared.ops.Bound.{Bound}
-use Rattle.std.specs.Ordering.{is_lt}
-use Rattle.range_keys.specs.Order.{KeyOrder, IsLawful, IsComplete}
-use Rattle.range_keys.specs.Position.{start_position, end_position, position_cmp}
-use Rattle.range_keys.specs.declared.inner.position.Position.{Position}
-use Rattle.range_keys.specs.declared.inner.position.Position.TheVariants.{Beside}
-use Rattle.range_keys.specs.declared.inner.position.Side.TheVariants.{At}
-use Rattle.range_keys.proofs.Orderings.{not_both_greater_and_not, not_greater}
-use Rattle.range_algebra.specs.declared.any.AnyRange.{AnyRange}
-use Rattle.range_algebra.specs.Range.{Holds, IsKnownBound, IsKnownRange, IsEmptyRange}
-use Rattle.range_algebra.specs.Intervals.{Le, Lt, Any}
-use Rattle.range_change.proofs.PlaceOrder.{le_refl, lt_le, le_trans, lt_not_le, cases, not_lt}
+use Rattle.range_algebra.proofs.Commons.{common_holds}
 use Rattle.range_algebra.proofs.Completeness.{nonempty_holds}
 use Rattle.range_algebra.proofs.Holding.{holds_by_position}
-use Rattle.range_algebra.proofs.Lists.{list_is_take_and_drop, any_none, any_split}
-use Rattle.range_store.specs.declared.storage.Item.{Item}
-use Rattle.range_change.specs.Bindings.{IsBound, BindsTo, Binds}
-use Rattle.range_change.specs.Stored.{IsStored}
-use Rattle.range_change.specs.Lookups.{MeetsSome, BindsKeyOf, Overlap}
 use Rattle.range_change.proofs.Found.{ends_upto, not_less, starts_here}
 
 -- an item that is such is some item
@@ -61,71 +43,26 @@ module _ {K : Type 0} (order : KeyOrder K) (lawful : IsLawful order) where
       not_both_greater_and_not (position_cmp order.cmp (Start r) (End r))
       (le_trans lawful _ _ _ within.0 within.1) e
 
-  -- the later of two starts
-  later_start_exists : (a b : Bound K) → IsKnownBound order a → IsKnownBound order b
-      → (c : Bound K) × IsKnownBound order c × PLe (start_position order a) (start_position order c)
-      × PLe (start_position order b) (start_position order c)
-      × ((p : Position K) → PLe (start_position order a) p → PLe (start_position order b) p
-      → PLe (start_position order c) p)
-  later_start_exists a b known others =
-      elim (cases lawful (start_position order a) (start_position order b)) [
-        | inl l ↦ (
-          b,
-          others,
-          lt_le lawful _ _ l,
-          le_refl lawful (start_position order b),
-          λ p h k. k,
-        )
-        | inr l ↦ (a, known, le_refl lawful (start_position order a), l, λ p h k. h)
-      ]
-
-  -- the earlier of two ends
-  earlier_end_exists : (a b : Bound K) → IsKnownBound order a → IsKnownBound order b
-      → (c : Bound K) × IsKnownBound order c × PLe (end_position order c) (end_position order a)
-      × PLe (end_position order c) (end_position order b)
-      × ((p : Position K) → PLe p (end_position order a) → PLe p (end_position order b)
-      → PLe p (end_position order c))
-  earlier_end_exists a b known others =
-      elim (cases lawful (end_position order a) (end_position order b)) [
-        | inl l ↦ (
-          a,
-          known,
-          le_refl lawful (end_position order a),
-          lt_le lawful _ _ l,
-          λ p h k. h,
-        )
-        | inr l ↦ (b, others, l, le_refl lawful (end_position order b), λ p h k. k)
-      ]
-
   -- over complete keys ranges that meet share a key
   shared_key : (r s : AnyRange K) → IsComplete order → IsKnownRange order r → IsKnownRange order s
       → (IsEmptyRange order r → ⊥) → (IsEmptyRange order s → ⊥) → Overlap order r s
       → (k : K) × order.is_key k × Holds order r k × Holds order s k
   shared_key r s complete known others full full_s meets =
       let cmp = position_cmp order.cmp in
-      let from = later_start_exists r.start s.start known.0 others.0 in
-      let upto = earlier_end_exists r.end s.end known.1 others.1 in
-      let first =
-      from.4 (End r) (not_greater (cmp (Start r) (End r)) full) (not_lt lawful _ _ meets.0) in
-      let second =
-      from.4 (End s) (not_lt lawful _ _ meets.1) (not_greater (cmp (Start s) (End s)) full_s) in
-      let both : AnyRange K = record { start = from.0; end = upto.0 } in
+      let ends =
+      λ (b : Bound K) (h : PLe (start_position order b) (End r))
+      (k : PLe (start_position order b) (End s)).
+      earlier_is order lawful r.end s.end
+      (λ e. PLe (start_position order b) (end_position order e)) h k in
       let found =
-      nonempty_holds order lawful complete both (from.1, upto.1)
-      (upto.4 (start_position order from.0) first second) in
-      let within = (holds_by_position order lawful both found.0 found.1).0 found.2 in
-      let k : K = found.0 in (
-        k,
-        found.1,
-        (holds_by_position order lawful r k found.1).1 (
-          le_trans lawful _ _ _ from.2 within.0,
-          le_trans lawful (Beside k At) (end_position order upto.0) (End r) within.1 upto.2,
-        ),
-        (holds_by_position order lawful s k found.1).1 (
-          le_trans lawful _ _ _ from.3 within.0,
-          le_trans lawful (Beside k At) (end_position order upto.0) (End s) within.1 upto.3,
-        ),
-      )
+      nonempty_holds order lawful complete (common order r s)
+      (common_known order lawful r s known others)
+      (later_is order lawful r.start s.start
+      (λ b. PLe (start_position order b) (End (common order r s)))
+      (ends r.start (not_greater (cmp (Start r) (End r)) full) (not_lt lawful _ _ meets.1))
+      (ends s.start (not_lt lawful _ _ meets.0) (not_greater (cmp (Start s) (End s)) full_s))) in
+      let held = (common_holds order lawful r s found.0 found.1).0 found.2 in
+      (found.0, found.1, held.0, held.1)
 
   module _ {V : Type 0} where
     bound_meets : (items : List (Item (AnyRange K) V)) (r : AnyRange K) (k : K) → order.is_key k

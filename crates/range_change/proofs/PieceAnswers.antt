@@ -1,38 +1,11 @@
 -- The answers to the pieces of a range, one after the other.
-use Rattle.std.proofs.Common.{ℕ, ◌+◌, take, drop, ◌≡◌, refl, sym, ap, ◌∙◌, Option, Some, None, Bool, true, List, [], ◌∷◌, ◌++◌, append_assoc, inl, inr, ◌↔◌, map, Result, Ok}
-use Rattle.std.proofs.lemmas.List.{append-nil, drop-drop, map-append}
-use Rattle.std.specs.Fn.{Shared}
-use denote.Ref.{Bor}
-use Rattle.std.specs.List.{AllByRecursion as Every}
-use Rattle.std.specs.declared.ops.Bound.{Bound}
-use Rattle.std.specs.Cmp.{IsEquivalence}
-use Rattle.range_keys.specs.Order.{KeyOrder, IsLawful}
-use Rattle.range_keys.specs.declared.inner.position.Position.{Position}
-use Rattle.range_keys.specs.declared.inner.position.Position.TheVariants.{Beside}
-use Rattle.range_keys.specs.declared.inner.position.Side.TheVariants.{At}
-use Rattle.range_algebra.specs.declared.any.AnyRange.{AnyRange}
-use Rattle.range_algebra.specs.Clones.{IsBoundClone, SameBound}
-use Rattle.range_algebra.specs.Intervals.{Any}
-use Rattle.range_algebra.proofs.Lists.{every_append, every_right, every_weaker, list_is_take_and_drop}
-use Rattle.range_algebra.proofs.Places.{held_between}
-use Rattle.range_store.specs.declared.storage.Item.{Item}
-use Rattle.range_change.specs.Answers.{MayAnswer, MayBeAsked, Answered, IsAsAnswered, AnswersPiece, IsGathered, piece_of}
-use Rattle.range_change.specs.Bindings.{Binds}
-use Rattle.range_change.specs.PieceLists.{pieces_of}
-use Rattle.range_change.specs.Put.{IsPut}
-use Rattle.range_change.specs.Runs.{AreOverlapping}
-use Rattle.range_change.specs.Spelling.{KeepsSpelling}
-use Rattle.range_change.specs.Window.{IsWindow}
-use Rattle.range_change.specs.declared.window.Window.{Window}
+use Rattle.range_change.proofs.Common.{ℕ, ◌+◌, take, drop, ◌≡◌, refl, sym, ap, ◌∙◌, Option, Some, None, Bool, true, List, [], ◌∷◌, ◌++◌, append_assoc, inl, inr, ◌↔◌, map, Result, Ok, append-nil, drop-drop, map-append, Shared, Bor, Every, Bound, IsEquivalence, KeyOrder, IsLawful, Position, Beside, At, AnyRange, IsBoundClone, SameBound, Any, every_append, every_right, every_weaker, list_is_take_and_drop, held_between, Item, MayAnswer, MayBeAsked, Answered, IsAsAnswered, AnswersPiece, IsGathered, piece_of, Binds, pieces_of, IsPut, AreOverlapping, KeepsSpelling, IsWindow, Window, le_refl, le_trans, lt_not_le, PLe, PLt, lower, upper}
 use Rattle.range_change.proofs.AnswerLists.{IsFilledUpTo, Gives, Alike, filled_none, fill_more}
-use Rattle.range_change.proofs.Forms.{Known, Hold, before_is, binds_hold, bound_hold, chain_stored, stored_known}
+use Rattle.range_change.proofs.Forms.{Known, Hold, before_is, binds_hold, bound_hold, chain_stored, every_back, every_front}
 use Rattle.range_change.proofs.InsertionFrames.{all_meet}
 use Rattle.range_change.proofs.PieceLists.{pieces_are, pieces_are_cut, pieces_are_kept}
-use Rattle.range_change.proofs.PlaceOrder.{le_refl, le_trans, lt_not_le, PLe, PLt}
 use Rattle.range_change.proofs.RangePieces.{Rises, IsRight, AreCut, any_unmap, any_use, any_with, every_unmap, every_with, lies_in, rises_right}
-use Rattle.range_change.proofs.RunItems.{every_back, every_front}
 use Rattle.range_change.proofs.Spelling.{put_keeps_spelling}
-use Rattle.range_algebra.specs.Cuts.{lower, upper}
 
 module _ {K : Type 0} (order : KeyOrder K) (lawful : IsLawful order) {V : Type 0}
     (same : V → V → Bool) (equal : IsEquivalence same) (r : AnyRange K) where
@@ -130,7 +103,7 @@ module _ {K : Type 0} {order : KeyOrder K} (lawful : IsLawful order) {V : Type 0
   Pieces = pieces_of order r Met
 
   listed : Known order lawful same equal items
-  listed = stored_known order lawful same equal items window.stored
+  listed = window.stored.known
 
   met : AreOverlapping order items r Met
   met = record {
@@ -236,8 +209,8 @@ module _ {K : Type 0} {order : KeyOrder K} (lawful : IsLawful order) {V : Type 0
       one_more_keeps_spelling kept =
           let all =
           pieces_are_kept lawful equal items r window.stored window.known window.nonempty Met met in
-          put_keeps_spelling order lawful same equal items key is_clone clones
-          (every_right _ Done _ (rw was.list at all)).0 old new answer kept put
+          put_keeps_spelling lawful same items clones (every_right _ Done _ (rw was.list at all)).0 old
+          new answer kept put
 
   -- all pieces were asked about
   pub all_gathered : {F E : Type 0}

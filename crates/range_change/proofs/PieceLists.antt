@@ -1,36 +1,9 @@
 -- The pieces that are read off from the items that meet a range are its pieces.
-use Rattle.std.proofs.Common.{◌≡◌, refl, sym, ◌∙◌, List, [], ◌∷◌, ◌++◌, ◌⊎◌, inl, inr, Option, Some, None, Bool, true, false, map, if◌then◌else◌, append_assoc}
-use Rattle.std.proofs.lemmas.List.{append-nil}
-use Rattle.std.specs.Cmp.{IsEquivalence, tied_itself}
-use Rattle.std.specs.List.{AllByRecursion as Every}
-use Rattle.std.specs.declared.cmp.Ordering.TheVariants.{Equal}
-use Rattle.std.specs.declared.ops.Bound.{Bound}
-use Rattle.std.specs.declared.ops.Bound.TheVariants.{Unbounded}
-use Rattle.range_keys.specs.Order.{KeyOrder, IsLawful}
-use Rattle.range_keys.specs.Position.{start_position, end_position, position_cmp}
-use Rattle.range_keys.specs.PositionOrder.{position_total}
-use Rattle.range_keys.specs.declared.inner.position.Position.{Position}
-use Rattle.range_algebra.specs.Combined.{common}
-use Rattle.range_algebra.specs.Compared.{flipped, starts_past_end}
-use Rattle.range_algebra.specs.Cuts.{past, lower, upper}
-use Rattle.range_algebra.specs.Intervals.{Le, Lt, Any}
-use Rattle.range_algebra.specs.Range.{IsEmptyRange, IsKnownBound, IsKnownRange}
-use Rattle.range_algebra.specs.declared.any.AnyRange.{AnyRange}
-use Rattle.range_algebra.proofs.Commons.{common_known, later_is, earlier_is}
-use Rattle.range_algebra.proofs.Lists.{any_right, every_weaker, every_append, every_left, every_right}
-use Rattle.range_algebra.proofs.Places.{reaching_is_before_past, flipped_bound_is_past, flipped_back, flipped_known, unbounded_start, unbounded_end}
-use Rattle.range_store.specs.declared.storage.Item.{Item}
-use Rattle.range_change.specs.Chains.{line_of}
-use Rattle.range_change.specs.Lookups.{Overlap}
-use Rattle.range_change.specs.PieceLists.{free_piece, bound_piece, free_between, pieces_from, pieces_of}
-use Rattle.range_change.specs.Pieces.{IsFreePart, ArePieces}
-use Rattle.range_change.specs.Runs.{AreOverlapping}
-use Rattle.range_change.specs.Stored.{IsStored}
+use Rattle.range_change.proofs.Common.{◌≡◌, refl, sym, ◌∙◌, List, [], ◌∷◌, ◌++◌, ◌⊎◌, inl, inr, Option, Some, None, Bool, true, false, map, if◌then◌else◌, append_assoc, append-nil, IsEquivalence, tied_itself, Every, Equal, Bound, Unbounded, KeyOrder, IsLawful, start_position, end_position, position_cmp, position_total, Position, common, flipped, starts_past_end, past, lower, upper, Le, Lt, Any, IsEmptyRange, IsKnownBound, IsKnownRange, AnyRange, common_known, later_is, earlier_is, any_right, every_weaker, every_append, every_left, every_right, reaching_is_before_past, flipped_bound_is_past, flipped_back, flipped_known, unbounded_start, unbounded_end, Item, line_of, Overlap, free_piece, bound_piece, free_between, pieces_from, pieces_of, IsFreePart, ArePieces, AreOverlapping, IsStored, le_refl, lt_le, eq_le, eq_ge, le_trans, cases, not_le, not_lt, lt_not_le, lt_le_trans, PLe, PLt}
 use Rattle.range_change.proofs.Chains.{chain_above, chain_right, follows_above}
-use Rattle.range_change.proofs.Forms.{Known, Chained, before_is, stored_chain, stored_known, nonempty_good}
-use Rattle.range_change.proofs.PlaceOrder.{le_refl, lt_le, eq_le, eq_ge, le_trans, cases, not_le, not_lt, lt_not_le, lt_le_trans, PLe, PLt}
+use Rattle.range_change.proofs.Forms.{Known, Chained, before_is, stored_chain, nonempty_good}
 use Rattle.range_change.proofs.RangePieces.{Rises, IsFull, IsRight, IsInside, AreCut, all_full, any_over, any_with, common_is, common_place_is_not_clear, common_within, cut_all, every_with, free_apart, free_inside}
-use Rattle.range_change.proofs.Spelling.{IsKeptIn, gap_start_is_kept, gap_end_is_kept, common_start_is_kept, common_end_is_kept}
+use Rattle.range_change.proofs.Spelling.{IsKeptIn, gap_is_kept, common_is_kept}
 use Rattle.range_change.proofs.Tests.{not_both}
 
 -- the range starts no later than another and ends past where that starts
@@ -64,7 +37,7 @@ module _ {K : Type 0} {order : KeyOrder K} (lawful : IsLawful order) {V : Type 0
   chained = stored_chain order lawful same equal items stored
 
   listed : Known order lawful same equal items
-  listed = stored_known order lawful same equal items stored
+  listed = stored.known
 
   full : Every (IsFull order lawful items r) items
   full = all_full order lawful same equal r items listed chained
@@ -183,10 +156,7 @@ module _ {K : Type 0} {order : KeyOrder K} (lawful : IsLawful order) {V : Type 0
                   (le_trans lawful _ _ _ ends h.0, le_trans lawful _ _ _ h.1 over)) some_item)
             ];
           },
-          (
-            gap_start_is_kept order lawful same equal items listed chained gap (is_known, room) free,
-            gap_end_is_kept order lawful same equal items listed chained gap (is_known, room) free,
-          ),
+          gap_is_kept lawful equal items listed chained gap (is_known, room) free,
         ) ends (λ m h k before. elim (cases lawful m to) [
           | inl l ↦ inl (le_trans lawful _ _ _ upto h, lt_le_trans lawful _ _ _ l over)
           | inr le ↦ inr (h, le)
@@ -263,12 +233,7 @@ module _ {K : Type 0} {order : KeyOrder K} (lawful : IsLawful order) {V : Type 0
         part_within.2,
       ),
       among _ (common_is order lawful r x.key, refl),
-      (
-        common_start_is_kept order lawful same equal items listed chained done rest x ready.list r
-            known starts ends,
-        common_end_is_kept order lawful same equal items listed chained done rest x ready.list r
-            known starts ends,
-      ),
+      common_is_kept lawful equal items listed chained done rest x ready.list r known starts ends,
     )
 
     part_after : Le' from (Low Part)

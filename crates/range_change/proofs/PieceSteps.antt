@@ -1,16 +1,6 @@
 -- One piece after the other, from either end.
-use Rattle.std.proofs.Common.{◌≡◌, refl, sym, ap, ◌∙◌, List, [], ◌∷◌, ◌++◌, Option, Some, None, Bool, true, false, map, if◌then◌else◌, append_assoc, arith, length, length-append, ◌<◌}
-use Rattle.std.specs.declared.ops.Bound.{Bound}
-use Rattle.range_keys.specs.Order.{KeyOrder, IsLawful}
-use Rattle.range_algebra.specs.Combined.{common}
-use Rattle.range_algebra.specs.Compared.{flipped, starts_past_end}
-use Rattle.range_algebra.specs.Range.{IsKnownBound, IsKnownRange}
-use Rattle.range_algebra.specs.declared.any.AnyRange.{AnyRange}
-use Rattle.range_algebra.proofs.Places.{flipped_back, flipped_bound_is_past, flipped_known}
-use Rattle.range_store.specs.declared.storage.Item.{Item}
-use Rattle.range_change.specs.PieceLists.{between, free_piece, bound_piece, free_between, pieces_from}
+use Rattle.range_change.proofs.Common.{◌≡◌, refl, sym, ap, ◌∙◌, List, [], ◌∷◌, ◌++◌, Option, Some, None, Bool, true, false, map, if◌then◌else◌, append_assoc, arith, length, length-append, ◌<◌, Bound, KeyOrder, IsLawful, common, flipped, starts_past_end, IsKnownBound, IsKnownRange, AnyRange, flipped_back, flipped_bound_is_past, flipped_known, Item, between, free_piece, bound_piece, free_between, pieces_from, eq_le, lt_not_le}
 use Rattle.range_change.proofs.Forms.{before_is}
-use Rattle.range_change.proofs.PlaceOrder.{eq_le, lt_not_le}
 
 module _ {K : Type 0} {order : KeyOrder K} (lawful : IsLawful order) where
   -- nothing is free between the start past an end and that end

@@ -1,19 +1,5 @@
 -- What a change makes of a list where both sides of a range are planned.
-use Rattle.std.proofs.Common.{◌≡◌, ℕ, ◌+◌, ◌-◌, ◌*◌, ◌≤◌, List, ◌++◌, length, take, drop, refl, ap, sym, ◌∙◌, arith, subst, Option, Some, Bool}
-use Rattle.std.specs.Cmp.{IsEquivalence}
-use Rattle.std.specs.Option.{ForSome}
-use Rattle.std.specs.declared.ops.Bound.{Bound}
-use Rattle.range_keys.specs.Order.{KeyOrder, IsLawful}
-use Rattle.range_algebra.specs.declared.any.AnyRange.{AnyRange}
-use Rattle.range_store.specs.ListPlaces.{place_before, IsAt}
-use Rattle.range_store.specs.declared.storage.Item.{Item}
-use Rattle.range_store.proofs.ListPlaces.{place_at, kept_at, good_at}
-use Rattle.range_change.specs.Changes.{IsInserted}
-use Rattle.range_change.specs.Borders.{joined_item, joined_count, IsGoodBorder, IsLeftShape, IsRightShape, left_side, right_side}
-use Rattle.range_change.specs.Plans.{IsLeftPlan, IsRightPlan}
-use Rattle.range_change.specs.Window.{option_items, IsWindow}
-use Rattle.range_change.specs.declared.borders.Border.{Border}
-use Rattle.range_change.specs.declared.window.Window.{Window}
+use Rattle.range_change.proofs.Common.{◌≡◌, ℕ, ◌+◌, ◌-◌, ◌*◌, ◌≤◌, List, ◌++◌, length, take, drop, refl, ap, sym, ◌∙◌, arith, subst, Option, Some, Bool, IsEquivalence, ForSome, Bound, KeyOrder, IsLawful, AnyRange, place_before, IsAt, Item, place_at, kept_at, good_at, IsInserted, joined_item, joined_count, IsGoodBorder, IsLeftShape, IsRightShape, left_side, right_side, IsLeftPlan, IsRightPlan, option_items, IsWindow, Border, Window}
 use Rattle.range_change.proofs.RangeSides.{borders_insert}
 use Rattle.range_change.proofs.Lengths.{one_item, changed_length, border_length}
 use Rattle.range_change.proofs.BoundEdits.{shape_kept, border_good}

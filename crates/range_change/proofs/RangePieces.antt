@@ -1,30 +1,10 @@
 -- Parts that share out a range are its pieces.
-use Rattle.std.proofs.Common.{◌≡◌, refl, sym, subst, ap, ◌∙◌, ℕ, ◌<◌, length, get_or, Option, Some, None, Bool, true, false, List, [], ◌∷◌, ◌++◌, ◌⊎◌, inl, inr, map, if◌then◌else◌}
-use Rattle.std.specs.List.{AllByRecursion as Every}
-use Rattle.std.specs.declared.cmp.Ordering.TheVariants.{Equal}
-use Rattle.std.specs.Ordering.{is_gt}
-use Rattle.std.specs.Cmp.{IsEquivalence, tied_back}
-use Rattle.range_keys.specs.Order.{KeyOrder, IsLawful}
-use Rattle.range_keys.specs.Position.{start_position, end_position, position_cmp}
-use Rattle.range_keys.specs.PositionOrder.{position_total}
-use Rattle.range_keys.specs.declared.inner.position.Position.{Position}
-use Rattle.range_keys.proofs.Orderings.{gt_is_greater, equal_then_equal}
-use Rattle.range_algebra.specs.declared.any.AnyRange.{AnyRange}
-use Rattle.range_algebra.specs.Range.{IsKnownRange}
+use Rattle.range_change.proofs.Common.{◌≡◌, refl, sym, subst, ap, ◌∙◌, ℕ, ◌<◌, length, get_or, Option, Some, None, Bool, true, false, List, [], ◌∷◌, ◌++◌, ◌⊎◌, inl, inr, map, if◌then◌else◌, Every, Equal, is_gt, IsEquivalence, tied_back, KeyOrder, IsLawful, start_position, end_position, position_cmp, position_total, Position, gt_is_greater, equal_then_equal, AnyRange, IsKnownRange, Le, Lt, Any, le_refl, lt_le, eq_le, eq_ge, le_trans, lt_not_le, cases, both, le_lt_trans, lt_le_trans, every_at, every_weaker, line_of, common, gt_le, later_is, earlier_is, lower, upper, LiesBefore, Item, EachNext, later, earlier, IsCommonPart, LiesIn, IsFreePart, IsPiece, ArePieces, Overlap}
 use Rattle.range_algebra.specs.RangeOrder.{range_cmp}
-use Rattle.range_algebra.specs.Intervals.{Le, Lt, Any}
-use Rattle.range_change.proofs.PlaceOrder.{le_refl, lt_le, eq_le, eq_ge, le_trans, lt_not_le, cases, both, le_lt_trans, lt_le_trans}
-use Rattle.range_algebra.proofs.Lists.{every_at, every_weaker}
-use Rattle.range_change.specs.Chains.{line_of}
 use Rattle.range_change.proofs.Chains.{follows_above, chain_tail}
-use Rattle.range_algebra.specs.Combined.{common}
-use Rattle.range_algebra.proofs.Commons.{gt_le, later_is, earlier_is, later_over as starts_over, earlier_under as ends_under}
-use Rattle.range_algebra.specs.Cuts.{lower, upper}
-use Rattle.range_algebra.specs.Relations.{LiesBefore}
-use Rattle.range_store.specs.declared.storage.Item.{Item}
-use Rattle.range_change.specs.Neighbours.{EachNext}
-use Rattle.range_change.specs.Pieces.{later, earlier, IsCommonPart, LiesIn, IsFreePart, IsPiece, ArePieces}
-use Rattle.range_change.specs.Lookups.{Overlap}
+use Rattle.range_algebra.proofs.Commons.{later_over as starts_over, earlier_under as ends_under}
+use Rattle.range_change.proofs.CoveredPlaces.{chained_items_have_places}
+use Rattle.range_change.proofs.Windows.{every_both}
 use Rattle.range_change.proofs.Extents.{past_le, end_le}
 use Rattle.range_change.proofs.Forms.{Known, Chained, before_is, nonempty_good}
 
@@ -100,31 +80,20 @@ module _ {K : Type 0} (order : KeyOrder K) (lawful : IsLawful order) where
   rises_right [] ys h = h
   rises_right (x ∷ xs) ys h = rises_right xs ys h.1
 
-  later_by : (p q : Position K) (b : Bool) → is_gt (position_cmp order.cmp p q) ≡ b
-      → PLe p (if b then p else q) × PLe q (if b then p else q)
-  later_by p q true e = (
-    le_refl lawful p,
-    gt_le (position_cmp order.cmp) (position_total order.cmp lawful.total) p q
-        (gt_is_greater (position_cmp order.cmp p q) e),
-  )
-  later_by p q false e =
-      (e, le_refl lawful q)
+  chosen_by : (p q : Position K) (b : Bool) → is_gt (position_cmp order.cmp p q) ≡ b
+      → (PLe p (if b then p else q) × PLe q (if b then p else q))
+      × (PLe (if b then q else p) p × PLe (if b then q else p) q)
+  chosen_by p q true e = let le =
+      gt_le (position_cmp order.cmp) (position_total order.cmp lawful.total) p q
+      (gt_is_greater (position_cmp order.cmp p q) e) in
+      ((le_refl lawful p, le), (le, le_refl lawful q))
+  chosen_by p q false e = ((e, le_refl lawful q), (le_refl lawful p, e))
 
   pub later_over : (p q : Position K) → PLe p (later order p q) × PLe q (later order p q)
-  later_over p q = later_by p q (is_gt (position_cmp order.cmp p q)) refl
-
-  earlier_by : (p q : Position K) (b : Bool) → is_gt (position_cmp order.cmp p q) ≡ b
-      → PLe (if b then q else p) p × PLe (if b then q else p) q
-  earlier_by p q true e = (
-    gt_le (position_cmp order.cmp) (position_total order.cmp lawful.total) p q
-        (gt_is_greater (position_cmp order.cmp p q) e),
-    le_refl lawful q,
-  )
-  earlier_by p q false e =
-      (le_refl lawful p, e)
+  later_over p q = (chosen_by p q (is_gt (position_cmp order.cmp p q)) refl).0
 
   pub earlier_under : (p q : Position K) → PLe (earlier order p q) p × PLe (earlier order p q) q
-  earlier_under p q = earlier_by p q (is_gt (position_cmp order.cmp p q)) refl
+  earlier_under p q = (chosen_by p q (is_gt (position_cmp order.cmp p q)) refl).1
 
   pub either_choice_holds : (P : Position K → Type 0) (b : Bool) (p q : Position K) → P p → P q
       → P (if b then p else q)
@@ -253,18 +222,13 @@ module _ {K : Type 0} (order : KeyOrder K) (lawful : IsLawful order) where
           known = inside.0;
           nonempty = (nonempty_good order lawful key inside.0).1 inside.2;
           within = lies_in key r inside.0 known_r inside.1 inside.3;
-          free =
-              every_with (λ i. PLe (Hi i.key) (Lo key) ⊎ PLe (Hi key) (Lo i.key)) IsFull
-              (λ i. Overlap order i.key key → ⊥) items h.free full
-              (λ i a f. apart_not i.key key f.0 inside.0 a);
+          free = every_with _ _ _ items h.free full (λ i a f. apart_not i.key key f.0 inside.0 a);
         }
 
         pub free_apart : (key : AnyRange K) → IsFreePart order items r key
             → Every (λ i. IsFull i × (PLe (Hi i.key) (Lo key) ⊎ PLe (Hi key) (Lo i.key))) items
         free_apart key h =
-            every_with (λ i. Overlap order i.key key → ⊥) IsFull
-            (λ i. IsFull i × (PLe (Hi i.key) (Lo key) ⊎ PLe (Hi key) (Lo i.key))) items h.free
-            full (λ i n f. (f, apart_of i.key key f.0 h.known n))
+            every_with _ _ _ items h.free full (λ i n f. (f, apart_of i.key key f.0 h.known n))
 
         pub free_inside : (key : AnyRange K) → IsFreePart order items r key → IsInside key
         free_inside key h =
@@ -279,9 +243,7 @@ module _ {K : Type 0} (order : KeyOrder K) (lawful : IsLawful order) where
             elim h.left [
               | inl le ↦ le_trans lawful _ _ _ le from
               | inr bounded ↦
-                  any_use (λ i. PLe (Lo key) (Hi i.key) × PLe (Hi i.key) (Lo key))
-                  (λ i. IsFull i × (PLe (Hi i.key) (Lo other) ⊎ PLe (Hi other) (Lo i.key))) items
-                  bounded apart (λ i at a. elim a.1 [
+                  any_use _ _ items bounded apart (λ i at a. elim a.1 [
                     | inl le ↦ le_trans lawful _ _ _ at.0 le
                     | inr le ↦
                         absurd (lt_not_le lawful _ _ meets (le_trans lawful _ _ _ le
@@ -296,9 +258,7 @@ module _ {K : Type 0} (order : KeyOrder K) (lawful : IsLawful order) where
             elim h.right [
               | inl le ↦ le_trans lawful _ _ _ upto le
               | inr bounded ↦
-                  any_use (λ i. PLe (Hi key) (Lo i.key) × PLe (Lo i.key) (Hi key))
-                  (λ i. IsFull i × (PLe (Hi i.key) (Lo other) ⊎ PLe (Hi other) (Lo i.key))) items
-                  bounded apart (λ i at a. elim a.1 [
+                  any_use _ _ items bounded apart (λ i at a. elim a.1 [
                     | inl le ↦
                         absurd (lt_not_le lawful _ _ meets (le_trans lawful _ _ _ at.0
                         (le_trans lawful _ _ _ (lt_le lawful _ _ a.0.1) le)))
@@ -361,12 +321,10 @@ module _ {K : Type 0} (order : KeyOrder K) (lawful : IsLawful order) where
               inr (both_held p P Q xs (chain_tail (line_of order lawful same equal) x xs chain.1) h
               k)
           both_held p P Q (x ∷ xs) chain (inl h) (inr k) =
-              any_use (λ i. Q i × Holding p i) (λ i. PLe (Hi x.key) (Lo i.key)) xs k
-              (follows_above (line_of order lawful same equal) x xs chain.1) (λ i g le.
+              any_use _ _ xs k (follows_above (line_of order lawful same equal) x xs chain.1) (λ i g le.
               absurd (lt_not_le lawful _ _ h.1.1 (le_trans lawful _ _ _ le g.1.0)))
           both_held p P Q (x ∷ xs) chain (inr h) (inl k) =
-              any_use (λ i. P i × Holding p i) (λ i. PLe (Hi x.key) (Lo i.key)) xs h
-              (follows_above (line_of order lawful same equal) x xs chain.1) (λ i g le.
+              any_use _ _ xs h (follows_above (line_of order lawful same equal) x xs chain.1) (λ i g le.
               absurd (lt_not_le lawful _ _ k.1.1 (le_trans lawful _ _ _ le g.1.0)))
 
           common_held : (p : Position K) (key : AnyRange K) (v : V) → IsKnownRange order key
@@ -374,9 +332,7 @@ module _ {K : Type 0} (order : KeyOrder K) (lawful : IsLawful order) where
               → PLt p (Hi key)
               → Any (λ i. (IsCommonPart order r i.key key × (i.value ≡ v)) × Holding p i) items
           common_held p key v known h from upto =
-              any_with (λ i. IsCommonPart order r i.key key × (i.value ≡ v)) IsFull
-              (λ i. (IsCommonPart order r i.key key × (i.value ≡ v)) × Holding p i) items h full
-              (λ i c f.
+              any_with _ _ _ items h full (λ i c f.
               let within = common_within r i.key key known_r f.0 known c.0 in (
                 c,
                 (
@@ -392,13 +348,9 @@ module _ {K : Type 0} (order : KeyOrder K) (lawful : IsLawful order) where
               → Every (λ i. PLe (Hi i.key) (Lo clear) ⊎ PLe (Hi clear) (Lo i.key)) items
               → PLe (Lo clear) p → PLt p (Hi clear) → ⊥
           common_place_is_not_clear p key clear v known h from upto free from' upto' =
-              any_use (λ i. (IsCommonPart order r i.key key × (i.value ≡ v)) × Holding p i)
-              (λ i. PLe (Hi i.key) (Lo clear) ⊎ PLe (Hi clear) (Lo i.key)) items
-              (common_held p key v known h from upto) free (λ i g a. elim a [
-                | inl le ↦
-                    lt_not_le lawful _ _ g.1.1 (le_trans lawful _ _ _ le from')
-                | inr le ↦
-                    lt_not_le lawful _ _ upto' (le_trans lawful _ _ _ le g.1.0)
+              any_use _ _ items (common_held p key v known h from upto) free (λ i g a. elim a [
+                | inl le ↦ lt_not_le lawful _ _ g.1.1 (le_trans lawful _ _ _ le from')
+                | inr le ↦ lt_not_le lawful _ _ upto' (le_trans lawful _ _ _ le g.1.0)
               ])
 
           any_here : {R : Type 0} (P : Item (AnyRange K) V → Type 0)
@@ -419,19 +371,12 @@ module _ {K : Type 0} (order : KeyOrder K) (lawful : IsLawful order) where
               let held = common_held (Lo part) key w inside.0 h from upto in
               let other =
               common_held (Lo part) part v known piece.1 (le_refl lawful (Lo part)) good in
-              any_here (λ i. (IsCommonPart order r i.key key × (i.value ≡ w))
-              × (IsCommonPart order r i.key part × (i.value ≡ v))) items
-              (both_held (Lo part) (λ i. IsCommonPart order r i.key key × (i.value ≡ w))
-              (λ i. IsCommonPart order r i.key part × (i.value ≡ v)) items chain held other)
+              any_here _ items (both_held (Lo part) _ _ items chain held other)
               (λ i g. (same_common i.key key part g.0.0 g.1.0, ap Some (sym g.0.1 ∙ g.1.1)))
           same_piece key part (Some w) None chain inside h known piece from upto =
               let others = free_inside part piece.0 in
-              let apart =
-              every_weaker (λ i. IsFull i
-              × (PLe (Hi i.key) (Lo part) ⊎ PLe (Hi part) (Lo i.key)))
-              (λ i. PLe (Hi i.key) (Lo part) ⊎ PLe (Hi part) (Lo i.key)) items (λ i a. a.1)
-              (free_apart part piece.0) in
-              absurd (common_place_is_not_clear (Lo part) key part w inside.0 h from upto apart
+              absurd (common_place_is_not_clear (Lo part) key part w inside.0 h from upto
+              (every_weaker _ _ items (λ i a. a.1) (free_apart part piece.0))
               (le_refl lawful (Lo part)) others.2)
           same_piece key part None (Some v) chain inside h known piece from upto =
               let good = (nonempty_good order lawful part known).0 piece.0 in
@@ -453,8 +398,7 @@ module _ {K : Type 0} (order : KeyOrder K) (lawful : IsLawful order) where
             lt_le_trans lawful _ _ _ h.2 h.3,
           )
       piece_inside full part (Some v) known piece =
-          any_use (λ i. IsCommonPart order r i.key part × (i.value ≡ v)) IsFull items piece.1 full
-          (λ i c f.
+          any_use _ _ items piece.1 full (λ i c f.
           let within = common_within r i.key part known_r f.0 known c.0 in (
             within.0,
             lt_le_trans lawful _ _ _ ((nonempty_good order lawful part known).0 piece.0) within.2,
@@ -476,37 +420,22 @@ module _ {K : Type 0} (order : KeyOrder K) (lawful : IsLawful order) where
           → AreCut pieces
           → ArePieces order items r pieces
       cut_all same equal full chain pieces was =
-          let each =
-          every_with (λ p. IsInside p.key) (λ p. IsRight p.key p.value)
-          (λ p. IsInside p.key × IsRight p.key p.value) pieces was.inside was.right
-          (λ p h k. (h, k)) in
+          let each = every_both _ _ pieces was.inside was.right in
           record {
             each =
-                every_weaker (λ p. IsInside p.key × IsRight p.key p.value)
-                (λ p. IsPiece order items r p.key p.value) pieces
-                (λ p h. a_piece full p.key p.value h.0 h.1) each;
+                every_weaker _ _ pieces (λ p h. a_piece full p.key p.value h.0 h.1) each;
             rising = rising_apart pieces was.inside was.rising;
             all = λ part binding known piece.
                 let at = piece_inside full part binding known piece in
-                any_with (λ p. PLe (Lo p.key) (Lo part) × PLt (Lo part) (Hi p.key))
-                (λ p. IsInside p.key × IsRight p.key p.value)
-                (λ p. (range_cmp order p.key part ≡ Equal) × (p.value ≡ binding)) pieces
-                (was.covered (Lo part) at.0 at.1) each
-                (λ p h k.
+                any_with _ _ _ pieces (was.covered (Lo part) at.0 at.1) each (λ p h k.
                 same_piece full same equal p.key part p.value binding chain k.0 k.1 known piece
                 h.0 h.1);
           }
 
 module _ {K : Type 0} (order : KeyOrder K) (lawful : IsLawful order) {V : Type 0}
     (same : V → V → Bool) (equal : IsEquivalence same) (r : AnyRange K) where
-  full_by : (xs items : List (Item (AnyRange K) V)) → Known order lawful same equal xs
-      → Chained order lawful same equal xs → Every (IsFull order lawful items r) xs
-  full_by [] items known chain = tt
-  full_by (x ∷ []) items known chain = ((known.0, chain.0), tt)
-  full_by (x ∷ y ∷ ys) items known chain =
-      ((known.0, chain.0), full_by (y ∷ ys) items known.1 chain.1.1)
-
   -- stored ranges are known, and each starts below the place where it ends
   pub all_full : (items : List (Item (AnyRange K) V)) → Known order lawful same equal items
       → Chained order lawful same equal items → Every (IsFull order lawful items r) items
-  all_full items known chain = full_by items items known chain
+  all_full items known chain =
+      every_both _ _ items known (chained_items_have_places order lawful same equal items chain)

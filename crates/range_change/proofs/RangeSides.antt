@@ -1,50 +1,24 @@
 -- What stands on each side of a range, and the list in which it is bound or unbound.
-use Rattle.std.proofs.Common.{◌≡◌, ℕ, zero, suc, ◌+◌, ◌-◌, ◌<◌, ◌≤◌, List, [], ◌∷◌, ◌++◌, length, take, drop, get_or, refl, ap, sym, ◌∙◌, arith, subst, Option, Some, None, Bool, true, false, length-drop}
-use Rattle.std.proofs.lemmas.List.{append-nil, get_or-drop}
-use Rattle.std.specs.Cmp.{IsEquivalence}
-use Rattle.std.specs.List.{AllByRecursion as Every}
-use Rattle.range_keys.specs.Order.{KeyOrder, IsLawful}
-use Rattle.range_keys.specs.PositionOrder.{position_total}
-use Rattle.range_algebra.specs.declared.any.AnyRange.{AnyRange}
-use Rattle.range_algebra.specs.Range.{IsKnownRange}
-use Rattle.range_store.specs.declared.storage.Item.{Item}
-use Rattle.range_change.proofs.PlaceOrder.{lt_le, le_trans, PLe, PLt}
-use Rattle.range_change.specs.Chains.{line_of, Leads, Trails, IsLeft, IsRight, IsLeftOf, IsRightOf}
+use Rattle.range_change.proofs.Common.{Line, Position, ◌≡◌, ℕ, zero, suc, ◌+◌, ◌-◌, ◌<◌, ◌≤◌, List, [], ◌∷◌, ◌++◌, length, take, drop, get_or, refl, ap, sym, ◌∙◌, arith, subst, Option, Some, None, Bool, true, false, length-drop, append-nil, get_or-drop, IsEquivalence, Every, KeyOrder, IsLawful, position_total, AnyRange, IsKnownRange, Item, lt_le, le_trans, PLe, PLt, line_of, Leads, Trails, IsLeft, IsRight, IsLeftOf, IsRightOf, lower, upper, item_lower, item_upper, IsWindow, option_items, Window, every_at, list_is_take_and_drop, every_weaker, every_append, every_right, tied_itself, Bound, Touches, IsInserted, IsRemoved, Overlap, IsPart, IsRemovalFrame, IsLeftFrame, IsRightFrame, ReachesBefore, ReachesAfter, flipped_bound, with_end, SameBound, IsKnownBound, joined_item, IsLeftRest, IsRightRest, IsLeftBorder, IsRightBorder, TouchesNoneBefore, TouchesNoneAfter}
+use Rattle.range_change.proofs.Tests.{not_both}
 use Rattle.range_change.proofs.Chains.{chain_above, chain_before, chain_right}
 use Rattle.range_change.proofs.ChainSides.{left_whole, left_cut, right_whole, right_cut}
 use Rattle.range_change.proofs.ChainJoins.{places_between_are_unbound, left_apart, left_joined, right_apart, right_joined, leading_last, trailing_first, places_between_are_bound}
-use Rattle.range_algebra.specs.Cuts.{lower, upper}
-use Rattle.range_change.specs.Stored.{item_lower, item_upper}
-use Rattle.range_change.specs.Window.{IsWindow, option_items}
-use Rattle.range_change.specs.declared.window.Window.{Window}
-use Rattle.range_change.proofs.Forms.{nonempty_good, Known, Chained, stored_known, stored_chain, known_take, known_drop, chain_stored, unbound_after}
-use Rattle.range_algebra.proofs.Lists.{every_at, list_is_take_and_drop, every_weaker, every_append, every_right}
-use Rattle.std.specs.Cmp.{tied_itself}
-use Rattle.std.specs.declared.ops.Bound.{Bound}
-use Rattle.range_algebra.specs.Relations.{Touches}
-use Rattle.range_change.specs.Changes.{IsInserted, IsRemoved}
-use Rattle.range_change.specs.Lookups.{Overlap}
-use Rattle.range_change.specs.Frames.{IsPart, IsRemovalFrame}
-use Rattle.range_change.specs.Plans.{IsLeftFrame, IsRightFrame}
+use Rattle.range_change.proofs.Forms.{nonempty_good, Known, Chained, stored_chain, chain_stored, unbound_after, every_front, every_back}
 use Rattle.range_change.proofs.InsertionFrames.{insertion_frame, cut_way, not_cut}
 use Rattle.range_change.proofs.Forms.{before_is}
 use Rattle.range_change.proofs.Windows.{every_both}
-use Rattle.range_change.specs.Reach.{ReachesBefore, ReachesAfter}
-use Rattle.range_change.specs.Edits.{flipped_bound, with_end}
-use Rattle.range_algebra.specs.Clones.{SameBound}
-use Rattle.range_algebra.specs.Range.{IsKnownBound}
 use Rattle.range_change.proofs.CoveredPlaces.{meets_bound}
 use Rattle.range_change.proofs.BoundEdits.{opening_regroups, regrouped_out}
 use Rattle.range_change.proofs.CutParts.{cut_end, cut_start}
-use Rattle.range_change.specs.Borders.{joined_item, IsLeftRest, IsRightRest, IsLeftBorder, IsRightBorder, TouchesNoneBefore, TouchesNoneAfter}
 use Rattle.range_change.proofs.Forms.{touches_is, bound_after}
 use Rattle.range_change.proofs.ItemPlaces.{element_at, element_at_is_read, listed_at, upto_item, from_item}
 
-both_truths : (b : Bool) → b ≡ true → b ≡ false → ⊥
-both_truths b e f = let clash : true ≡ false = sym e ∙ f in cc
-
 module _ {K : Type 0} {order : KeyOrder K} (lawful : IsLawful order) {V : Type 0}
     {same : V → V → Bool} (equal : IsEquivalence same) where
+  abbrev line : Line (Position K) V (Item (AnyRange K) V)
+  line = line_of order lawful same equal
+
   module _ {P : Type 0} {is_good : P → Type 0} {rank : P → ℕ} {items : List (Item (AnyRange K) V)}
       {r : AnyRange K} {w : Window P} {place : ℕ}
       (window : IsWindow order same is_good rank items r w place) where
@@ -58,7 +32,7 @@ module _ {K : Type 0} {order : KeyOrder K} (lawful : IsLawful order) {V : Type 0
         → IsKnownRange order x.key
     known_at n x within read = let at =
         every_at (λ i. IsKnownRange order i.key) items n x
-        (stored_known order lawful same equal items window.stored) within in rw (← read) at at
+        window.stored.known within in rw (← read) at at
 
     -- the first item of the window ends after the range starts, and the last starts before it ends
     pub first_reaches : (x : Item (AnyRange K) V) → x ≡ get_or items place x → 0 < w.count
@@ -79,7 +53,7 @@ module _ {K : Type 0} {order : KeyOrder K} (lawful : IsLawful order) {V : Type 0
         × PLe lawful (lower order r) (item_upper order x)
     touching_before n x at within read touching =
         let full =
-        chain_right (line_of order lawful same equal) (take n items) (x ∷ drop (n + 1) items)
+        chain_right line (take n items) (x ∷ drop (n + 1) items)
         (rw (listed_at items n x within read) at in_order) in
         let ends : Every (λ i. PLe lawful (item_upper order i) (lower order r)) (x ∷ []) =
         every_right _ (take n items) (x ∷ [])
@@ -94,8 +68,7 @@ module _ {K : Type 0} {order : KeyOrder K} (lawful : IsLawful order) {V : Type 0
         × PLe lawful (upper order r) (item_upper order x)
     touching_after x within read touching =
         let full =
-        chain_right (line_of order lawful same equal) (take (place + w.count) items)
-        (x ∷ drop (place + w.count + 1) items)
+        chain_right line (take (place + w.count) items) (x ∷ drop (place + w.count + 1) items)
         (rw (listed_at items (place + w.count) x within read) at in_order) in
         let starts = rw (from_item items (place + w.count) x within read) at window.behind in
         let known_x = known_at (place + w.count) x within read in (
@@ -118,9 +91,9 @@ module _ {K : Type 0} {order : KeyOrder K} (lawful : IsLawful order) {V : Type 0
         let read = element_at_is_read items place within x in
         let rest = drop (place + 1) items in
         let whole =
-        chain_right (line_of order lawful same equal) (take place items) (x ∷ rest)
+        chain_right line (take place items) (x ∷ rest)
         (rw (listed_at items place x within read) at in_order) in
-        rw (from_item items place x within read) (chain_above (line_of order lawful same equal) (lower order r) x rest whole
+        rw (from_item items place x within read) (chain_above line (lower order r) x rest whole
         (reach x (omega (arith, e)) read))
 
     -- no item of the window ends after the range
@@ -137,7 +110,7 @@ module _ {K : Type 0} {order : KeyOrder K} (lawful : IsLawful order) {V : Type 0
         let read = element_at_is_read items k within x in
         let some : 0 < w.count = omega (arith, e) in
         let before =
-        chain_before (line_of order lawful same equal) (take k items) x (drop (k + 1) items)
+        chain_before line (take k items) x (drop (k + 1) items)
         (rw (listed_at items k x within read) at in_order) in
         rw (upto_item items k (place + w.count) x (omega (arith, e)) within read)
         (every_append _ (take k items) (x ∷ [])
@@ -152,9 +125,8 @@ module _ {K : Type 0} {order : KeyOrder K} (lawful : IsLawful order) {V : Type 0
         record {
           left =
               rw (append-nil (take place items))
-              (subst (λ ys. IsLeft (line_of order lawful same equal) ys (take place items)
-              (lower order r)) (sym parts)
-              (left_whole (line_of order lawful same equal) (take place items)
+              (subst (λ ys. IsLeft line ys (take place items) (lower order r)) (sym parts)
+              (left_whole line (take place items)
               (drop place items) (lower order r) (rw parts at in_order) window.below
               (met_start w.count refl reach)));
           known = tt;
@@ -171,9 +143,9 @@ module _ {K : Type 0} {order : KeyOrder K} (lawful : IsLawful order) {V : Type 0
         let split = listed_at items place x within read in
         record {
           left =
-              subst (λ ys. IsLeft (line_of order lawful same equal) ys
+              subst (λ ys. IsLeft line ys
               (take place items ++ with_end x b ∷ []) (lower order r)) (sym split)
-              (left_cut (line_of order lawful same equal) (take place items) x
+              (left_cut line (take place items) x
               (drop (place + 1) items) (with_end x b) (lower order r) (rw split at in_order) starts
               (first_reaches x read some)
               (tied_itself (position_total order.cmp lawful.total) (item_lower order x))
@@ -189,9 +161,8 @@ module _ {K : Type 0} {order : KeyOrder K} (lawful : IsLawful order) {V : Type 0
         let parts = list_is_take_and_drop items end in
         record {
           right =
-              subst (λ ys. IsRight (line_of order lawful same equal) ys (drop end items)
-              (upper order r)) (sym parts)
-              (right_whole (line_of order lawful same equal) (take end items)
+              subst (λ ys. IsRight line ys (drop end items) (upper order r)) (sym parts)
+              (right_whole line (take end items)
               (drop end items) (upper order r) (rw parts at in_order)
               (met_end w.count refl reach) window.behind);
           known = tt;
@@ -215,9 +186,8 @@ module _ {K : Type 0} {order : KeyOrder K} (lawful : IsLawful order) {V : Type 0
         listed_at items k x within read ∙ ap (λ m. take k items ++ x ∷ drop m items) next in
         record {
           right =
-              subst (λ ys. IsRight (line_of order lawful same equal) ys (y ∷ drop end items)
-              (upper order r)) (sym split)
-              (right_cut (line_of order lawful same equal) (take k items) x (drop end items) y
+              subst (λ ys. IsRight line ys (y ∷ drop end items) (upper order r)) (sym split)
+              (right_cut line (take k items) x (drop end items) y
               (upper order r) (rw split at in_order) (last_starts x read some) ends
               (cut_start order lawful x.key.end r.end b known_x.1 ends same_b)
               (tied_itself (position_total order.cmp lawful.total) (item_upper order x)) values);
@@ -234,9 +204,9 @@ module _ {K : Type 0} {order : KeyOrder K} (lawful : IsLawful order) {V : Type 0
         record {
           left =
               rw (append-nil (take n items))
-              (subst (λ ys. IsLeftOf (line_of order lawful same equal) ys (take n items)
+              (subst (λ ys. IsLeftOf line ys (take n items)
               (lower order r) (item_lower order x) v) (sym split)
-              (left_joined (line_of order lawful same equal) (take n items) x
+              (left_joined line (take n items) x
               (drop (n + 1) items) (lower order r) v (rw split at in_order) starts reaches values));
           known = tt;
           known_start = (known_at n x within read).0;
@@ -250,19 +220,16 @@ module _ {K : Type 0} {order : KeyOrder K} (lawful : IsLawful order) {V : Type 0
         let ends = every_right _ (take place items) (y ∷ []) rest.left.ends in
         record {
           left =
-              left_apart (line_of order lawful same equal) items (take place items ++ y ∷ [])
-              (lower order r) v rest.left
-              (leading_last (line_of order lawful same equal) (take place items) y
-              (lower order r) v rest.left.chain
-              (ends.0, λ k t. both_truths (same y.value v) t values));
+              left_apart line items (take place items ++ y ∷ []) (lower order r) v rest.left
+              (leading_last line (take place items) y (lower order r) v rest.left.chain
+              (ends.0, λ k t. not_both values t));
           known = rest.known;
           known_start = window.known.0;
         }
 
     all_lead : (n : ℕ) (v : V) → place ≡ n → IsLeftRest order same lawful equal items r place None
         → TouchesNoneBefore order same items place r v
-        → Every (λ i. Leads (line_of order lawful same equal) i (lower order r) v)
-        (take place items)
+        → Every (λ i. Leads line i (lower order r) v) (take place items)
     all_lead zero v e rest none = rw e tt
     all_lead (suc n) v e rest none =
         let next : n + 1 ≡ place = omega (arith, e) in
@@ -275,7 +242,7 @@ module _ {K : Type 0} {order : KeyOrder K} (lawful : IsLawful order) {V : Type 0
         let apart : Touches order x.key r → same x.value v ≡ true → ⊥ =
         subst (λ (y : Item (AnyRange K) V). Touches order y.key r → same y.value v ≡ true → ⊥)
         (ap (λ m. get_or items m x) before ∙ sym read) (none x (omega (arith, e))) in
-        rw last (leading_last (line_of order lawful same equal) (take n items) x (lower order r) v
+        rw last (leading_last line (take n items) x (lower order r) v
         (rw (append-nil (take place items) ∙ last) at rest.left.chain) (
           ends.0,
           λ k t. apart ((touches_is order lawful x.key.end r window.known range_has_places ends.0).1
@@ -288,8 +255,7 @@ module _ {K : Type 0} {order : KeyOrder K} (lawful : IsLawful order) {V : Type 0
     left_border_none v rest none =
         record {
           left =
-              left_apart (line_of order lawful same equal) items (take place items ++ [])
-              (lower order r) v rest.left
+              left_apart line items (take place items ++ []) (lower order r) v rest.left
               (rw (append-nil (take place items)) (all_lead place v refl rest none));
           known = tt;
           known_start = window.known.0;
@@ -305,9 +271,9 @@ module _ {K : Type 0} {order : KeyOrder K} (lawful : IsLawful order) {V : Type 0
         record {
           in_range = omega (arith, at, within);
           right =
-              subst (λ ys. IsRightOf (line_of order lawful same equal) ys (drop end items)
+              subst (λ ys. IsRightOf line ys (drop end items)
               (upper order r) (item_upper order x) v) (sym split)
-              (right_joined (line_of order lawful same equal) (take n items) x
+              (right_joined line (take n items) x
               (drop end items) (upper order r) v (rw split at in_order) reaches ends values);
           known = tt;
           known_end = (known_at n x within read).1;
@@ -320,26 +286,25 @@ module _ {K : Type 0} {order : KeyOrder K} (lawful : IsLawful order) {V : Type 0
         record {
           in_range = within;
           right =
-              right_apart (line_of order lawful same equal) items (y ∷ drop end items)
-              (upper order r) v rest.right
-              (trailing_first (line_of order lawful same equal) y (drop end items)
+              right_apart line items (y ∷ drop end items) (upper order r) v rest.right
+              (trailing_first line y (drop end items)
               (upper order r) v rest.right.chain (
                 rest.right.starts.0,
                 λ k t.
-                    both_truths (same y.value v) (equal.symm y.value v ∙ t) values,
+                    not_both values (equal.symm y.value v ∙ t),
               ));
           known = rest.known;
           known_end = window.known.1;
         }
 
     all_trail : (end : ℕ) (v : V) (ys : List (Item (AnyRange K) V))
-        → Known order lawful same equal ys → IsRight (line_of order lawful same equal) items ys (upper order r)
+        → Known order lawful same equal ys → IsRight line items ys (upper order r)
         → ((d : Item (AnyRange K) V) → 0 < length ys → Touches order r (get_or ys 0 d).key
         → same v (get_or ys 0 d).value ≡ true → ⊥)
-        → Every (λ i. Trails (line_of order lawful same equal) (upper order r) v i) ys
+        → Every (λ i. Trails line (upper order r) v i) ys
     all_trail end v [] others right none = tt
     all_trail end v (y ∷ ys) others right none =
-        trailing_first (line_of order lawful same equal) y ys (upper order r) v right.chain (
+        trailing_first line y ys (upper order r) v right.chain (
           right.starts.0,
           λ k t. none y (omega arith)
               ((touches_is order lawful r.end y.key others.0 right.chain.0 right.starts.0).1 k) t,
@@ -351,13 +316,11 @@ module _ {K : Type 0} {order : KeyOrder K} (lawful : IsLawful order) {V : Type 0
         → IsRightBorder order same lawful equal items r v end None None
     right_border_none end v within rest none =
         let plus : end + 0 ≡ end = omega arith in
-        let others =
-        known_drop order lawful same equal items end
-        (stored_known order lawful same equal items window.stored) in
+        let others = every_back _ end items window.stored.known in
         record {
           in_range = within;
           right =
-              right_apart (line_of order lawful same equal) items (drop end items)
+              right_apart line items (drop end items)
               (upper order r) v rest.right (all_trail end v (drop end items) others rest.right
               (λ d some. let at : get_or (drop end items) 0 d
               ≡ get_or items end d =
@@ -384,7 +347,7 @@ module _ {K : Type 0} {order : KeyOrder K} (lawful : IsLawful order) {V : Type 0
     borders_insert new v u at end left right start finish on_left on_right frame_left frame_right
         few values own_value changed =
         let m : Item (AnyRange K) V = joined_item (record { key = r; value = u }) start finish in
-        let all = stored_known order lawful same equal items window.stored in
+        let all = window.stored.known in
         let front = take at items ++ option_items left in
         let behind = option_items right ++ drop end items in
         let list : new ≡ front ++ m ∷ behind =
@@ -392,15 +355,15 @@ module _ {K : Type 0} {order : KeyOrder K} (lawful : IsLawful order) {V : Type 0
         ∙ sym (opening_regroups (take at items) (option_items left) (option_items right)
         (drop end items) m) in
         let result =
-        places_between_are_bound (line_of order lawful same equal) items front behind m
+        places_between_are_bound line items front behind m
         (lower order r) (upper order r) v on_left.left on_right.right range_has_places values in
         let known_m : IsKnownRange order m.key = (on_left.known_start, on_right.known_end) in
         let others = every_append _ front (m ∷ behind)
         (every_append _ (take at items) (option_items left)
-        (known_take order lawful same equal items at all) on_left.known) (
+        (every_front _ at items all) on_left.known) (
           known_m,
           every_append _ (option_items right) (drop end items) on_right.known
-              (known_drop order lawful same equal items end all),
+              (every_back _ end items all),
         ) in
         record {
           stored = rw list
@@ -415,8 +378,7 @@ module _ {K : Type 0} {order : KeyOrder K} (lawful : IsLawful order) {V : Type 0
               rw list (meets_bound order lawful same equal items
               (front ++ m ∷ behind) r v all others
               (stored_chain order lawful same equal items window.stored) window.known
-              range_has_places
-              result);
+              range_has_places result);
         }
 
     -- the list with the range unbound
@@ -428,7 +390,7 @@ module _ {K : Type 0} {order : KeyOrder K} (lawful : IsLawful order) {V : Type 0
         new ≡ take at items ++ option_items left ++ [] ++ option_items right ++ drop end items →
         IsRemoved order same items new r
     removed_by new at end left right on_left on_right frame changed =
-        let all = stored_known order lawful same equal items window.stored in
+        let all = window.stored.known in
         let front = take at items ++ option_items left in
         let behind = option_items right ++ drop end items in
         let list : new ≡ front ++ behind =
@@ -436,14 +398,14 @@ module _ {K : Type 0} {order : KeyOrder K} (lawful : IsLawful order) {V : Type 0
         ∙ sym (regrouped_out (take at items) (option_items left) (option_items right)
         (drop end items)) in
         let result =
-        places_between_are_unbound (line_of order lawful same equal) items front behind
+        places_between_are_unbound line items front behind
         (lower order r) (upper order r) on_left.left on_right.right range_has_places in
         let known_front =
         every_append _ (take at items) (option_items left)
-        (known_take order lawful same equal items at all) on_left.known in
+        (every_front _ at items all) on_left.known in
         let known_behind =
         every_append _ (option_items right) (drop end items) on_right.known
-        (known_drop order lawful same equal items end all) in
+        (every_back _ end items all) in
         let others = every_append _ front behind known_front known_behind in
         let before =
         every_weaker _ _ front (λ i h m.
@@ -453,8 +415,7 @@ module _ {K : Type 0} {order : KeyOrder K} (lawful : IsLawful order) {V : Type 0
         let after =
         every_weaker _ _ behind (λ i h m.
         m.1 ((before_is order lawful r.end i.key.start window.known.1 h.0.0).1 h.1))
-        (every_both (λ i. IsKnownRange order i.key) _ behind known_behind
-        on_right.right.starts) in
+        (every_both (λ i. IsKnownRange order i.key) _ behind known_behind on_right.right.starts) in
         record {
           stored =
               rw list (chain_stored order lawful same equal (front ++ behind) others result.chain);

@@ -1,75 +1,41 @@
 -- The list in which a middle stands for what a range held.
-use Rattle.std.proofs.Common.{◌≡◌, ℕ, ◌+◌, ◌-◌, ◌≤◌, List, ◌++◌, length, take, drop, ap, ◌∙◌, arith, subst, Option, Bool, IsTrue, ◌⊎◌, inl, inr, append_assoc}
-use Rattle.std.specs.Cmp.{IsEquivalence}
-use Rattle.std.specs.List.{AllByRecursion as Every}
-use Rattle.std.specs.Prelude.{slice_get}
-use Rattle.std.specs.declared.ops.Bound.{Bound}
-use Rattle.range_keys.specs.Order.{KeyOrder, IsLawful}
-use Rattle.range_keys.specs.declared.inner.position.Position.TheVariants.{Beside}
-use Rattle.range_keys.specs.declared.inner.position.Side.TheVariants.{At}
-use Rattle.range_algebra.specs.Clones.{SameBound}
-use Rattle.range_algebra.specs.Intervals.{Any}
-use Rattle.range_algebra.specs.Range.{IsKnownBound, IsKnownRange, IsEmptyRange}
-use Rattle.range_algebra.specs.declared.any.AnyRange.{AnyRange}
-use Rattle.range_algebra.proofs.Lists.{list_is_take_and_drop, any_left, any_right, every_weaker, every_append, every_left, every_right}
-use Rattle.range_algebra.proofs.Places.{held_between}
-use Rattle.range_store.specs.declared.storage.Item.{Item}
-use Rattle.range_change.specs.declared.borders.Border.{Border}
-use Rattle.range_change.specs.Edits.{flipped_bound}
-use Rattle.range_change.specs.Frames.{HasValue}
-use Rattle.range_change.specs.Lookups.{Overlap}
-use Rattle.range_change.specs.Replaced.{AreWithin, IsReplaced}
-use Rattle.range_change.specs.Borders.{IsRunStart, seam_border, right_side}
-use Rattle.range_change.specs.Seams.{with_first_start, with_last_end, IsLeftSeam, IsRightSeam}
-use Rattle.range_change.specs.Stored.{IsStored}
-use Rattle.range_change.specs.Window.{option_items}
+use Rattle.range_change.proofs.Common.{◌≡◌, ℕ, ◌+◌, ◌-◌, ◌≤◌, List, ◌++◌, length, take, drop, ap, ◌∙◌, arith, subst, Option, Bool, IsTrue, ◌⊎◌, inl, inr, append_assoc, IsEquivalence, Every, slice_get, Bound, KeyOrder, IsLawful, Beside, At, SameBound, Any, IsKnownBound, IsKnownRange, IsEmptyRange, AnyRange, list_is_take_and_drop, any_left, any_right, every_weaker, every_append, every_left, every_right, held_between, Item, Border, flipped_bound, HasValue, Overlap, AreWithin, IsReplaced, IsRunStart, seam_border, right_side, with_first_start, with_last_end, IsLeftSeam, IsRightSeam, IsStored, option_items}
 use Rattle.range_change.proofs.CutParts.{known_turned, same_turned}
 use Rattle.range_change.proofs.OuterBounds.{every_started, every_ended, any_ended, own_values}
 use Rattle.range_change.proofs.RangePieces.{any_with}
-use Rattle.range_change.proofs.Forms.{Known, nonempty_good, stored_known, chain_stored, same_binds, unheld_lies_outside}
+use Rattle.range_change.proofs.Forms.{Known, nonempty_good, chain_stored, same_binds, unheld_lies_outside}
 use Rattle.range_change.proofs.InsertionFrames.{parts_of, append_reassociates, reassociate_pieces}
-use Rattle.range_change.proofs.MergedItems.{crossing_meets}
+use Rattle.range_change.proofs.CoveredPlaces.{overlap_is}
 use Rattle.range_change.proofs.Lengths.{border_length}
 use Rattle.range_change.proofs.JoinedMiddle.{seam_count, Crosses, TakesStartOf, IsLeftFill, IsRightFill, left_fill, right_fill}
 
 module _ {K : Type 0} (order : KeyOrder K) (lawful : IsLawful order) {V : Type 0}
     (same : V → V → Bool) (equal : IsEquivalence same) {P : Type 0} (is_good : P → Type 0)
     (rank : P → ℕ) (items : List (Item (AnyRange K) V)) (r : AnyRange K) (place count : ℕ) where
-  value_left : (run more middle made : List (Item (AnyRange K) V))
+  value_within : (run wider middle made : List (Item (AnyRange K) V))
+      → ((Q : Item (AnyRange K) V → Type 0) → Any Q run → Any Q wider)
       → Every (λ j. HasValue order same run j.value ⊎ HasValue order same middle j.value) made
-      → Every (λ j. HasValue order same (run ++ more) j.value ⊎ HasValue order same middle j.value)
-      made
-  value_left run more middle made all =
-      every_weaker _ _ made (λ j h. elim h [ inl k ↦ inl (any_left _ run more k) | inr k ↦ inr k ])
-      all
-
-  value_right : (more run middle made : List (Item (AnyRange K) V))
-      → Every (λ j. HasValue order same run j.value ⊎ HasValue order same middle j.value) made
-      → Every (λ j. HasValue order same (more ++ run) j.value ⊎ HasValue order same middle j.value)
-      made
-  value_right more run middle made all =
-      every_weaker _ _ made (λ j h. elim h [ inl k ↦ inl (any_right _ more run k) | inr k ↦ inr k ])
-      all
+      → Every (λ j. HasValue order same wider j.value ⊎ HasValue order same middle j.value) made
+  value_within run wider middle made f all =
+      every_weaker _ _ made (λ j h. elim h [ inl k ↦ inl (f _ k) | inr k ↦ inr k ]) all
 
   within_pieces : (rest body beyond : List (Item (AnyRange K) V)) (B : Item (AnyRange K) V → Type 0)
       (i : Item (AnyRange K) V) → IsKnownRange order r → Known order lawful same equal body
-      → Any (λ j. B j × Crosses order lawful same equal is_good rank items r place count j
-      × IsTrue (same i.value j.value)) body
+      → Any (λ j. B j × Crosses lawful r same j × IsTrue (same i.value j.value)) body
       → Any (λ j. B j × Overlap order j.key r × IsTrue (same i.value j.value))
       (rest ++ body ++ beyond)
   within_pieces rest body beyond B i known all h =
       any_left _ (rest ++ body) beyond
       (any_right _ rest body (any_with _ _
       (λ j. B j × Overlap order j.key r × IsTrue (same i.value j.value)) body h all
-      (λ j g own. (g.0, crossing_meets order lawful j.key r own known g.1.0 g.1.1, g.2))))
+      (λ j g own. (g.0, (overlap_is order lawful j.key r own known).1 g.1, g.2))))
 
   pub replacement_is_made : (new middle : List (Item (AnyRange K) V)) (first last : Option P)
       (border behind : Border K P) (from : Option P) → IsStored order same items
       → IsStored order same middle → IsKnownRange order r
       → Every (λ i. Overlap order i.key r) (take count (drop place items)) →
       (left : IsLeftFill order lawful same equal is_good rank items r place count middle first
-      border
-      from)
+      border from)
       → (right : IsRightFill order lawful same equal is_good rank items r place count middle
       (take left.at items ++ option_items left.rest) left.start last behind) →
       new ≡ take left.at items ++ option_items left.rest
@@ -87,8 +53,8 @@ module _ {K : Type 0} (order : KeyOrder K) (lawful : IsLawful order) {V : Type 0
       let run = left.extra ++ met ++ right.extra in
       let whole = (front ++ rest ++ body) ++ (beyond ++ tail) in
       let list : new ≡ whole = changed ∙ append_assoc (front ++ rest ++ body) beyond tail in
-      let all = stored_known order lawful same equal items stored in
-      let known_middle = stored_known order lawful same equal middle others in
+      let all = stored.known in
+      let known_middle = others.known in
       let regroup : run ≡ left.extra ++ (met ++ right.extra) =
       append_assoc left.extra met right.extra in
       let own =
@@ -97,19 +63,20 @@ module _ {K : Type 0} (order : KeyOrder K) (lawful : IsLawful order) {V : Type 0
       (every_started (λ v. HasValue order same run v ⊎ HasValue order same middle v)
       left.start middle (every_weaker _ _ middle (λ j h. inr h)
       (own_values order same equal middle))) in
-      let on_left = value_left (left.extra ++ met) right.extra middle rest left.valued in
+      let on_left =
+      value_within (left.extra ++ met) run middle rest
+      (λ Q h. any_left Q (left.extra ++ met) right.extra h) left.valued in
       let on_right : Every (λ j.
       HasValue order same run j.value ⊎ HasValue order same middle j.value) beyond =
-      rw regroup (value_right left.extra (met ++ right.extra) middle beyond right.valued) in
+      rw regroup (value_within (met ++ right.extra) (left.extra ++ (met ++ right.extra)) middle
+      beyond (λ Q h. any_right Q left.extra (met ++ right.extra) h) right.valued) in
       let known_body =
       every_right _ (front ++ rest) body
       (every_left _ (front ++ rest ++ body) (beyond ++ tail) right.known) in
       let took_start =
       λ (i : Item (AnyRange K) V)
-      (h : TakesStartOf order lawful same equal is_good rank items r place count i
-      (with_first_start left.start middle)). any_ended
-      (λ j. (j.key.start ≡ i.key.start)
-      × Crosses order lawful same equal is_good rank items r place count j
+      (h : TakesStartOf lawful r same i (with_first_start left.start middle)). any_ended
+      (λ j. (j.key.start ≡ i.key.start) × Crosses lawful r same j
       × IsTrue (same i.value j.value)) right.finish (with_first_start left.start middle)
       (λ j b is g. (g.0, (g.1.0, right.reaches b is), g.2)) h in
       record {
@@ -200,18 +167,15 @@ module _ {K : Type 0} (order : KeyOrder K) (lawful : IsLawful order) {V : Type 0
       let left =
       left_fill order lawful same equal is_good rank items r place count middle first
       (seam_border joined first before) from good stored others
-      (subst (λ o.
-      IsLeftSeam order same lawful equal is_good rank items r place count o first
+      (subst (λ o. IsLeftSeam order same lawful equal is_good rank items r place count o first
       (seam_border joined first before) from) is_first
       (on_left before from (known_turned order lawful r.start known.0)
       (same_turned order lawful r.start) begins)) in
       let right =
       right_fill order lawful same equal is_good rank items r place count middle
       (take left.at items ++ option_items left.rest) left.start last
-      (seam_border other last behind) stored others within good in_range left.filled
-      left.known
-      (subst (λ o.
-      IsRightSeam order same lawful equal is_good rank items r place count o last
+      (seam_border other last behind) stored others within good in_range left.filled left.known
+      (subst (λ o. IsRightSeam order same lawful equal is_good rank items r place count o last
       (seam_border other last behind)) is_last
       (on_right behind (known_turned order lawful r.end known.1)
       (same_turned order lawful r.end))) in

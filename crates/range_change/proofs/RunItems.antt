@@ -1,43 +1,13 @@
 -- The items that a range meets are one run of a stored list.
-use Rattle.std.specs.List.{AllByRecursion as Every}
-use Rattle.range_algebra.proofs.Lists.{any_none, any_left, any_right, any_split, every_at, every_left, every_right, list_is_take_and_drop, drop_all}
-use Rattle.range_algebra.proofs.Places.{unbounded_end}
-use Rattle.range_algebra.specs.Intervals.{Le, Lt}
-use Rattle.range_algebra.specs.Range.{IsKnownBound, with_bounds}
-use Rattle.range_algebra.specs.declared.any.AnyRange.{AnyRange}
-use Rattle.range_change.proofs.Forms.{stored_known}
+use Rattle.range_change.proofs.Common.{Every, any_none, any_left, any_right, any_split, every_at, list_is_take_and_drop, drop_all, unbounded_end, Le, Lt, IsKnownBound, with_bounds, AnyRange, MeetsSome, IsStored, KeyOrder, IsLawful, start_position, end_position, position_cmp, Position, AreOverlapping, le_refl, lt_le, le_trans, lt_not_le, le_lt_trans, place_before, Item, ◌≡◌, refl, sym, ap, ◌∙◌, ℕ, zero, suc, ◌+◌, ◌-◌, ◌<◌, ◌≤◌, Bool, true, false, List, [], ◌∷◌, ◌++◌, length, take, drop, get_or, arith, Option, Some, None, inl, inr, drop-drop, IsEquivalence, is_gt, MatchOption, Bound, Included, Unbounded, IsFound, IsLastStarting, place_after}
+use Rattle.range_change.proofs.Forms.{every_front, every_back}
 use Rattle.range_change.proofs.Found.{starts_rise, stored_tail, every_nonempty}
 use Rattle.range_change.proofs.Listed.{IsListed, stored_list_is_listed}
 use Rattle.range_change.proofs.RangePieces.{every_with}
 use Rattle.range_change.proofs.Tests.{not_both}
-use Rattle.range_change.specs.Lookups.{MeetsSome}
-use Rattle.range_change.specs.Stored.{IsStored}
-use Rattle.range_keys.specs.Order.{KeyOrder, IsLawful}
-use Rattle.range_keys.specs.Position.{start_position, end_position, position_cmp}
-use Rattle.range_keys.specs.declared.inner.position.Position.{Position}
-use Rattle.range_change.specs.Runs.{AreOverlapping}
-use Rattle.range_change.proofs.PlaceOrder.{le_refl, lt_le, le_trans, lt_not_le, le_lt_trans}
-use Rattle.range_store.specs.ListPlaces.{place_before}
-use Rattle.range_store.specs.declared.storage.Item.{Item}
-use Rattle.std.proofs.Common.{◌≡◌, refl, sym, ap, ◌∙◌, ℕ, zero, suc, ◌+◌, ◌-◌, ◌<◌, ◌≤◌, Bool, true, false, List, [], ◌∷◌, ◌++◌, length, take, drop, get_or, arith, Option, Some, None, inl, inr}
 use Rattle.std.proofs.Math.Seq.{take-append-add}
-use Rattle.std.proofs.lemmas.List.{drop-drop}
-use Rattle.std.specs.Cmp.{IsEquivalence}
-use Rattle.std.specs.Ordering.{is_gt}
-use Rattle.std.specs.Prelude.{MatchOption}
-use Rattle.std.specs.declared.ops.Bound.{Bound}
-use Rattle.std.specs.declared.ops.Bound.TheVariants.{Included, Unbounded}
-use Rattle.range_change.specs.Window.{IsFound, IsLastStarting, place_after}
 use Rattle.range_change.proofs.Extents.{end_le}
 use Rattle.range_change.proofs.Windows.{first_of_run, last_of_run}
-
-pub every_front : {X : Type 0} (P : X → Type 0) (n : ℕ) (xs : List X) → Every P xs
-    → Every P (take n xs)
-every_front P n xs h = every_left P _ _ (rw (list_is_take_and_drop xs n) at h)
-
-pub every_back : {X : Type 0} (P : X → Type 0) (n : ℕ) (xs : List X) → Every P xs
-    → Every P (drop n xs)
-every_back P n xs h = every_right P _ _ (rw (list_is_take_and_drop xs n) at h)
 
 every_between : {X : Type 0} (P : X → Type 0) (m n : ℕ) (xs : List X) → Every P (take n xs)
     → Every P (take (n - m) (drop m xs))
@@ -196,7 +166,7 @@ module _ {K : Type 0} {order : KeyOrder K} (lawful : IsLawful order) {V : Type 0
       let all : Every (λ i. PLe lawful (Start lawful i) upper) items =
       every_with _ _ _ items (every_nonempty order lawful same items
       (stored_list_is_listed order lawful same items stored))
-      (stored_known order lawful same equal items stored)
+      stored.known
       (λ i own known. le_trans lawful _ _ _ own (ends_full lawful i.key.end known.1)) in
       let b = place_after rank last in
       overlapping_are lawful (with_bounds (Included k) Unbounded) items

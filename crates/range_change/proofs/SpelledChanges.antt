@@ -1,34 +1,12 @@
 -- That what a change puts in the place of a range is spelled as what it replaces.
-use Rattle.std.proofs.Common.{◌≡◌, refl, sym, ap, subst, ◌∙◌, ℕ, ◌+◌, ◌-◌, ◌<◌, ◌≤◌, arith, Option, Some, None, Bool, List, [], ◌∷◌, ◌++◌, inl, inr, length, get_or, take, drop}
+use Rattle.range_change.proofs.Common.{◌≡◌, refl, sym, ap, subst, ◌∙◌, ℕ, ◌+◌, ◌-◌, ◌<◌, ◌≤◌, arith, Option, Some, None, Bool, List, [], ◌∷◌, ◌++◌, inl, inr, length, get_or, take, drop, IsEquivalence, Every, Bound, KeyOrder, IsLawful, AnyRange, same_itself, lower, upper, lt_le, eq_le, eq_ge, lt_not_le, lt_trans, PLt, IsKnownRange, every_weaker, every_append, every_left, every_right, list_is_take_and_drop, reaching_is_before_past, Item, IsInserted, IsRemoved, IsLeftShape, IsRightShape, joined_count, seam_border, flipped_bound, IsStartOf, IsEndOf, IsNewItem, IsPart, ReachesBefore, ReachesAfter, IsReach, IsSurrounded, with_first_start, with_last_end, IsStartAsIn, IsEndAsIn, IsSpelledAsIn, KeepsSpelling, IsStored, item_lower, option_items, Window}
 use Rattle.std.proofs.lemmas.Option.{same_Some}
-use Rattle.std.specs.Cmp.{IsEquivalence}
-use Rattle.std.specs.List.{AllByRecursion as Every}
-use Rattle.std.specs.declared.ops.Bound.{Bound}
-use Rattle.range_keys.specs.Order.{KeyOrder, IsLawful}
-use Rattle.range_algebra.specs.declared.any.AnyRange.{AnyRange}
-use Rattle.range_algebra.specs.Clones.{same_itself}
-use Rattle.range_algebra.specs.Cuts.{lower, upper}
-use Rattle.range_change.proofs.PlaceOrder.{lt_le, eq_le, eq_ge, lt_not_le, lt_trans, PLt}
-use Rattle.range_algebra.specs.Range.{IsKnownRange}
-use Rattle.range_algebra.proofs.Lists.{every_weaker, every_append, every_left, every_right, list_is_take_and_drop}
-use Rattle.range_algebra.proofs.Places.{reaching_is_before_past}
-use Rattle.range_store.specs.declared.storage.Item.{Item}
-use Rattle.range_change.specs.Changes.{IsInserted, IsRemoved}
-use Rattle.range_change.specs.Borders.{IsLeftShape, IsRightShape, joined_count, seam_border}
-use Rattle.range_change.specs.Edits.{flipped_bound}
-use Rattle.range_change.specs.Frames.{IsStartOf, IsEndOf, IsNewItem, IsPart}
-use Rattle.range_change.specs.Reach.{ReachesBefore, ReachesAfter, IsReach, IsSurrounded}
-use Rattle.range_change.specs.Seams.{with_first_start, with_last_end}
-use Rattle.range_change.specs.Spelling.{IsStartAsIn, IsEndAsIn, IsSpelledAsIn, KeepsSpelling}
-use Rattle.range_change.specs.Stored.{IsStored, item_lower}
-use Rattle.range_change.specs.Window.{option_items}
 use Rattle.range_change.specs.declared.reach.Reach.{Reach}
-use Rattle.range_change.specs.declared.window.Window.{Window}
 use Rattle.range_change.proofs.RangePieces.{any_use, item_at}
 use Rattle.range_change.proofs.ItemPlaces.{listed_at, from_item}
 use Rattle.range_change.proofs.Extents.{past_le, end_le}
-use Rattle.range_change.proofs.Forms.{Known, Chained, stored_known, stored_chain, nonempty_good}
-use Rattle.range_change.proofs.Spelling.{own_spelling, start_is_kept, end_is_kept, cut_end_is_kept, cut_start_is_kept}
+use Rattle.range_change.proofs.Forms.{Known, Chained, stored_chain, nonempty_good}
+use Rattle.range_change.proofs.Spelling.{StartSide, EndSide, own_spelling, within_is_kept, cut_end_is_kept, cut_start_is_kept}
 use Rattle.range_change.proofs.Surrounded.{reach_is_met}
 
 module _ {K : Type 0} (order : KeyOrder K) {V : Type 0} (items : List (Item (AnyRange K) V)) where
@@ -54,7 +32,7 @@ module _ {K : Type 0} {order : KeyOrder K} (lawful : IsLawful order) {V : Type 0
     {same : V → V → Bool} (equal : IsEquivalence same) {items : List (Item (AnyRange K) V)}
     (stored : IsStored order same items) where
   known : Known order lawful same equal items
-  known = stored_known order lawful same equal items stored
+  known = stored.known
 
   chain : Chained order lawful same equal items
   chain = stored_chain order lawful same equal items stored
@@ -63,7 +41,7 @@ module _ {K : Type 0} {order : KeyOrder K} (lawful : IsLawful order) {V : Type 0
   IsSpelled j = IsSpelledAsIn order items j.key
 
   pub list_keeps_spelling : KeepsSpelling order items items
-  list_keeps_spelling = own_spelling order lawful same equal items known chain
+  list_keeps_spelling = own_spelling lawful equal items known chain
 
   one_is_spelled : (k : ℕ) (x : Item (AnyRange K) V) → k < length items
       → x ≡ get_or items k x → IsSpelled x
@@ -94,7 +72,7 @@ module _ {K : Type 0} {order : KeyOrder K} (lawful : IsLawful order) {V : Type 0
           rw is (
             (
               spelled.0,
-              cut_end_is_kept order lawful same equal items known chain (take place items)
+              cut_end_is_kept lawful equal items known chain (take place items)
                   (drop (place + 1) items) x (listed_at items place x within x_is) r
                   found.window.known (before.3 x x_is) above.0 (flipped_bound r.start)
                   (same_itself order lawful (flipped_bound r.start)),
@@ -135,7 +113,7 @@ module _ {K : Type 0} {order : KeyOrder K} (lawful : IsLawful order) {V : Type 0
         let spelled = one_is_spelled upto x within read in (
           rw is (
             (
-              cut_start_is_kept order lawful same equal items known chain (take upto items)
+              cut_start_is_kept lawful equal items known chain (take upto items)
                   (drop (upto + 1) items) x (listed_at items upto x within read) r
                   found.window.known starts (after.3 x x_is) (flipped_bound r.end)
                   (same_itself order lawful (flipped_bound r.end)),
@@ -229,20 +207,22 @@ module _ {K : Type 0} {order : KeyOrder K} (lawful : IsLawful order) {V : Type 0
     start_within : IsStartAsIn order items r.start
     start_within =
         let known_r = within.window.known in
-        start_is_kept order lawful same equal items known chain (take place items)
-        (drop (place + 1) items) x list r.start r.start (same_itself order lawful r.start)
-        (lt_le lawful _ _ starts)
-        ((reaching_is_before_past order lawful r.start x.key.end known_r.0 known_x.1).1
-        ends_after_start) (λ e. absurd (lt_not_le lawful _ _ starts (eq_ge lawful _ _ e)))
+        within_is_kept lawful equal items known chain (take place items)
+        (drop (place + 1) items) x list StartSide r.start r.start (same_itself order lawful r.start) (
+          lt_le lawful _ _ starts,
+          (reaching_is_before_past order lawful r.start x.key.end known_r.0 known_x.1).1
+              ends_after_start,
+        ) (λ e. absurd (lt_not_le lawful _ _ starts (eq_ge lawful _ _ e)))
 
     end_within : IsEndAsIn order items r.end
     end_within =
         let known_r = within.window.known in
-        end_is_kept order lawful same equal items known chain (take place items)
-        (drop (place + 1) items) x list r.end r.end (same_itself order lawful r.end)
-        ((reaching_is_before_past order lawful x.key.start r.end known_x.0 known_r.1).1
-        starts_before_end) (end_le order lawful r.end x.key.end known_r.1 known_x.1
-        (lt_le lawful _ _ ends)) (λ e. absurd (lt_not_le lawful _ _ ends
+        within_is_kept lawful equal items known chain (take place items)
+        (drop (place + 1) items) x list EndSide r.end r.end (same_itself order lawful r.end) (
+          (reaching_is_before_past order lawful x.key.start r.end known_x.0 known_r.1).1
+              starts_before_end,
+          end_le order lawful r.end x.key.end known_r.1 known_x.1 (lt_le lawful _ _ ends),
+        ) (λ e. absurd (lt_not_le lawful _ _ ends
         (past_le order lawful x.key.end r.end known_x.1 known_r.1 (eq_le lawful _ _ e))))
 
     module _ (run : List (Item (AnyRange K) V)) (all : KeepsSpelling order items run)
@@ -253,7 +233,7 @@ module _ {K : Type 0} {order : KeyOrder K} (lawful : IsLawful order) {V : Type 0
           any_use (λ i. b ≡ i.key.start) IsSpelled run one all
           (λ i is s. subst (IsStartAsIn order items) (sym is) s.0)
       start_of (inr (inr turned)) =
-          cut_start_is_kept order lawful same equal items known chain (take place items)
+          cut_start_is_kept lawful equal items known chain (take place items)
           (drop (place + 1) items) x list r within.window.known starts_before_end ends b turned
 
       end_of : IsEndOf order run r b → IsEndAsIn order items b
@@ -262,7 +242,7 @@ module _ {K : Type 0} {order : KeyOrder K} (lawful : IsLawful order) {V : Type 0
           any_use (λ i. b ≡ i.key.end) IsSpelled run one all
           (λ i is s. subst (IsEndAsIn order items) (sym is) s.1)
       end_of (inr (inr turned)) =
-          cut_end_is_kept order lawful same equal items known chain (take place items)
+          cut_end_is_kept lawful equal items known chain (take place items)
           (drop (place + 1) items) x list r within.window.known starts ends_after_start b turned
 
     run_keeps_spelling : (new front run others behind : List (Item (AnyRange K) V))

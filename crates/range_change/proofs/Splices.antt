@@ -1,12 +1,6 @@
 -- A chain that comes to stand between two places of another, and joins what stands beside it.
-use Rattle.std.proofs.Common.{◌≡◌, sym, true, List, [], ◌∷◌, ◌++◌, inl, inr, subst, append_assoc}
-use Rattle.std.proofs.lemmas.List.{append-nil}
-use Rattle.std.specs.List.{AllByRecursion as Every}
-use Rattle.std.specs.declared.cmp.Ordering.TheVariants.{Equal}
-use Rattle.range_algebra.specs.Intervals.{Le, Lt}
+use Rattle.range_change.proofs.Common.{◌≡◌, sym, true, List, [], ◌∷◌, ◌++◌, inl, inr, subst, append_assoc, append-nil, Every, Equal, Le, Lt, every_weaker, every_append, every_left, every_right, Line, IsChain, Has, IsLeft, IsRight, IsLeftOf, IsRightOf, IsSpliced}
 use Rattle.range_algebra.specs.Orders.{le_refl, lt_le, eq_le, eq_ge, le_trans, lt_not_le, lt_le_trans, le_lt_trans}
-use Rattle.range_algebra.proofs.Lists.{every_weaker, every_append, every_left, every_right}
-use Rattle.range_change.specs.Chains.{Line, IsChain, Has, IsLeft, IsRight, IsLeftOf, IsRightOf, IsSpliced}
 use Rattle.range_change.proofs.Chains.{same_is_symmetric, chain_left, chain_right, chain_above, strictly_leads, chain_before, chains_join, join_apart, follows_like}
 use Rattle.range_change.proofs.ChainSides.{held_alone, like_item, leading_like}
 use Rattle.range_change.proofs.ChainJoins.{both_ways, hull, places_between_hold, trailing_follows}

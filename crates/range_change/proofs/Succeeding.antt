@@ -1,13 +1,5 @@
 -- That the closure of an update may have answered the first pieces without an error.
-use Rattle.std.proofs.Common.{◌≡◌, ◌<◌, Bool, List, [], ◌∷◌, length, map, arith, Option, Some, Result, Ok}
-use Rattle.std.specs.Fn.{Shared}
-use denote.Ref.{Bor}
-use Rattle.std.specs.List.{AllByRecursion as Every}
-use Rattle.range_keys.specs.Order.{KeyOrder}
-use Rattle.range_algebra.specs.declared.any.AnyRange.{AnyRange}
-use Rattle.range_algebra.specs.Intervals.{Any}
-use Rattle.range_store.specs.declared.storage.Item.{Item}
-use Rattle.range_change.specs.Answers.{Answered, AreAnswersTo, IsGathered, MayAnswer, SucceedsAtFirst, piece_of}
+use Rattle.range_change.proofs.Common.{◌≡◌, ◌<◌, Bool, List, [], ◌∷◌, length, map, arith, Option, Some, Result, Ok, Shared, Bor, Every, KeyOrder, AnyRange, Any, Item, Answered, AreAnswersTo, IsGathered, MayAnswer, SucceedsAtFirst, piece_of}
 
 module _ {K : Type 0} (order : KeyOrder K) {V : Type 0} (same : V → V → Bool) {F E : Type 0}
     (calls : Shared F (Option (Bor V) × Unit {0}) (Result (Option V) E)) (f : F)

@@ -1,41 +1,16 @@
 -- What becomes of the one item that a range meets where it surrounds the range.
-use Rattle.std.proofs.Common.{◌≡◌, ℕ, ◌+◌, ◌-◌, ◌<◌, ◌≤◌, List, [], ◌∷◌, ◌++◌, length, take, drop, get_or, refl, ap, sym, ◌∙◌, arith, Option, Some, None, Result, Bool, true, false, IsTrue, IsSome}
-use Rattle.std.specs.Cmp.{IsEquivalence}
-use Rattle.std.specs.Fn.{Shared}
-use Rattle.std.specs.Option.{ForSome}
-use denote.Ref.{Bor}
-use Rattle.std.specs.List.{AllByRecursion as Every}
-use Rattle.range_keys.specs.Order.{KeyOrder, IsLawful}
-use Rattle.range_keys.specs.Position.{position_cmp}
-use Rattle.range_algebra.specs.Clones.{SameBound}
-use Rattle.range_algebra.specs.Cuts.{lower, upper}
-use Rattle.range_algebra.specs.Intervals.{Lt}
-use Rattle.range_algebra.specs.Range.{IsKnownBound}
-use Rattle.range_algebra.specs.declared.any.AnyRange.{AnyRange}
-use Rattle.range_store.proofs.ListPlaces.{good_at}
-use Rattle.range_store.specs.declared.storage.Item.{Item}
-use Rattle.range_change.specs.Answers.{AnswersPiece, MayAnswer}
-use Rattle.range_change.specs.Changes.{IsInserted, IsRemoved}
-use Rattle.range_change.specs.Borders.{IsDivided}
-use Rattle.range_change.specs.Edits.{flipped_bound, with_end}
-use Rattle.range_change.specs.Lookups.{Overlap, IsConnectedTo}
-use Rattle.range_change.specs.Pieces.{ArePieces}
-use Rattle.range_change.specs.Reach.{ReachesBefore, ReachesAfter, IsReach, IsSurrounded}
-use Rattle.range_change.specs.Stored.{item_upper}
-use Rattle.range_change.specs.Window.{option_items}
+use Rattle.range_change.proofs.Common.{◌≡◌, ℕ, ◌+◌, ◌-◌, ◌<◌, ◌≤◌, List, [], ◌∷◌, ◌++◌, length, take, drop, get_or, refl, ap, sym, ◌∙◌, arith, Option, Some, None, Result, Bool, true, false, IsTrue, IsSome, IsEquivalence, Shared, ForSome, Bor, Every, KeyOrder, IsLawful, position_cmp, SameBound, lower, upper, Lt, IsKnownBound, AnyRange, good_at, Item, AnswersPiece, MayAnswer, IsInserted, IsRemoved, IsDivided, flipped_bound, with_end, Overlap, IsConnectedTo, ArePieces, ReachesBefore, ReachesAfter, IsReach, IsSurrounded, item_upper, option_items, Window, PLt, lt_le}
 use Rattle.range_change.specs.declared.cut.DividedItem.{DividedItem}
 use Rattle.range_change.specs.declared.reach.Reach.{Reach}
-use Rattle.range_change.specs.declared.window.Window.{Window}
 use Rattle.range_change.proofs.RangePieces.{IsFull, all_full, item_at}
 use Rattle.range_change.proofs.ItemPlaces.{listed_at}
 use Rattle.range_change.proofs.RangeSides.{borders_insert, borders_remove, left_border_at, right_border_at, first_reaches, last_starts, left_rest_cut, right_rest_cut, left_border_rest, right_border_rest}
-use Rattle.range_change.proofs.Forms.{Chained, stored_known, stored_chain, nonempty_good}
+use Rattle.range_change.proofs.Forms.{Chained, stored_chain, nonempty_good}
 use Rattle.range_change.proofs.Lengths.{changed_length}
 use Rattle.range_change.proofs.MergedItems.{surrounded_alone}
 use Rattle.range_change.proofs.BoundEdits.{standing_item_splits_list}
 use Rattle.range_change.proofs.InsertionPlans.{left_frame_inside, left_frame_cut, right_frame_inside, right_frame_cut, left_part, right_part}
 use Rattle.range_change.proofs.UpdatedLists.{whole_piece}
-use Rattle.range_change.proofs.PlaceOrder.{PLt, lt_le}
 
 none_of : {P : Type 0} (o : Option P) → length (option_items o) ≤ 0 → o ≡ None
 none_of None few = refl
@@ -230,8 +205,7 @@ module _ {K : Type 0} {order : KeyOrder K} (lawful : IsLawful order) {V : Type 0
 
   full : Every (IsFull order lawful items r) items
   full =
-      all_full order lawful same equal r items
-      (stored_known order lawful same equal items within.window.stored) chain
+      all_full order lawful same equal r items within.window.stored.known chain
 
   good : PLt lawful (lower order r) (upper order r)
   good = (nonempty_good order lawful r within.window.known).0 within.window.nonempty

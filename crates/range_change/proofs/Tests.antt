@@ -1,5 +1,5 @@
 -- What follows from the answers of tests and calls, and what contradicts them.
-use Rattle.std.proofs.Common.{◌≡◌, Bool, true, false, Some, Result, Ok, Err}
+use Rattle.range_change.proofs.Common.{◌≡◌, Bool, true, false, Some, Result, Ok, Err}
 
 -- a test does not fail and hold
 pub not_both : {b : Bool} → b ≡ false → b ≡ true → ⊥

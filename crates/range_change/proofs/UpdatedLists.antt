@@ -1,30 +1,9 @@
 -- A list that was changed as a closure answers, by what was put in the place of a range.
-use Rattle.std.proofs.Common.{◌≡◌, refl, sym, subst, ◌∙◌, Option, Some, None, Bool, true, IsTrue, List, [], ◌∷◌, ◌++◌, ◌⊎◌, inl, inr, ◌↔◌, Result, Ok}
-use Rattle.std.specs.Fn.{Shared}
-use denote.Ref.{Bor}
-use Rattle.std.specs.List.{AllByRecursion as Every}
-use Rattle.std.specs.Ordering.{is_gt}
-use Rattle.std.specs.Cmp.{IsEquivalence}
-use Rattle.range_keys.specs.Order.{KeyOrder, IsLawful}
-use Rattle.range_keys.specs.Position.{start_position, end_position, position_cmp}
-use Rattle.range_algebra.specs.declared.any.AnyRange.{AnyRange}
-use Rattle.range_algebra.specs.Range.{Holds, IsKnownRange}
-use Rattle.range_algebra.specs.Intervals.{Any}
-use Rattle.range_change.proofs.PlaceOrder.{le_refl, lt_le, both, PLe, PLt}
-use Rattle.range_algebra.proofs.Lists.{any_right, every_weaker, every_left, every_right}
-use Rattle.range_store.specs.declared.storage.Item.{Item}
-use Rattle.range_change.specs.Answers.{MayAnswer, Answered, IsAsAnswered, IsGivenBy, IsGathered, IsUpdated, AreAnswersTo}
-use Rattle.range_change.specs.Bindings.{Binds, IsSomeOf}
-use Rattle.range_change.specs.Changes.{IsInserted, IsRemoved}
-use Rattle.range_change.specs.Frames.{IsUpdateFrame, IsMergedInto, IsMergeFrame, HasValue, JoinsOrMeets, IsNewItem, IsPart, IsInsertionFrame, IsRemovalFrame}
-use Rattle.range_change.specs.Lookups.{IsConnectedTo, Overlap}
-use Rattle.range_change.specs.Pieces.{ArePieces, IsCommonPart}
-use Rattle.range_change.specs.Replaced.{IsReplaced}
+use Rattle.range_change.proofs.Common.{◌≡◌, refl, sym, subst, ◌∙◌, Option, Some, None, Bool, true, IsTrue, List, [], ◌∷◌, ◌++◌, ◌⊎◌, inl, inr, ◌↔◌, Result, Ok, Shared, Bor, Every, is_gt, IsEquivalence, KeyOrder, IsLawful, start_position, end_position, position_cmp, AnyRange, Holds, IsKnownRange, Any, le_refl, lt_le, both, PLe, PLt, any_right, every_weaker, every_left, every_right, Item, MayAnswer, Answered, IsAsAnswered, IsGivenBy, IsGathered, IsUpdated, AreAnswersTo, Binds, IsSomeOf, IsInserted, IsRemoved, IsUpdateFrame, IsMergedInto, IsMergeFrame, HasValue, JoinsOrMeets, IsNewItem, IsPart, IsInsertionFrame, IsRemovalFrame, IsConnectedTo, Overlap, ArePieces, IsCommonPart, IsReplaced, lower, upper}
 use Rattle.range_change.proofs.RangePieces.{IsFull, IsInside, IsRight, any_use, any_over, every_with, later_over, earlier_under, either_choice_holds, cut_all}
 use Rattle.range_change.proofs.Extents.{end_le}
 use Rattle.range_change.proofs.Forms.{Chained}
 use Rattle.range_change.proofs.MergedItems.{rest_stands, way_follows}
-use Rattle.range_algebra.specs.Cuts.{lower, upper}
 
 module _ {K : Type 0} (order : KeyOrder K) {V : Type 0} (same : V → V → Bool)
     (equal : IsEquivalence same) {F E : Type 0}

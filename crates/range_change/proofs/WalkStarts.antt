@@ -1,7 +1,5 @@
 -- Where a walk along a list begins.
-use Rattle.std.proofs.Common.{ℕ, ◌<◌, ◌≤◌, arith, refl, Option, Some, None}
-use Rattle.std.specs.Option.{ForSome}
-use Rattle.range_store.specs.ListPlaces.{place_before}
+use Rattle.range_change.proofs.Common.{ℕ, ◌<◌, ◌≤◌, arith, refl, Option, Some, None, ForSome, place_before}
 
 pub place_is_in_range : {P : Type 0} (is_good : P → Type 0) (rank : P → ℕ) (len : ℕ) (at : Option P)
     → ((p : P) → is_good p → rank p < len) → ForSome at is_good → place_before rank len at ≤ len

@@ -1,24 +1,7 @@
 -- The items that a range meets, by places.
-use Rattle.std.proofs.Common.{◌≡◌, ℕ, suc, ◌+◌, ◌-◌, ◌<◌, ◌≤◌, List, [], ◌∷◌, ◌++◌, length, take, drop, get_or, arith, ◌∙◌, sym, ap, Option, Bool, length-drop}
-use Rattle.std.specs.Cmp.{IsEquivalence}
-use Rattle.std.proofs.lemmas.List.{drop_more, take_more, get_or-drop}
-use Rattle.std.specs.List.{AllByRecursion as Every}
-use Rattle.range_keys.specs.Order.{KeyOrder, IsLawful}
-use Rattle.range_keys.specs.Position.{start_position, end_position}
-use Rattle.range_keys.specs.declared.inner.position.Position.{Position}
-use Rattle.range_algebra.specs.declared.any.AnyRange.{AnyRange}
-use Rattle.range_algebra.specs.Range.{IsEmptyRange, IsKnownRange}
-use Rattle.range_store.specs.declared.storage.Item.{Item}
-use Rattle.range_store.specs.ListPlaces.{place_before}
-use Rattle.range_change.specs.Chains.{line_of}
+use Rattle.range_change.proofs.Common.{◌≡◌, ℕ, suc, ◌+◌, ◌-◌, ◌<◌, ◌≤◌, List, [], ◌∷◌, ◌++◌, length, take, drop, get_or, arith, ◌∙◌, sym, ap, Option, Bool, length-drop, IsEquivalence, drop_more, take_more, get_or-drop, Every, KeyOrder, IsLawful, start_position, end_position, Position, AnyRange, IsEmptyRange, IsKnownRange, Item, place_before, line_of, lower, upper, item_lower, IsStored, IsFound, IsWalk, IsWindow, reaching_is_before_past, every_at, list_is_take_and_drop, every_weaker, PLe, PLt}
 use Rattle.range_change.proofs.Chains.{chain_above, chain_right}
-use Rattle.range_algebra.specs.Cuts.{lower, upper}
-use Rattle.range_change.specs.Stored.{item_lower, IsStored}
-use Rattle.range_change.specs.Window.{IsFound, IsWalk, IsWindow}
-use Rattle.range_algebra.proofs.Places.{reaching_is_before_past}
-use Rattle.range_change.proofs.Forms.{places, before_is, Known, Chained, stored_known, stored_chain}
-use Rattle.range_algebra.proofs.Lists.{every_at, list_is_take_and_drop, every_weaker, every_left, every_right}
-use Rattle.range_change.proofs.PlaceOrder.{PLe, PLt}
+use Rattle.range_change.proofs.Forms.{every_front, every_back, places, before_is, Known, Chained, stored_chain}
 
 pub every_both : {X : Type 0} (P Q : X → Type 0) (xs : List X) → Every P xs → Every Q xs
     → Every (λ x. P x × Q x) xs
@@ -52,12 +35,10 @@ module _ {K : Type 0} (order : KeyOrder K) (lawful : IsLawful order) {V : Type 0
       at_end found walk =
       let cmp = places order lawful in
       let place = place_before rank (length items) from in
-      let all = stored_known order lawful same equal items stored in
-      let chain = stored_chain order lawful same equal items stored in
-      let known_parts : (n : ℕ) → Known order lawful same equal (take n items ++ drop n items) =
-      λ n. rw (list_is_take_and_drop items n) at all in
-      let chain_parts : (n : ℕ) → Chained order lawful same equal (take n items ++ drop n items) =
-      λ n. rw (list_is_take_and_drop items n) at chain in
+      let all = stored.known in
+      let end = place + count in
+      let chain : Chained order lawful same equal (take end items ++ drop end items) =
+      rw (list_is_take_and_drop items end) at (stored_chain order lawful same equal items stored) in
       record {
         stored = stored;
         known = known;
@@ -70,28 +51,24 @@ module _ {K : Type 0} (order : KeyOrder K) (lawful : IsLawful order) {V : Type 0
         below =
             every_weaker _ _ (take place items)
             (λ i h. (before_is order lawful i.key.end r.start h.0.1 known.0).0 (rw at_start at h.1))
-            (every_both (λ i. IsKnownRange order i.key) _ (take place items)
-            (every_left _ (take place items) (drop place items) (known_parts place)) found.below);
+            (every_both _ _ (take place items) (every_front _ place items all) found.below);
         above =
             every_weaker _ _ (drop place items)
             (λ i h. (reaching_is_before_past order lawful r.start i.key.end known.0 h.0.1).0
-            (rw at_start at h.1)) (every_both (λ i. IsKnownRange order i.key) _ (drop place items)
-            (every_right _ (take place items) (drop place items) (known_parts place)) found.above);
+            (rw at_start at h.1))
+            (every_both _ _ (drop place items) (every_back _ place items all) found.above);
         meets = λ d some. let x =
             get_or items (place + count - 1)
             d in (reaching_is_before_past order lawful x.key.start r.end
             (every_at (λ i. IsKnownRange order i.key) items (place + count - 1) d all
             (omega (arith, walk.in_range))).0 known.1).0 (rw at_end at (walk.meets d some));
         behind =
-            rest_starts_after_range e r (drop (place + count) items) at_end known
-            (every_right _ (take (place + count) items) (drop (place + count) items)
-            (known_parts (place + count)))
-            (chain_right (line_of order lawful same equal) (take (place + count) items)
-            (drop (place + count) items) (chain_parts (place + count)))
-            (λ d some. let index : place + count + 0
-            ≡ place + count =
-            omega arith in rw (get_or-drop (place + count) items 0 d, index)
-            (walk.stops d (omega (arith, length-drop (place + count) items, walk.in_range))));
+            rest_starts_after_range e r (drop end items) at_end known (every_back _ end items all)
+            (chain_right (line_of order lawful same equal) (take end items) (drop end items) chain)
+            (λ d some.
+            let index : end + 0 ≡ end = omega arith in
+            rw (get_or-drop end items 0 d, index)
+            (walk.stops d (omega (arith, length-drop end items, walk.in_range))));
       }
 
 -- the first and the last item of a run of a list

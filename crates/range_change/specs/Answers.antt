@@ -1,14 +1,6 @@
 -- What the closure of an update may be asked and may answer, and what its answers make of a list.
-use Rattle.std.specs.Prelude.{◌≡◌, ◌↔◌, ◌++◌, ◌∷◌, Bool, IsTrue, List, Option, Some, None, Result, Ok, Err, map}
+use Rattle.range_change.specs.Common.{◌≡◌, ◌↔◌, ◌++◌, ◌∷◌, Bool, IsTrue, List, Option, Some, None, Result, Ok, Err, map, option_copied, Bor, Every, KeyOrder, Any, Holds, AnyRange, Item}
 use Rattle.std.specs.Fn.{Shared}
-use Rattle.std.specs.Option.{option_copied}
-use denote.Ref.{Bor}
-use Rattle.std.specs.List.{AllByRecursion as Every}
-use Rattle.range_keys.specs.Order.{KeyOrder}
-use Rattle.range_algebra.specs.Intervals.{Any}
-use Rattle.range_algebra.specs.Range.{Holds}
-use Rattle.range_algebra.specs.declared.any.AnyRange.{AnyRange}
-use Rattle.range_store.specs.declared.storage.Item.{Item}
 use Rattle.range_change.specs.Bindings.{Binds}
 use Rattle.range_change.specs.Frames.{IsMergeFrame}
 use Rattle.range_change.specs.Pieces.{ArePieces, LiesIn}

@@ -1,17 +1,8 @@
 -- Where a range stands that neither meets nor touches a stored one, and what is said where there is
 -- no such place.
-use Rattle.std.specs.List.{AllByRecursion as Every}
-use Rattle.std.specs.Prelude.{◌≡◌, ◌↔◌, ℕ, ◌≤◌, Bool, true, false, IsTrue, List, length, take, drop, slice_index_or, Option, Some, None, ⊤}
-use Rattle.range_keys.specs.Order.{KeyOrder}
-use Rattle.range_keys.specs.Position.{position_cmp}
-use Rattle.range_algebra.specs.Cuts.{lower, upper}
-use Rattle.range_algebra.specs.Intervals.{Lt}
-use Rattle.range_algebra.specs.declared.any.AnyRange.{AnyRange}
-use Rattle.range_store.specs.declared.storage.Item.{Item}
-use Rattle.range_store.specs.ListPlaces.{IsAt}
+use Rattle.range_change.specs.Common.{Every, ◌≡◌, ◌↔◌, ℕ, ◌≤◌, Bool, true, false, IsTrue, List, length, take, drop, slice_index_or, Option, Some, None, ⊤, KeyOrder, position_cmp, lower, upper, Lt, AnyRange, Item, IsAt, LiesBefore, Touches}
 use Rattle.range_change.specs.Stored.{item_lower, item_upper}
 use Rattle.range_change.specs.Lookups.{IsConnectedToSome}
-use Rattle.range_algebra.specs.Relations.{LiesBefore, Touches}
 use Rattle.range_change.specs.declared.apart.Gap.{Gap}
 use Rattle.range_change.specs.declared.error.NotInserted.{NotInserted}
 use Rattle.range_change.specs.declared.error.NotInserted.TheVariants.{Connected, Memory}

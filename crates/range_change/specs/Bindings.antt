@@ -1,14 +1,8 @@
 -- What a list of ranges with values binds, one key at a time, and which lists are as short as their
 -- bindings allow.
-use Rattle.std.specs.Prelude.{◌≡◌, Option, Some, None, Bool, IsTrue, List, [], ◌∷◌, ◌⊎◌, ◌↔◌, ⊤, ℕ, ◌≤◌, length}
-use Rattle.range_keys.specs.Order.{KeyOrder}
-use Rattle.range_algebra.specs.Intervals.{Any}
-use Rattle.range_algebra.specs.Range.{Holds, IsKeyless, HoldSame}
-use Rattle.range_algebra.specs.declared.any.AnyRange.{AnyRange}
-use Rattle.range_store.specs.declared.storage.Item.{Item}
-use Rattle.std.specs.List.{AllByRecursion, AllZip}
+use Rattle.range_change.specs.Common.{◌≡◌, Option, Some, None, Bool, IsTrue, List, [], ◌∷◌, ◌⊎◌, ◌↔◌, ⊤, ℕ, ◌≤◌, length, KeyOrder, Any, Holds, IsKeyless, HoldSame, AnyRange, Item, AllZip, AreBelow, AreJoined}
+use Rattle.std.specs.List.{AllByRecursion}
 use Rattle.range_change.specs.Neighbours.{EachNext}
-use Rattle.range_algebra.specs.Relations.{AreBelow, AreJoined}
 
 module _ {K : Type 0} (order : KeyOrder K) where
   module _ {V : Type 0} where

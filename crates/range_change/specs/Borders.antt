@@ -1,28 +1,12 @@
 -- How a range that is bound joins what stands beside it.
-use Rattle.std.specs.List.{AllByRecursion as Every}
-use Rattle.std.specs.Prelude.{◌≡◌, ℕ, ◌+◌, ◌-◌, ◌<◌, ◌≤◌, Bool, true, List, ◌++◌, length, take, drop, slice_index_or, slice_set, Option, Some, None, MatchOption, ⊤}
-use Rattle.std.specs.declared.ops.Bound.{Bound}
-use Rattle.std.specs.Cmp.{IsEquivalence}
-use Rattle.range_keys.specs.Order.{KeyOrder, IsLawful}
-use Rattle.range_keys.specs.Position.{start_position, end_position}
-use Rattle.range_algebra.specs.Range.{IsKnownRange, IsKnownBound}
-use Rattle.std.specs.Option.{unwrap_or}
+use Rattle.range_change.specs.Common.{Every, ◌≡◌, ℕ, ◌+◌, ◌-◌, ◌<◌, ◌≤◌, Bool, true, List, ◌++◌, length, take, drop, slice_index_or, slice_set, Option, Some, None, MatchOption, ⊤, Bound, IsEquivalence, KeyOrder, IsLawful, start_position, end_position, IsKnownRange, IsKnownBound, unwrap_or, Border, Reach, SameBound, AnyRange, place_before, IsAt, Item, Window, past, lower, upper, Touches}
 use Rattle.std.specs.declared.ops.Bound.TheVariants.{Unbounded}
-use Rattle.range_change.specs.declared.borders.Border.{Border}
 use Rattle.range_change.specs.declared.borders.Border.TheVariants.{Plain, Cut, Joined}
 use Rattle.range_change.specs.declared.borders.Joins.{Joins}
-use Rattle.range_change.specs.declared.reach.Reach.{Reach}
 use Rattle.range_change.specs.Edits.{flipped_bound, with_start, with_end}
-use Rattle.range_algebra.specs.Clones.{SameBound}
-use Rattle.range_algebra.specs.declared.any.AnyRange.{AnyRange}
-use Rattle.range_store.specs.ListPlaces.{place_before, IsAt}
 use Rattle.range_store.specs.declared.inner.cursor.Cursor.{Cursor}
-use Rattle.range_store.specs.declared.storage.Item.{Item}
 use Rattle.range_change.specs.declared.cut.DividedItem.{DividedItem}
-use Rattle.range_change.specs.declared.window.Window.{Window}
 use Rattle.range_change.specs.Chains.{line_of, IsLeft, IsRight, IsLeftOf, IsRightOf}
-use Rattle.range_algebra.specs.Cuts.{past, lower, upper}
-use Rattle.range_algebra.specs.Relations.{Touches}
 use Rattle.range_change.specs.Reach.{inner_count}
 use Rattle.range_change.specs.Window.{option_items}
 

@@ -1,17 +1,9 @@
 -- Items over intervals of places, each before the next, and touching only beside another value:
 -- what is cut out of them and put
 -- between.
-use Rattle.std.specs.List.{AllByRecursion as Every}
-use Rattle.std.specs.Prelude.{◌≡◌, Bool, true, List, [], ◌∷◌, ◌⊎◌, ◌↔◌}
+use Rattle.range_change.specs.Common.{Every, ◌≡◌, Bool, true, List, [], ◌∷◌, ◌⊎◌, ◌↔◌, IsTotalOrder, IsEquivalence, KeyOrder, IsLawful, position_cmp, Position, Le, Lt, Any, AnyRange, Item}
 use Rattle.std.specs.declared.cmp.Ordering.{Ordering}
-use Rattle.std.specs.Cmp.{IsTotalOrder, IsEquivalence}
-use Rattle.range_keys.specs.Order.{KeyOrder, IsLawful}
-use Rattle.range_keys.specs.Position.{position_cmp}
 use Rattle.range_keys.specs.PositionOrder.{position_total}
-use Rattle.range_keys.specs.declared.inner.position.Position.{Position}
-use Rattle.range_algebra.specs.Intervals.{Le, Lt, Any}
-use Rattle.range_algebra.specs.declared.any.AnyRange.{AnyRange}
-use Rattle.range_store.specs.declared.storage.Item.{Item}
 use Rattle.range_change.specs.Stored.{item_lower, item_upper}
 
 -- a line of places: their order, which values are equal, and of an item where it starts and ends

@@ -1,9 +1,5 @@
 -- What binding and unbinding a range make of a stored list.
-use Rattle.std.specs.List.{AllByRecursion as Every}
-use Rattle.std.specs.Prelude.{Bool, List}
-use Rattle.range_keys.specs.Order.{KeyOrder}
-use Rattle.range_algebra.specs.declared.any.AnyRange.{AnyRange}
-use Rattle.range_store.specs.declared.storage.Item.{Item}
+use Rattle.range_change.specs.Common.{Every, Bool, List, KeyOrder, AnyRange, Item}
 use Rattle.range_change.specs.Stored.{IsStored}
 use Rattle.range_change.specs.Lookups.{Overlap, MeetAlso}
 use Rattle.range_change.specs.Frames.{IsInsertionFrame, IsRemovalFrame}

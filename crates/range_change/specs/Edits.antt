@@ -1,10 +1,7 @@
 -- A bound on its other side, an item with another bound, and what an edit in place leaves as it
 -- was.
-use Rattle.std.specs.Prelude.{◌≡◌, ℕ, List, slice_index_or, slice_set}
-use Rattle.std.specs.declared.ops.Bound.{Bound}
+use Rattle.range_change.specs.Common.{◌≡◌, ℕ, List, slice_index_or, slice_set, Bound, AnyRange, Item}
 use Rattle.std.specs.declared.ops.Bound.TheVariants.{Included, Excluded, Unbounded}
-use Rattle.range_algebra.specs.declared.any.AnyRange.{AnyRange}
-use Rattle.range_store.specs.declared.storage.Item.{Item}
 
 -- what the one includes the other excludes
 abbrev pub flipped_bound : {K : Type 0} → Bound K → Bound K

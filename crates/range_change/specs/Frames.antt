@@ -1,14 +1,6 @@
 -- How a change leaves what it does not concern, and what it puts in the place of the rest.
-use Rattle.std.specs.List.{AllByRecursion as Every}
-use Rattle.std.specs.Prelude.{◌≡◌, ◌+◌, ◌≤◌, Bool, IsTrue, List, [], ◌∷◌, ◌++◌, ◌⊎◌, length}
-use Rattle.std.specs.declared.ops.Bound.{Bound}
-use Rattle.range_keys.specs.Order.{KeyOrder}
-use Rattle.range_algebra.specs.Clones.{SameBound}
-use Rattle.range_algebra.specs.Intervals.{Any}
-use Rattle.range_algebra.specs.declared.any.AnyRange.{AnyRange}
-use Rattle.range_store.specs.declared.storage.Item.{Item}
+use Rattle.range_change.specs.Common.{Every, ◌≡◌, ◌+◌, ◌≤◌, Bool, IsTrue, List, [], ◌∷◌, ◌++◌, ◌⊎◌, length, Bound, KeyOrder, SameBound, Any, AnyRange, Item, Touches}
 use Rattle.range_change.specs.Edits.{flipped_bound}
-use Rattle.range_algebra.specs.Relations.{Touches}
 use Rattle.range_change.specs.Lookups.{Overlap}
 
 -- a run of the list gave way to others, as the relation says, and all else stands as before

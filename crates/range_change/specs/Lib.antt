@@ -5,6 +5,7 @@ pub mod Borders
 pub mod Chains
 pub mod Changes
 pub mod Clones
+pub mod Common
 pub mod Costs
 pub mod Edits
 pub mod Frames

@@ -1,12 +1,6 @@
 -- What a range meets among the stored ones, and where it stands once it is put among them.
-use Rattle.std.specs.Prelude.{◌≡◌, ℕ, ◌≤◌, ◌⊎◌, ◌↔◌, List, length, insert}
-use Rattle.range_keys.specs.Order.{KeyOrder}
-use Rattle.range_algebra.specs.Intervals.{Any}
-use Rattle.range_algebra.specs.Range.{Holds, IsEmptyRange, IsKnownRange}
-use Rattle.range_algebra.specs.declared.any.AnyRange.{AnyRange}
-use Rattle.range_store.specs.declared.storage.Item.{Item}
+use Rattle.range_change.specs.Common.{◌≡◌, ℕ, ◌≤◌, ◌⊎◌, ◌↔◌, List, length, insert, KeyOrder, Any, Holds, IsEmptyRange, IsKnownRange, AnyRange, Item, Touches, LiesBefore}
 use Rattle.range_change.specs.Bindings.{IsBound}
-use Rattle.range_algebra.specs.Relations.{Touches, LiesBefore}
 
 -- neither lies before the other
 abbrev pub Overlap : {K : Type 0} → KeyOrder K → AnyRange K → AnyRange K → Type 0

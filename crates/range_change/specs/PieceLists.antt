@@ -1,14 +1,7 @@
 -- The pieces of a range as a list, read off from the items that meet it.
-use Rattle.std.specs.Prelude.{List, [], ◌∷◌, ◌++◌, Option, Some, None, map, if◌then◌else◌}
-use Rattle.std.specs.Option.{option_copied}
-use Rattle.std.specs.declared.ops.Bound.{Bound}
-use denote.Ref.{Bor}
-use Rattle.range_keys.specs.Order.{KeyOrder}
+use Rattle.range_change.specs.Common.{List, [], ◌∷◌, ◌++◌, Option, Some, None, map, if◌then◌else◌, option_copied, Bound, Bor, KeyOrder, flipped, starts_past_end, AnyRange, Item}
 use Rattle.range_algebra.specs.Combined.{common}
-use Rattle.range_algebra.specs.Compared.{flipped, starts_past_end}
 use Rattle.range_algebra.specs.References.{range_of}
-use Rattle.range_algebra.specs.declared.any.AnyRange.{AnyRange}
-use Rattle.range_store.specs.declared.storage.Item.{Item}
 
 -- the piece that a range over references shows, with its value if it is bound
 abbrev pub shown_piece : {K V : Type 0} → AnyRange (Bor K) × Option (Bor V)

@@ -1,18 +1,8 @@
 -- The parts of a range that the items of a list bind, and those that they leave free.
-use Rattle.std.specs.List.{AllByRecursion as Every}
-use Rattle.std.specs.Prelude.{◌≡◌, List, Option, Some, None, if◌then◌else◌}
-use Rattle.std.specs.declared.cmp.Ordering.TheVariants.{Equal}
+use Rattle.range_change.specs.Common.{Every, ◌≡◌, List, Option, Some, None, if◌then◌else◌, Equal, KeyOrder, start_position, end_position, position_cmp, Position, Le, Any, IsKnownRange, IsEmptyRange, AnyRange, Item, LiesBefore}
 use Rattle.std.specs.Ordering.{is_gt}
-use Rattle.range_keys.specs.Order.{KeyOrder}
-use Rattle.range_keys.specs.Position.{start_position, end_position, position_cmp}
-use Rattle.range_keys.specs.declared.inner.position.Position.{Position}
-use Rattle.range_algebra.specs.Intervals.{Le, Any}
-use Rattle.range_algebra.specs.Range.{IsKnownRange, IsEmptyRange}
 use Rattle.range_algebra.specs.RangeOrder.{range_cmp}
-use Rattle.range_algebra.specs.declared.any.AnyRange.{AnyRange}
-use Rattle.range_store.specs.declared.storage.Item.{Item}
 use Rattle.range_change.specs.Neighbours.{EachNext}
-use Rattle.range_algebra.specs.Relations.{LiesBefore}
 use Rattle.range_change.specs.Lookups.{Overlap}
 
 module _ {K : Type 0} (order : KeyOrder K) where

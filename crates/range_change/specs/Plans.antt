@@ -1,20 +1,7 @@
 -- What is to become of the items beside a range that is bound.
-use Rattle.std.specs.List.{AllByRecursion as Every}
-use Rattle.std.specs.Prelude.{◌≡◌, ℕ, ◌+◌, ◌≤◌, Bool, IsTrue, List, [], ◌++◌, length, take, drop, Option, Some, None}
-use Rattle.std.specs.Cmp.{IsEquivalence}
-use Rattle.std.specs.declared.ops.Bound.{Bound}
-use Rattle.range_keys.specs.Order.{KeyOrder, IsLawful}
-use Rattle.range_algebra.specs.Clones.{SameBound}
-use Rattle.range_algebra.specs.Range.{IsKnownBound}
-use Rattle.range_algebra.specs.declared.any.AnyRange.{AnyRange}
-use Rattle.range_store.specs.declared.storage.Item.{Item}
-use Rattle.range_store.specs.ListPlaces.{IsAt, place_before}
-use Rattle.range_change.specs.declared.borders.Border.{Border}
-use Rattle.std.specs.Option.{unwrap_or}
-use Rattle.range_algebra.specs.Relations.{Touches}
+use Rattle.range_change.specs.Common.{Every, ◌≡◌, ℕ, ◌+◌, ◌≤◌, Bool, IsTrue, List, [], ◌++◌, length, take, drop, Option, Some, None, IsEquivalence, Bound, KeyOrder, IsLawful, SameBound, IsKnownBound, AnyRange, Item, IsAt, place_before, Border, unwrap_or, Touches, Reach}
 use Rattle.range_change.specs.Frames.{IsStartOf, IsEndOf, IsNewItem}
 use Rattle.range_change.specs.Window.{option_items}
-use Rattle.range_change.specs.declared.reach.Reach.{Reach}
 use Rattle.range_change.specs.Borders.{IsLeftBorder, IsRightBorder, IsLeftShape, IsRightShape, IsRunStart, joined_count, seam_border}
 use Rattle.range_change.specs.Edits.{flipped_bound}
 

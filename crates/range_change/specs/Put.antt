@@ -1,12 +1,5 @@
 -- How an answer is added to those before it.
-use Rattle.std.specs.Prelude.{◌≡◌, ◌-◌, ◌<◌, ◌⊎◌, Bool, true, List, [], ◌∷◌, ◌++◌, length, slice_index_or, slice_set, Option, Some, None}
-use Rattle.std.specs.declared.ops.Bound.{Bound}
-use Rattle.range_keys.specs.Order.{KeyOrder}
-use Rattle.range_algebra.specs.Clones.{IsBoundClone}
-use Rattle.range_algebra.specs.Range.{IsKnownBound}
-use Rattle.range_algebra.specs.Relations.{Touches}
-use Rattle.range_algebra.specs.declared.any.AnyRange.{AnyRange}
-use Rattle.range_store.specs.declared.storage.Item.{Item}
+use Rattle.range_change.specs.Common.{◌≡◌, ◌-◌, ◌<◌, ◌⊎◌, Bool, true, List, [], ◌∷◌, ◌++◌, length, slice_index_or, slice_set, Option, Some, None, Bound, KeyOrder, IsBoundClone, IsKnownBound, Touches, AnyRange, Item}
 use Rattle.range_change.specs.Edits.{with_end}
 
 module _ {K : Type 0} (order : KeyOrder K) {V : Type 0} (same : V → V → Bool) where

@@ -1,16 +1,7 @@
 -- Which of the items that a range meets reach out of it, and all that is found before a change.
-use Rattle.std.specs.Prelude.{◌≡◌, ℕ, ◌+◌, ◌-◌, ◌<◌, ◌≤◌, Bool, List, length, slice_index_or, Option, Some, None}
-use Rattle.range_keys.specs.Order.{KeyOrder}
-use Rattle.range_keys.specs.Position.{position_cmp}
-use Rattle.range_algebra.specs.declared.any.AnyRange.{AnyRange}
-use Rattle.range_store.specs.declared.storage.Item.{Item}
-use Rattle.range_algebra.specs.Intervals.{Le, Lt}
-use Rattle.range_algebra.specs.Cuts.{lower, upper}
-use Rattle.range_store.specs.ListPlaces.{place_before}
+use Rattle.range_change.specs.Common.{◌≡◌, ℕ, ◌+◌, ◌-◌, ◌<◌, ◌≤◌, Bool, List, length, slice_index_or, Option, Some, None, KeyOrder, position_cmp, AnyRange, Item, Le, Lt, lower, upper, place_before, Reach, Window}
 use Rattle.range_change.specs.Stored.{item_lower, item_upper}
 use Rattle.range_change.specs.Window.{option_items, IsWindow}
-use Rattle.range_change.specs.declared.reach.Reach.{Reach}
-use Rattle.range_change.specs.declared.window.Window.{Window}
 
 module _ {K : Type 0} (order : KeyOrder K) {V : Type 0} {P : Type 0} (is_good : P → Type 0)
     (rank : P → ℕ) (items : List (Item (AnyRange K) V)) (r : AnyRange K) (place count : ℕ) where

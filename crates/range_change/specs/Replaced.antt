@@ -1,10 +1,5 @@
 -- What a list becomes where the keys of a range come to be bound as another list says.
-use Rattle.std.specs.List.{AllByRecursion as Every}
-use Rattle.std.specs.Prelude.{Bool, List, ◌↔◌, Option}
-use Rattle.range_keys.specs.Order.{KeyOrder}
-use Rattle.range_algebra.specs.Range.{Holds}
-use Rattle.range_algebra.specs.declared.any.AnyRange.{AnyRange}
-use Rattle.range_store.specs.declared.storage.Item.{Item}
+use Rattle.range_change.specs.Common.{Every, Bool, List, ◌↔◌, Option, KeyOrder, Holds, AnyRange, Item}
 use Rattle.range_change.specs.Bindings.{Binds}
 use Rattle.range_change.specs.Frames.{IsMergeFrame, HasValue}
 use Rattle.range_change.specs.Pieces.{LiesIn}

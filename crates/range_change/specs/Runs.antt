@@ -1,11 +1,5 @@
 -- The items that a range meets, as they stand in a list, and the run of items between two of them.
-use Rattle.std.specs.Prelude.{◌≡◌, ℕ, ◌+◌, ◌-◌, ◌≤◌, List, [], ◌++◌, take, drop, Option, Some, None, ⊤}
-use denote.Ref.{Bor}
-use Rattle.std.specs.List.{AllByRecursion as Every}
-use Rattle.range_keys.specs.Order.{KeyOrder}
-use Rattle.range_algebra.specs.Relations.{LiesBefore}
-use Rattle.range_algebra.specs.declared.any.AnyRange.{AnyRange}
-use Rattle.range_store.specs.declared.storage.Item.{Item}
+use Rattle.range_change.specs.Common.{◌≡◌, ℕ, ◌+◌, ◌-◌, ◌≤◌, List, [], ◌++◌, take, drop, Option, Some, None, ⊤, Bor, Every, KeyOrder, LiesBefore, AnyRange, Item}
 use Rattle.range_change.specs.Lookups.{Overlap}
 
 -- the item that a pair of references shows

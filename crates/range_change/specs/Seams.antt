@@ -1,26 +1,11 @@
 -- What is to become of the items beside a range in which a list of items comes to stand.
-use Rattle.std.specs.List.{AllByRecursion as Every}
-use Rattle.std.specs.Prelude.{◌≡◌, ℕ, ◌+◌, Bool, List, [], ◌∷◌, ◌⊎◌, length, take, drop, Option, Some, None}
-use Rattle.std.specs.Cmp.{IsEquivalence}
-use Rattle.std.specs.declared.cmp.Ordering.TheVariants.{Equal}
-use Rattle.std.specs.declared.ops.Bound.{Bound}
-use Rattle.range_keys.specs.Order.{KeyOrder, IsLawful}
-use Rattle.range_keys.specs.Position.{position_cmp}
-use Rattle.range_algebra.specs.Clones.{SameBound}
-use Rattle.range_algebra.specs.Cuts.{lower, upper}
-use Rattle.range_algebra.specs.Range.{IsKnownBound}
-use Rattle.range_algebra.specs.Intervals.{Lt}
-use Rattle.range_algebra.specs.declared.any.AnyRange.{AnyRange}
-use Rattle.range_store.specs.declared.storage.Item.{Item}
-use Rattle.range_store.specs.ListPlaces.{IsAt, place_before}
-use Rattle.range_change.specs.declared.borders.Border.{Border}
+use Rattle.range_change.specs.Common.{Every, ◌≡◌, ℕ, ◌+◌, Bool, List, [], ◌∷◌, ◌⊎◌, length, take, drop, Option, Some, None, IsEquivalence, Equal, Bound, KeyOrder, IsLawful, position_cmp, SameBound, lower, upper, IsKnownBound, Lt, AnyRange, Item, IsAt, place_before, Border, Reach}
 use Rattle.range_change.specs.Borders.{IsLeftRest, IsRightRest, IsLeftShape, IsRightShape, IsRunStart, seam_border}
 use Rattle.range_change.specs.Edits.{flipped_bound, with_start, with_end}
 use Rattle.range_change.specs.Frames.{IsPart}
 use Rattle.range_change.specs.Stored.{item_lower, item_upper}
 use Rattle.range_change.specs.Plans.{IsLeftPlan, IsRightPlan}
 use Rattle.range_change.specs.Window.{option_items}
-use Rattle.range_change.specs.declared.reach.Reach.{Reach}
 
 module _ {K V : Type 0} where
   -- the first item starts at the bound, if there are both

@@ -1,10 +1,5 @@
 -- Which item of an ascending list an element belongs to.
-use Rattle.std.specs.Prelude.{ℕ, ◌+◌, ◌<◌, Bool, IsTrue, List, length, slice_index_or}
-use Rattle.std.specs.List.{AllWithin}
-use Rattle.range_keys.specs.Order.{KeyOrder}
-use Rattle.range_algebra.specs.Compared.{range_ordering, is_before}
-use Rattle.range_algebra.specs.declared.any.AnyRange.{AnyRange}
-use Rattle.range_store.specs.declared.storage.Item.{Item}
+use Rattle.range_change.specs.Common.{ℕ, ◌+◌, ◌<◌, Bool, IsTrue, List, length, slice_index_or, AllWithin, KeyOrder, range_ordering, is_before, AnyRange, Item}
 
 module _ {K : Type 0} (order : KeyOrder K) (element : AnyRange K) (connected : Bool) where
   -- the element lies before the range, and apart from it where touching counts as meeting

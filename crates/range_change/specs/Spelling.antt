@@ -1,13 +1,5 @@
 -- How the bounds of a new list are written, where those of an earlier one lay at the same places.
-use Rattle.std.specs.List.{AllByRecursion as Every}
-use Rattle.std.specs.Prelude.{◌≡◌, List}
-use Rattle.std.specs.declared.cmp.Ordering.TheVariants.{Equal}
-use Rattle.std.specs.declared.ops.Bound.{Bound}
-use Rattle.range_keys.specs.Order.{KeyOrder}
-use Rattle.range_keys.specs.Position.{start_position, end_position, position_cmp}
-use Rattle.range_algebra.specs.Clones.{SameBound}
-use Rattle.range_algebra.specs.declared.any.AnyRange.{AnyRange}
-use Rattle.range_store.specs.declared.storage.Item.{Item}
+use Rattle.range_change.specs.Common.{Every, ◌≡◌, List, Equal, Bound, KeyOrder, start_position, end_position, position_cmp, SameBound, AnyRange, Item}
 
 module _ {K : Type 0} (order : KeyOrder K) {V : Type 0} (items : List (Item (AnyRange K) V)) where
   -- an item that starts where the bound does has the same start bound

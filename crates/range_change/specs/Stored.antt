@@ -1,14 +1,7 @@
 -- The form in which a map keeps its list, and the places of a stored item.
-use Rattle.std.specs.Prelude.{Bool, IsTrue, List}
+use Rattle.range_change.specs.Common.{Bool, IsTrue, List, KeyOrder, IsEmptyRange, IsKnownRange, range_ordering, is_before, AnyRange, Item, Position, lower, upper}
 use Rattle.std.specs.List.{AllByRecursion}
-use Rattle.range_keys.specs.Order.{KeyOrder}
-use Rattle.range_algebra.specs.Range.{IsEmptyRange, IsKnownRange}
-use Rattle.range_algebra.specs.Compared.{range_ordering, is_before}
-use Rattle.range_algebra.specs.declared.any.AnyRange.{AnyRange}
-use Rattle.range_store.specs.declared.storage.Item.{Item}
 use Rattle.range_change.specs.Neighbours.{EachNext}
-use Rattle.range_keys.specs.declared.inner.position.Position.{Position}
-use Rattle.range_algebra.specs.Cuts.{lower, upper}
 
 module _ {K : Type 0} (order : KeyOrder K) {V : Type 0} (same_value : V → V → Bool) where
   -- the one lies before the other, and they touch only where their values differ

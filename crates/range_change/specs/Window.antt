@@ -1,17 +1,6 @@
 -- Where a range lies among the items.
-use Rattle.std.specs.List.{AllByRecursion as Every}
-use Rattle.std.specs.Prelude.{◌≡◌, ℕ, ◌+◌, ◌-◌, ◌<◌, ◌≤◌, Bool, List, [], ◌∷◌, length, take, drop, slice_index_or, Option, Some, None}
-use Rattle.range_keys.specs.Order.{KeyOrder}
-use Rattle.range_keys.specs.Position.{start_position, end_position, position_cmp}
-use Rattle.range_keys.specs.declared.inner.position.Position.{Position}
-use Rattle.range_algebra.specs.Range.{IsEmptyRange, IsKnownRange}
-use Rattle.range_algebra.specs.declared.any.AnyRange.{AnyRange}
-use Rattle.range_store.specs.declared.storage.Item.{Item}
-use Rattle.range_store.specs.ListPlaces.{IsAt, place_before}
-use Rattle.range_algebra.specs.Intervals.{Le, Lt}
-use Rattle.range_algebra.specs.Cuts.{lower, upper}
+use Rattle.range_change.specs.Common.{Every, ◌≡◌, ℕ, ◌+◌, ◌-◌, ◌<◌, ◌≤◌, Bool, List, [], ◌∷◌, length, take, drop, slice_index_or, Option, Some, None, KeyOrder, start_position, end_position, position_cmp, Position, IsEmptyRange, IsKnownRange, AnyRange, Item, IsAt, place_before, Le, Lt, lower, upper, Window}
 use Rattle.range_change.specs.Stored.{item_lower, item_upper, IsStored}
-use Rattle.range_change.specs.declared.window.Window.{Window}
 
 -- a good position just below the place, or none at the front
 abbrev pub IsJustBefore : {P : Type 0} → (P → Type 0) → (P → ℕ) → Option P → ℕ → Type 0

@@ -1,8 +1,4 @@
-use Rattle.std.proofs.lemmas.Grind.{common_steps}
-use Rattle.std.proofs.Common.{arith, sym, ◌∙◌, Ok, Err}
-use Rattle.std.specs.Cmp.{Equal-is}
-use Rattle.range_keys.specs.Order.{IsLawful}
-use Rattle.range_algebra.specs.Clones.{bound_clone}
+use Rattle.range_change.proofs.Common.{common_steps, arith, sym, ◌∙◌, Ok, Err, Equal-is, IsLawful, bound_clone}
 use Rattle.range_change.proofs.PieceAnswers.{started, next_is_askable, next_answered, one_more, one_more_keeps_spelling, all_gathered}
 use Rattle.range_change.proofs.Results.{error_has_no_value}
 use Rattle.range_change.proofs.Tests.{value_is_no_error}

@@ -1,9 +1,4 @@
-use Rattle.std.proofs.Common.{drop, length, take}
-use Rattle.std.specs.Cmp.{IsEquivalence}
-use Rattle.range_keys.specs.Order.{IsLawful}
-use Rattle.range_store.specs.ListPlaces.{place_before}
-use Rattle.range_change.specs.PieceLists.{pieces_of}
-use Rattle.range_change.specs.Spelling.{KeepsSpelling}
+use Rattle.range_change.proofs.Common.{drop, length, take, IsEquivalence, IsLawful, place_before, pieces_of, KeepsSpelling}
 use Rattle.range_change.proofs.PieceAnswers.{IsUnderway}
 use Rattle.range_change.proofs.answers.gather.Given as goal
 

@@ -1,6 +1,4 @@
-use Rattle.std.proofs.lemmas.Bool.{false≢true}
-use Rattle.std.proofs.Common.{arith}
-use Rattle.std.proofs.lemmas.Grind.{common_steps}
+use Rattle.range_change.proofs.Common.{false≢true, arith, common_steps}
 use Rattle.range_change.proofs.Tests.{not_both}
 use Rattle.range_change.proofs.answers.joins_last.Goals as goal
 

@@ -1,4 +1,4 @@
-use Rattle.std.proofs.Common.{inl, inr, refl}
+use Rattle.range_change.proofs.Common.{inl, inr, refl}
 use Rattle.range_change.proofs.answers.put.Goals as goal
 
 pub returns : goal.returns

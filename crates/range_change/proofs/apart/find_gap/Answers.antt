@@ -1,5 +1,4 @@
-use Rattle.std.proofs.Common.{◌≡◌, ◌&&◌, ap, rules}
-use Rattle.range_keys.specs.Position.{bound_of, start_position}
+use Rattle.range_change.proofs.Common.{◌≡◌, ◌&&◌, ap, rules, bound_of, start_position}
 use Rattle.range_change.proofs.ApartRanges.{gap_is}
 use Rattle.range_change.proofs.apart.find_gap.Goals as goal
 use Rattle.range_change.proofs.apart.find_gap.Goals.{then-clear_before, else-clear_before}

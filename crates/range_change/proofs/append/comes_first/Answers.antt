@@ -1,4 +1,4 @@
-use Rattle.std.proofs.Common.{refl}
+use Rattle.range_change.proofs.Common.{refl}
 use Rattle.range_change.proofs.ApartRanges.{all_behind}
 use Rattle.range_change.proofs.append.comes_first.Goals as goal
 

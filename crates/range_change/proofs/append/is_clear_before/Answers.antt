@@ -1,5 +1,4 @@
-use Rattle.std.proofs.Common.{sym, ◌∙◌}
-use Rattle.std.proofs.lemmas.List.{get_or_read}
+use Rattle.range_change.proofs.Common.{sym, ◌∙◌, get_or_read}
 use Rattle.range_change.proofs.append.is_clear_before.Goals as goal
 
 pub get-requires : goal.get-requires

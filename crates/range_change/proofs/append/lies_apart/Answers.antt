@@ -1,10 +1,4 @@
-use Rattle.std.proofs.Common.{◌≡◌, ◌∙◌, ap, refl, IsTrue, ◌↔◌, Option, Some}
-use Rattle.std.specs.Ordering.{ordering_then, partial_lt}
-use Rattle.std.specs.declared.cmp.Ordering.{Ordering}
-use Rattle.std.specs.declared.cmp.Ordering.TheVariants.{Less, Equal, Greater}
-use Rattle.std.specs.declared.ops.Bound.TheVariants.{Excluded, Included}
-use Rattle.range_keys.specs.Position.{position_cmp, start_position}
-use Rattle.range_algebra.specs.Intervals.{Lt}
+use Rattle.range_change.proofs.Common.{◌≡◌, ◌∙◌, ap, refl, IsTrue, ◌↔◌, Option, Some, ordering_then, partial_lt, Ordering, Less, Equal, Greater, Excluded, Included, position_cmp, start_position, Lt}
 use Rattle.range_change.proofs.ApartRanges.{apart_by_start}
 use Rattle.range_change.proofs.append.lies_apart.Goals as goal
 

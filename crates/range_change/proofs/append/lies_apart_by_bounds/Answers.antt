@@ -1,5 +1,4 @@
-use Rattle.std.proofs.Common.{arith}
-use Rattle.std.proofs.lemmas.Grind.{common_steps}
+use Rattle.range_change.proofs.Common.{arith, common_steps}
 use Rattle.range_change.proofs.append.lies_apart_by_bounds.Goals as goal
 
 pub returns-then-lt : goal.returns-then-lt

@@ -1,5 +1,4 @@
-use Rattle.std.proofs.Common.{length, rules}
-use Rattle.range_store.specs.ListPlaces.{place_before}
+use Rattle.range_change.proofs.Common.{length, rules, place_before}
 use Rattle.range_change.proofs.ApartRanges.{free_not}
 use Rattle.range_change.proofs.CoveredPlaces.{on_ok}
 use Rattle.range_change.proofs.OuterRange.{inserted_apart, one_longer}

@@ -1,5 +1,4 @@
-use Rattle.std.proofs.lemmas.Grind.{common_steps}
-use Rattle.std.proofs.Common.{arith}
+use Rattle.range_change.proofs.Common.{common_steps, arith}
 use Rattle.range_change.proofs.bind.bind_in_order.Goals as goal
 
 pub returns-clause-few : goal.returns-clause-few

@@ -1,5 +1,4 @@
-use Rattle.std.proofs.Common.{sym, refl, arith, Some}
-use Rattle.std.proofs.lemmas.Bool.{false≢true}
+use Rattle.range_change.proofs.Common.{sym, refl, arith, Some, false≢true}
 use Rattle.range_change.proofs.Results.{error_has_no_value, on_error}
 use Rattle.range_change.proofs.Surrounded.{stands, divided_around, divided_size}
 use Rattle.range_change.proofs.bind.bind_inside.Goals as goal

@@ -1,5 +1,4 @@
-use Rattle.std.proofs.Common.{arith}
-use Rattle.std.proofs.lemmas.Grind.{common_steps}
+use Rattle.range_change.proofs.Common.{arith, common_steps}
 use Rattle.range_change.proofs.bind.bind_outside.Goals as goal
 
 pub returns-clause-counted : goal.returns-clause-counted

@@ -1,6 +1,4 @@
-use Rattle.std.proofs.lemmas.Grind.{common_steps}
-use Rattle.std.proofs.Common.{sym, arith}
-use Rattle.std.proofs.lemmas.List.{get_or_read}
+use Rattle.range_change.proofs.Common.{common_steps, sym, arith, get_or_read}
 use Rattle.range_change.proofs.borders.joined_after.Goals as goal
 
 pub returns-else-touching-clause-joined : goal.returns-else-touching-clause-joined

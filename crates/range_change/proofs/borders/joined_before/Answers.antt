@@ -1,5 +1,4 @@
-use Rattle.std.proofs.lemmas.Grind.{common_steps}
-use Rattle.std.proofs.Common.{arith}
+use Rattle.range_change.proofs.Common.{common_steps, arith}
 use Rattle.range_change.proofs.borders.joined_before.Goals as goal
 
 pub returns-then-eq-clause-joined : goal.returns-then-eq-clause-joined

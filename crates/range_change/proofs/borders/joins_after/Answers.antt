@@ -1,4 +1,4 @@
-use Rattle.std.proofs.Common.{sym}
+use Rattle.range_change.proofs.Common.{sym}
 use Rattle.range_change.proofs.InsertionPlans.{right_plan_inside, right_plan_cut}
 use Rattle.range_change.proofs.JoinedMiddle.{right_touched}
 use Rattle.range_change.proofs.borders.joins_after.Goals as goal

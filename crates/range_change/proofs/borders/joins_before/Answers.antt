@@ -1,4 +1,4 @@
-use Rattle.std.proofs.Common.{sym}
+use Rattle.range_change.proofs.Common.{sym}
 use Rattle.range_change.proofs.InsertionPlans.{left_plan_inside, left_plan_cut}
 use Rattle.range_change.proofs.JoinedMiddle.{left_touched}
 use Rattle.range_change.proofs.borders.joins_before.Goals as goal

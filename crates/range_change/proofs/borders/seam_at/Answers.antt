@@ -1,6 +1,4 @@
-use Rattle.std.proofs.Common.{refl}
-use Rattle.range_keys.specs.Position.{bound_of}
-use Rattle.range_change.specs.Edits.{flipped_bound}
+use Rattle.range_change.proofs.Common.{refl, bound_of, flipped_bound}
 use Rattle.range_change.proofs.CutParts.{known_turned, same_turned}
 use Rattle.range_change.proofs.borders.seam_at.Goals as goal
 

@@ -1,8 +1,4 @@
-use Rattle.std.proofs.Common.{sym, ◌∙◌}
-use Rattle.std.specs.Cmp.{Equal-is}
-use Rattle.range_keys.specs.Position.{bound_of}
-use Rattle.range_algebra.specs.Clones.{bound_clone}
-use Rattle.range_change.specs.Edits.{flipped_bound}
+use Rattle.range_change.proofs.Common.{sym, ◌∙◌, Equal-is, bound_of, bound_clone, flipped_bound}
 use Rattle.range_change.proofs.cut.cut_bound.Goals as goal
 
 pub returns-clause-flipped : goal.returns-clause-flipped

@@ -1,6 +1,4 @@
-use Rattle.std.proofs.Common.{◌≡◌, ap, ◌∙◌, Some, None}
-use Rattle.range_keys.specs.Position.{bound_of}
-use Rattle.range_algebra.specs.Compared.{flipped}
+use Rattle.range_change.proofs.Common.{◌≡◌, ap, ◌∙◌, Some, None, bound_of, flipped}
 use Rattle.range_change.proofs.CutParts.{ends_after_is, ends_never}
 use Rattle.range_change.proofs.cut.ends_after.Goals as goal
 

@@ -1,6 +1,4 @@
-use Rattle.std.proofs.Common.{rules, ◌≡◌, ◌∙◌, arith, None}
-use Rattle.std.proofs.lemmas.Grind.{common_steps}
-use Rattle.range_change.specs.Edits.{flipped_bound}
+use Rattle.range_change.proofs.Common.{rules, ◌≡◌, ◌∙◌, arith, None, common_steps, flipped_bound}
 use Rattle.range_change.proofs.CutParts.{known_turned, same_turned}
 use Rattle.range_change.proofs.Freeing.{seam_alike}
 use Rattle.range_change.proofs.Surrounded.{none_reach}

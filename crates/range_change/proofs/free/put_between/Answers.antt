@@ -1,6 +1,4 @@
-use Rattle.std.proofs.Common.{◌≡◌, ◌+◌, length, arith, rules}
-use Rattle.range_store.specs.ListPlaces.{place_before}
-use Rattle.range_change.specs.Edits.{flipped_bound}
+use Rattle.range_change.proofs.Common.{◌≡◌, ◌+◌, length, arith, rules, place_before, flipped_bound}
 use Rattle.range_change.proofs.Between.{put_between as stands_between}
 use Rattle.range_change.proofs.CoveredPlaces.{on_ok}
 use Rattle.range_change.proofs.CutParts.{known_turned, same_turned}

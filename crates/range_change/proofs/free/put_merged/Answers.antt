@@ -1,7 +1,4 @@
-use Rattle.std.proofs.lemmas.Grind.{common_steps}
-use Rattle.std.proofs.Common.{◌≡◌, ◌+◌, ap, ◌∙◌, arith, refl}
-use Rattle.range_change.specs.Borders.{joined_count}
-use Rattle.range_change.specs.Reach.{inner_count}
+use Rattle.range_change.proofs.Common.{common_steps, ◌≡◌, ◌+◌, ap, ◌∙◌, arith, refl, joined_count, inner_count}
 use Rattle.range_change.proofs.Planned.{plan_fits, planned_count, planned_insert, planned_size, planned_run}
 use Rattle.range_change.proofs.JoinedMiddle.{seam_count}
 use Rattle.range_change.proofs.Surrounded.{run_can_start}

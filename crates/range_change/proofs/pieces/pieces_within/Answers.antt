@@ -1,8 +1,4 @@
-use Rattle.std.proofs.Common.{◌≡◌, ap, ◌∙◌, length, take, drop, arith, rules}
-use Rattle.std.proofs.lemmas.Grind.{common_steps}
-use Rattle.range_algebra.specs.References.{range_of}
-use Rattle.range_store.specs.ListPlaces.{place_before}
-use Rattle.range_change.specs.PieceLists.{pieces_of}
+use Rattle.range_change.proofs.Common.{◌≡◌, ap, ◌∙◌, length, take, drop, arith, rules, common_steps, range_of, place_before, pieces_of}
 use Rattle.range_change.proofs.pieces.pieces_within.Goals as goal
 use Rattle.range_change.proofs.pieces.pieces_within.Goals.{in-Some-Some, in_default}
 

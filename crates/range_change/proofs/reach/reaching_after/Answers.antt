@@ -1,13 +1,4 @@
-use Rattle.std.proofs.lemmas.Grind.{common_steps}
-use Rattle.std.proofs.Common.{◌≡◌, ◌+◌, ◌-◌, ◌<◌, length, get_or, ap, sym, ◌∙◌, arith, subst}
-use Rattle.std.proofs.lemmas.List.{get_or_read}
-use Rattle.range_keys.specs.Position.{position_cmp}
-use Rattle.range_keys.specs.PositionOrder.{position_total}
-use Rattle.range_algebra.specs.Cuts.{upper}
-use Rattle.range_algebra.specs.Intervals.{Le}
-use Rattle.range_algebra.specs.Orders.{not_lt}
-use Rattle.range_store.specs.ListPlaces.{place_before}
-use Rattle.range_change.specs.Stored.{item_upper}
+use Rattle.range_change.proofs.Common.{not_lt, PLe, common_steps, ◌≡◌, ◌+◌, ◌-◌, ◌<◌, length, get_or, ap, sym, ◌∙◌, arith, subst, get_or_read, upper, place_before, item_upper}
 use Rattle.range_change.proofs.Tests.{not_both}
 use Rattle.range_change.proofs.reach.reaching_after.Goals as goal
 
@@ -27,13 +18,9 @@ returns-else-ends_after-clause-reaching g c = λ x some read.
     let here : item ≡ get_or items (place + w.count - 1) item =
     c.get.ensures ∙ ap (λ n. get_or items n item) index in
     let same : x ≡ item = get_or_read items (place + w.count - 1) x within read item ∙ sym here in
-    let cmp = position_cmp order.cmp in
-    let ends : Le cmp (item_upper order item) (upper order (g.R.AsRange.range c.args.range.now)) =
-    not_lt cmp (position_total order.cmp g.met.K.PartialEnum.lawful.total)
-    (item_upper order item) (upper order (g.R.AsRange.range c.args.range.now))
-    (λ l. not_both c.if-ends_after.false (c.ends_after.ensures.1 l)) in
-    subst (λ y. Le cmp (item_upper order y) (upper order (g.R.AsRange.range c.args.range.now)))
-    (sym same) ends
+    let lawful = g.met.K.PartialEnum.lawful in
+    subst (λ y. PLe lawful (item_upper order y) (upper order (g.R.AsRange.range c.args.range.now)))
+    (sym same) (not_lt lawful _ _ (λ l. not_both c.if-ends_after.false (c.ends_after.ensures.1 l)))
 
 pub returns-then-ends_after-clause-reaching : goal.returns-then-ends_after-clause-reaching
 returns-then-ends_after-clause-reaching g c = grind (arith, common_steps)

@@ -1,12 +1,4 @@
-use Rattle.std.proofs.Common.{◌≡◌, ◌<◌, length, get_or, ap, sym, ◌∙◌, arith, subst}
-use Rattle.std.proofs.lemmas.List.{get_or_read}
-use Rattle.range_keys.specs.Position.{position_cmp}
-use Rattle.range_keys.specs.PositionOrder.{position_total}
-use Rattle.range_algebra.specs.Cuts.{lower}
-use Rattle.range_algebra.specs.Intervals.{Le, Lt}
-use Rattle.range_algebra.specs.Orders.{not_lt}
-use Rattle.range_store.specs.ListPlaces.{place_before}
-use Rattle.range_change.specs.Stored.{item_lower}
+use Rattle.range_change.proofs.Common.{not_lt, PLe, ◌≡◌, ◌<◌, length, get_or, ap, sym, ◌∙◌, arith, subst, get_or_read, position_cmp, lower, Lt, place_before, item_lower}
 use Rattle.range_change.proofs.Tests.{not_both}
 use Rattle.range_change.proofs.reach.reaching_before.Goals as goal
 
@@ -50,10 +42,7 @@ returns-else-starts_before-clause-reaching g c = λ x some read.
     let here : item ≡ get_or items place item =
     c.get.ensures ∙ ap (λ n. get_or items n item) (sym index) in
     let same : x ≡ item = get_or_read items place x within read item ∙ sym here in
-    let cmp = position_cmp order.cmp in
-    let starts : Le cmp (lower order (g.R.AsRange.range c.args.range.now)) (item_lower order item) =
-    not_lt cmp (position_total order.cmp g.met.K.PartialEnum.lawful.total)
-    (lower order (g.R.AsRange.range c.args.range.now)) (item_lower order item)
-    (λ l. not_both c.if-starts_before.false (c.starts_before.ensures.1 l)) in
-    subst (λ y. Le cmp (lower order (g.R.AsRange.range c.args.range.now)) (item_lower order y))
-    (sym same) starts
+    let lawful = g.met.K.PartialEnum.lawful in
+    subst (λ y. PLe lawful (lower order (g.R.AsRange.range c.args.range.now)) (item_lower order y))
+    (sym same)
+    (not_lt lawful _ _ (λ l. not_both c.if-starts_before.false (c.starts_before.ensures.1 l)))

@@ -1,14 +1,4 @@
-use Rattle.std.proofs.lemmas.Bool.{false≢true}
-use Rattle.std.proofs.Common.{◌≡◌, refl, ap, inl, inr}
-use Rattle.std.specs.Prelude.{option_copied}
-use Rattle.std.specs.declared.cmp.Ordering.TheVariants.{Equal}
-use Rattle.range_keys.specs.PositionOrder.{position_total}
-use Rattle.range_algebra.specs.Cuts.{lower}
-use Rattle.range_algebra.specs.Intervals.{Lt}
-use Rattle.range_algebra.specs.Orders.{both, not_lt}
-use Rattle.range_algebra.specs.declared.any.AnyRange.{AnyRange}
-use Rattle.range_store.specs.declared.storage.Item.{Item}
-use Rattle.range_change.specs.Stored.{item_lower}
+use Rattle.range_change.proofs.Common.{both, not_lt, false≢true, refl, ap, inl, inr, option_copied, lower, Lt, AnyRange, Item, item_lower}
 use Rattle.range_change.proofs.Forms.{places}
 use Rattle.range_change.proofs.InsertionPlans.{left_cut_out}
 use Rattle.range_change.proofs.JoinedMiddle.{got_only, got_none}
@@ -36,19 +26,11 @@ returns-then-starts_before g c = λ lawful equal b at known_b same_b start.
 
 pub returns : goal.returns
 returns g c = λ lawful equal b at known_b same_b start.
-    let order = g.K.MaybeBounded.order in
-    let cmp = places order lawful in
-    let total = position_total order.cmp lawful.total in
-    let m = c.in-Some.item.now in
-    let lo = lower order c.args.range.now in
     let within = rw c.in-Some.is at c.requires.within in
-    let here : cmp (item_lower order m) lo ≡ Equal =
-    both cmp total (item_lower order m) lo
-    (not_lt cmp total (item_lower order m) lo
-    (λ l. false≢true (c.if-starts_before.ensures.1 l))) within.starts in
     inl (
-      m,
+      c.in-Some.item.now,
       ap option_copied c.in-Some.is,
-      here,
+      both lawful _ _
+          (not_lt lawful _ _ (λ l. false≢true (c.if-starts_before.ensures.1 l))) within.starts,
       c.joins_before.ensures.joins lawful equal b at known_b same_b start,
     )

@@ -1,14 +1,4 @@
-use Rattle.std.proofs.lemmas.Bool.{false≢true}
-use Rattle.std.proofs.Common.{◌≡◌, refl, ap, inl, inr}
-use Rattle.std.specs.Prelude.{option_copied}
-use Rattle.std.specs.declared.cmp.Ordering.TheVariants.{Equal}
-use Rattle.range_keys.specs.PositionOrder.{position_total}
-use Rattle.range_algebra.specs.Cuts.{upper}
-use Rattle.range_algebra.specs.Intervals.{Lt}
-use Rattle.range_algebra.specs.Orders.{both, not_lt}
-use Rattle.range_algebra.specs.declared.any.AnyRange.{AnyRange}
-use Rattle.range_store.specs.declared.storage.Item.{Item}
-use Rattle.range_change.specs.Stored.{item_upper}
+use Rattle.range_change.proofs.Common.{both, not_lt, false≢true, refl, ap, inl, inr, option_copied, upper, Lt, AnyRange, Item, item_upper}
 use Rattle.range_change.proofs.Forms.{places}
 use Rattle.range_change.proofs.InsertionPlans.{right_cut_out}
 use Rattle.range_change.proofs.JoinedMiddle.{got_only, got_none, within_end}
@@ -37,20 +27,13 @@ returns-then-ends_after g c = λ lawful equal b known_b same_b.
 
 pub returns : goal.returns
 returns g c = λ lawful equal b known_b same_b.
-    let order = g.K.MaybeBounded.order in
-    let cmp = places order lawful in
-    let total = position_total order.cmp lawful.total in
-    let m = c.in-Some.item.now in
-    let r = c.args.range.now in
     let within = rw c.in-Some.is at c.requires.within in
-    let here : cmp (item_upper order m) (upper order r) ≡ Equal =
-    both cmp total (item_upper order m) (upper order r)
-    (within_end order lawful m.key r c.known.ensures c.requires.reach.window.known within)
-    (not_lt cmp total (upper order r) (item_upper order m)
-    (λ l. false≢true (c.if-ends_after.ensures.1 l))) in
     inl (
-      m,
+      c.in-Some.item.now,
       ap option_copied c.in-Some.is,
-      here,
+      both lawful _ _
+          (within_end g.K.MaybeBounded.order lawful c.in-Some.item.now.key c.args.range.now
+          c.known.ensures c.requires.reach.window.known within)
+          (not_lt lawful _ _ (λ l. false≢true (c.if-ends_after.ensures.1 l))),
       c.joins_after.ensures.joins lawful equal b known_b same_b,
     )

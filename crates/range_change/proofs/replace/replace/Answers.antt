@@ -1,10 +1,4 @@
-use Rattle.std.proofs.lemmas.Grind.{common_steps}
-use Rattle.std.proofs.Common.{◌≡◌, ◌+◌, ◌-◌, length, refl, ap, ◌∙◌, arith}
-use Rattle.std.proofs.lemmas.Bool.{false≢true}
-use Rattle.std.specs.Prelude.{slice_get, option_copied}
-use Rattle.range_store.specs.ListPlaces.{place_before}
-use Rattle.range_change.specs.Borders.{joined_count, seam_border}
-use Rattle.range_change.specs.Edits.{flipped_bound}
+use Rattle.range_change.proofs.Common.{common_steps, ◌≡◌, ◌+◌, ◌-◌, length, refl, ap, ◌∙◌, arith, false≢true, slice_get, option_copied, place_before, joined_count, seam_border, flipped_bound}
 use Rattle.range_change.proofs.InsertionFrames.{all_meet}
 use Rattle.range_change.proofs.Planned.{plan_fits}
 use Rattle.range_change.proofs.Replaced.{IsReplacement, plans_replacement, replacement_is_made}

@@ -1,4 +1,4 @@
-use Rattle.std.proofs.Common.{◌≡◌, ◌+◌, ◌-◌, arith, refl, sym}
+use Rattle.range_change.proofs.Common.{◌≡◌, ◌+◌, ◌-◌, arith, refl, sym}
 use Rattle.range_change.proofs.RunItems.{stored_order}
 use Rattle.range_change.proofs.runs.run_between.Goals as goal
 

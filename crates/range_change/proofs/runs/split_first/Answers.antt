@@ -1,4 +1,4 @@
-use Rattle.std.proofs.Common.{arith, sym}
+use Rattle.range_change.proofs.Common.{arith, sym}
 use Rattle.range_change.proofs.RunItems.{stored_order, run_first, run_near, run_alone_first}
 use Rattle.range_change.proofs.runs.split_first.Goals as goal
 

@@ -1,4 +1,4 @@
-use Rattle.std.proofs.Common.{sym}
+use Rattle.range_change.proofs.Common.{sym}
 use Rattle.range_change.proofs.RunItems.{stored_order, run_last, run_alone}
 use Rattle.range_change.proofs.runs.split_last.Goals as goal
 

@@ -1,8 +1,4 @@
-use Rattle.std.proofs.lemmas.Grind.{common_steps}
-use Rattle.std.proofs.Common.{◌≡◌, ◌+◌, ◌++◌, length, take, drop, ap, sym, ◌∙◌, arith, append_assoc}
-use Rattle.range_store.specs.ListPlaces.{place_before}
-use Rattle.range_change.specs.Seams.{with_first_start, with_last_end}
-use Rattle.range_change.specs.Window.{option_items}
+use Rattle.range_change.proofs.Common.{common_steps, ◌≡◌, ◌+◌, ◌++◌, length, take, drop, ap, sym, ◌∙◌, arith, append_assoc, place_before, with_first_start, with_last_end, option_items}
 use Rattle.range_change.proofs.OuterBounds.{length_started, length_ended}
 use Rattle.range_change.proofs.BoundEdits.{kept_place}
 use Rattle.range_change.proofs.splice.change_to.Goals as goal

@@ -1,9 +1,4 @@
-use Rattle.std.proofs.Common.{◌≡◌, ◌+◌, length, get_or, ap, ◌∙◌, arith}
-use Rattle.range_algebra.specs.declared.any.AnyRange.{AnyRange}
-use Rattle.range_store.specs.declared.storage.Item.{Item}
-use Rattle.range_store.specs.ListPlaces.{place_before}
-use Rattle.range_store.proofs.ListPlaces.{place_at, kept_at, good_at}
-use Rattle.range_change.specs.Edits.{with_end}
+use Rattle.range_change.proofs.Common.{◌≡◌, ◌+◌, length, get_or, ap, ◌∙◌, arith, AnyRange, Item, place_before, place_at, kept_at, good_at, with_end}
 use Rattle.range_change.proofs.DividedItems.{parted_alone, parted_around}
 use Rattle.range_change.proofs.Tests.{same_some}
 use Rattle.range_change.proofs.splice.divide.Goals as goal

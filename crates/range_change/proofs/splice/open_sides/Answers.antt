@@ -1,5 +1,4 @@
-use Rattle.std.proofs.Common.{rules, ◌+◌, arith, ◌∙◌}
-use Rattle.range_change.specs.Borders.{joined_count}
+use Rattle.range_change.proofs.Common.{rules, ◌+◌, arith, ◌∙◌, joined_count}
 use Rattle.range_change.proofs.BoundEdits.{left_opened, right_opened}
 use Rattle.range_change.proofs.splice.open_sides.Goals as goal
 

@@ -1,9 +1,4 @@
-use Rattle.std.proofs.lemmas.Grind.{common_steps}
-use Rattle.std.proofs.Common.{◌≡◌, ◌+◌, ◌-◌, ◌∷◌, ◌++◌, [], length, take, ap, sym, ◌∙◌, arith, length-append, append_assoc}
-use Rattle.std.proofs.lemmas.List.{append-nil}
-use Rattle.range_algebra.proofs.Lists.{list_is_take_and_drop}
-use Rattle.range_store.specs.ListPlaces.{place_before}
-use Rattle.range_store.proofs.ListPlaces.{place_at, at_place, good_at}
+use Rattle.range_change.proofs.Common.{common_steps, ◌≡◌, ◌+◌, ◌-◌, ◌∷◌, ◌++◌, [], length, take, ap, sym, ◌∙◌, arith, length-append, append_assoc, append-nil, list_is_take_and_drop, place_before, place_at, at_place, good_at}
 use Rattle.range_change.proofs.OuterBounds.{put_next, put_all, prefix_is_all}
 use Rattle.range_change.proofs.splice.replace_run_by.Goals as goal
 

@@ -1,5 +1,4 @@
-use Rattle.std.proofs.Common.{◌≡◌, ◌+◌, ◌-◌, ◌≤◌, ◌++◌, length, take, drop}
-use Rattle.range_store.specs.ListPlaces.{place_before, IsAt}
+use Rattle.range_change.proofs.Common.{◌≡◌, ◌+◌, ◌-◌, ◌≤◌, ◌++◌, length, take, drop, place_before, IsAt}
 use Rattle.range_change.proofs.splice.replace_run_by.Given as goal
 
 abbrev pub invariant-loop-item : goal.invariant-loop-item

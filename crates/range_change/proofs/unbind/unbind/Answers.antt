@@ -1,5 +1,4 @@
-use Rattle.std.proofs.lemmas.Grind.{common_steps}
-use Rattle.std.proofs.Common.{rules, refl, arith}
+use Rattle.range_change.proofs.Common.{common_steps, rules, refl, arith}
 use Rattle.range_change.proofs.RangeSides.{unmet_is_unbound}
 use Rattle.range_change.proofs.InsertionFrames.{some_meets}
 use Rattle.range_change.proofs.unbind.unbind.Goals as goal

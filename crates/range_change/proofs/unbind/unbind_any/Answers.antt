@@ -1,6 +1,4 @@
-use Rattle.std.proofs.lemmas.Bool.{false≢true}
-use Rattle.std.proofs.lemmas.Grind.{common_steps}
-use Rattle.std.proofs.Common.{rules, refl, arith}
+use Rattle.range_change.proofs.Common.{false≢true, common_steps, rules, refl, arith}
 use Rattle.range_change.proofs.Lengths.{le_sum}
 use Rattle.range_change.proofs.Results.{error_has_no_value, on_error}
 use Rattle.range_change.proofs.Tests.{not_both}

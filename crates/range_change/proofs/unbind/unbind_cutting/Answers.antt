@@ -1,8 +1,4 @@
-use Rattle.std.proofs.Common.{refl, ◌≡◌, [], ◌+◌, length, ap, ◌∙◌, arith, None}
-use Rattle.std.proofs.lemmas.Bool.{false≢true}
-use Rattle.range_store.specs.ListPlaces.{place_before}
-use Rattle.range_change.specs.Borders.{joined_count, seam_border}
-use Rattle.range_change.specs.Window.{option_items}
+use Rattle.range_change.proofs.Common.{refl, ◌≡◌, [], ◌+◌, length, ap, ◌∙◌, arith, None, false≢true, place_before, joined_count, seam_border, option_items}
 use Rattle.range_change.proofs.Lengths.{one_item, changed_length}
 use Rattle.range_change.proofs.RangeSides.{borders_remove}
 use Rattle.range_change.proofs.Planned.{plan_fits}

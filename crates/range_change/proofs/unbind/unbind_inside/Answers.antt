@@ -1,5 +1,4 @@
-use Rattle.std.proofs.Common.{arith, refl, ap, length, None}
-use Rattle.std.proofs.lemmas.Bool.{false≢true}
+use Rattle.range_change.proofs.Common.{arith, refl, ap, length, None, false≢true}
 use Rattle.range_change.proofs.ItemPlaces.{element_at, element_at_is_read}
 use Rattle.range_change.proofs.Results.{error_has_no_value, on_error}
 use Rattle.range_change.proofs.Surrounded.{divided_alone, divided_size}

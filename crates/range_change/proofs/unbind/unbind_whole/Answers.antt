@@ -1,6 +1,4 @@
-use Rattle.std.proofs.Common.{◌≡◌, [], ◌+◌, ◌++◌, length, take, drop, arith, None}
-use Rattle.std.proofs.lemmas.List.{append-nil}
-use Rattle.range_store.specs.ListPlaces.{place_before}
+use Rattle.range_change.proofs.Common.{◌≡◌, [], ◌+◌, ◌++◌, length, take, drop, arith, None, append-nil, place_before}
 use Rattle.range_change.proofs.RangeSides.{borders_remove, left_rest_whole, right_rest_whole}
 use Rattle.range_change.proofs.Lengths.{changed_length}
 use Rattle.range_change.proofs.unbind.unbind_whole.Goals as goal

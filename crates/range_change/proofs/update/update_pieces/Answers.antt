@@ -1,7 +1,4 @@
-use Rattle.std.proofs.lemmas.Bool.{cases_lt}
-use Rattle.std.proofs.lemmas.Bool.{false≢true}
-use Rattle.std.proofs.lemmas.Grind.{common_steps}
-use Rattle.std.proofs.Common.{inl, inr, length, arith}
+use Rattle.range_change.proofs.Common.{cases_lt, false≢true, common_steps, inl, inr, length, arith}
 use Rattle.range_change.proofs.UpdatedLists.{by_middle}
 use Rattle.range_change.proofs.Succeeding.{gathered_succeeds}
 use Rattle.range_change.proofs.Surrounded.{surrounded_by}

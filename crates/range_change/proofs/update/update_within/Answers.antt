@@ -1,5 +1,4 @@
-use Rattle.std.proofs.Common.{rules, Some, None, Ok, Err}
-use Rattle.range_change.specs.Answers.{MayAnswer}
+use Rattle.range_change.proofs.Common.{rules, Some, None, Ok, Err, MayAnswer}
 use Rattle.range_change.proofs.UpdatedLists.{by_insertion, by_removal}
 use Rattle.range_change.proofs.Surrounded.{alone, only_answered, only_piece}
 use Rattle.range_change.proofs.SpelledChanges.{inserted_keeps_spelling, removed_keeps_spelling}

@@ -1,5 +1,4 @@
-use Rattle.std.proofs.Common.{rules, ◌+◌, refl}
-use Rattle.range_keys.specs.Directed.{reference_position}
+use Rattle.range_change.proofs.Common.{rules, ◌+◌, refl, reference_position}
 use Rattle.range_change.proofs.Found.{found_partitions, found_at}
 use Rattle.range_change.proofs.window.find.Goals as goal
 

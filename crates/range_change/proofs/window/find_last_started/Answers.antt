@@ -1,5 +1,4 @@
-use Rattle.std.proofs.Common.{rules}
-use Rattle.range_keys.specs.Directed.{reference_position}
+use Rattle.range_change.proofs.Common.{rules, reference_position}
 use Rattle.range_change.proofs.Found.{started_partitions, last_started}
 use Rattle.range_change.proofs.window.find_last_started.Goals as goal
 

@@ -1,5 +1,4 @@
-use Rattle.std.proofs.Common.{ap}
-use Rattle.range_keys.specs.Position.{bound_of, start_position, end_position}
+use Rattle.range_change.proofs.Common.{ap, bound_of, start_position, end_position}
 use Rattle.range_change.proofs.Windows.{window_is}
 use Rattle.range_change.proofs.window.find_window.Goals as goal
 

@@ -1,13 +1,4 @@
-use Rattle.std.proofs.lemmas.Bool.{true≢false}
-use Rattle.std.proofs.Common.{◌≡◌, ◌+◌, ◌-◌, ◌<◌, length, refl, arith, sym, ◌∙◌}
-use Rattle.std.proofs.lemmas.List.{get_or_read}
-use Rattle.range_keys.specs.Directed.{reference_position}
-use Rattle.range_keys.specs.Position.{start_position, position_cmp}
-use Rattle.range_keys.specs.PositionOrder.{position_total}
-use Rattle.range_algebra.specs.Intervals.{Lt}
-use Rattle.range_algebra.specs.Orders.{not_le}
-use Rattle.range_store.specs.ListPlaces.{place_before}
-use Rattle.range_store.proofs.ListPlaces.{at_place}
+use Rattle.range_change.proofs.Common.{not_le, true≢false, ◌≡◌, ◌+◌, ◌-◌, ◌<◌, length, refl, arith, sym, ◌∙◌, get_or_read, reference_position, start_position, place_before, at_place}
 use Rattle.range_change.proofs.WalkStarts.{place_is_in_range}
 use Rattle.range_change.proofs.window.walk.Goals as goal
 
@@ -70,12 +61,9 @@ returns-then-starts_past g c =
     g.met.C.Storage.good_is_in_range stored c.in-Some.p here.0 in
     let index : place + c.loop-at.count ≡ storage.rank stored c.in-Some.p = sym here.1 in
     let x = c.get.result.now in
-    let end = reference_position order c.args.end.now in
-    let start = start_position order x.key.start in
-    let past : Lt (position_cmp order.cmp) end start =
-    not_le (position_cmp order.cmp)
-    (position_total order.cmp g.met.K.PartialEnum.lawful.total) end start
-    (λ h. true≢false (c.if-starts_past.ensures.past ∙ h)) in
+    let past =
+    not_le g.met.K.PartialEnum.lawful (reference_position order c.args.end.now)
+    (start_position order x.key.start) (λ h. true≢false (c.if-starts_past.ensures.past ∙ h)) in
     record {
       walked = record {
         in_range = was.in_range;

@@ -1,12 +1,5 @@
-use Rattle.std.proofs.Common.{◌+◌, ◌-◌, ◌<◌, ◌≤◌, length, get_or}
-use Rattle.range_keys.specs.Directed.{reference_position}
-use Rattle.range_keys.specs.Position.{start_position, position_cmp}
-use Rattle.range_algebra.specs.declared.any.AnyRange.{AnyRange}
-use Rattle.range_store.specs.declared.storage.Item.{Item}
+use Rattle.range_change.proofs.Common.{◌+◌, ◌-◌, ◌<◌, ◌≤◌, length, get_or, reference_position, start_position, position_cmp, AnyRange, Item, place_before, IsAt, Le, IsLastOf}
 use Rattle.range_store.specs.Counting.{AddsSteps}
-use Rattle.range_store.specs.ListPlaces.{place_before, IsAt}
-use Rattle.range_algebra.specs.Intervals.{Le}
-use Rattle.range_change.specs.Window.{IsLastOf}
 use Rattle.range_change.proofs.window.walk.Given as goal
 
 abbrev pub invariant-loop-at : goal.invariant-loop-at

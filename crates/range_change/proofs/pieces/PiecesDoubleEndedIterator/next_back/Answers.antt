@@ -1,8 +1,4 @@
-use Rattle.range_algebra.specs.Compared.{flipped}
-use Rattle.range_algebra.specs.References.{range_of}
-use Rattle.range_keys.specs.Position.{bound_of}
-use Rattle.std.proofs.Common.{ap, sym, ◌∙◌}
-use Rattle.std.specs.Option.{option_map}
+use Rattle.range_change.proofs.Common.{flipped, range_of, bound_of, ap, sym, ◌∙◌, option_map}
 use Rattle.range_change.proofs.PieceSteps.{gap_last, item_last, last_is_less}
 use Rattle.range_change.proofs.pieces.PiecesDoubleEndedIterator.next_back.Goals as goal
 

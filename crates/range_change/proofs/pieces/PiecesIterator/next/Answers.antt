@@ -1,7 +1,4 @@
-use Rattle.range_algebra.specs.References.{range_of}
-use Rattle.range_keys.specs.Position.{bound_of}
-use Rattle.std.proofs.Common.{ap, arith, length, sym, ◌∙◌}
-use Rattle.std.specs.Option.{option_map}
+use Rattle.range_change.proofs.Common.{range_of, bound_of, ap, arith, length, sym, ◌∙◌, option_map}
 use Rattle.range_change.proofs.PieceSteps.{gap_first}
 use Rattle.range_change.proofs.pieces.PiecesIterator.next.Goals as goal
 

@@ -1,4 +1,4 @@
-use Rattle.std.proofs.Common.{rules}
+use Rattle.range_change.proofs.Common.{rules}
 use Rattle.range_change.proofs.probe.StartsByProbeItemAnyRange.ask.Goals as goal
 
 pub returns : goal.returns

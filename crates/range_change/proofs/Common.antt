@@ -1,0 +1,64 @@
+-- The names that several proofs of this crate cite, passed on from one place. Declares nothing.
+pub use Rattle.std.proofs.Common.{Bool, Err, IsSome, IsTrue, List, None, Ok, OnErr, OnOk, Option, Result, Some, [], ap, append_assoc, arith, drop, false, get_or, if◌then◌else◌, inl, inr, length, length-append, length-drop, map, not, refl, rules, subst, suc, sym, take, true, zero, ℕ, ◌&&◌, ◌*◌, ◌++◌, ◌+◌, ◌-◌, ◌<◌, ◌||◌, ◌↔◌, ◌∙◌, ◌∷◌, ◌≡◌, ◌≤◌, ◌⊎◌}
+pub use Rattle.std.proofs.Math.ListN.{length-set, set}
+pub use Rattle.std.proofs.lemmas.Bool.{cases_lt, false≢true, true≢false}
+pub use Rattle.std.proofs.lemmas.Grind.{common_steps}
+pub use Rattle.std.proofs.lemmas.List.{append-nil, drop-drop, drop-set, drop-set-lt, drop-take, drop_at, drop_more, get_or-drop, get_or-take, get_or_read, length-take-le, length_push, map-append, take-set, take-set-le, take_at, take_more, take_more_set}
+pub use Rattle.std.specs.Cmp.{Equal-is, IsEquivalence, tied_back, tied_itself}
+pub use Rattle.std.specs.Fn.{Shared}
+pub use Rattle.std.specs.List.{AllByRecursion as Every}
+pub use Rattle.std.specs.Option.{ForSome, is_some, option_map, unwrap_or}
+pub use Rattle.std.specs.Ordering.{is_eq, is_gt, is_le, is_lt, ordering_then, partial_lt}
+pub use Rattle.std.specs.Prelude.{IfSome, MatchOption, insert, option_copied, slice_get, slice_set}
+pub use Rattle.std.specs.declared.cmp.Ordering.{Ordering}
+pub use Rattle.std.specs.declared.cmp.Ordering.TheVariants.{Equal, Greater, Less}
+pub use Rattle.std.specs.declared.ops.Bound.{Bound}
+pub use Rattle.std.specs.declared.ops.Bound.TheVariants.{Excluded, Included, Unbounded}
+pub use Rattle.range_keys.proofs.Orderings.{eq_is_equal, equal_then_equal, gt_is_greater, less_or_not, less_then_any, less_unless_equal, less_unless_greater, less_unless_less, lt_is_less, not_both_greater_and_not, not_greater}
+pub use Rattle.range_keys.specs.Directed.{reference_position}
+pub use Rattle.range_keys.specs.Order.{IsComplete, IsLawful, KeyOrder, SameAnswer, Tells}
+pub use Rattle.range_keys.specs.Position.{at_told, bound_of, end_position, position_cmp, start_position}
+pub use Rattle.range_keys.specs.PositionOrder.{position_total}
+pub use Rattle.range_keys.specs.declared.inner.position.Position.{Position}
+pub use Rattle.range_keys.specs.declared.inner.position.Position.TheVariants.{Beside, MinusInfinity, PlusInfinity}
+pub use Rattle.range_keys.specs.declared.inner.position.Side.TheVariants.{After, At, Before}
+pub use Rattle.range_algebra.proofs.Commons.{common_known, earlier_is, gt_le, later_is}
+pub use Rattle.range_algebra.proofs.Lists.{any_left, any_none, any_right, any_split, drop_all, every_append, every_at, every_drop, every_left, every_right, every_take, every_weaker, list_is_take_and_drop, parts_at}
+pub use Rattle.range_algebra.proofs.Places.{flipped_back, flipped_bound_is_past, flipped_known, held_between, reaching_is_before_past, unbounded_end, unbounded_start}
+pub use Rattle.range_algebra.specs.Clones.{IsBoundClone, SameBound, bound_clone, same_end, same_itself, same_start}
+pub use Rattle.range_algebra.specs.Combined.{common}
+pub use Rattle.range_algebra.specs.Compared.{flipped, is_before, start_is_at, starts_at_end, starts_past_end}
+pub use Rattle.range_algebra.specs.Cuts.{lower, past, upper}
+pub use Rattle.range_algebra.specs.Intervals.{Any, Le, Lt}
+pub use Rattle.range_algebra.specs.Range.{Holds, IsEmptyRange, IsKnownBound, IsKnownRange, with_bounds}
+pub use Rattle.range_algebra.specs.References.{range_of}
+pub use Rattle.range_algebra.specs.Relations.{LiesBefore, Touches}
+pub use Rattle.range_algebra.specs.declared.any.AnyRange.{AnyRange}
+pub use Rattle.range_store.proofs.ListPlaces.{at_place, good_at, kept_at, place_at}
+pub use Rattle.range_store.specs.ListPlaces.{IsAt, IsFrontOf, place_before}
+pub use Rattle.range_store.specs.declared.storage.Item.{Item}
+pub use Rattle.range_change.proofs.PlaceOrder.{PLe, PLt, both, cases, eq_ge, eq_le, le_lt_trans, le_refl, le_trans, lt_le, lt_le_trans, lt_not_le, lt_trans, not_le, not_lt}
+pub use Rattle.range_change.specs.Answers.{Answered, AnswersPiece, AreAnswersTo, IsAsAnswered, IsGathered, IsGivenBy, IsUpdated, MayAnswer, MayBeAsked, SucceedsAtFirst, piece_of}
+pub use Rattle.range_change.specs.Bindings.{Binds, BindsTo, IsBound, IsBoundAfter, IsItemFor, IsSomeOf, IsStoredFor, IsUnboundAfter}
+pub use Rattle.range_change.specs.Borders.{BorderSide, IsBorderShape, IsDivided, IsGoodBorder, IsLeftBorder, IsLeftEdited, IsLeftRest, IsLeftShape, IsRightBorder, IsRightEdited, IsRightRest, IsRightShape, IsRunStart, TouchesAfter, TouchesBefore, TouchesNoneAfter, TouchesNoneBefore, border_at, joined_count, joined_item, left_side, right_side, seam_border}
+pub use Rattle.range_change.specs.Chains.{Follows, Has, Held, IsBoundTo, IsChain, IsLeft, IsLeftOf, IsMade, IsRight, IsRightOf, IsSpliced, IsUnbound, Leading, Leads, Line, Respects, Trailing, Trails, line_of}
+pub use Rattle.range_change.specs.Changes.{IsInserted, IsRemoved}
+pub use Rattle.range_change.specs.Edits.{flipped_bound, with_end, with_start}
+pub use Rattle.range_change.specs.Frames.{HasValue, IsEndOf, IsInsertionFrame, IsMergeFrame, IsMergedInto, IsNewItem, IsPart, IsRemovalFrame, IsSpliceFrame, IsStartOf, IsUpdateFrame, JoinsOrMeets}
+pub use Rattle.range_change.specs.Lookups.{BindsKeyOf, IsConnectedTo, IsConnectedToSome, MeetAlso, MeetsSome, Overlap}
+pub use Rattle.range_change.specs.Neighbours.{EachNext}
+pub use Rattle.range_change.specs.PieceLists.{between, bound_piece, free_between, free_piece, pieces_from, pieces_of}
+pub use Rattle.range_change.specs.Pieces.{ArePieces, IsCommonPart, IsFreePart, IsPiece, LiesIn, earlier, later}
+pub use Rattle.range_change.specs.Plans.{IsLeftFrame, IsLeftPlan, IsRightFrame, IsRightPlan}
+pub use Rattle.range_change.specs.Put.{IsPut, JoinsNoLast}
+pub use Rattle.range_change.specs.Reach.{IsReach, IsSurrounded, ReachesAfter, ReachesBefore, inner_count}
+pub use Rattle.range_change.specs.Replaced.{AreWithin, IsReplaced}
+pub use Rattle.range_change.specs.Runs.{AreOverlapping}
+pub use Rattle.range_change.specs.Seams.{IsLeftCutting, IsLeftSeam, IsRightCutting, IsRightSeam, with_first_start, with_last_end}
+pub use Rattle.range_change.specs.Spelling.{IsEndAsIn, IsSpelledAsIn, IsStartAsIn, KeepsSpelling}
+pub use Rattle.range_change.specs.Stored.{IsFollowedBy, IsStored, item_lower, item_upper}
+pub use Rattle.range_change.specs.Window.{IsFound, IsJustBefore, IsLastOf, IsLastStarting, IsWalk, IsWindow, option_items, place_after}
+pub use Rattle.range_change.specs.declared.borders.Border.{Border}
+pub use Rattle.range_change.specs.declared.borders.Border.TheVariants.{Cut, Joined, Plain}
+pub use Rattle.range_change.specs.declared.window.Window.{Window}
+pub use denote.Ref.{Bor}

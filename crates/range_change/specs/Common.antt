@@ -1,0 +1,23 @@
+-- The names that several definitions cite, passed on from one place. Declares nothing.
+pub use Rattle.std.specs.Cmp.{IsEquivalence, IsTotalOrder}
+pub use Rattle.std.specs.List.{AllByRecursion as Every, AllWithin, AllZip}
+pub use Rattle.std.specs.Option.{option_copied, unwrap_or}
+pub use Rattle.std.specs.Prelude.{Bool, Err, IsTrue, List, MatchOption, None, Ok, Option, Result, Some, [], drop, false, if◌then◌else◌, insert, length, map, min, nat_lt, slice_index_or, slice_set, suc, take, true, zero, ℕ, ⊤, ◌*◌, ◌++◌, ◌+◌, ◌-◌, ◌<◌, ◌^◌, ◌↔◌, ◌∷◌, ◌≡◌, ◌≤◌, ◌⊎◌}
+pub use Rattle.std.specs.declared.cmp.Ordering.TheVariants.{Equal}
+pub use Rattle.std.specs.declared.ops.Bound.{Bound}
+pub use Rattle.range_keys.specs.Order.{IsLawful, KeyOrder}
+pub use Rattle.range_keys.specs.Position.{end_position, position_cmp, start_position}
+pub use Rattle.range_keys.specs.declared.inner.position.Position.{Position}
+pub use Rattle.range_algebra.specs.Clones.{IsBoundClone, SameBound}
+pub use Rattle.range_algebra.specs.Compared.{flipped, is_before, range_ordering, starts_past_end}
+pub use Rattle.range_algebra.specs.Cuts.{lower, past, upper}
+pub use Rattle.range_algebra.specs.Intervals.{Any, Le, Lt}
+pub use Rattle.range_algebra.specs.Range.{HoldSame, Holds, IsEmptyRange, IsKeyless, IsKnownBound, IsKnownRange}
+pub use Rattle.range_algebra.specs.Relations.{AreBelow, AreJoined, LiesBefore, Touches}
+pub use Rattle.range_algebra.specs.declared.any.AnyRange.{AnyRange}
+pub use Rattle.range_store.specs.ListPlaces.{IsAt, place_before}
+pub use Rattle.range_store.specs.declared.storage.Item.{Item}
+pub use Rattle.range_change.specs.declared.borders.Border.{Border}
+pub use Rattle.range_change.specs.declared.reach.Reach.{Reach}
+pub use Rattle.range_change.specs.declared.window.Window.{Window}
+pub use denote.Ref.{Bor}
