@@ -27,7 +27,7 @@ use Rattle.range_sets.proofs.Filling.{all_equal}
 use Rattle.range_sets.proofs.FullRanges.{IsFull, all_full, ascending_pairs, ends_full}
 use Rattle.range_change.proofs.Listed.{stored_list_is_listed}
 use Rattle.range_sets.specs.Complements.{EqualGapsOf}
-use Rattle.range_sets.specs.KeySets.{IsStoredSet}
+use Rattle.range_set_extend.specs.KeySets.{IsStoredSet}
 use Rattle.range_sets.proofs.Enclosing.{missing_gaps_is_within_item}
 use Rattle.range_sets.proofs.Matching.{equal_within, overlap_within, row_pairs, InSome, only_one_lies_in_range, mutual_cover_matches}
 

@@ -21,7 +21,7 @@ use Rattle.range_change.specs.Lookups.{Overlap}
 use Rattle.range_change.specs.Stored.{IsStored}
 use Rattle.range_change.proofs.Forms.{before_is, nonempty_good, touches_is}
 use Rattle.range_change.proofs.Listed.{IsListed, stored_list_is_listed, stored_by}
-use Rattle.range_sets.specs.KeySets.{IsStoredSet}
+use Rattle.range_set_extend.specs.KeySets.{IsStoredSet}
 
 -- the ranges as the items of a set
 abbrev pub set_items : {K : Type 0} → List (AnyRange K) → List (Item (AnyRange K) (Unit {0}))

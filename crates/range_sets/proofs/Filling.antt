@@ -17,7 +17,7 @@ use Rattle.range_reads.specs.ListOrder.{IsCopyOf}
 use Rattle.range_reads.specs.FreeRanges.{item_ranges, IsHeldOnce}
 use Rattle.range_map.proofs.CloneLists.{copy_stored}
 use Rattle.range_map.proofs.HeldOnce.{one_of_two}
-use Rattle.range_sets.specs.KeySets.{HoldsKey, HoldsTheOthers, IsStoredSet, SomeHolds}
+use Rattle.range_set_extend.specs.KeySets.{HoldsKey, HoldsTheOthers, IsStoredSet, SomeHolds}
 use Rattle.range_sets.proofs.Complementing.{set_items, front_stored}
 
 pub all_equal : IsEquivalence {K = Unit {0}} (λ _ _. true)

@@ -12,7 +12,7 @@ use Rattle.range_change.specs.Answers.{IsAsAnswered}
 use Rattle.range_change.specs.Bindings.{Binds}
 use Rattle.range_merge.specs.Combining.{AreCombined}
 use Rattle.range_change.proofs.Overlaps.{binds_bound}
-use Rattle.range_sets.specs.KeySets.{HoldsKey}
+use Rattle.range_set_extend.specs.KeySets.{HoldsKey}
 use Rattle.range_sets.specs.TwoSets.{HoldsBoth, HoldsFirstAlone, HoldsJustOne, AreKept}
 
 -- two tests that are true in one case are one

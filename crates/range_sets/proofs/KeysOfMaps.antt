@@ -8,7 +8,7 @@ use Rattle.range_store.specs.declared.storage.Item.{Item}
 use Rattle.range_change.proofs.Overlaps.{binds_bound}
 use Rattle.range_map.specs.MappedValues.{AreMapped}
 use Rattle.range_map.proofs.BoundKeys.{bound_or_not}
-use Rattle.range_sets.specs.KeySets.{HoldsKeysOf}
+use Rattle.range_set_extend.specs.KeySets.{HoldsKeysOf}
 
 -- a list whose values were answered anew holds the same keys
 pub mapped_keys : {K F V W E : Type 0} (order : KeyOrder K) → IsLawful order

@@ -10,7 +10,7 @@ pub mod KeptKeys
 pub mod KeysOfMaps
 pub mod Likeness
 pub mod Matching
-pub mod Membership
+pub use Rattle.range_set_extend.proofs.Membership
 pub mod Retained
 pub mod SetLaws
 pub mod Showing

@@ -13,7 +13,7 @@ use Rattle.range_change.specs.Bindings.{BindAlike}
 use Rattle.range_reads.specs.FreeRanges.{item_ranges}
 use Rattle.range_reads.specs.ListOrder.{same_list, list_cmp, list_input, item_input}
 use Rattle.range_map.proofs.StoredLists.{same_keys}
-use Rattle.range_sets.specs.KeySets.{HoldAlike}
+use Rattle.range_set_extend.specs.KeySets.{HoldAlike}
 use Rattle.range_sets.specs.SetOrder.{same_ranges, ranges_cmp, ranges_input}
 use Rattle.range_sets.proofs.Counting.{ranges_length}
 

@@ -4,7 +4,7 @@ use Rattle.std.specs.Bool.{beq}
 use Rattle.range_keys.specs.Order.{KeyOrder, IsLawful}
 use Rattle.range_algebra.specs.declared.any.AnyRange.{AnyRange}
 use Rattle.range_store.specs.declared.storage.Item.{Item}
-use Rattle.range_sets.specs.KeySets.{HoldsKey, HoldsTheOthers}
+use Rattle.range_set_extend.specs.KeySets.{HoldsKey, HoldsTheOthers}
 use Rattle.range_sets.specs.TwoSets.{HoldsEither, HoldsBoth, HoldsFirstAlone, HoldsJustOne}
 use Rattle.range_sets.specs.SetLaws.{Making, Commutes, Associates, Distributes, IsDual, TakesComplement}
 use Rattle.range_sets.proofs.KeptKeys.{decided, either_is, both_are, first_alone_is, just_one_is, holds_or_not}

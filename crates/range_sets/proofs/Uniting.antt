@@ -34,7 +34,7 @@ use Rattle.range_reads.specs.FreeRanges.{full_range, item_ranges}
 use Rattle.range_merge.specs.Merged.{IsPlaced}
 use Rattle.range_merge.proofs.FirstPieces.{past_same}
 use Rattle.range_change.proofs.PlaceOrder.{le_refl, lt_le, eq_le, eq_ge, le_trans, lt_le_trans, le_lt_trans, not_le, cases}
-use Rattle.range_sets.specs.KeySets.{HoldsKey, IsStoredSet, SomeHolds}
+use Rattle.range_set_extend.specs.KeySets.{HoldsKey, IsStoredSet, SomeHolds}
 use Rattle.range_sets.specs.TwoSets.{HoldsEither}
 use Rattle.range_sets.specs.Uniting.{StartsFirst, IsFirstOf, Reaches, IsLaterEnd, IsPushed, IsAdded}
 

@@ -1,7 +1,7 @@
 pub mod Adding
 pub mod Complements
-pub mod Extending
-pub mod KeySets
+pub use Rattle.range_set_extend.specs.Extending
+pub use Rattle.range_set_extend.specs.KeySets
 pub mod Reads
 pub mod SetLaws
 pub mod SetOrder

@@ -3,7 +3,7 @@ use Rattle.std.specs.Prelude.{List}
 use Rattle.range_keys.specs.Order.{KeyOrder}
 use Rattle.range_algebra.specs.declared.any.AnyRange.{AnyRange}
 use Rattle.range_store.specs.declared.storage.Item.{Item}
-use Rattle.range_sets.specs.KeySets.{HoldAlike, HoldsTheOthers}
+use Rattle.range_set_extend.specs.KeySets.{HoldAlike, HoldsTheOthers}
 
 -- a third list has the keys that it is to have of two others
 abbrev pub Making : Type 0 → Type 1

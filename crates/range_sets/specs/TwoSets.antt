@@ -3,7 +3,7 @@ use Rattle.std.specs.Prelude.{Bool, IsTrue, List, ◌⊎◌, ◌↔◌}
 use Rattle.range_keys.specs.Order.{KeyOrder}
 use Rattle.range_algebra.specs.declared.any.AnyRange.{AnyRange}
 use Rattle.range_store.specs.declared.storage.Item.{Item}
-use Rattle.range_sets.specs.KeySets.{HoldsKey}
+use Rattle.range_set_extend.specs.KeySets.{HoldsKey}
 
 module _ {K : Type 0} (order : KeyOrder K) {V W X : Type 0} (items : List (Item (AnyRange K) V))
     (others : List (Item (AnyRange K) W)) (new : List (Item (AnyRange K) X)) where

@@ -3,7 +3,7 @@ ghost use Rattle.std.specs.Prelude.{List, IsTrue};
 ghost use Rattle.range_algebra.specs.declared.any.AnyRange.{AnyRange};
 ghost use Rattle.range_store.specs.declared.storage.Item.{Item};
 ghost use Rattle.range_sets.specs.Complements.{EqualGapsOf};
-ghost use Rattle.range_sets.specs.KeySets.{IsStoredSet};
+ghost use Rattle.range_set_extend.specs.KeySets.{IsStoredSet};
 ghost use Rattle.range_sets.specs.SetLaws.{Commutes, Associates, Distributes, IsDual, TakesComplement};
 ghost use Rattle.range_sets.specs.SetOrder.{same_ranges};
 ghost use Rattle.range_sets.specs.TwoSets.{HoldsEither, HoldsBoth, HoldsFirstAlone, HoldsJustOne};

@@ -2,10 +2,10 @@
 //!
 //! Where to find what:
 //!
-//! - which keys a set holds, before and after a call: `specs/KeySets.antt`
+//! - which keys a set holds, before and after a call: `range_set_extend/specs/KeySets.antt`
 //! - a set's `try_insert` and `retain`: `src/set/{try_insert,retain}.rt`, `specs/Adding.antt`,
 //!   `proofs/Retained.antt`
-//! - how far an extension came: `src/set/extend.rt`, `specs/Extending.antt`
+//! - a set extended by many ranges: `src/set/extend.rt`, over `range_set_extend`
 //! - equality, order, hash and text of sets: `src/set/{compare,text}.rt`,
 //!   `specs/{SetOrder,SetTexts}.antt`, against the map's in `proofs/Likeness.antt`
 //! - whether the keys of one set are among those of another: `src/set/relations.rt`, over

@@ -6,7 +6,7 @@ ghost use Rattle.range_reads.specs.FreeRanges.{AreGaps, IsHeldOnce, item_ranges}
 ghost use Rattle.range_store.specs.Counting.{AddsSteps};
 ghost use Rattle.range_change.specs.Bindings.{IsCoarse, IsOnlyCoarse};
 ghost use Rattle.range_change.specs.Lookups.{MeetsSome, BindsKeyOf};
-ghost use Rattle.range_sets.specs.KeySets.{HoldsKey, IsLeastCount, IsStoredSet};
+ghost use Rattle.range_set_extend.specs.KeySets.{HoldsKey, IsLeastCount, IsStoredSet};
 
 mod algebra;
 mod clear;

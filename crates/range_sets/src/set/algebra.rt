@@ -2,7 +2,7 @@
 ghost use Rattle.std.specs.Prelude.{◌≡◌, ◌&&◌, Bool, IfOk, is_some, not};
 ghost use Rattle.std.specs.Bool.{beq};
 ghost use Rattle.range_algebra.specs.Range.{ClonesAreEqual};
-ghost use Rattle.range_sets.specs.KeySets.{IsStoredSet};
+ghost use Rattle.range_set_extend.specs.KeySets.{IsStoredSet};
 ghost use Rattle.range_sets.specs.TwoSets.{HoldsEither, HoldsBoth, HoldsFirstAlone, HoldsJustOne, AreKept};
 
 use super::RangeSet;

@@ -2,7 +2,7 @@
 ghost use Rattle.std.specs.Prelude.{IfOk, true};
 ghost use Rattle.range_algebra.specs.Range.{ClonesAreEqual};
 ghost use Rattle.range_reads.specs.ListOrder.{IsCopyOf};
-ghost use Rattle.range_sets.specs.KeySets.{IsStoredSet};
+ghost use Rattle.range_set_extend.specs.KeySets.{IsStoredSet};
 
 use super::RangeSet;
 use range_algebra::any::AnyRange;

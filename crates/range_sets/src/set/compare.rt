@@ -8,7 +8,7 @@ ghost use Rattle.std.proofs.Common.{refl, ap, ◌∙◌};
 ghost use Rattle.range_keys.specs.Order.{IsComplete};
 ghost use Rattle.range_algebra.specs.declared.any.AnyRange.{AnyRange};
 ghost use Rattle.range_store.specs.declared.storage.Item.{Item};
-ghost use Rattle.range_sets.specs.KeySets.{HoldAlike, IsStoredSet};
+ghost use Rattle.range_set_extend.specs.KeySets.{HoldAlike, IsStoredSet};
 ghost use Rattle.range_sets.specs.SetOrder.{same_ranges, ranges_cmp, ranges_input, sets_equivalence, sets_order, sets_tied, sets_fed};
 
 use super::RangeSet;

@@ -2,7 +2,7 @@
 ghost use Rattle.std.specs.Prelude.{◌≡◌, ◌+◌, ◌≤◌, [], length, IfOk, OnOk};
 ghost use Rattle.range_algebra.specs.Range.{ClonesAreEqual};
 ghost use Rattle.range_sets.specs.Complements.{EqualGapsOf};
-ghost use Rattle.range_sets.specs.KeySets.{HoldsTheOthers, IsStoredSet};
+ghost use Rattle.range_set_extend.specs.KeySets.{HoldsTheOthers, IsStoredSet};
 
 use super::RangeSet;
 use range_algebra::any::AnyRange;

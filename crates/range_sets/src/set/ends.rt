@@ -4,7 +4,7 @@ ghost use Rattle.range_algebra.specs.Intervals.{Any};
 ghost use Rattle.range_algebra.specs.Range.{Holds};
 ghost use Rattle.range_algebra.specs.declared.any.AnyRange.{AnyRange};
 ghost use Rattle.range_reads.specs.FreeRanges.{item_ranges};
-ghost use Rattle.range_sets.specs.KeySets.{HoldsKey, IsStoredSet};
+ghost use Rattle.range_set_extend.specs.KeySets.{HoldsKey, IsStoredSet};
 
 use super::RangeSet;
 use range_algebra::any::AnyRange;

@@ -2,14 +2,15 @@
 ghost use Rattle.std.specs.Prelude.{IfOk, OnOk, OnErr};
 ghost use Rattle.std.specs.Iterator.{IsFiniteIterable};
 ghost use Rattle.range_algebra.specs.Range.{ClonesAreEqual};
-ghost use Rattle.range_sets.specs.Extending.{AfterAll, AfterSome};
-ghost use Rattle.range_sets.specs.KeySets.{HoldsAllAlso, HoldsAllOf, IsStoredSet};
+ghost use Rattle.range_set_extend.specs.Extending.{AfterAll, AfterSome};
+ghost use Rattle.range_set_extend.specs.KeySets.{HoldsAllAlso, HoldsAllOf, IsStoredSet};
 
 use super::RangeSet;
 use range_algebra::any::AnyRange;
 use range_algebra::range::IntoRange;
 use range_keys::traits::Measure;
 use range_map::map::MapError;
+use range_set_extend::extend::extend;
 use range_store::storage::{Item, Storage};
 use std::alloc::Global;
 
@@ -38,11 +39,7 @@ impl<T: Measure + Clone, C: Storage<Item<AnyRange<T>, ()>>> RangeSet<T, C> {
             (HoldsAllAlso T.order (C.items self.old) (C.items self.new))) }
         ensures form { IsStoredSet T.order (C.items self.new) }
     {
-        self.in_form();
-        for range in ranges {
-            self.insert(range)?;
-        }
-        Ok(())
+        extend(&mut self.map, ranges)
     }
 
     /// A set of just the keys of the ranges that the iterator gives.

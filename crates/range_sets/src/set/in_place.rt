@@ -2,7 +2,7 @@
 ghost use Rattle.std.specs.Prelude.{OnOk, OnErr};
 ghost use Rattle.range_algebra.specs.Range.{ClonesAreEqual};
 ghost use Rattle.range_map.specs.PartWay.{BeforeOne, BeforeOneGap};
-ghost use Rattle.range_sets.specs.KeySets.{HoldsWithoutAll, IsStoredSet};
+ghost use Rattle.range_set_extend.specs.KeySets.{HoldsWithoutAll, IsStoredSet};
 ghost use Rattle.range_sets.specs.TwoSets.{HoldsEither, HoldsBoth, HoldsFirstAlone};
 
 use super::RangeSet;

@@ -5,7 +5,7 @@ ghost use Rattle.range_change.specs.Clones.{ClonesNeverFail};
 ghost use Rattle.range_change.specs.Costs.{TakesAtLeast, TakesAsChange};
 ghost use Rattle.range_change.specs.Frames.{IsInsertionFrame};
 ghost use Rattle.range_change.specs.Lookups.{MeetAlso};
-ghost use Rattle.range_sets.specs.KeySets.{HoldsAlso, IsStoredSet};
+ghost use Rattle.range_set_extend.specs.KeySets.{HoldsAlso, IsStoredSet};
 
 use super::RangeSet;
 use range_algebra::any::AnyRange;

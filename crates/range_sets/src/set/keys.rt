@@ -1,7 +1,7 @@
 //! A set of the keys of a map, and a set as a map.
 ghost use Rattle.std.specs.Prelude.{◌≡◌, IfOk, Ok};
 ghost use Rattle.range_algebra.specs.Range.{ClonesAreEqual};
-ghost use Rattle.range_sets.specs.KeySets.{HoldsKeysOf, IsStoredSet};
+ghost use Rattle.range_set_extend.specs.KeySets.{HoldsKeysOf, IsStoredSet};
 
 use super::RangeSet;
 use range_algebra::any::AnyRange;

@@ -5,7 +5,7 @@ ghost use Rattle.range_algebra.specs.Intervals.{Any};
 ghost use Rattle.range_algebra.specs.Measures.{list_measure, HasUntoldEnd};
 ghost use Rattle.range_algebra.specs.Numbers.{IsNumberOfKeys};
 ghost use Rattle.range_reads.specs.FreeRanges.{item_ranges};
-ghost use Rattle.range_sets.specs.KeySets.{HoldsKey};
+ghost use Rattle.range_set_extend.specs.KeySets.{HoldsKey};
 
 use super::RangeSet;
 use range_algebra::any::AnyRange;

@@ -6,7 +6,7 @@ ghost use Rattle.range_change.specs.Clones.{ClonesNeverFail};
 ghost use Rattle.range_change.specs.Costs.{TakesAtLeast, TakesAsChange};
 ghost use Rattle.range_change.specs.Frames.{IsRemovalFrame};
 ghost use Rattle.range_change.specs.Lookups.{Overlap};
-ghost use Rattle.range_sets.specs.KeySets.{HoldsWithout, IsStoredSet};
+ghost use Rattle.range_set_extend.specs.KeySets.{HoldsWithout, IsStoredSet};
 
 use super::RangeSet;
 use range_algebra::any::AnyRange;

@@ -4,7 +4,7 @@ ghost use Rattle.std.specs.Fn.{CalledAt};
 ghost use Rattle.std.specs.List.Retain.{IsFiltered};
 ghost use Rattle.range_reads.specs.FreeRanges.{item_ranges};
 ghost use Rattle.range_map.specs.Together.{BindKeysOf};
-ghost use Rattle.range_sets.specs.KeySets.{IsStoredSet};
+ghost use Rattle.range_set_extend.specs.KeySets.{IsStoredSet};
 
 use super::RangeSet;
 use range_algebra::any::AnyRange;

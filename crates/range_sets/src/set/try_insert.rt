@@ -4,7 +4,7 @@ ghost use Rattle.range_algebra.specs.Range.{IsEmptyRange};
 ghost use Rattle.range_change.specs.Frames.{IsInsertionFrame};
 ghost use Rattle.range_change.specs.Lookups.{MeetsSome, MeetAlso};
 ghost use Rattle.range_sets.specs.Adding.{IsOccupied, given_back};
-ghost use Rattle.range_sets.specs.KeySets.{HoldsAlso, IsStoredSet};
+ghost use Rattle.range_set_extend.specs.KeySets.{HoldsAlso, IsStoredSet};
 
 use super::RangeSet;
 use range_algebra::any::AnyRange;

@@ -7,7 +7,7 @@ ghost use Rattle.range_algebra.specs.Intervals.{Le};
 ghost use Rattle.range_algebra.specs.Range.{ClonesAreEqual};
 ghost use Rattle.range_algebra.specs.References.{range_of};
 ghost use Rattle.range_merge.specs.Merged.{IsPlaced};
-ghost use Rattle.range_sets.specs.KeySets.{IsStoredSet};
+ghost use Rattle.range_set_extend.specs.KeySets.{IsStoredSet};
 ghost use Rattle.range_sets.specs.TwoSets.{HoldsEither};
 ghost use Rattle.range_sets.specs.Uniting.{IsAdded, IsFirstOf, IsLaterEnd, IsPushed, Reaches};
 

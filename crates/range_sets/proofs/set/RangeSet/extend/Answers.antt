@@ -1,73 +1,12 @@
-use Rattle.std.proofs.Common.{◌∷◌, [], map}
-use Rattle.std.proofs.lemmas.List.{map-append}
-use Rattle.std.proofs.lemmas.Bool.{false≢true}
-use Rattle.range_change.proofs.Results.{error_has_no_value, on_error}
-use Rattle.range_sets.proofs.Membership.{none_added, one_more}
 use Rattle.range_sets.proofs.set.RangeSet.extend.Goals as goal
-
-pub loop-range-init : goal.loop-range-init
-loop-range-init g c =
-    let ready =
-    c.requires.ends c.into_iter-range-iterator.result
-    c.into_iter-range-iterator.ensures.into_iter_gives in
-    record {
-      can = ready.0;
-      ends = ready.1;
-      added = none_added g.T.MaybeBounded.order (g.C.Storage.items c.args.self.now);
-      form = c.in_form.ensures;
-    }
-
-pub loop-range-preserved : goal.loop-range-preserved
-loop-range-preserved g c =
-    let items = g.C.Storage.items in
-    let range = g.R.AsRange.range in
-    let was = c.loop-range.invariant in
-    let next = c.in-Some.range in
-    let more =
-    one_more g.T.MaybeBounded.order (items c.args.self.now) (items c.loop-range.self)
-    (items c.insert.new.self) (map range c.loop-range.yielded)
-    (range next) was.added c.in_ok-insert.ensures.added in
-    record {
-      can = (c.in-Some.ensures.goes.on was.ends).0;
-      ends = (c.in-Some.ensures.goes.on was.ends).1;
-      added = rw (map-append range c.loop-range.yielded (next ∷ [])) more;
-      form = c.insert.ensures.form;
-    }
 
 pub returns : goal.returns
 returns g c =
     record {
-      added = (
-        c.into_iter-range-iterator.result,
-        c.loop-range.yielded,
-        c.into_iter-range-iterator.ensures.into_iter_gives,
-        (
-          c.next.new.self,
-          (c.loop-range.range-iterator, c.loop-range.yielded_by, c.in-None.ensures.steps),
-        ),
-        c.loop-range.invariant.added,
-      );
-      refused = tt;
-      form = c.loop-range.invariant.form;
+      added = rw (← c.self.view_is) c.extend.ensures.added;
+      refused = rw (← c.self.view_is) c.extend.ensures.refused;
+      form = c.extend.ensures.form;
     }
 
-pub returns-in_err-insert : goal.returns-in_err-insert
-returns-in_err-insert g c =
-    record {
-      added = error_has_no_value _ c.from_residual.result c.from_residual.ensures.0;
-      refused =
-          on_error _ c.from_residual.result (
-            c.into_iter-range-iterator.result,
-            c.loop-range.yielded,
-            c.in-Some.range,
-            c.next.new.self,
-            c.into_iter-range-iterator.ensures.into_iter_gives,
-            (c.loop-range.range-iterator, c.loop-range.yielded_by, c.in-Some.ensures.steps),
-            λ empty. absurd (false≢true (c.in_err-insert.ensures.empty empty)),
-            rw c.in_err-insert.ensures.refused c.loop-range.invariant.added,
-          );
-      form = c.insert.ensures.form;
-    }
-
-pub insert-requires : goal.insert-requires
-insert-requires g c = c.requires.clones
+pub extend-requires : goal.extend-requires
+extend-requires g c = record { clones = c.requires.clones; ends = c.requires.ends }

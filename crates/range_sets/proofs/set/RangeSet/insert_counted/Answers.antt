@@ -1,7 +1,7 @@
 use Rattle.std.proofs.Common.{refl, true, rules}
 use Rattle.std.proofs.lemmas.Result.{on_ok_weaker}
 use Rattle.range_sets.proofs.Counting.{one_more}
-use Rattle.range_sets.proofs.Membership.{added}
+use Rattle.range_set_extend.proofs.Membership.{added}
 use Rattle.range_sets.proofs.set.RangeSet.insert_counted.Goals as goal
 
 pub returns : goal.returns

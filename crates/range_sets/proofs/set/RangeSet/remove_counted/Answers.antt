@@ -1,6 +1,6 @@
 use Rattle.std.proofs.Common.{refl, true, rules}
 use Rattle.std.proofs.lemmas.Result.{on_ok_weaker}
-use Rattle.range_sets.proofs.Membership.{removed}
+use Rattle.range_set_extend.proofs.Membership.{removed}
 use Rattle.range_sets.proofs.set.RangeSet.remove_counted.Goals as goal
 
 pub returns : goal.returns

@@ -1,6 +1,6 @@
 use Rattle.std.proofs.Common.{refl, true, ap, rules, of_calls}
 use Rattle.std.specs.Fn.{Called, CalledAt, always_mut}
-use Rattle.range_sets.proofs.Membership.{still_held}
+use Rattle.range_set_extend.proofs.Membership.{still_held}
 use Rattle.range_sets.proofs.Retained.{ranges_filtered}
 use Rattle.range_sets.proofs.set.RangeSet.retain.Goals as goal
 use denote.Param.Always.{mut_by, mut_next}

@@ -1,7 +1,7 @@
 use Rattle.std.proofs.Common.{refl, true, rules}
 use Rattle.std.proofs.lemmas.Result.{on_ok_weaker, on_err_weaker}
 use Rattle.range_map.specs.PartWay.{AreUnboundAfter}
-use Rattle.range_sets.specs.KeySets.{HoldsWithoutAll}
+use Rattle.range_set_extend.specs.KeySets.{HoldsWithoutAll}
 use Rattle.range_sets.proofs.InPlace.{before_one_gap, both, without_all}
 use Rattle.range_sets.proofs.set.RangeSet.retain_all.Goals as goal
 

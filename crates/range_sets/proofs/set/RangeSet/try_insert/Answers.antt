@@ -1,7 +1,7 @@
 use Rattle.std.proofs.Common.{rules, refl, true}
 use Rattle.std.proofs.lemmas.Bool.{false≢true}
 use Rattle.range_sets.proofs.Counting.{one_more}
-use Rattle.range_sets.proofs.Membership.{added}
+use Rattle.range_set_extend.proofs.Membership.{added}
 use Rattle.range_sets.proofs.set.RangeSet.try_insert.Goals as goal
 use Rattle.range_sets.proofs.set.RangeSet.try_insert.Goals.{in-Ok, in-Err-Occupied, in-Err-Memory}
 

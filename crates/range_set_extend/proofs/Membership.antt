@@ -9,7 +9,7 @@ use Rattle.range_change.specs.Bindings.{IsBound, BindsTo, IsBoundAfter, IsUnboun
 use Rattle.range_map.specs.Retaining.{BindOnlyAsBefore}
 use Rattle.range_map.specs.Together.{BindKeysOf}
 use Rattle.range_change.proofs.Overlaps.{binds_bound}
-use Rattle.range_sets.specs.KeySets.{HoldsKey, SomeHolds, HoldsAlso, HoldsWithout, HoldsAllAlso, HoldsAllOf}
+use Rattle.range_set_extend.specs.KeySets.{HoldsKey, SomeHolds, HoldsAlso, HoldsWithout, HoldsAllAlso, HoldsAllOf}
 
 module _ {K : Type 0} (order : KeyOrder K) where
   abbrev Items : Type 0
