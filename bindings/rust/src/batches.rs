@@ -6,8 +6,16 @@ use crate::ffi::{
 use crate::range::sealed::Native;
 use crate::{InsertedOnly, ffi};
 
+/// How many ranges the first batch has at most. Most callers want few.
+const FIRST: usize = 4;
+
 /// How many ranges a batch has at most.
-const BATCH: usize = 128;
+const BATCH: usize = 512;
+
+/// How many ranges the batch after one of so many has at most.
+fn size_after(count: usize) -> usize {
+    (8 * count).clamp(FIRST, BATCH)
+}
 
 /// How many keys or ranges are given in one call of many: as many as a function may well keep on the stack.
 const GIVEN: usize = 64;
@@ -85,7 +93,7 @@ impl<N: Copy, E: Stored<N>> End<N, E> {
     #[cold]
     fn refill(&mut self, handle: &Handle, reads: Reads<N, E>, left: usize) -> RawRange<N> {
         let again = usize::from(self.is_again);
-        self.read.resize((left + again).min(BATCH), E::default());
+        self.read.resize((left + again).min(size_after(self.read.len())), E::default());
         let mut count = 0;
         // SAFETY: the buffer is as many ranges as is said, and the handle is not written while it is borrowed
         unsafe { reads(handle.get(), self.next, self.read.as_mut_ptr(), self.read.len(), &mut count) };
@@ -142,9 +150,6 @@ pub struct Within<'a, N, E> {
     shown: usize,
 }
 
-/// How many ranges the first batch of a range has at most. Most callers want few.
-const FIRST: usize = 4;
-
 impl<'a, N: Copy, E: Stored<N>> Within<'a, N, E> {
     pub fn new(handle: &'a Handle, reads: ReadsWithin<N, E>, range: RawRange<N>) -> Self {
         Within { handle, reads, range: Some(range), read: Vec::new(), shown: 0 }
@@ -164,7 +169,7 @@ impl<'a, N: Copy, E: Stored<N>> Within<'a, N, E> {
     #[cold]
     fn refill(&mut self) -> Option<()> {
         let range = self.range.take()?;
-        let capacity = if self.read.is_empty() { FIRST } else { BATCH };
+        let capacity = size_after(self.read.len());
         self.read.resize(capacity, E::default());
         let mut count = 0;
         // SAFETY: the buffer is as many ranges as is said, and the handle is not written while it is borrowed
