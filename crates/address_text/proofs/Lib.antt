@@ -1,3 +1,4 @@
 -- Lemmas.
 mod Blocks
+mod Faults
 mod Spans

@@ -1,3 +1,4 @@
 -- Texts of addresses, and lines of lists.
+pub mod Faults
 pub mod Lines
 pub mod Texts

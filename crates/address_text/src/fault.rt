@@ -1,9 +1,11 @@
 //! What is wrong with a line that says nothing.
 
-ghost use Rattle.std.specs.Prelude.{◌≤◌, ◌+◌, length};
+ghost use Rattle.std.specs.Prelude.{◌≡◌, ◌≤◌, ◌+◌, ℕ, MatchOption, drop, length};
+ghost use Rattle.address_text.specs.Faults.{IsAddress, IsExpected, IsOf, IsWrong, IsWrongLast, IsWrongPrefix, IsWrongRange};
+ghost use Rattle.address_text.specs.Lines.{content, from_word};
 
 use crate::family::Family;
-use crate::line::{content_of, length_of};
+use crate::line::{content_of, length_of, trimmed_of};
 use std::fmt;
 
 /// What was expected where a line of an address list is wrong.
@@ -37,25 +39,29 @@ pub struct Fault {
     pub expected: Expected,
 }
 
-fn family_of(text: &str) -> Option<Family> {
-    if Family::V4.read(text).is_some() {
-        Some(Family::V4)
-    } else if Family::V6.read(text).is_some() {
-        Some(Family::V6)
-    } else {
-        None
+fn family_of(text: &str) -> Option<Family>
+    ensures { MatchOption result (¬ IsAddress text.now) (λ family. IsOf family text.now) }
+{
+    if let Some(_number) = Family::V4.read(text) {
+        return Some(Family::V4);
+    }
+    match Family::V6.read(text) {
+        Some(_number) => Some(Family::V6),
+        None => None,
     }
 }
 
 /// How many bytes of white space a text begins with.
 fn blanks(text: &[u8]) -> usize
-    ensures { result ≤ length text.now }
+    ensures most { result ≤ length text.now }
+    ensures word { drop result text.now ≡ from_word text.now }
 {
     text.len().saturating_sub(text.trim_ascii_start().len())
 }
 
 fn fault_of_prefix(address: &str, digits: &str) -> Fault
-    ensures { result.column ≤ length address.now + 1 }
+    ensures last { result.column ≤ length address.now + 1 }
+    ensures expected { IsWrongPrefix address.now digits.now result.expected }
 {
     match family_of(address) {
         None => Fault {
@@ -73,28 +79,38 @@ fn fault_of_prefix(address: &str, digits: &str) -> Fault
     }
 }
 
-fn fault_of_range(first: &str, last: &str) -> Fault
-    ensures { result.column ≤ length first.now + 1 + length last.now }
+/// What is wrong with the second text of a range.
+fn expected_last(last: &str) -> Expected
+    ensures { IsWrongLast last.now result }
 {
-    if family_of(first.trim_ascii()).is_none() {
-        return Fault {
-            column: 0,
-            expected: Expected::Address,
-        };
-    }
-    let blanks = blanks(last.as_bytes());
-    let expected = match family_of(last.trim_ascii()) {
+    match family_of(last) {
         Some(_) => Expected::Last,
         None => Expected::Address,
-    };
-    Fault {
-        column: first.len().saturating_add(1).saturating_add(blanks),
-        expected,
+    }
+}
+
+fn fault_of_range(first: &str, last: &str) -> Fault
+    ensures last { result.column ≤ length first.now + 1 + length last.now }
+    ensures expected { IsWrongRange first.now last.now result.expected }
+{
+    match family_of(trimmed_of(first)) {
+        None => Fault {
+            column: 0,
+            expected: Expected::Address,
+        },
+        Some(_) => {
+            let blanks = blanks(last.as_bytes());
+            Fault {
+                column: first.len().saturating_add(1).saturating_add(blanks),
+                expected: expected_last(trimmed_of(last)),
+            }
+        }
     }
 }
 
 fn fault_in(text: &str) -> Fault
-    ensures { result.column ≤ length text.now }
+    ensures last { result.column ≤ length text.now }
+    ensures expected { IsWrong text.now result.expected }
 {
     if let Some((address, digits)) = text.split_once('/') {
         return fault_of_prefix(address, digits);
@@ -108,20 +124,28 @@ fn fault_in(text: &str) -> Fault
     }
 }
 
-/// What is wrong with a line that [`line_of`](crate::line_of) reads as nothing, at one of its bytes
-/// or at its end. Allocates nothing.
-pub fn fault_of(line: &[u8]) -> Fault
-    ensures first { 1 ≤ result.column }
-    ensures last { result.column ≤ length line.now + 1 }
+fn fault_in_content(content: &[u8]) -> Fault
+    ensures last { result.column ≤ length content.now }
+    ensures expected { IsExpected content.now result.expected }
 {
-    let blanks = blanks(line);
-    let fault = match str::from_utf8(content_of(&line[blanks..])) {
+    match str::from_utf8(content) {
         Ok(text) => fault_in(text),
         Err(_) => Fault {
             column: 0,
             expected: Expected::Address,
         },
-    };
+    }
+}
+
+/// What is wrong with a line that [`line_of`](crate::line_of) reads as nothing, at one of its bytes
+/// or at its end. Allocates nothing.
+pub fn fault_of(line: &[u8]) -> Fault
+    ensures first { 1 ≤ result.column }
+    ensures last { result.column ≤ length line.now + 1 }
+    ensures expected { IsExpected (content line.now) result.expected }
+{
+    let blanks = blanks(line);
+    let fault = fault_in_content(content_of(&line[blanks..]));
     Fault {
         column: fault.column.saturating_add(blanks).saturating_add(1),
         expected: fault.expected,

@@ -6,7 +6,7 @@
 //! Where to find what:
 //!
 //! - what a line of a list says: `src/line.rt`, `specs/Lines.antt`; what is wrong with one that
-//!   says nothing: `src/fault.rt`
+//!   says nothing: `src/fault.rt`, `specs/Faults.antt`
 //! - an address, prefix or range as it is printed: `src/write.rt`, `specs/Texts.antt`
 #![tactic(auto)]
 

@@ -41,7 +41,7 @@ pub(crate) fn content_of(line: &[u8]) -> &[u8]
 }
 
 /// A text without the white space around it.
-fn trimmed_of(text: &str) -> &str
+pub(crate) fn trimmed_of(text: &str) -> &str
     ensures { result.now ≡ trimmed text.now }
 {
     text.trim_ascii()
