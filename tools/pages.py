@@ -113,7 +113,8 @@ def items_of(crate, names):
 
 def definitions_of(crate):
     """Returns the definitions of a crate by their files and names: comment and text of each."""
-    found = {}
+    found, common = {}, crate.folder / "specs/Common.antt"
+    passed_on = imported(common.read_text().replace("pub use", "use")) if common.exists() else {}
     for path in sorted((crate.folder / "specs").rglob("*.antt")):
         file = str(path.relative_to(crate.folder / "specs").with_suffix(""))
         for block in re.split(r"\n\s*\n", path.read_text()):
@@ -123,7 +124,10 @@ def definitions_of(crate):
                 head = DEFINED.match(lines[at])
                 comment = [it.strip()[2:].strip() for it in lines[:at] if it.strip().startswith("--")]
                 text = "\n".join(it[len(head[1]) :] for it in lines[at:])
-                found[file, head[2]] = comment, text, imported(path.read_text())
+                imports = imported(path.read_text())
+                common_names = {it for it, place in imports.items() if place[1] == "Common"}
+                imports |= {it: passed_on[it] for it in common_names & passed_on.keys()}
+                found[file, head[2]] = comment, text, imports
     return found
 
 

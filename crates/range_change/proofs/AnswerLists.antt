@@ -115,7 +115,8 @@ module _ {K : Type 0} (order : KeyOrder K) (lawful : IsLawful order) {V : Type 0
         }
 
     lead_all : (j : Item (AnyRange K) V)
-        → position_cmp order.cmp (lower order j.key) (lower order key) ≡ Equal → (xs : List (Item (AnyRange K) V)) → Chained order lawful same equal xs
+        → position_cmp order.cmp (lower order j.key) (lower order key) ≡ Equal
+        → (xs : List (Item (AnyRange K) V)) → Chained order lawful same equal xs
         → Every (LiesUpTo m) xs
         → ((k : ℕ) (d : Item (AnyRange K) V) → k + 1 ≡ length xs
         → Touches order (get_or xs k d).key key → same (get_or xs k d).value j.value ≡ true → ⊥)
@@ -310,7 +311,8 @@ module _ {K : Type 0} (order : KeyOrder K) (lawful : IsLawful order) {V : Type 0
       fill_more value None old new was put = rw put (filled_free value old was)
       fill_more value (Some v) old new was (inl put) =
           rw put.list (filled_with_item_after v value
-          (record { start = put.start; end = put.end }) old was put.known (tied_back (position_total order.cmp lawful.total) (lower order key)
+          (record { start = put.start; end = put.end }) old was put.known
+          (tied_back (position_total order.cmp lawful.total) (lower order key)
           (start_position order put.start) (same_start order lawful key.start put.start
           (clones key.start put.start put.start_clone)))
           (tied_back (position_total order.cmp lawful.total) (upper order key)

@@ -8,7 +8,8 @@ on_ok P Q (Err e) f h = tt
 
 module _ {K : Type 0} (order : KeyOrder K) (lawful : IsLawful order) where
   -- two ranges meet where each starts below the other's end
-  pub overlap_is : (r s : AnyRange K) → IsKnownRange order r → IsKnownRange order s → Overlap order r s
+  pub overlap_is : (r s : AnyRange K) → IsKnownRange order r → IsKnownRange order s
+      → Overlap order r s
       ↔ (PLt lawful (lower order r) (upper order s) × PLt lawful (lower order s) (upper order r))
   overlap_is r s known others =
       let before = before_is order lawful r.end s.start known.1 others.0 in

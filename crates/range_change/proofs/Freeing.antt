@@ -1,4 +1,4 @@
--- Where a range meets no stored one, no item is cut beside it; what is made of a list keeps its form.
+-- Where a range meets no stored one, no item is cut beside it; a list that is made keeps its form.
 use Rattle.range_change.proofs.Common.{◌≡◌, refl, Bool, List, Option, Some, None, Result, Ok, Err, OnOk, OnErr, Bound, KeyOrder, AnyRange, Item, IsInserted, seam_border, IsStored}
 
 -- so it is the same where it would be cut

@@ -209,8 +209,8 @@ module _ {K : Type 0} {order : KeyOrder K} (lawful : IsLawful order) {V : Type 0
       one_more_keeps_spelling kept =
           let all =
           pieces_are_kept lawful equal items r window.stored window.known window.nonempty Met met in
-          put_keeps_spelling lawful same items clones (every_right _ Done _ (rw was.list at all)).0 old
-          new answer kept put
+          put_keeps_spelling lawful same items clones
+          (every_right _ Done _ (rw was.list at all)).0 old new answer kept put
 
   -- all pieces were asked about
   pub all_gathered : {F E : Type 0}

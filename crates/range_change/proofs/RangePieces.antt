@@ -321,11 +321,11 @@ module _ {K : Type 0} (order : KeyOrder K) (lawful : IsLawful order) where
               inr (both_held p P Q xs (chain_tail (line_of order lawful same equal) x xs chain.1) h
               k)
           both_held p P Q (x ∷ xs) chain (inl h) (inr k) =
-              any_use _ _ xs k (follows_above (line_of order lawful same equal) x xs chain.1) (λ i g le.
-              absurd (lt_not_le lawful _ _ h.1.1 (le_trans lawful _ _ _ le g.1.0)))
+              any_use _ _ xs k (follows_above (line_of order lawful same equal) x xs chain.1)
+              (λ i g le. absurd (lt_not_le lawful _ _ h.1.1 (le_trans lawful _ _ _ le g.1.0)))
           both_held p P Q (x ∷ xs) chain (inr h) (inl k) =
-              any_use _ _ xs h (follows_above (line_of order lawful same equal) x xs chain.1) (λ i g le.
-              absurd (lt_not_le lawful _ _ k.1.1 (le_trans lawful _ _ _ le g.1.0)))
+              any_use _ _ xs h (follows_above (line_of order lawful same equal) x xs chain.1)
+              (λ i g le. absurd (lt_not_le lawful _ _ k.1.1 (le_trans lawful _ _ _ le g.1.0)))
 
           common_held : (p : Position K) (key : AnyRange K) (v : V) → IsKnownRange order key
               → Any (λ i. IsCommonPart order r i.key key × (i.value ≡ v)) items → PLe (Lo key) p

@@ -208,7 +208,8 @@ module _ {K : Type 0} {order : KeyOrder K} (lawful : IsLawful order) {V : Type 0
     start_within =
         let known_r = within.window.known in
         within_is_kept lawful equal items known chain (take place items)
-        (drop (place + 1) items) x list StartSide r.start r.start (same_itself order lawful r.start) (
+        (drop (place + 1) items) x list StartSide r.start r.start
+        (same_itself order lawful r.start) (
           lt_le lawful _ _ starts,
           (reaching_is_before_past order lawful r.start x.key.end known_r.0 known_x.1).1
               ends_after_start,

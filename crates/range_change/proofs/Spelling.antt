@@ -147,7 +147,8 @@ module _ {K : Type 0} {order : KeyOrder K} (lawful : IsLawful order) where
         module _ (r : AnyRange K) (known_r : IsKnownRange order r)
             (starts : PLt lawful (lower order x.key) (upper order r))
             (ends : PLt lawful (lower order r) (upper order x.key)) where
-          common_start_by : (b : Bound K) (o : Ordering) → places order lawful (start_position order x.key.start)
+          common_start_by : (b : Bound K) (o : Ordering)
+              → places order lawful (start_position order x.key.start)
               (start_position order r.start) ≡ o
               → SameBound order (if is_lt o then r.start else x.key.start) b
               → IsStartAsIn order items b

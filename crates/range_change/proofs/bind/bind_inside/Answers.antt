@@ -1,5 +1,4 @@
-use Rattle.range_change.proofs.Common.{sym, refl, arith, Some, false≢true}
-use Rattle.range_change.proofs.Results.{error_has_no_value, on_error}
+use Rattle.range_change.proofs.Common.{sym, refl, arith, Some}
 use Rattle.range_change.proofs.Surrounded.{stands, divided_around, divided_size}
 use Rattle.range_change.proofs.bind.bind_inside.Goals as goal
 
@@ -33,20 +32,4 @@ returns g c =
           );
       refused = tt;
       succeeds = λ keys values enough. refl;
-    }
-
-pub prepare_parts-requires-clause-good : goal.prepare_parts-requires-clause-good
-prepare_parts-requires-clause-good g c =
-    c.requires.within.good
-
-pub returns-in_err-parts : goal.returns-in_err-parts
-returns-in_err-parts g c =
-    record {
-      ok = error_has_no_value _ c.from_residual.result c.from_residual.ensures.0;
-      few = error_has_no_value _ c.from_residual.result c.from_residual.ensures.0;
-      refused =
-          on_error _ c.from_residual.result c.prepare_parts.ensures.list;
-      succeeds =
-          λ keys values enough.
-          absurd (false≢true (c.in_err-parts.ensures.succeeds keys values enough));
     }

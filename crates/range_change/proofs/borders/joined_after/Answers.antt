@@ -1,8 +1,5 @@
-use Rattle.range_change.proofs.Common.{common_steps, sym, arith, get_or_read}
+use Rattle.range_change.proofs.Common.{sym, get_or_read}
 use Rattle.range_change.proofs.borders.joined_after.Goals as goal
-
-pub returns-else-touching-clause-joined : goal.returns-else-touching-clause-joined
-returns-else-touching-clause-joined g c = grind (arith, common_steps)
 
 pub returns-then-eq-clause-joined : goal.returns-then-eq-clause-joined
 returns-then-eq-clause-joined g c =

@@ -1,4 +1,4 @@
-use Rattle.range_change.proofs.Common.{not_lt, PLe, common_steps, ◌≡◌, ◌+◌, ◌-◌, ◌<◌, length, get_or, ap, sym, ◌∙◌, arith, subst, get_or_read, upper, place_before, item_upper}
+use Rattle.range_change.proofs.Common.{not_lt, PLe, ◌≡◌, ◌+◌, ◌-◌, ◌<◌, length, get_or, ap, sym, ◌∙◌, arith, subst, get_or_read, upper, place_before, item_upper}
 use Rattle.range_change.proofs.Tests.{not_both}
 use Rattle.range_change.proofs.reach.reaching_after.Goals as goal
 
@@ -21,6 +21,3 @@ returns-else-ends_after-clause-reaching g c = λ x some read.
     let lawful = g.met.K.PartialEnum.lawful in
     subst (λ y. PLe lawful (item_upper order y) (upper order (g.R.AsRange.range c.args.range.now)))
     (sym same) (not_lt lawful _ _ (λ l. not_both c.if-ends_after.false (c.ends_after.ensures.1 l)))
-
-pub returns-then-ends_after-clause-reaching : goal.returns-then-ends_after-clause-reaching
-returns-then-ends_after-clause-reaching g c = grind (arith, common_steps)

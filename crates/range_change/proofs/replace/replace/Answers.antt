@@ -1,8 +1,7 @@
-use Rattle.range_change.proofs.Common.{common_steps, ◌≡◌, ◌+◌, ◌-◌, length, refl, ap, ◌∙◌, arith, false≢true, slice_get, option_copied, place_before, joined_count, seam_border, flipped_bound}
+use Rattle.range_change.proofs.Common.{false≢true, common_steps, ◌≡◌, ◌+◌, ◌-◌, length, refl, ap, ◌∙◌, arith, slice_get, option_copied, place_before, joined_count, seam_border, flipped_bound}
 use Rattle.range_change.proofs.InsertionFrames.{all_meet}
 use Rattle.range_change.proofs.Planned.{plan_fits}
 use Rattle.range_change.proofs.Replaced.{IsReplacement, plans_replacement, replacement_is_made}
-use Rattle.range_change.proofs.Results.{error_has_no_value, on_error}
 use Rattle.range_change.proofs.JoinedMiddle.{seam_count}
 use Rattle.range_change.proofs.SpelledChanges.{replaced_keeps_spelling}
 use Rattle.range_change.proofs.Surrounded.{run_can_start}
@@ -158,16 +157,9 @@ returns g c =
       none_put = λ none. refl;
     }
 
-pub returns-in_err-reserve : goal.returns-in_err-reserve
-returns-in_err-reserve g c =
-    record {
-      ok = error_has_no_value _ c.from_residual.result c.from_residual.ensures.0;
-      spelled = λ kept. error_has_no_value _ c.from_residual.result c.from_residual.ensures.0;
-      refused = on_error _ c.from_residual.result c.reserve.ensures.list;
-      none_put =
-          λ none.
-          absurd (false≢true (c.in_err-reserve.ensures.succeeds (grind (arith, common_steps))));
-    }
+pub returns-in_err-reserve-clause-none_put : goal.returns-in_err-reserve-clause-none_put
+returns-in_err-reserve-clause-none_put g c = λ none.
+    absurd (false≢true (c.in_err-reserve.ensures.succeeds (grind (arith, common_steps))))
 
 pub joined_left-before-requires-clause-within : goal.joined_left-before-requires-clause-within
 joined_left-before-requires-clause-within g c = grind (arith, common_steps)

@@ -47,9 +47,3 @@ returns g c = λ at end before behind start finish left_shape right_shape le.
     ∙ (ap (λ ys. (take at items ++ option_items before ++ own) ++ ys) opened.behind
     ∙ sym (append_assoc (take at items ++ option_items before ++ own) (option_items behind)
     (drop end items)))))
-
-pub end_at-requires : goal.end_at-requires
-end_at-requires g c = grind (arith, common_steps)
-
-pub start_at-requires : goal.start_at-requires
-start_at-requires g c = grind (arith, common_steps)

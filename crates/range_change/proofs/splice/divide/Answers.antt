@@ -3,9 +3,6 @@ use Rattle.range_change.proofs.DividedItems.{parted_alone, parted_around}
 use Rattle.range_change.proofs.Tests.{same_some}
 use Rattle.range_change.proofs.splice.divide.Goals as goal
 
-pub replace_end-old_end-requires : goal.replace_end-old_end-requires
-replace_end-old_end-requires g c = c.requires.good
-
 pub insert_at-at-requires : goal.insert_at-at-requires
 insert_at-at-requires g c =
     let storage = g.C.Storage in

@@ -69,9 +69,6 @@ returns g c =
     (storage.items c.remove_rest.new.stored) done place c.args.run.left c.loop-item.cursor.left
     was.changed was.fewer c.requires.in_range (rw here at c.remove_rest.ensures.list))
 
-pub loop-item-smaller : goal.loop-item-smaller
-loop-item-smaller g c = grind (arith, common_steps)
-
 pub put-cursor-requires : goal.put-cursor-requires
 put-cursor-requires g c =
     let storage = g.C.Storage in

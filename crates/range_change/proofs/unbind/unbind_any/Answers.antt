@@ -1,6 +1,5 @@
-use Rattle.range_change.proofs.Common.{false≢true, common_steps, rules, refl, arith}
+use Rattle.range_change.proofs.Common.{common_steps, rules, refl, arith}
 use Rattle.range_change.proofs.Lengths.{le_sum}
-use Rattle.range_change.proofs.Results.{error_has_no_value, on_error}
 use Rattle.range_change.proofs.Tests.{not_both}
 use Rattle.range_change.proofs.unbind.unbind_any.Goals as goal
 
@@ -47,27 +46,4 @@ returns-then-is_empty g c =
       empty = λ _. refl;
       empty_unchanged = λ _. refl;
       empty_uncounted = λ _. refl;
-    }
-
-pub returns-in_err-unbind : goal.returns-in_err-unbind
-returns-in_err-unbind g c =
-    let full = c.is_empty.ensures.by_position in
-    let same = c.in_err-unbind.ensures.refused in
-    record {
-      removed = error_has_no_value _ c.from_residual.result c.from_residual.ensures.0;
-      unbound = error_has_no_value _ c.from_residual.result c.from_residual.ensures.0;
-      form = rw same c.requires.stored;
-      few = grind (arith, common_steps);
-      most = error_has_no_value _ c.from_residual.result c.from_residual.ensures.0;
-      least = λ _. c.unbind.ensures.least;
-      refused = on_error _ c.from_residual.result same;
-      space = c.unbind.ensures.space;
-      succeeds =
-          λ keys values enough. absurd (false≢true (c.in_err-unbind.ensures.succeeds keys values enough));
-      unmet = λ none.
-          let ok = rw c.in_err-unbind.was at (c.unbind.ensures.unmet none) in absurd (cc);
-      unmet_unchanged = λ _. same;
-      empty = λ e. absurd (not_both c.if-is_empty.false (full.1 e));
-      empty_unchanged = λ _. same;
-      empty_uncounted = λ e. absurd (not_both c.if-is_empty.false (full.1 e));
     }

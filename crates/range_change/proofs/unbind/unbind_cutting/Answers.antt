@@ -1,18 +1,11 @@
-use Rattle.range_change.proofs.Common.{refl, ◌≡◌, [], ◌+◌, length, ap, ◌∙◌, arith, None, false≢true, place_before, joined_count, seam_border, option_items}
+use Rattle.range_change.proofs.Common.{refl, ◌≡◌, [], ◌+◌, length, ap, ◌∙◌, arith, None, place_before, joined_count, seam_border, option_items}
 use Rattle.range_change.proofs.Lengths.{one_item, changed_length}
 use Rattle.range_change.proofs.RangeSides.{borders_remove}
 use Rattle.range_change.proofs.Planned.{plan_fits}
 use Rattle.range_change.proofs.InsertionPlans.{left_cut_out, right_cut_out}
-use Rattle.range_change.proofs.Results.{error_has_no_value, on_error}
 use Rattle.range_change.proofs.JoinedMiddle.{seam_count}
 use Rattle.range_change.proofs.Surrounded.{run_can_start}
 use Rattle.range_change.proofs.unbind.unbind_cutting.Goals as goal
-
-pub seam_at-requires : goal.seam_at-requires
-seam_at-requires g c = c.requires.keys
-
-pub seam_at-requires-2 : goal.seam_at-requires-2
-seam_at-requires-2 g c = c.requires.keys
 
 pub run_start-requires : goal.run_start-requires
 run_start-requires g c =
@@ -114,28 +107,4 @@ returns g c =
       refused = tt;
       space = c.change.ensures.space;
       succeeds = λ keys. refl;
-    }
-
-pub returns-in_err-left : goal.returns-in_err-left
-returns-in_err-left g c =
-    record {
-      ok = error_has_no_value _ c.from_residual.result c.from_residual.ensures.0;
-      few = error_has_no_value _ c.from_residual.result c.from_residual.ensures.0;
-      refused =
-          on_error _ c.from_residual.result refl;
-      space = omega arith;
-      succeeds = λ keys. absurd (false≢true (c.in_err-left.ensures.succeeds keys));
-    }
-
-pub returns-in_err-right : goal.returns-in_err-right
-returns-in_err-right g c =
-    record {
-      ok = error_has_no_value _ c.from_residual-in_err-right.result
-          c.from_residual-in_err-right.ensures.0;
-      few =
-          error_has_no_value _ c.from_residual-in_err-right.result
-          c.from_residual-in_err-right.ensures.0;
-      refused = on_error _ c.from_residual-in_err-right.result refl;
-      space = omega arith;
-      succeeds = λ keys. absurd (false≢true (c.in_err-right.ensures.succeeds keys));
     }

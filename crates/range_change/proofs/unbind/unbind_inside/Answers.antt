@@ -1,6 +1,5 @@
-use Rattle.range_change.proofs.Common.{arith, refl, ap, length, None, false≢true}
+use Rattle.range_change.proofs.Common.{arith, refl, None}
 use Rattle.range_change.proofs.ItemPlaces.{element_at, element_at_is_read}
-use Rattle.range_change.proofs.Results.{error_has_no_value, on_error}
 use Rattle.range_change.proofs.Surrounded.{divided_alone, divided_size}
 use Rattle.range_change.proofs.unbind.unbind_inside.Goals as goal
 
@@ -34,20 +33,3 @@ returns g c =
       space = omega (arith, size, c.prepare_parts.ensures.no_less, c.divide.ensures.space);
       succeeds = λ keys values enough. refl;
     }
-
-pub returns-in_err-parts : goal.returns-in_err-parts
-returns-in_err-parts g c =
-    record {
-      ok = error_has_no_value _ c.from_residual.result c.from_residual.ensures.0;
-      few = error_has_no_value _ c.from_residual.result c.from_residual.ensures.0;
-      refused =
-          on_error _ c.from_residual.result c.prepare_parts.ensures.list;
-      space =
-          omega (arith, ap length c.prepare_parts.ensures.list, c.prepare_parts.ensures.no_less);
-      succeeds =
-          λ keys values enough.
-          absurd (false≢true (c.in_err-parts.ensures.succeeds keys values enough));
-    }
-
-pub prepare_parts-requires-clause-good : goal.prepare_parts-requires-clause-good
-prepare_parts-requires-clause-good g c = c.requires.within.good

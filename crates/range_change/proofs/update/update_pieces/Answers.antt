@@ -1,4 +1,4 @@
-use Rattle.range_change.proofs.Common.{cases_lt, false≢true, common_steps, inl, inr, length, arith}
+use Rattle.range_change.proofs.Common.{cases_lt, false≢true, inl, inr, length, arith}
 use Rattle.range_change.proofs.UpdatedLists.{by_middle}
 use Rattle.range_change.proofs.Succeeding.{gathered_succeeds}
 use Rattle.range_change.proofs.Surrounded.{surrounded_by}
@@ -9,13 +9,9 @@ returns-clause-ok g c =
     by_middle g.K.MaybeBounded.order g.V.PartialEq.eq g.met.V.Eq.laws g.F.Fn c.args.f.now _ _ _ _
     c.in_ok-middle.ensures.ok c.in_ok-replace.ensures.ok
 
-pub returns-in_err-middle-clause-closure : goal.returns-in_err-middle-clause-closure
-returns-in_err-middle-clause-closure g c = λ e failed.
-    c.gather.ensures.closure e (grind (arith, common_steps))
-
-pub returns-in_err-middle-clause-memory : goal.returns-in_err-middle-clause-memory
-returns-in_err-middle-clause-memory g c = λ failed.
-    c.gather.ensures.memory (grind (arith, common_steps))
+pub update_within-requires-clause-within : goal.update_within-requires-clause-within
+update_within-requires-clause-within g c =
+    surrounded_by c.reaching-reach.ensures.reach c.in-Some.ensures
 
 pub returns-in_err-replace-clause-memory : goal.returns-in_err-replace-clause-memory
 returns-in_err-replace-clause-memory g c = λ failed.
@@ -26,7 +22,3 @@ returns-in_err-replace-clause-memory g c = λ failed.
           c.in_ok-middle.ensures.ok some
       | inr none ↦ absurd (false≢true (c.in_err-replace.ensures.none_put (omega (arith, none))))
     ]
-
-pub update_within-requires-clause-within : goal.update_within-requires-clause-within
-update_within-requires-clause-within g c =
-    surrounded_by c.reaching-reach.ensures.reach c.in-Some.ensures
