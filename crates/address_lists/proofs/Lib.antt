@@ -1,4 +1,6 @@
 -- Lemmas.
+mod Documents
+mod Files
 mod Lines
 mod Lookups
 mod Reading

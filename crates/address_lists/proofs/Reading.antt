@@ -1,10 +1,12 @@
 -- How far a list is read.
-use Rattle.std.proofs.Common.{◌≡◌, ℕ, suc, ◌+◌, ◌<◌, ◌^◌, ◌↔◌, ◌⊎◌, Bool, List, [], ◌∷◌, ◌++◌, length, Option, None, Some, IfSome, inl, inr, refl, sym, subst, append_assoc, length-append, arith}
+use Rattle.std.proofs.Common.{◌≡◌, ℕ, suc, ◌+◌, ◌<◌, ◌≤◌, ◌^◌, ◌↔◌, ◌⊎◌, Bool, List, [], ◌∷◌, ◌++◌, length, Option, None, Some, IfSome, ap, ◌∙◌, inl, inr, refl, sym, subst, append_assoc, length-append, arith}
 use Rattle.std.proofs.lemmas.List.{append-nil}
-use Rattle.std.specs.Io.BufRead.{drop_through}
-use Rattle.address_text.specs.Lines.{Says, SaysAddress}
+use Rattle.std.specs.Io.BufRead.{drop_through, take_through}
+use Rattle.address_text.specs.Lines.{Says, SaysAddress, content}
 use Rattle.address_text.specs.Texts.{width}
+use Rattle.address_text.specs.Faults.{IsExpected}
 use Rattle.address_text.specs.declared.family.Family.{Family}
+use Rattle.address_text.specs.declared.fault.Expected.{Expected}
 use Rattle.address_text.specs.declared.line.Line.{Line}
 use Rattle.address_lists.proofs.Lines.{any_append}
 use Rattle.address_lists.specs.Lists.{AreGood, AreSaid, Has, HasJust, IsListed, SaysNothingKnown}
@@ -14,7 +16,7 @@ use Rattle.address_lists.specs.declared.addresses.Addresses.{Addresses}
 use Rattle.address_lists.specs.declared.read.BadLines.{BadLines}
 use Rattle.address_lists.specs.declared.read.BadLines.TheVariants.{Refused, Skipped}
 use Rattle.address_lists.specs.declared.read.ListError.{ListError}
-use Rattle.address_lists.specs.declared.read.ListError.TheVariants.{Memory, Unread}
+use Rattle.address_lists.specs.declared.read.ListError.TheVariants.{BadLine, Memory, Unread}
 
 -- what the list had, and what the lines say
 abbrev pub HasRead : Addresses → Addresses → List Line → Type 0
@@ -176,6 +178,28 @@ module _ (strict : Bool) where
         subst (λ all. AreSaid strict bytes all read.remaining) (append-nil read.lines)
             (read.goes_on [] 0 read.remaining (Ended read.remaining)),
         subst (λ k. IsBad strict read.remaining k error) place bad,
+      )
+
+  -- the line that is read says nothing that is known
+  pub bad_found : (left : Option (List ℕ)) (start text seen again : List ℕ) (number column : ℕ)
+      (expected : Expected) → start ≡ [] → 0 < length text → seen ≡ text → again ≡ text
+      → IfSome left (λ bytes. text ≡ start ++ take_through 10 bytes)
+      → SaysNothingKnown strict seen → 1 ≤ column → column ≤ length again + 1
+      → IsExpected (content again) expected
+      → IfSome left (λ bytes. IsBad strict bytes number (BadLine number column expected))
+  bad_found None start text seen again number column expected none some one other read nothing
+      first last wrong =
+      tt
+  bad_found (Some bytes) start text seen again number column expected none some one other read
+      nothing first last wrong =
+      let line : text ≡ take_through 10 bytes =
+      read ∙ ap (λ before. before ++ take_through 10 bytes) none in (
+        refl,
+        first,
+        subst (λ l. column ≤ length l + 1) (other ∙ line) last,
+        subst (λ l. IsExpected (content l) expected) (other ∙ line) wrong,
+        λ ended. let empty = ap length (line ∙ ap (take_through 10) ended) in omega (arith, some, empty),
+        subst (SaysNothingKnown strict) (one ∙ line) nothing,
       )
 
   -- all lines before a bad one were good

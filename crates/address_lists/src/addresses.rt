@@ -5,7 +5,7 @@ ghost use Rattle.btree_range_map.specs.Holding.{box_items};
 ghost use Rattle.address_text.specs.Lines.{AreAddresses, SaysAddress};
 ghost use Rattle.address_lists.specs.Lists.{Has, HasAllOf, HasJust, ShareNone};
 
-use address_sets::{AddressSet, Ipv4, Ipv6};
+use address_sets::{AddressSet, Ipv4, Ipv6, take_out};
 use address_text::{Family, Line};
 use btree_range_map::MapError;
 use std::alloc::Global;
@@ -69,8 +69,8 @@ impl Addresses {
         ensures { OnOk result (HasJust self.new
             (λ family n. Has self.old family n × ¬ Has other.now family n)) }
     {
-        self.v4.remove_all(&other.v4)?;
-        self.v6.remove_all(&other.v6)
+        take_out(&mut self.v4, &other.v4)?;
+        take_out(&mut self.v6, &other.v6)
     }
 
     /// The addresses that just one of both lists has.

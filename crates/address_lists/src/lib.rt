@@ -6,6 +6,8 @@
 //!   `src/addresses.rt`, `specs/Lists.antt`
 //! - reading a list, and where it is wrong: `src/read.rt`, `specs/Reading.antt`; what is read and
 //!   not added yet: `src/waiting.rt`, `specs/Waiting.antt`
+//! - a list as JSON: `src/json.rt`, `specs/Json.antt`; a list of either form: `src/file.rt`,
+//!   `specs/Files.antt`
 //! - the prefixes of a list as they are printed: `src/print.rt`, `specs/Printed.antt`; split into
 //!   longer ones: `src/split.rt`, `specs/Split.antt`
 //! - its ranges, and its addresses one by one: `src/ranges.rt`, `specs/Ranges.antt`
@@ -15,6 +17,8 @@
 
 pub mod addresses;
 pub mod count;
+pub mod file;
+pub mod json;
 pub mod lookup;
 pub mod print;
 pub mod ranges;
@@ -24,6 +28,8 @@ mod waiting;
 
 pub use addresses::Addresses;
 pub use count::write_counts;
+pub use file::read_addresses;
+pub use json::{JsonFault, list_from_json, list_to_json, list_to_text, read_json};
 pub use lookup::write_lookups;
 pub use print::write_prefixes;
 pub use ranges::{write_ranges, write_singles};

@@ -9,6 +9,7 @@ ghost use Rattle.address_lists.specs.declared.read.Found.TheVariants.{Other};
 ghost use Rattle.address_lists.specs.declared.read.ListError.TheVariants.{Memory, Unread};
 
 use crate::addresses::Addresses;
+use crate::json::JsonFault;
 use crate::waiting::Waiting;
 use address_text::fault::fault_of;
 use address_text::{Expected, Line, line_of};
@@ -32,6 +33,8 @@ pub enum ListError {
     Unread,
     /// An allocation failed.
     Memory,
+    /// The list is JSON, and has this fault.
+    Json(JsonFault),
 }
 
 impl fmt::Display for ListError {
@@ -44,6 +47,7 @@ impl fmt::Display for ListError {
             } => write!(f, "line {line}, column {column}: expected {expected}"),
             ListError::Unread => write!(f, "read error"),
             ListError::Memory => write!(f, "out of memory"),
+            ListError::Json(fault) => write!(f, "{fault}"),
         }
     }
 }

@@ -11,11 +11,13 @@
 //!   `specs/{Prefixes,Tiles}.antt`; that no fewer have its addresses, `proofs/{Fewest,Sets}.antt`
 //! - how many addresses a set has: `src/count.rt`, `proofs/Counts.antt`; those that follow each
 //!   other: `src/runs.rt`, `specs/Runs.antt`
+//! - a set but for some exceptions: `src/except.rt`
 //! - addresses as JSON: `src/json.rt`, `specs/Json.antt`
 #![tactic(auto)]
 
 pub mod address;
 pub mod count;
+pub mod except;
 pub mod ipv4;
 pub mod ipv6;
 mod json;
@@ -26,6 +28,7 @@ pub mod runs;
 pub use address::Address;
 use btree_range_map::RangeSet;
 pub use count::address_count;
+pub use except::take_out;
 pub use ipv4::Ipv4;
 pub use ipv6::Ipv6;
 pub use prefix::Prefix;

@@ -1,0 +1,35 @@
+-- What a file is read as: a list of lines, or JSON where it begins so.
+use Rattle.std.specs.Prelude.{◌≡◌, ◌==◌, ℕ, Bool, true, false, List, [], ◌∷◌}
+use Rattle.address_text.specs.declared.line.Line.{Line}
+use Rattle.address_lists.specs.Json.{IsDocument, IsJsonReason}
+use Rattle.address_lists.specs.Lists.{AreGood, HasJust, IsListed}
+use Rattle.address_lists.specs.Reading.{HasFault}
+use Rattle.address_lists.specs.declared.addresses.Addresses.{Addresses}
+use Rattle.address_lists.specs.declared.read.BadLines.{BadLines}
+use Rattle.address_lists.specs.declared.read.BadLines.TheVariants.{Refused}
+use Rattle.address_lists.specs.declared.read.ListError.{ListError}
+
+-- the first byte is `{`
+abbrev pub is_json : List ℕ → Bool
+is_json [] = false
+is_json (byte ∷ bytes) = byte == 123
+
+module _ (strict : Bool) where
+  -- what is read of JSON, and of lines; of these so many are left out: none where they are refused
+  abbrev pub IsReadAs : Bool → BadLines → List ℕ → Addresses → ℕ → Type 0
+  IsReadAs true bad_lines bytes list others = IsDocument bytes list × (others ≡ 0)
+  IsReadAs false bad_lines bytes list others =
+      (lines : List Line) × AreGood strict bytes lines others []
+      × HasJust list (λ family n. IsListed family n lines) × (bad_lines ≡ Refused → others ≡ 0)
+
+  -- the file is read as the list
+  abbrev pub IsFile : BadLines → List ℕ → Addresses → ℕ → Type 0
+  IsFile bad_lines bytes list others = IsReadAs (is_json bytes) bad_lines bytes list others
+
+  abbrev pub IsReasonAs : Bool → List ℕ → ListError → Type 0
+  IsReasonAs true bytes error = IsJsonReason bytes error
+  IsReasonAs false bytes error = HasFault strict bytes error
+
+  -- why the file is not read
+  abbrev pub IsFileReason : List ℕ → ListError → Type 0
+  IsFileReason bytes error = IsReasonAs (is_json bytes) bytes error
