@@ -1,6 +1,5 @@
 //! What a map answers to a command, by the one call that the command is.
 
-ghost use Rattle.btree_range_map.specs.Holding.{box_items, level_count};
 ghost use Rattle.std.specs.Prelude.{◌≡◌, not, MatchOption, OnErr, OnOk};
 ghost use Rattle.std.specs.List.{filter};
 ghost use Rattle.std.specs.Ordering.{int_eq};
@@ -11,7 +10,9 @@ ghost use Rattle.rangecalc.specs.Answers.{IsAnswer, IsChanged, IsMadeFrom, IsTak
 
 use crate::line::{Change, Question};
 use crate::number::MapKey;
-use btree_range_map::{AnyRange, MapError, NotFree, RangeMap};
+use btree_range_map::generic::map::RangeMap;
+use btree_range_map::storage::{Item, Storage};
+use btree_range_map::{AnyRange, MapError, NotFree};
 use std::alloc::Global;
 
 /// An answer of one line.
@@ -29,10 +30,13 @@ pub enum Reply<K> {
 }
 
 /// The first stored range that a range meets.
-fn taken<K: MapKey>(map: &RangeMap<K, i64>, range: AnyRange<K>) -> Reply<K>
+fn taken<K: MapKey, C: Storage<Item<AnyRange<K>, i64>>>(
+    map: &RangeMap<K, i64, C>,
+    range: AnyRange<K>,
+) -> Reply<K>
     requires nonempty { ¬ IsEmptyRange K.order range }
-    requires meets { MeetsSome K.order (box_items map.now) range }
-    ensures { IsTaken K.order result (box_items map.now) range }
+    requires meets { MeetsSome K.order (C.items map.now) range }
+    ensures { IsTaken K.order result (C.items map.now) range }
 {
     match map.overlapping(range).next() {
         Some((met, _)) => Reply::Taken(*met),
@@ -41,8 +45,12 @@ fn taken<K: MapKey>(map: &RangeMap<K, i64>, range: AnyRange<K>) -> Reply<K>
 }
 
 /// Binds the keys of a range where no stored one is in the way.
-fn try_insert<K: MapKey>(map: &mut RangeMap<K, i64>, range: AnyRange<K>, value: i64) -> Reply<K>
-    ensures { IsTried K.order range value result (box_items map.old) (box_items map.new) }
+fn try_insert<K: MapKey, C: Storage<Item<AnyRange<K>, i64>>>(
+    map: &mut RangeMap<K, i64, C>,
+    range: AnyRange<K>,
+    value: i64,
+) -> Reply<K>
+    ensures { IsTried K.order range value result (C.items map.old) (C.items map.new) }
 {
     match map.try_insert(range, value) {
         Ok(()) => Reply::Done,
@@ -58,19 +66,22 @@ fn is_other(value: i64, bound: &i64) -> bool
 }
 
 /// Unbinds each key that is bound to the value.
-fn drop_value<K: MapKey>(map: &mut RangeMap<K, i64>, value: i64)
-    ensures { box_items map.new ≡ filter (has_another value) (box_items map.old) }
+fn drop_value<K: MapKey, C: Storage<Item<AnyRange<K>, i64>>>(
+    map: &mut RangeMap<K, i64, C>,
+    value: i64,
+)
+    ensures { C.items map.new ≡ filter (has_another value) (C.items map.old) }
 {
     map.retain(move |_range, bound| is_other(value, bound));
 }
 
 /// Makes the map one of these bindings.
-fn make_from<K: MapKey>(
+fn make_from<K: MapKey, C: Storage<Item<AnyRange<K>, i64>>>(
     alloc: Global,
-    map: &mut RangeMap<K, i64>,
+    map: &mut RangeMap<K, i64, C>,
     bindings: Vec<(AnyRange<K>, i64)>,
 ) -> Reply<K>
-    ensures { IsMadeFrom K.order bindings.items result (box_items map.old) (box_items map.new) }
+    ensures { IsMadeFrom K.order bindings.items result (C.items map.old) (C.items map.new) }
 {
     match RangeMap::from_iter(alloc, bindings) {
         Ok(made) => {
@@ -101,8 +112,12 @@ fn taken_out<K: Copy>(taken: Option<(AnyRange<K>, i64)>) -> Reply<K>
 }
 
 /// Does what is to be done to a map.
-pub fn change<K: MapKey>(alloc: Global, map: &mut RangeMap<K, i64>, change: Change<K>) -> Reply<K>
-    ensures { IsChanged K.order change result (box_items map.old) (box_items map.new) }
+pub fn change<K: MapKey, C: Storage<Item<AnyRange<K>, i64>>>(
+    alloc: Global,
+    map: &mut RangeMap<K, i64, C>,
+    change: Change<K>,
+) -> Reply<K>
+    ensures { IsChanged K.order change result (C.items map.old) (C.items map.new) }
 {
     match change {
         Change::Insert(range, value) => done(map.insert(range, value)),
@@ -132,9 +147,13 @@ fn stored<K: Copy>(found: Option<(&AnyRange<K>, &i64)>) -> Reply<K>
     }
 }
 
-/// Answers what is asked of a map.
-pub fn ask<K: MapKey>(map: &RangeMap<K, i64>, question: Question<K>) -> Reply<K>
-    ensures { IsAnswer K.order question result (box_items map.now) (level_count map.now) }
+/// Answers what is asked of a map that is kept in a tree of so many levels.
+pub fn ask<K: MapKey, C: Storage<Item<AnyRange<K>, i64>>>(
+    map: &RangeMap<K, i64, C>,
+    levels: usize,
+    question: Question<K>,
+) -> Reply<K>
+    ensures { IsAnswer K.order question result (C.items map.now) levels }
 {
     match question {
         Question::Get(key) => match map.get(key) {
@@ -149,6 +168,6 @@ pub fn ask<K: MapKey>(map: &RangeMap<K, i64>, question: Question<K>) -> Reply<K>
         Question::All(range) => Reply::Truth(map.binds_all(range)),
         Question::Count => Reply::Number(map.range_count() as u128),
         Question::Len => Reply::Number(map.len()),
-        Question::Levels => Reply::Number(map.levels() as u128),
+        Question::Levels => Reply::Number(levels as u128),
     }
 }

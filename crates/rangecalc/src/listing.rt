@@ -2,7 +2,6 @@
 
 ghost use Rattle.std.specs.Io.KnownBytes.{Appends};
 ghost use Rattle.std.specs.Prelude.{OnOk, [], codes, cond};
-ghost use Rattle.btree_range_map.specs.Holding.{box_items};
 ghost use Rattle.btree_range_map.specs.PieceLists.{shown_piece};
 ghost use Rattle.btree_range_map.specs.References.{range_of};
 ghost use Rattle.rangecalc.specs.Answers.{IsListed};
@@ -13,10 +12,10 @@ ghost use Rattle.rangecalc.specs.Replies.{SpellsGap, SpellsItem, SpellsPiece};
 use crate::line::Listing;
 use crate::number::{MapKey, NumberKey, span_between};
 use crate::write::{write_free_line, write_gap_line, write_item, write_item_line};
-use btree_range_map::generic::map::{Gaps, GapsWithin, Iter, Overlapping, Pieces};
+use btree_range_map::AnyRange;
+use btree_range_map::generic::map::{Gaps, GapsWithin, Iter, Overlapping, Pieces, RangeMap};
 use btree_range_map::range::traits::Bounded;
 use btree_range_map::storage::{Item, Storage};
-use btree_range_map::{AnyRange, RangeMap};
 use std::io::{self, Write};
 
 /// Writes the line of a free range.
@@ -138,14 +137,14 @@ fn write_pieces<'a, K: MapKey + 'a, C: Storage<Item<AnyRange<K>, i64>> + 'a, W: 
 }
 
 /// Writes the ranges that a listing names, each on a line.
-pub fn list<K: MapKey, W: Write>(
-    map: &RangeMap<K, i64>,
+pub fn list<K: MapKey, C: Storage<Item<AnyRange<K>, i64>>, W: Write>(
+    map: &RangeMap<K, i64, C>,
     listing: Listing<K>,
     out: &mut W,
 ) -> io::Result<()>
     ensures { OnOk result
         (Writes (W.contents out.old) (W.contents out.new)
-        (IsListed K.order listing (box_items map.now))) }
+        (IsListed K.order listing (C.items map.now))) }
 {
     match listing {
         Listing::Show => write_items(map.iter(), out),

@@ -1,9 +1,8 @@
 //! The four maps, and what they answer to a line.
 
 ghost use Rattle.std.specs.Prelude.{◌≡◌, ◌↔◌, IsTrue, OnOk};
-ghost use Rattle.btree_range_map.specs.Holding.{box_items};
 ghost use Rattle.rangecalc.specs.Conversation.{AnswersLine, IsDone, none_stored, stored_in};
-ghost use Rattle.rangecalc.specs.Named.{at};
+ghost use Rattle.rangecalc.specs.Named.{at, each};
 ghost use Rattle.line_program.specs.Listing.{Writes};
 ghost use Rattle.rangecalc.specs.Two.{AreRelated, IsAmending, IsCombination, IsKeeping, IsSplit};
 
@@ -14,13 +13,18 @@ use crate::named::{Name, Named};
 use crate::number::MapKey;
 use crate::two::{amend, amend_by_itself, are_related, combined, kept};
 use crate::write::{write_reply, write_truth};
-use btree_range_map::{RangeMap, UpdateError};
+use btree_range_map::generic::map::RangeMap;
+use btree_range_map::storage::{Item, Storage};
+use btree_range_map::{AnyRange, DefaultMapContainer, UpdateError};
 use std::alloc::Global;
 use std::io::{self, Write};
 use std::mem;
 
-/// The maps that the lines name `a` to `d`.
-pub type Maps<K> = Named<RangeMap<K, i64>>;
+/// The maps that the lines name `a` to `d`, in one kind of container.
+type MapsIn<K, C> = Named<RangeMap<K, i64, C>>;
+
+/// These maps in trees.
+pub type Maps<K> = MapsIn<K, DefaultMapContainer<Item<AnyRange<K>, i64>>>;
 
 pub fn no_maps<K: MapKey>(alloc: Global) -> Maps<K>
     ensures { stored_in result ≡ none_stored }
@@ -34,16 +38,25 @@ pub fn no_maps<K: MapKey>(alloc: Global) -> Maps<K>
 }
 
 /// Whether it is true of two maps.
-fn compare<K: MapKey>(maps: &Maps<K>, name: Name, relation: Relation, other: Name) -> bool
-    ensures { IsTrue result ↔ AreRelated K.order relation (at (stored_in maps.now) name)
-        (at (stored_in maps.now) other) }
+fn compare<K: MapKey, C: Storage<Item<AnyRange<K>, i64>>>(
+    maps: &MapsIn<K, C>,
+    name: Name,
+    relation: Relation,
+    other: Name,
+) -> bool
+    ensures { IsTrue result ↔ AreRelated K.order relation (at (each C.items maps.now) name)
+        (at (each C.items maps.now) other) }
 {
     are_related(relation, maps.at(name), maps.at(other))
 }
 
 /// Moves what lies from the key on to the next map.
-fn split<K: MapKey>(maps: &mut Maps<K>, name: Name, key: K) -> Reply<K>
-    ensures { IsSplit K.order name key result (stored_in maps.old) (stored_in maps.new) }
+fn split<K: MapKey, C: Storage<Item<AnyRange<K>, i64>>>(
+    maps: &mut MapsIn<K, C>,
+    name: Name,
+    key: K,
+) -> Reply<K>
+    ensures { IsSplit K.order name key result (each C.items maps.old) (each C.items maps.new) }
 {
     match maps.at_mut(name).split_off(key) {
         Ok(rest) => {
@@ -55,15 +68,15 @@ fn split<K: MapKey>(maps: &mut Maps<K>, name: Name, key: K) -> Reply<K>
 }
 
 /// Makes a map one of two, which it may be itself.
-fn combine<K: MapKey>(
-    maps: &mut Maps<K>,
+fn combine<K: MapKey, C: Storage<Item<AnyRange<K>, i64>>>(
+    maps: &mut MapsIn<K, C>,
     name: Name,
     way: Way,
     first: Name,
     second: Name,
 ) -> Reply<K>
-    ensures { IsCombination K.order name way first second result (stored_in maps.old)
-        (stored_in maps.new) }
+    ensures { IsCombination K.order name way first second result (each C.items maps.old)
+        (each C.items maps.new) }
 {
     match combined(way, maps.at(first), maps.at(second)) {
         Ok(made) => {
@@ -76,15 +89,15 @@ fn combine<K: MapKey>(
 }
 
 /// Makes a map one of the bindings of another, which it may be itself.
-fn keep<K: MapKey>(
-    maps: &mut Maps<K>,
+fn keep<K: MapKey, C: Storage<Item<AnyRange<K>, i64>>>(
+    maps: &mut MapsIn<K, C>,
     name: Name,
     wanted: Kept,
     first: Name,
     second: Name,
 ) -> Reply<K>
-    ensures { IsKeeping K.order name wanted first second result (stored_in maps.old)
-        (stored_in maps.new) }
+    ensures { IsKeeping K.order name wanted first second result (each C.items maps.old)
+        (each C.items maps.new) }
 {
     match kept(wanted, maps.at(first), maps.at(second)) {
         Ok(made) => {
@@ -96,15 +109,15 @@ fn keep<K: MapKey>(
 }
 
 /// Changes a map by another, which it may be itself.
-fn amend_by<K: MapKey>(
+fn amend_by<K: MapKey, C: Storage<Item<AnyRange<K>, i64>>>(
     alloc: Global,
-    maps: &mut Maps<K>,
+    maps: &mut MapsIn<K, C>,
     name: Name,
     amendment: Amendment,
     other: Name,
 ) -> Reply<K>
-    ensures { IsAmending K.order name amendment other result (stored_in maps.old)
-        (stored_in maps.new) }
+    ensures { IsAmending K.order name amendment other result (each C.items maps.old)
+        (each C.items maps.new) }
 {
     if name == other {
         amend_by_itself(amendment, maps.at_mut(name));
@@ -119,21 +132,23 @@ fn amend_by<K: MapKey>(
     }
 }
 
-/// Answers a command to the map with a name.
-fn answer<K: MapKey, W: Write>(
+/// Answers a command to the map with a name, in a tree of so many levels.
+fn answer<K: MapKey, C: Storage<Item<AnyRange<K>, i64>>, W: Write>(
     alloc: Global,
-    maps: &mut Maps<K>,
+    maps: &mut MapsIn<K, C>,
     name: Name,
+    levels: usize,
     command: Command<K>,
     out: &mut W,
 ) -> io::Result<()>
     ensures { OnOk result
         (Writes (W.contents out.old) (W.contents out.new)
-        (λ text. IsDone K.order name command text (stored_in maps.old) (stored_in maps.new))) }
+        (λ text. IsDone K.order name command text (each C.items maps.old)
+        (each C.items maps.new))) }
 {
     match command {
         Command::Change(wanted) => write_reply(change(alloc, maps.at_mut(name), wanted), out),
-        Command::Ask(question) => write_reply(ask(maps.at(name), question), out),
+        Command::Ask(question) => write_reply(ask(maps.at(name), levels, question), out),
         Command::List(listing) => list(maps.at(name), listing, out),
         Command::Split(key) => write_reply(split(maps, name, key), out),
         Command::Compare(relation, other) => {
@@ -167,7 +182,10 @@ pub fn answer_line<K: MapKey, W: Write>(
         (λ text. AnswersLine K.order line.now text (stored_in maps.old) (stored_in maps.new))) }
 {
     match parse(alloc, line) {
-        Ok((name, command)) => answer(alloc, maps, name, command, out),
+        Ok((name, command)) => {
+            let levels = maps.at(name).levels();
+            answer(alloc, maps, name, levels, command, out)
+        }
         Err(Unread::Unknown) => out.write_all(b"bad line\n"),
         Err(Unread::Memory) => out.write_all(b"memory\n"),
     }

@@ -1,6 +1,5 @@
 use Rattle.std.proofs.Common.{subst, sym}
 use Rattle.std.specs.Prelude.{codes}
-use Rattle.btree_range_map.specs.Holding.{box_items}
 use Rattle.rangecalc.specs.Answers.{IsListed}
 use Rattle.line_program.specs.Listing.{SpellsLines}
 use Rattle.rangecalc.specs.Replies.{SpellsItem}
@@ -9,7 +8,7 @@ use Rattle.rangecalc.proofs.listing.list.Goals as goal
 
 pub returns-in-Show : goal.returns-in-Show
 returns-in-Show g c =
-    let items = box_items c.args.map.now in
+    let items = g.C.Storage.items c.args.map.now in
     writes_as c.write_items.result (g.W.Write.contents c.args.out.now)
     (g.W.Write.contents c.write_items.new.out) _ _
     (λ text lines. subst (λ listing. IsListed g.K.MaybeBounded.order listing items text)
@@ -19,7 +18,7 @@ returns-in-Show g c =
 
 pub returns-in-Gaps : goal.returns-in-Gaps
 returns-in-Gaps g c =
-    let items = box_items c.args.map.now in
+    let items = g.C.Storage.items c.args.map.now in
     writes_as c.write_gaps.result (g.W.Write.contents c.args.out.now)
     (g.W.Write.contents c.write_gaps.new.out) _ _
     (λ text lines. subst (λ listing. IsListed g.K.MaybeBounded.order listing items text)
@@ -28,7 +27,7 @@ returns-in-Gaps g c =
 
 pub returns-in-Over : goal.returns-in-Over
 returns-in-Over g c =
-    let items = box_items c.args.map.now in
+    let items = g.C.Storage.items c.args.map.now in
     writes_as c.write_met.result (g.W.Write.contents c.args.out.now)
     (g.W.Write.contents c.write_met.new.out) _ _
     (λ text lines. subst (λ listing. IsListed g.K.MaybeBounded.order listing items text)
@@ -38,7 +37,7 @@ returns-in-Over g c =
 
 pub returns-in-Free : goal.returns-in-Free
 returns-in-Free g c =
-    let items = box_items c.args.map.now in
+    let items = g.C.Storage.items c.args.map.now in
     writes_as c.write_free.result (g.W.Write.contents c.args.out.now)
     (g.W.Write.contents c.write_free.new.out) _ _
     (λ text lines. subst (λ listing. IsListed g.K.MaybeBounded.order listing items text)
@@ -47,7 +46,7 @@ returns-in-Free g c =
 
 pub returns-in-Pieces : goal.returns-in-Pieces
 returns-in-Pieces g c =
-    let items = box_items c.args.map.now in
+    let items = g.C.Storage.items c.args.map.now in
     writes_as c.write_pieces.result (g.W.Write.contents c.args.out.now)
     (g.W.Write.contents c.write_pieces.new.out) _ _
     (λ text lines. subst (λ listing. IsListed g.K.MaybeBounded.order listing items text)

@@ -1,6 +1,5 @@
 use Rattle.std.proofs.Common.{rules, of_calls}
 use Rattle.std.specs.Ordering.{int_eq}
-use Rattle.btree_range_map.specs.Holding.{box_items}
 use Rattle.rangecalc.specs.Two.{Makes}
 use Rattle.rangecalc.proofs.Made.{combined_as, fails_as, if_ok_as}
 use Rattle.rangecalc.proofs.two.combined.Goals as goal
@@ -12,7 +11,7 @@ returns-clause-bound g c =
     combined_as g.K.MaybeBounded.order int_eq int_eq int_eq _ (Makes c.args.way)
     (λ left right answer is.
     rw (← is.shows, ← is.other_shows) (let says = is.says in search (rules, of_calls)))
-    (box_items c.args.first.now) (box_items c.args.second.now) (box_items made) bound)
+    (g.C.Storage.items c.args.first.now) (g.C.Storage.items c.args.second.now) (g.C.Storage.items made) bound)
     c.put_together.ensures.bound
 
 pub returns-clause-fault : goal.returns-clause-fault
@@ -21,5 +20,5 @@ returns-clause-fault g c =
     fails_as g.K.MaybeBounded.order int_eq int_eq int_eq _ (Makes c.args.way)
     (λ left right answer is.
     rw (← is.shows, ← is.other_shows) (let says = is.says in search (rules, of_calls)))
-    (box_items c.args.first.now) (box_items c.args.second.now) fault
+    (g.C.Storage.items c.args.first.now) (g.C.Storage.items c.args.second.now) fault
     (c.put_together.ensures.closure fault failed)
