@@ -8,7 +8,7 @@ use Rattle.range_json.specs.MapFaults.{IsFirstFault, IsFaultOf}
 use Rattle.range_set_json.specs.MultimapFaults.{IsMultimapFault}
 use Rattle.range_json.specs.declared.error.JsonError.TheVariants.{Memory, Meets}
 use Rattle.range_json.specs.ValueSets.{reads_some_values, same_values, AreValuesRead}
-use Rattle.range_json.proofs.MapReading.{IsMapSoFar, IsPut, map_begun, map_more, map_fails, map_meets, none_stored}
+use Rattle.range_map_json.proofs.MapReading.{IsMapSoFar, IsPut, map_begun, map_more, map_fails, map_meets, none_stored}
 use Rattle.range_set_json.proofs.Multimaps.{fails_with}
 use Rattle.range_json.proofs.Reading.{append_one_more}
 use Rattle.range_set_json.proofs.multimap.multimap_from_json.Goals as goal

@@ -1,6 +1,6 @@
 use Rattle.std.proofs.Common.{take}
 use Rattle.range_json.specs.ValueSets.{reads_some_values, same_values, AreValuesRead}
-use Rattle.range_json.proofs.MapReading.{IsMapSoFar}
+use Rattle.range_map_json.proofs.MapReading.{IsMapSoFar}
 use Rattle.range_set_json.proofs.multimap.multimap_from_json.Given as goal
 
 abbrev pub invariant-loop-index : goal.invariant-loop-index

@@ -7,7 +7,7 @@ use Rattle.range_json.specs.declared.error.JsonError.TheVariants.{Memory}
 use Rattle.range_sets.proofs.Membership.{all_of}
 use Rattle.range_json.proofs.Reading.{append_one_more}
 use Rattle.range_set_json.proofs.SetReading.{set_begun, set_more, set_fails, IsSetSoFar}
-use Rattle.range_json.proofs.MapReading.{none_stored}
+use Rattle.range_map_json.proofs.MapReading.{none_stored}
 use Rattle.range_set_json.proofs.set.set_from_json.Goals as goal
 
 pub loop-index-init : goal.loop-index-init
