@@ -8,8 +8,9 @@ use Rattle.btree_range_map.specs.Characters.{IsCharacter, character_order}
 use Rattle.btree_range_map.specs.Multimaps.{IsPairOf}
 use Rattle.btree_range_map.specs.Pairs.{HasPairsOfEither}
 use Rattle.charmoves.specs.declared.rules.Rules.{Rules}
-use Rattle.charmoves.specs.Automata.{Transitions, Leads, LeadsAmong}
-use Rattle.charmoves.proofs.Stepping.{ReachedFrom, from_list}
+use Rattle.charmoves.specs.Automata.{Transitions, HasRule, Leads, LeadsAmong}
+use Rattle.charmoves.proofs.Stepping.{ReachedFrom}
+use Rattle.state_sets.proofs.Members.{from_list}
 
 -- what is gathered, and what the states that are left lead to, is what all lead to
 abbrev pub AreLeadsSoFar : Rules → List ℕ → Transitions → List ℕ → Type 0
@@ -74,7 +75,7 @@ module _ (rules : Rules) (states : List ℕ) where
 pub all_leads : (rules : Rules) (states : BTreeSet ℕ) (leads : Transitions) (left : List ℕ)
     → left ≡ [] → AreLeadsSoFar rules states.keys leads left → LeadsAmong rules states leads
 all_leads rules states leads left none so_far c q is =
-    let whole = from_list rules c q states.keys in
+    let whole = from_list (λ p. HasRule rules p c q) states.keys in
     let was =
     subst (λ ps. (IsPairOf character_order (contains nat_cmp) leads c q
     ⊎ ReachedFrom rules c q ps) ↔ ReachedFrom rules c q states.keys) none (so_far c q is) in (

@@ -1,37 +1,13 @@
--- Paths along a text: from the states that are reached, the rest is accepted where the whole text
--- is.
-use Rattle.std.proofs.Common.{◌≡◌, refl, sym, ap, subst, ◌∙◌, ◌↔◌, ◌⊎◌, inl, inr, ℕ, zero, suc, ◌<◌, ◌+◌, Bool, true, false, not, IsTrue, List, [], ◌∷◌, length, drop, BTreeSet, arith}
+-- Whether one of the states accepts, and what texts lead to.
+use Rattle.std.proofs.Common.{◌≡◌, refl, sym, subst, ◌↔◌, ◌⊎◌, inl, inr, ℕ, Bool, true, false, not, IsTrue, List, [], ◌∷◌, ◌++◌, BTreeSet}
 use Rattle.std.specs.Ordering.{nat_cmp, eq_by_cmp}
 use Rattle.std.specs.List.{list_any}
 use Rattle.std.specs.BTreeSet.{contains, IsDisjoint}
-use Rattle.std.proofs.Math.ListN.{get_or}
+use Rattle.state_sets.specs.Steps.{AreAfter}
+use Rattle.state_sets.proofs.Leading.{path_in_parts}
+use Rattle.state_sets.proofs.Members.{is_member, or_true}
 use Rattle.charmoves.specs.declared.rules.Rules.{Rules}
-use Rattle.charmoves.specs.Automata.{IsAccepting, AreReached, AcceptsAmong, LeadsTo}
-use Rattle.charmoves.proofs.Stepping.{is_member, or_true}
-
--- rules lead along the text from one of the states to an accepting one
-abbrev pub AcceptsFrom : Rules → BTreeSet ℕ → List ℕ → Type 0
-AcceptsFrom rules states text =
-    (p : ℕ) × (q : ℕ) × IsTrue (contains nat_cmp states p) × LeadsTo rules p text q
-    × IsAccepting rules q
-
-one_step : (rules : Rules) (states next : BTreeSet ℕ) (c : ℕ) (rest : List ℕ)
-    → AreReached rules states c next → AcceptsFrom rules next rest
-    ↔ AcceptsFrom rules states (c ∷ rest)
-one_step rules states next c rest reached = (
-  λ h. let (p, by, rule) = (reached h.0).0 h.2 in (p, h.1, by, (h.0, rule, h.3), h.4),
-  λ h. let (s, rule, path) = h.3 in (s, h.1, (reached s).1 (h.0, h.2, rule), path, h.4),
-)
-
-drop_at : (xs : List ℕ) (n x : ℕ) → n < length xs → x ≡ get_or xs n x
-    → drop n xs ≡ x ∷ drop (suc n) xs
-drop_at [] n x h e = absurd (omega (arith, h))
-drop_at (y ∷ ys) zero x h e = ap (λ z. z ∷ ys) (sym e)
-drop_at (y ∷ ys) (suc n) x h e = drop_at ys n x (omega (arith, h)) e
-
-drop_all : (xs : List ℕ) → drop (length xs) xs ≡ []
-drop_all [] = refl
-drop_all (x ∷ xs) = drop_all xs
+use Rattle.charmoves.specs.Automata.{HasRule, IsStart, AcceptsAmong, Accepts}
 
 module _ (others : BTreeSet ℕ) where
   abbrev HasShared : List ℕ → Type 0
@@ -69,59 +45,35 @@ module _ (others : BTreeSet ℕ) where
             | inr later ↦ none p later
           ])
 
--- at the end of the text it is accepted where an accepting state is reached
-at_end : (rules : Rules) (states : BTreeSet ℕ) (disjoint : Bool) → IsTrue disjoint
+-- a text may end in one of the states where they and the accepting ones share one
+pub accepting_shared : (rules : Rules) (states : BTreeSet ℕ) (disjoint : Bool) → IsTrue disjoint
     ↔ IsDisjoint nat_cmp states rules.accepting → IsTrue (not disjoint)
-    ↔ AcceptsFrom rules states []
-at_end rules states true told = (
+    ↔ AcceptsAmong rules states
+accepting_shared rules states true told = (
   λ h. absurd cc,
-  λ h. let none = told.0 refl h.0 h.2 in let found =
-      subst (IsAccepting rules) (sym h.3) h.4 in absurd cc,
+  λ h. let none = told.0 refl h.0 h.1 in let found = h.2 in absurd cc,
 )
-at_end rules states false told = (
+accepting_shared rules states false told = (
   λ _.
       elim (shared_or_none rules.accepting states.keys) [
-        | inl found ↦ (found.0, found.0, found.1, refl, found.2)
+        | inl found ↦ found
         | inr none ↦ let never = told.1 none in absurd cc
       ],
   λ _. refl,
 )
 
--- a text may end in one of the states where they and the accepting ones share one
-pub accepting_shared : (rules : Rules) (states : BTreeSet ℕ) (disjoint : Bool) → IsTrue disjoint
-    ↔ IsDisjoint nat_cmp states rules.accepting → IsTrue (not disjoint)
-    ↔ AcceptsAmong rules states
-accepting_shared rules states disjoint told =
-    let end = at_end rules states disjoint told in (
-      λ h. let (p, q, has, same, accepts) = end.0 h in
-          (p, has, subst (IsAccepting rules) (sym same) accepts),
-      λ h. end.1 (h.0, h.0, h.1, refl, h.2),
-    )
+module _ (rules : Rules) (front : List ℕ) (states : BTreeSet ℕ)
+    (after : AreAfter (HasRule rules) (IsStart rules) front states) where
+  -- the text so far is accepted where one of the states accepts
+  pub accepted_among : AcceptsAmong rules states ↔ Accepts rules front
+  accepted_among = (
+    λ h. let (p, start, along) = (after h.0).0 h.1 in (p, h.0, start, along, h.2),
+    λ h. (h.1, (after h.1).1 (h.0, h.2, h.3), h.4),
+  )
 
-module _ (rules : Rules) (text : List ℕ) (Whole : Type 0) where
-  -- a step further along the text
-  pub one_more : (states next : BTreeSet ℕ) (c n m : ℕ) → m ≡ n + 1 → n < length text
-      → c ≡ get_or text n c → AreReached rules states c next
-      → (AcceptsFrom rules states (drop n text) ↔ Whole) → AcceptsFrom rules next (drop m text)
-      ↔ Whole
-  one_more states next c n m more within at reached so_far =
-      let later : m ≡ suc n = omega (arith, more) in
-      let step = one_step rules states next c (drop (suc n) text) reached in
-      let was =
-      subst (λ rest. AcceptsFrom rules states rest ↔ Whole)
-      (drop_at text n c within at) so_far in
-      subst (λ k. AcceptsFrom rules next (drop k text) ↔ Whole) (sym later)
-      (λ h. was.0 (step.0 h), λ h. step.1 (was.1 h))
-
-  pub end_of_text_decides : (states : BTreeSet ℕ) (n : ℕ) (accepts : Bool) → n ≡ length text
-      → IsTrue accepts ↔ AcceptsAmong rules states
-      → (AcceptsFrom rules states (drop n text) ↔ Whole) → IsTrue accepts ↔ Whole
-  end_of_text_decides states n accepts whole told so_far =
-      let was =
-      subst (λ rest. AcceptsFrom rules states rest ↔ Whole)
-      (ap (λ k. drop k text) whole ∙ drop_all text) so_far in (
-        λ h. let (p, has, ends) = told.0 h in was.0 (p, p, has, refl, ends),
-        λ h.
-            let (p, q, has, same, ends) = was.1 h in
-            told.1 (p, has, subst (IsAccepting rules) (sym same) ends),
-      )
+  -- with no state left, nothing that goes on is accepted
+  pub never_again : ((q : ℕ) → ¬ IsTrue (contains nat_cmp states q)) → (more : List ℕ)
+      → ¬ Accepts rules (front ++ more)
+  never_again none more h =
+      let (s, along, rest) = (path_in_parts (HasRule rules) front more h.0 h.1).0 h.3 in
+      none s ((after s).1 (h.0, h.2, along))

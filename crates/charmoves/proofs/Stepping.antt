@@ -1,17 +1,15 @@
 -- The states that are reached from a list of states, one state after the other.
-use Rattle.std.proofs.Common.{◌≡◌, refl, sym, subst, ◌∙◌, ◌↔◌, ◌⊎◌, inl, inr, ℕ, Bool, true, false, ◌||◌, IsTrue, List, [], ◌∷◌, Option, Some, None, BTreeSet, arith}
-use Rattle.std.proofs.lemmas.Bool.Decides.{nat_tests}
-use Rattle.std.specs.Ordering.{nat_cmp, eq_by_cmp}
-use Rattle.std.specs.List.{list_any}
+use Rattle.std.proofs.Common.{◌≡◌, refl, sym, subst, ◌∙◌, ◌↔◌, ◌⊎◌, inl, inr, ℕ, Bool, true, false, ◌||◌, IsTrue, List, [], ◌∷◌, Option, None, BTreeSet}
+use Rattle.std.specs.Ordering.{nat_cmp}
 use Rattle.std.specs.BTreeSet.{contains}
 use Rattle.btree_range_map.specs.Members.{among}
+use Rattle.state_sets.proofs.Members.{HoldsOfSome, from_list, or_true}
 use Rattle.charmoves.specs.declared.rules.Rules.{Rules}
 use Rattle.charmoves.specs.Automata.{HasRule, AreReached}
 
 -- some rule leads to q from one of the states
 abbrev pub ReachedFrom : Rules → ℕ → ℕ → List ℕ → Type 0
-ReachedFrom rules c q [] = ⊥
-ReachedFrom rules c q (p ∷ ps) = HasRule rules p c q ⊎ ReachedFrom rules c q ps
+ReachedFrom rules c q = HoldsOfSome (λ p. HasRule rules p c q)
 
 -- what is reached, and what the states that are left reach, is what all reach
 abbrev pub AreReachedSoFar : Rules → ℕ → List ℕ → BTreeSet ℕ → List ℕ → Type 0
@@ -19,17 +17,9 @@ AreReachedSoFar rules c states reached left = (q : ℕ)
     → (IsTrue (contains nat_cmp reached q) ⊎ ReachedFrom rules c q left)
     ↔ ReachedFrom rules c q states
 
-pub or_true : (a b : Bool) → IsTrue (a || b) ↔ (IsTrue a ⊎ IsTrue b)
-or_true true b = (λ _. inl refl, λ _. refl)
-or_true false b = (λ h. inr h, λ h. elim h [ inl e ↦ absurd cc | inr e ↦ e ])
-
 or_none : (a : Bool) → a ≡ (a || false)
 or_none true = refl
 or_none false = refl
-
-pub none_of : {A : Type 0} (r : Option A) → ((x : A) → r ≡ Some x → ⊥) → r ≡ None
-none_of None never = refl
-none_of (Some x) never = absurd (never x refl)
 
 module _ (rules : Rules) (c : ℕ) (states : List ℕ) where
   pub followed_rules_are_reached : (before after : BTreeSet ℕ) (targets : Option (BTreeSet ℕ))
@@ -73,39 +63,10 @@ module _ (rules : Rules) (c : ℕ) (states : List ℕ) where
       followed_rules_are_reached reached reached found p rest left turn led
       (λ q. rw none (or_none (contains nat_cmp reached q)))
 
-pub is_member : (p q : ℕ) → IsTrue (eq_by_cmp nat_cmp p q) ↔ (p ≡ q)
-is_member p q = (λ e. grind (arith, nat_tests), λ e. grind (arith, nat_tests))
-
-module _ (rules : Rules) (c q : ℕ) where
-  pub from_list : (states : List ℕ) → ReachedFrom rules c q states
-      ↔ (p : ℕ) × IsTrue (list_any (eq_by_cmp nat_cmp p) states) × HasRule rules p c q
-  from_list [] = (λ h. absurd h, λ h. let none = h.1 in absurd cc)
-  from_list (s ∷ states) = (
-    λ h. elim h [
-      | inl by ↦ (
-        s,
-        (or_true (eq_by_cmp nat_cmp s s) (list_any (eq_by_cmp nat_cmp s) states)).1
-            (inl ((is_member s s).1 refl)),
-        by,
-      )
-      | inr later ↦ let (p, has, by) =
-          (from_list states).0 later in (
-            p,
-            (or_true (eq_by_cmp nat_cmp p s) (list_any (eq_by_cmp nat_cmp p) states)).1 (inr has),
-            by,
-          )
-    ],
-    λ h.
-        elim ((or_true (eq_by_cmp nat_cmp h.0 s) (list_any (eq_by_cmp nat_cmp h.0) states)).0 h.1) [
-          | inl same ↦ inl (subst (λ p. HasRule rules p c q) ((is_member h.0 s).0 same) h.2)
-          | inr has ↦ inr ((from_list states).1 (h.0, has, h.2))
-        ],
-  )
-
 pub all_reached : (rules : Rules) (c : ℕ) (states reached : BTreeSet ℕ) (left : List ℕ) → left ≡ []
     → AreReachedSoFar rules c states.keys reached left → AreReached rules states c reached
 all_reached rules c states reached left none so_far q =
-    let whole = from_list rules c q states.keys in
+    let whole = from_list (λ p. HasRule rules p c q) states.keys in
     let was =
     subst (λ ps. (IsTrue (contains nat_cmp reached q) ⊎ ReachedFrom rules c q ps)
     ↔ ReachedFrom rules c q states.keys) none (so_far q) in (

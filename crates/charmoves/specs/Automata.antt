@@ -1,6 +1,6 @@
 -- Automata over characters: which rules they have, which states a step reaches, which texts they
 -- accept.
-use Rattle.std.specs.Prelude.{◌≡◌, ◌↔◌, ℕ, ◌⊎◌, List, [], ◌∷◌, IsTrue, Option, Some, None}
+use Rattle.std.specs.Prelude.{◌≡◌, ◌↔◌, ℕ, ◌⊎◌, List, IsTrue, Option, Some, None}
 use Rattle.std.specs.Ordering.{nat_cmp}
 use Rattle.std.specs.BTreeMap as map
 use Rattle.std.specs.BTreeSet.{BTreeSet, contains}
@@ -9,6 +9,7 @@ use Rattle.btree_range_map.specs.Characters.{IsCharacter, character_order}
 use Rattle.btree_range_map.specs.Range.{Holds}
 use Rattle.btree_range_map.specs.Members.{among}
 use Rattle.btree_range_map.specs.Multimaps.{Multimap, IsPairOf}
+use Rattle.state_sets.specs.Steps as steps
 use Rattle.charmoves.specs.declared.moves.Moves.{Moves}
 use Rattle.charmoves.specs.declared.rules.Rules.{Rules}
 
@@ -67,13 +68,11 @@ module _ (rules : Rules) where
 
   -- the states that some rule leads to from one of the given by the character
   abbrev pub AreReached : BTreeSet ℕ → ℕ → BTreeSet ℕ → Type 0
-  AreReached states c reached = (q : ℕ) → IsTrue (contains nat_cmp reached q)
-      ↔ (p : ℕ) × IsTrue (contains nat_cmp states p) × HasRule rules p c q
+  AreReached = steps.AreReached (HasRule rules)
 
   -- a path of rules leads along the characters from state p to state q
   abbrev pub LeadsTo : ℕ → List ℕ → ℕ → Type 0
-  LeadsTo p [] q = p ≡ q
-  LeadsTo p (c ∷ text) q = (s : ℕ) × HasRule rules p c s × LeadsTo s text q
+  LeadsTo = steps.LeadsTo (HasRule rules)
 
   -- such a path exists from a state where a text may start to one where it may end
   abbrev pub Accepts : List ℕ → Type 0
@@ -82,7 +81,7 @@ module _ (rules : Rules) where
 module _ (rules : Rules) where
   -- the states are those in which a text may start
   abbrev pub AreStarts : BTreeSet ℕ → Type 0
-  AreStarts states = (p : ℕ) → IsTrue (contains nat_cmp states p) ↔ IsStart rules p
+  AreStarts = steps.AreStarts (IsStart rules)
 
   -- a text may end in one of the states
   abbrev pub AcceptsAmong : BTreeSet ℕ → Type 0

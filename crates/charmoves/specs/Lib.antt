@@ -1,2 +1,1 @@
 pub mod Automata
-pub mod Beginnings

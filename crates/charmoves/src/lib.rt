@@ -20,11 +20,10 @@
 //! Where to find what:
 //!
 //! - rules, steps and accepted texts of an automaton: `src/{rules,moves}.rt`,
-//!   `specs/Automata.antt`
-//! - one state after the other, one character after the other:
-//!   `proofs/{Stepping,Paths,Leads,Leading}.antt`
-//! - the longest beginning of a text of which something holds, by characters and by bytes:
-//!   `specs/Beginnings.antt`, `proofs/Fronts.antt`
+//!   `specs/Automata.antt`, over `Steps` of the crate `state_sets`
+//! - one state after the other: `proofs/{Stepping,Leads}.antt`
+//! - whether a state accepts, and the longest beginning of a text that is accepted:
+//!   `src/longest.rt`, `proofs/{Paths,Longest}.antt`
 #![tactic(auto)]
 
 mod longest;

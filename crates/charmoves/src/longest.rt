@@ -1,7 +1,7 @@
 //! The longest beginning of a text that is accepted.
 ghost use Rattle.std.specs.Prelude.{IfOk};
 ghost use Rattle.charmoves.specs.Automata.{rules_of, Accepts};
-ghost use Rattle.charmoves.specs.Beginnings.{IsLongest};
+ghost use Rattle.state_sets.specs.Beginnings.{IsLongest};
 
 use crate::moves::Moves;
 use btree_range_map::generic::map::MapError;

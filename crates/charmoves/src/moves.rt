@@ -6,6 +6,7 @@ ghost use Rattle.charmoves.specs.Automata.{rules_of, Accepts, AreReached, AreSta
 use crate::rules::Rules;
 use btree_range_map::RangeMultiMap;
 use btree_range_map::generic::map::MapError;
+use state_sets::{Automaton, follow};
 use std::alloc::Global;
 use std::collections::BTreeSet;
 
@@ -76,10 +77,25 @@ impl Moves {
     pub fn accepts(&self, text: &str) -> Result<bool, MapError>
         ensures path { IfOk result (λ b. IsTrue b ↔ Accepts (rules_of self.now) (chars text.now)) }
     {
-        let mut states = self.starts()?;
-        for c in text.chars() {
-            states = self.step(&states, c)?;
-        }
+        let states = follow(self, text)?;
         Ok(self.is_accepting(&states))
+    }
+}
+
+impl Automaton for Moves {
+    ghost use Rattle.charmoves.specs.Automata.{rules_of, HasRule, IsStart};
+
+    type Error = MapError;
+
+    ghost has_step = { λ moves. HasRule (rules_of moves) };
+
+    ghost is_start = { λ moves. IsStart (rules_of moves) };
+
+    fn starts(&self) -> Result<BTreeSet<u32>, MapError> {
+        Moves::starts(self)
+    }
+
+    fn step(&self, states: &BTreeSet<u32>, c: char) -> Result<BTreeSet<u32>, MapError> {
+        Moves::step(self, states, c)
     }
 }

@@ -1,14 +1,15 @@
--- Machines in the making: a state more, and sets that are found or added.
-use Rattle.std.proofs.Common.{◌≡◌, refl, sym, ap, subst, ◌∙◌, ◌⊎◌, inl, inr, ℕ, ◌<◌, ◌≤◌, ◌+◌, ◌*◌, List, [], ◌∷◌, ◌++◌, length, get_or, Option, Some, None, BTreeSet, arith, length-append}
-use Rattle.std.specs.List.{slice_get, list_any}
-use Rattle.std.specs.Ordering.{nat_cmp, eq_by_cmp}
+-- Machines in the making: a state more.
+use Rattle.std.proofs.Common.{◌≡◌, refl, sym, ap, subst, ◌∙◌, inl, inr, ℕ, ◌<◌, ◌≤◌, ◌+◌, ◌*◌, List, [], ◌∷◌, ◌++◌, length, get_or, Option, Some, None, BTreeSet, arith}
+use Rattle.std.specs.List.{slice_get}
 use Rattle.std.proofs.lemmas.Option.{slice_get_within, slice_get-get_or}
 use Rattle.lexing.specs.declared.lexer.Lexer.{Lexer}
 use Rattle.lexing.specs.declared.states.States.{States}
-use Rattle.lexing.specs.Lexers.{rules_in, IsFirstAmong}
+use Rattle.state_sets.specs.Listed.{KeepsAll}
+use Rattle.state_sets.specs.Tokens.{IsFirstAmong}
+use Rattle.state_sets.proofs.Lists.{pushed_into, pushed_length, keeps_pushed}
+use Rattle.lexing.specs.Lexers.{rules_in, Accepts}
 use Rattle.lexing.specs.Machines.{Row, RowBinds, Goes, IsRowOf, AreDense, AreStates}
-use Rattle.lexing.specs.Building.{AreFirst, KeepsAll, IsRowAt, IsIndexOf, AddsDense}
-use Rattle.lexing.proofs.Lists.{pushed_at, pushed_there, still_at}
+use Rattle.lexing.specs.Building.{AreFirst, IsRowAt, AddsDense}
 
 -- what stands at an index of before has stood there
 stood : {X : Type 0} (before after : List X) → KeepsAll before after → (i : ℕ) (x : X)
@@ -17,20 +18,6 @@ stood before after keeps i x within at =
     let was = slice_get-get_or before i x within in
     let still = keeps i (get_or before i x) was in
     let same : get_or before i x ≡ x = cc in was ∙ ap Some same
-
--- one item more at the end of a list that is known as another
-pub pushed_into : {X : Type 0} (xs ys : List X) (y : X) (i : ℕ) (z : X) → ys ≡ xs ++ y ∷ []
-    → slice_get ys i ≡ Some z → (slice_get xs i ≡ Some z) ⊎ ((i ≡ length xs) × (y ≡ z))
-pushed_into xs ys y i z pushed at =
-    pushed_at xs y i z (subst (λ l. slice_get l i ≡ Some z) pushed at)
-
-pub pushed_length : {X : Type 0} (xs ys : List X) (y : X) → ys ≡ xs ++ y ∷ []
-    → length ys ≡ length xs + 1
-pushed_length xs ys y pushed = ap length pushed ∙ length-append xs (y ∷ [])
-
-pub keeps_pushed : {X : Type 0} (xs ys : List X) (y : X) → ys ≡ xs ++ y ∷ [] → KeepsAll xs ys
-keeps_pushed xs ys y pushed i x at =
-    subst (λ l. slice_get l i ≡ Some x) (sym pushed) (still_at xs y i x at)
 
 -- the first set, and no state
 pub states_none : (lexer : Lexer) (sets : List (BTreeSet ℕ)) (states : States)
@@ -59,7 +46,7 @@ module _ (lexer : Lexer) (sets after : List (BTreeSet ℕ)) (keeps : KeepsAll se
       (longer : length sets ≤ length after)
       (this : IsRowAt (rules_in lexer) sets after (length before.rows.items) row)
       (among : (set : BTreeSet ℕ) → slice_get after (length before.rows.items) ≡ Some set
-      → IsFirstAmong lexer set first)
+      → IsFirstAmong (Accepts lexer) set first)
       (rows : new.rows.items ≡ before.rows.items ++ row ∷ [])
       (adds : AddsDense row 128 before.dense.items new.dense.items)
       (rules : new.first_rules.items ≡ before.first_rules.items ++ first ∷ []) where
@@ -97,7 +84,7 @@ module _ (lexer : Lexer) (sets after : List (BTreeSet ℕ)) (keeps : KeepsAll se
 
     first_still : (i : ℕ) (f : Option ℕ) (set : BTreeSet ℕ)
         → slice_get new.first_rules.items i ≡ Some f → slice_get after i ≡ Some set
-        → IsFirstAmong lexer set f
+        → IsFirstAmong (Accepts lexer) set f
     first_still i f set at stands =
         elim (pushed_into before.first_rules.items new.first_rules.items first i f rules at) [
           | inl old ↦
@@ -106,7 +93,7 @@ module _ (lexer : Lexer) (sets after : List (BTreeSet ℕ)) (keeps : KeepsAll se
               was.first i f set old
               (stood sets after keeps i set (omega (arith, within, room, marked)) stands)
           | inr end ↦
-              subst (IsFirstAmong lexer set) end.1
+              subst (IsFirstAmong (Accepts lexer) set) end.1
               (among set (subst (λ k. slice_get after k ≡ Some set) (end.0 ∙ was.marked) stands))
         ]
 
@@ -127,16 +114,6 @@ module _ (lexer : Lexer) (sets after : List (BTreeSet ℕ)) (keeps : KeepsAll se
           full = omega (arith, full, added, more);
           few = omega (arith, room, longer, more);
         }
-
--- a set that is added behind the others
-pub added_index : (before after : List (BTreeSet ℕ)) (set copy : BTreeSet ℕ)
-    → after ≡ before ++ copy ∷ [] → copy.keys ≡ set.keys → IsIndexOf after set (length before)
-added_index before after set copy pushed same = (
-  copy,
-  subst (λ l. slice_get l (length before) ≡ Some copy) (sym pushed)
-      (pushed_there before copy (length before) refl),
-  λ q. ap (λ ks. list_any (eq_by_cmp nat_cmp q) ks) same,
-)
 
 -- one character more in a dense row
 pub dense_none : (row : Row) (dense : List (Option ℕ)) → AddsDense row 0 dense dense

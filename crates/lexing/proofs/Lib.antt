@@ -1,8 +1,4 @@
-pub mod Best
-pub mod Finding
-pub mod Firsts
 pub mod Growing
-pub mod Lists
 pub mod Meeting
 pub mod Rows
 pub mod Running

@@ -1,6 +1,5 @@
 -- Sets of states that texts lead to, one more after the other.
 use Rattle.std.proofs.Common.{◌≡◌, refl, sym, ap, subst, ◌∙◌, ◌⊎◌, inl, inr, ℕ, zero, suc, ◌<◌, List, [], ◌∷◌, ◌++◌, length, BTreeSet, arith}
-use Rattle.std.specs.Prelude.{Result, Ok, Err, IfErr, OnOk}
 use Rattle.std.specs.Ordering.{nat_cmp}
 use Rattle.std.specs.BTreeSet.{contains}
 use Rattle.std.proofs.lemmas.Bool.{cases_lt}
@@ -9,23 +8,22 @@ use Rattle.btree_range_map.specs.AnyRange.{AnyRange}
 use Rattle.btree_range_map.specs.Characters.{IsCharacter, character_order, character_counted}
 use Rattle.btree_range_map.specs.Counted.{counted_lawful}
 use Rattle.btree_range_map.specs.HeldKeys.{held_or_not as key_held_or_not}
-use Rattle.btree_range_map.specs.Members.{HaveSame}
 use Rattle.btree_range_map.specs.Range.{Holds, IsKeyless}
 use Rattle.charmoves.specs.declared.rules.Rules.{Rules}
-use Rattle.charmoves.specs.Automata.{AreReached}
-use Rattle.charmoves.proofs.Leading.{after_none, after_more}
-use Rattle.lexing.specs.declared.error.BuildError.{BuildError}
-use Rattle.lexing.specs.declared.error.BuildError.TheVariants.{TooLarge, Memory}
-use Rattle.lexing.specs.Building.{AddsLike, AreFirst}
-use Rattle.lexing.specs.Budgets.{IsNewTo, IsReached, AreMet, IsBuildReason}
-use Rattle.lexing.proofs.Growing.{pushed_into, pushed_length}
+use Rattle.charmoves.specs.Automata.{HasRule, IsStart, AreReached}
+use Rattle.state_sets.specs.Listed.{HaveSameStates, IsNewTo}
+use Rattle.state_sets.proofs.Leading.{after_none, after_more}
+use Rattle.state_sets.proofs.Lists.{pushed_into, pushed_length}
+use Rattle.lexing.specs.declared.error.BuildError.TheVariants.{TooLarge}
+use Rattle.lexing.specs.Building.{AreFirst}
+use Rattle.lexing.specs.Budgets.{IsReached, AreMet, IsBuildReason}
 
 module _ (rules : Rules) where
   pub met_first : (sets : List (BTreeSet ℕ)) → AreFirst rules sets → AreMet rules sets
   met_first sets (set, only, starts) = record {
     reached = λ i s at. elim (pushed_into [] sets set i s only at) [
       | inl none ↦ absurd cc
-      | inr (first, same) ↦ subst (IsReached rules) same ([], after_none rules set starts)
+      | inr (first, same) ↦ subst (IsReached rules) same ([], after_none (HasRule rules) (IsStart rules) set starts)
     ];
     unlike = λ i j s t below at later.
         let within = slice_get_within sets j t later in
@@ -34,7 +32,7 @@ module _ (rules : Rules) where
 
   -- one more, which is none of those that were met
   pub met_more : (sets after : List (BTreeSet ℕ)) (set copy : BTreeSet ℕ) → AreMet rules sets
-      → IsReached rules set → IsNewTo sets set → HaveSame (contains nat_cmp) copy set
+      → IsReached rules set → IsNewTo sets set → HaveSameStates copy set
       → after ≡ sets ++ copy ∷ [] → AreMet rules after
   met_more sets after set copy met (text, by) new same pushed = record {
     reached = λ i s at. elim (pushed_into sets after copy i s pushed at) [
@@ -61,18 +59,6 @@ module _ (rules : Rules) where
     ];
   }
 
-  pub met_added : {A E : Type 0} (r : Result A E) (sets after : List (BTreeSet ℕ))
-      (set : BTreeSet ℕ) → AreMet rules sets → IsReached rules set → IsNewTo sets set
-      → OnOk r (AddsLike sets after set) → OnOk r (AreMet rules after)
-  met_added (Ok x) sets after set met reached new (copy, pushed, same) =
-      met_more sets after set copy met reached new same pushed
-  met_added (Err e) sets after set met reached new added = tt
-
-  pub out_of_memory : {A : Type 0} (r : Result A BuildError) (budget : ℕ)
-      → IfErr r (λ e. e ≡ Memory) → IfErr r (IsBuildReason rules budget)
-  out_of_memory (Ok x) budget h = tt
-  out_of_memory (Err e) budget h = subst (IsBuildReason rules budget) (sym h) tt
-
   -- which would be beyond the budget
   pub met_beyond : (sets : List (BTreeSet ℕ)) (set : BTreeSet ℕ) (budget : ℕ) → AreMet rules sets
       → IsReached rules set → IsNewTo sets set → length sets ≡ budget
@@ -86,7 +72,7 @@ module _ (rules : Rules) where
   pub reached_more : (set next : BTreeSet ℕ) (c : ℕ) → IsReached rules set
       → AreReached rules set c next → IsReached rules next
   reached_more set next c (text, after) by =
-      (text ++ c ∷ [], after_more rules text set next c after by)
+      (text ++ c ∷ [], after_more (HasRule rules) (IsStart rules) text set next c after by)
 
 -- one of the first numbers is such, or none is
 search_to : (P : ℕ → Type 0) → ((k : ℕ) → P k ⊎ (¬ P k)) → (n : ℕ)

@@ -15,7 +15,7 @@ use Rattle.btree_range_map.specs.Pairs.{HasPair, AreValuesAt}
 use Rattle.charmoves.specs.declared.rules.Rules.{Rules}
 use Rattle.charmoves.specs.Automata.{Transitions, HasRule, AreReached, LeadsAmong}
 use Rattle.lexing.specs.Machines.{Row, RowBinds, IsRowOf, Goes}
-use Rattle.lexing.specs.Building.{KeepsAll, IsIndexOf}
+use Rattle.state_sets.specs.Listed.{KeepsAll, IsIndexOf}
 use Rattle.lexing.specs.Budgets.{IsReached}
 use Rattle.lexing.proofs.Meeting.{some_character, reached_more, held_or_not}
 

@@ -10,18 +10,26 @@ use Rattle.std.specs.Str.{chars, IsUtf8}
 use Rattle.std.proofs.Math.Logic.{∥∥₁_elim}
 use Rattle.std.proofs.Props.{props}
 use Rattle.std.proofs.lemmas.Option.{slice_get_within, slice_get-get_or}
-use Rattle.charmoves.proofs.Leading.{AreAfter, after_none, after_more}
-use Rattle.charmoves.proofs.Fronts.{bytes_of}
+use Rattle.charmoves.specs.Automata.{HasRule, IsStart}
+use Rattle.state_sets.specs.declared.longest.Match.{Match}
+use Rattle.state_sets.specs.Steps.{AreAfter}
+use Rattle.state_sets.proofs.Best.{IsBest, best_none, best_grows, best_stays, best_when_stuck, token_of_best, first_for, none_for, never_through}
+use Rattle.state_sets.proofs.Fronts.{bytes_of}
+use Rattle.state_sets.proofs.Leading.{after_none, after_more}
+use Rattle.state_sets.proofs.Lists.{some_at}
 use Rattle.lexing.specs.declared.machine.Machine.{Machine}
-use Rattle.lexing.specs.declared.token.Match.{Match}
-use Rattle.lexing.specs.Lexers.{rules_in}
+use Rattle.lexing.specs.Lexers.{rules_in, Accepts, IsAcceptedBy}
 use Rattle.lexing.specs.Tokens.{IsToken, BeginsWithNone}
 use Rattle.lexing.specs.Machines.{Row, RowBinds, AreStates, IsMachine}
 use Rattle.lexing.specs.MachineSteps.{GoesTo, state_count}
-use Rattle.lexing.proofs.Lists.{some_at}
-use Rattle.lexing.proofs.Best.{IsBest, best_none, best_grows, best_stays, best_when_stuck, token_of_best, first_for, none_for, never_through}
 
 module _ (machine : Machine) where
+  abbrev HasStep : ℕ → ℕ → ℕ → Type 0
+  HasStep = HasRule (rules_in machine.lexer)
+
+  abbrev Starts : ℕ → Type 0
+  Starts = IsStart (rules_in machine.lexer)
+
   -- the state stands for the states that what is read leads to
   pub record IsRunning (read : List ℕ) (state : ℕ) (longest : Option Match) : Type 0 where
     pub sets : List (BTreeSet ℕ)
@@ -29,8 +37,8 @@ module _ (machine : Machine) where
     pub all : length sets ≡ state_count machine
     pub set : BTreeSet ℕ
     pub stands : slice_get sets state ≡ Some set
-    pub after : AreAfter (rules_in machine.lexer) read set
-    pub best : IsBest machine.lexer read longest
+    pub after : AreAfter HasStep Starts read set
+    pub best : IsBest (IsAcceptedBy machine.lexer) read longest
 
   pub running_none : IsMachine machine.lexer machine.states → IsRunning [] 0 None
   running_none (sets, are, all) =
@@ -41,8 +49,8 @@ module _ (machine : Machine) where
         all = all;
         set = set;
         stands = stands;
-        after = after_none (rules_in machine.lexer) set starts;
-        best = best_none machine.lexer;
+        after = after_none HasStep Starts set starts;
+        best = best_none (IsAcceptedBy machine.lexer);
       }
 
   module _ (read : List ℕ) (c state next : ℕ) (longest : Option Match)
@@ -55,7 +63,7 @@ module _ (machine : Machine) where
     running_grows rule len found bytes at is was =
         let (reached, stands, by) = goes was.sets was.are was.all was.set was.stands in
         let after =
-        after_more (rules_in machine.lexer) read was.set reached c was.after by in
+        after_more HasStep Starts read was.set reached c was.after by in
         record {
           sets = was.sets;
           are = was.are;
@@ -63,8 +71,8 @@ module _ (machine : Machine) where
           set = reached;
           stands = stands;
           after = after;
-          best = best_grows machine.lexer read c rule len bytes
-              (first_for machine.lexer read c reached found rule after
+          best = best_grows (IsAcceptedBy machine.lexer) read c rule len bytes
+              (first_for HasStep Starts (Accepts machine.lexer) read c reached found rule after
               (was.are.first next found reached at stands) is);
         }
 
@@ -75,7 +83,7 @@ module _ (machine : Machine) where
     running_stays found at never was =
         let (reached, stands, by) = goes was.sets was.are was.all was.set was.stands in
         let after =
-        after_more (rules_in machine.lexer) read was.set reached c was.after by in
+        after_more HasStep Starts read was.set reached c was.after by in
         record {
           sets = was.sets;
           are = was.are;
@@ -83,8 +91,8 @@ module _ (machine : Machine) where
           set = reached;
           stands = stands;
           after = after;
-          best = best_stays machine.lexer read c longest
-              (none_for machine.lexer (read ++ c ∷ []) reached found after
+          best = best_stays (IsAcceptedBy machine.lexer) read c longest
+              (none_for HasStep Starts (Accepts machine.lexer) (read ++ c ∷ []) reached found after
               (was.are.first next found reached at stands) never)
               was.best;
         }
@@ -103,8 +111,8 @@ module _ (machine : Machine) where
         (λ m. IsToken machine.lexer text m.rule m.len)
     token_at_end read state whole running =
         ∥∥₁_elim running (told_prop text longest)
-        (λ was. token_of_best machine.lexer text utf8 longest
-        (subst (λ t. IsBest machine.lexer t longest) whole was.best))
+        (λ was. token_of_best (IsAcceptedBy machine.lexer) text utf8 longest
+        (subst (λ t. IsBest (IsAcceptedBy machine.lexer) t longest) whole was.best))
 
     -- or the next character leads nowhere
     pub token_when_stuck : (read : List ℕ) (c state : ℕ) → read ≡ take (length read) (chars text)
@@ -114,9 +122,9 @@ module _ (machine : Machine) where
         (λ m. IsToken machine.lexer text m.rule m.len)
     token_when_stuck read c state front within at goes running =
         ∥∥₁_elim running (told_prop text longest)
-        (λ was. token_of_best machine.lexer text utf8 longest
-        (best_when_stuck machine.lexer (chars text) read c longest front within at
-        (never_through machine.lexer read c was.set was.after
+        (λ was. token_of_best (IsAcceptedBy machine.lexer) text utf8 longest
+        (best_when_stuck (IsAcceptedBy machine.lexer) (chars text) read c longest front within at
+        (never_through HasStep Starts (Accepts machine.lexer) read c was.set was.after
         (goes was.sets was.are was.all was.set was.stands))
         was.best))
 

@@ -1,6 +1,5 @@
 pub mod Budgets
 pub mod Building
-pub mod Found
 pub mod Left
 pub mod Lexers
 pub mod Machines

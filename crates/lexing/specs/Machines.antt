@@ -12,7 +12,8 @@ use Rattle.charmoves.specs.declared.rules.Rules.{Rules}
 use Rattle.charmoves.specs.Automata.{HasRule, AreStarts, AreReached}
 use Rattle.lexing.specs.declared.lexer.Lexer.{Lexer}
 use Rattle.lexing.specs.declared.states.States.{States}
-use Rattle.lexing.specs.Lexers.{rules_in, IsFirstAmong}
+use Rattle.state_sets.specs.Tokens.{IsFirstAmong}
+use Rattle.lexing.specs.Lexers.{rules_in, Accepts}
 
 -- characters with the states that they lead to
 abbrev pub Row : Type 0
@@ -48,7 +49,7 @@ module _ (lexer : Lexer) where
         → slice_get sets i ≡ Some set → IsRowOf (rules_in lexer) sets set row
     pub first : (i : ℕ) (found : Option ℕ) (set : BTreeSet ℕ)
         → slice_get states.first_rules.items i ≡ Some found → slice_get sets i ≡ Some set
-        → IsFirstAmong lexer set found
+        → IsFirstAmong (Accepts lexer) set found
     pub ascii : AreDense states.rows.items states.dense.items
     pub marked : length states.first_rules.items ≡ length states.rows.items
     pub full : length states.dense.items ≡ 128 * length states.rows.items

@@ -2,24 +2,24 @@
 ghost use Rattle.std.specs.Prelude.{◌≡◌, ◌+◌, ◌<◌, ◌≤◌, ◌↔◌, length, IsTrue, IfOk, IfErr, IfSome, IfNone, OnOk, vec_len};
 ghost use Rattle.std.specs.Ordering.{nat_cmp};
 ghost use Rattle.std.specs.BTreeSet.{contains};
-ghost use Rattle.btree_range_map.specs.Members.{HaveSame};
 ghost use Rattle.charmoves.specs.declared.rules.Rules.{Rules};
 ghost use Rattle.lexing.specs.declared.error.BuildError.TheVariants.{Memory};
 ghost use Rattle.lexing.specs.Lexers.{rules_in};
 ghost use Rattle.lexing.specs.Machines.{AreStates, IsMachine};
 ghost use Rattle.lexing.specs.MachineSteps.{lexer_of, state_count};
-ghost use Rattle.lexing.specs.Budgets.{IsNewTo, IsReached, AreMet, IsBuildReason};
-ghost use Rattle.lexing.specs.Building.{AreFirst, IsRowAt, IsIndexOf, KeepsAll};
-ghost use Rattle.lexing.specs.Found.{AreFound};
+ghost use Rattle.lexing.specs.Budgets.{IsReached, AreMet, IsBuildReason};
+ghost use Rattle.lexing.specs.Building.{AreFirst, IsRowAt};
+ghost use Rattle.state_sets.specs.Found.{AreFound};
+ghost use Rattle.state_sets.specs.Listed.{IsIndexOf, KeepsAll};
 
 use crate::error::BuildError;
 use crate::lexer::Lexer;
 use crate::machine::Machine;
-use crate::sets::Sets;
 use crate::states::States;
 use btree_range_map::RangeMap;
 use btree_range_map::generic::map::stored_lists_are_coarse;
 use btree_range_map::generic::multimap::stored_sets_have_all_values;
+use state_sets::{Sets, first_rule};
 use std::alloc::Global;
 use std::collections::BTreeSet;
 
@@ -97,7 +97,7 @@ fn grow(
 {
     let at = states.rows.len();
     let row = row_of(alloc, lexer, sets, at, budget)?;
-    let first_rule = lexer.first_rule(&sets.listed[at]);
+    let first_rule = first_rule(&lexer.rule_at, &sets.listed[at]);
     states.add(row, first_rule)?;
     Ok(())
 }
@@ -155,5 +155,5 @@ fn index_of(sets: &mut Sets, set: &BTreeSet<u32>, budget: u32) -> Result<u32, Bu
     if sets.listed.len() == budget as usize {
         return Err(BuildError::TooLarge);
     }
-    sets.add(set)
+    Ok(sets.add(set)?)
 }

@@ -1,15 +1,16 @@
 //! An automaton whose accepting states belong to rules.
-ghost use Rattle.std.specs.Prelude.{◌≡◌, ◌+◌, ◌↔◌, ◌≤◌, ℕ, List, IsTrue, IfOk, OnOk, OnErr, MatchOption, IfSome, ◌⊎◌, ⊤};
+ghost use Rattle.std.specs.Prelude.{◌≡◌, ◌+◌, ◌↔◌, ◌≤◌, ℕ, List, IsTrue, IfOk, OnOk, OnErr, MatchOption, ⊤};
 ghost use Rattle.charmoves.specs.Automata.{rules_of};
-ghost use Rattle.lexing.specs.Lexers.{rules_in, rule_count, Accepts, IsSkipped, IsNameOf, KeepsRules, AcceptsAlso, IsFirstAmong};
+ghost use Rattle.lexing.specs.Lexers.{rules_in, rule_count, Accepts, IsSkipped, IsNameOf, KeepsRules, AcceptsAlso};
 ghost use Rattle.lexing.specs.Tokens.{IsToken, BeginsWithNone};
 
 use crate::scanner::Scanner;
-use crate::token::{LexError, Match};
+use crate::token::LexError;
 use btree_range_map::MapError;
 use charmoves::Moves;
+use state_sets::{Match, longest_match};
 use std::alloc::Global;
-use std::collections::{BTreeMap, BTreeSet};
+use std::collections::BTreeMap;
 
 /// A rule: how it is called, and whether its tokens are skipped.
 #[derive(Drop)]
@@ -25,7 +26,7 @@ struct Kind {
 #[derive(Drop)]
 pub struct Lexer {
     pub(crate) moves: Moves,
-    rule_at: BTreeMap<u32, u32>,
+    pub(crate) rule_at: BTreeMap<u32, u32>,
     kinds: Vec<Kind>,
     alloc: Global,
 }
@@ -103,31 +104,6 @@ impl Lexer {
             None => None,
         }
     }
-
-    /// The first rule of which a token may end in one of the states.
-    pub(crate) fn first_rule(&self, states: &BTreeSet<u32>) -> Option<u32>
-        ensures { IsFirstAmong self.now states.now result }
-    {
-        let mut first = None;
-        for state in states {
-            if let Some(rule) = self.rule_at.get(state) {
-                first = Some(lesser(first, *rule));
-            }
-        }
-        first
-    }
-}
-
-/// The lesser of the two rules, if there are two.
-fn lesser(first: Option<u32>, rule: u32) -> u32
-    ensures below { result ≤ rule }
-    ensures least { IfSome first (λ other. result ≤ other) }
-    ensures one { (result ≡ rule) ⊎ (first ≡ Some result) }
-{
-    match first {
-        Some(other) => other.min(rule),
-        None => rule,
-    }
 }
 
 impl Scanner for Lexer {
@@ -137,20 +113,7 @@ impl Scanner for Lexer {
 
     /// Makes one step a character, up to the first at which no state is reached. Allocates.
     fn longest_match(&self, text: &str) -> Result<Option<Match>, MapError> {
-        let mut states = self.moves.starts()?;
-        let mut len = 0;
-        let mut longest = None;
-        for c in text.chars() {
-            states = self.moves.step(&states, c)?;
-            if states.is_empty() {
-                return Ok(longest);
-            }
-            len += c.len_utf8();
-            if let Some(rule) = self.first_rule(&states) {
-                longest = Some(Match { rule, len });
-            }
-        }
-        Ok(longest)
+        longest_match(&self.moves, &self.rule_at, text)
     }
 
     fn is_skipped(&self, rule: u32) -> bool {

@@ -25,9 +25,9 @@
 //! Where to find what:
 //!
 //! - what the rules of a lexer accept, the token that a text begins with:
-//!   `src/{lexer,scanner}.rt`, `specs/{Lexers,Tokens}.antt`, `proofs/{Best,Firsts}.antt`
+//!   `src/{lexer,scanner}.rt`, `specs/{Lexers,Tokens}.antt`, over `Tokens` of the crate `state_sets`
 //! - the tokens of a text, one after the other: `src/{tokens,cutting}.rt`, `specs/Runs.antt`,
-//!   `proofs/{Lists,TokenLists}.antt`
+//!   `proofs/TokenLists.antt`
 //! - the machine of a lexer, which finds the same tokens: `src/machine.rt`,
 //!   `specs/{Machines,MachineSteps}.antt`, `proofs/Running.antt`
 //! - how it is built, within a budget of states: `src/{build,states,error}.rt`,
@@ -40,7 +40,6 @@ mod error;
 mod lexer;
 mod machine;
 mod scanner;
-mod sets;
 mod states;
 mod token;
 mod tokens;
@@ -50,5 +49,6 @@ pub use error::BuildError;
 pub use lexer::Lexer;
 pub use machine::Machine;
 pub use scanner::Scanner;
-pub use token::{LexError, Match, Token};
+pub use state_sets::Match;
+pub use token::{LexError, Token};
 pub use tokens::Tokens;

@@ -5,9 +5,9 @@ ghost use Rattle.lexing.specs.Machines.{IsMachine};
 use crate::lexer::Lexer;
 use crate::scanner::Scanner;
 use crate::states::States;
-use crate::token::Match;
 use btree_range_map::MapError;
 use btree_range_map::range::traits::MaybeBounded;
+use state_sets::Match;
 
 /// The machine of a lexer: it finds the same tokens, by one look-up a character, and allocates
 /// nothing.

@@ -4,9 +4,9 @@ ghost use Rattle.lexing.specs.declared.lexer.Lexer.{Lexer};
 ghost use Rattle.lexing.specs.Lexers.{IsSkipped};
 ghost use Rattle.lexing.specs.Tokens.{IsToken, BeginsWithNone};
 
-use crate::token::Match;
 use crate::tokens::Tokens;
 use btree_range_map::MapError;
+use state_sets::Match;
 
 /// Finds the tokens of a lexer.
 pub trait Scanner {

@@ -6,13 +6,6 @@ use btree_range_map::MapError;
 use std::alloc::{AllocError, AllocFailed};
 use thiserror::Error;
 
-/// What a text begins with: a rule of the lexer, and how many bytes it accepts.
-#[derive(Clone, Copy, Debug, PartialEq, Eq, Drop)]
-pub struct Match {
-    pub rule: u32,
-    pub len: usize,
-}
-
 /// A token: the rule that accepts it, and its place in bytes, from `start` up to `end`.
 #[derive(Clone, Copy, Debug, PartialEq, Eq, Drop)]
 pub struct Token {

@@ -5,7 +5,8 @@ use Rattle.lexing_patterns.specs.declared.part.Edge.{Edge}
 use Rattle.lexing_patterns.specs.declared.part.Part.{Part}
 use Rattle.lexing_patterns.specs.declared.draft.End.{End}
 use Rattle.lexing_patterns.specs.Languages.{IsLanguage}
-use Rattle.lexing_patterns.specs.Parts.{HasEdge, Leads, IsAmong, Path, Reads}
+use Rattle.character_leads.specs.Leads.{Leads}
+use Rattle.lexing_patterns.specs.Parts.{HasEdge, IsAmong, Path, Reads}
 use Rattle.lexing_patterns.specs.Built.{IsBuilt}
 use Rattle.lexing_patterns.specs.Drafts.{HasEnd, DraftReads, AreDrafted}
 use Rattle.lexing_patterns.proofs.Joining.{path-more, stays_above, stays_below}

@@ -1,6 +1,6 @@
 -- Why patterns are not taken, by what they are made of.
-use Rattle.std.proofs.Common.{◌≡◌, ◌<◌, ◌⊎◌, ◌+◌, ◌-◌, refl, sym, subst, inl, inr, ℕ, zero, suc, Bool, true, false, Option, Some, None, List, [], ◌∷◌, map, length, get_or, Result, Ok, Err, IfErr, arith}
-use Rattle.regex_hir.specs.Re.{Re, cat, alt, plus}
+use Rattle.std.proofs.Common.{◌≡◌, ◌<◌, ◌-◌, sym, subst, inl, inr, ℕ, zero, suc, Bool, true, false, Option, Some, None, List, [], ◌∷◌, map, length, get_or, Result, Ok, Err, IfErr, arith}
+use Rattle.regex_hir.specs.Re.{Re, cat, plus}
 use Rattle.regex_hir.specs.Meaning.{meaning, cat_all, alt_all, copies, up_to, optional, repeat}
 use Rattle.regex_hir.specs.declared.hir.Hir.{Hir}
 use Rattle.lexing_patterns.specs.declared.error.PatternError.{PatternError}

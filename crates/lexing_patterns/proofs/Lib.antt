@@ -1,4 +1,3 @@
-pub mod Any
 pub mod Building
 pub mod Drafting
 pub mod Faults
@@ -10,5 +9,4 @@ pub mod CharacterRanges
 pub mod Pouring
 pub mod Promise
 pub mod Repeating
-pub mod Results
 pub mod Within

@@ -10,7 +10,7 @@ use Rattle.lexing_patterns.specs.declared.part.Part.{Part}
 use Rattle.lexing_patterns.specs.Languages.{InTurn, OneOf, IsLanguage}
 use Rattle.lexing_patterns.specs.Parts.{Reads}
 use Rattle.lexing_patterns.specs.Built.{IsBuilt}
-use Rattle.lexing_patterns.proofs.CharacterRanges.{in_ranges_any}
+use Rattle.character_leads.proofs.Ranges.{in_ranges_any}
 use Rattle.lexing_patterns.proofs.Meanings.{language_same, language_empty, language_cat, language_char_in, language_literal, language_through}
 
 -- the pattern of these characters matches them alone

@@ -4,9 +4,9 @@ use Rattle.std.proofs.lemmas.Bool.Decides.{nat_tests}
 use Rattle.btree_range_map.specs.Characters.{character_order}
 use Rattle.btree_range_map.specs.Order.{NotAbove}
 use Rattle.lexing_patterns.specs.declared.draft.End.{End}
-use Rattle.lexing_patterns.specs.Parts.{AnyOf}
+use Rattle.character_leads.specs.Leads.{AnyOf}
 use Rattle.lexing_patterns.specs.Drafts.{HasEnd, EndsAtOne}
-use Rattle.lexing_patterns.proofs.Any.{any-append}
+use Rattle.character_leads.proofs.Any.{any-append}
 
 pub not_above : (a b : ℕ) → NotAbove character_order a b ↔ (a ≤ b)
 not_above a b = (λ h. grind (arith, nat_tests), λ h. grind (arith, nat_tests))

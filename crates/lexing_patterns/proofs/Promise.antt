@@ -9,7 +9,7 @@ use Rattle.std.specs.Char.{IsScalar, encode_utf8}
 use Rattle.std.specs.Str.{encode_utf8_all, all_scalars, chars, IsUtf8}
 use Rattle.btree_range_map.specs.Characters.{IsCharacter}
 use Rattle.charmoves.specs.Automata.{LeadsTo}
-use Rattle.charmoves.specs.Beginnings.{AcceptsFirst}
+use Rattle.state_sets.specs.Beginnings.{AcceptsFirst}
 use Rattle.lexing.specs.declared.lexer.Lexer.{Lexer}
 use Rattle.lexing.specs.Lexers.{rules_in, PathOf, IsAcceptedBy}
 use Rattle.lexing.specs.Tokens.{IsToken}

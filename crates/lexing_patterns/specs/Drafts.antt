@@ -5,7 +5,8 @@ use Rattle.lexing_patterns.specs.declared.part.Edge.{Edge}
 use Rattle.lexing_patterns.specs.declared.draft.End.{End}
 use Rattle.lexing_patterns.specs.declared.draft.Draft.{Draft}
 use Rattle.lexing_patterns.specs.Languages.{IsLanguage}
-use Rattle.lexing_patterns.specs.Parts.{AnyOf, HasEdge, IsAmong, Path}
+use Rattle.character_leads.specs.Leads.{AnyOf}
+use Rattle.lexing_patterns.specs.Parts.{HasEdge, IsAmong, Path}
 
 -- a text of the rule may end in the state
 abbrev pub HasEnd : List End → ℕ → ℕ → Type 0

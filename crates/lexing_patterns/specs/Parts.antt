@@ -1,20 +1,8 @@
 -- What a part of an automaton accepts.
-use Rattle.std.specs.Prelude.{◌≡◌, ℕ, ◌≤◌, ◌<◌, ◌⊎◌, List, [], ◌∷◌, IsTrue}
-use Rattle.lexing_patterns.specs.declared.part.Lead.{Lead}
+use Rattle.std.specs.Prelude.{◌≡◌, ℕ, ◌≤◌, ◌<◌, List, [], ◌∷◌, IsTrue}
+use Rattle.character_leads.specs.Leads.{AnyOf, LeadsBy, Leads}
 use Rattle.lexing_patterns.specs.declared.part.Edge.{Edge}
 use Rattle.lexing_patterns.specs.declared.part.Part.{Part}
-
--- of one in the list this holds
-abbrev pub AnyOf : {X : Type 0} → (X → Type 0) → List X → Type 0
-AnyOf P [] = ⊥
-AnyOf P (x ∷ xs) = P x ⊎ AnyOf P xs
-
--- the character leads to the state
-abbrev pub LeadsBy : ℕ → ℕ → Lead → Type 0
-LeadsBy c q lead = (lead.first ≤ c) × (c ≤ lead.last) × (q ≡ lead.to)
-
-abbrev pub Leads : List Lead → ℕ → ℕ → Type 0
-Leads leads c q = AnyOf (LeadsBy c q) leads
 
 -- the character leads from state p to state q
 abbrev pub HasEdge : List Edge → ℕ → ℕ → ℕ → Type 0
@@ -49,11 +37,3 @@ pub record IsWithin (part : Part) (low high : ℕ) : Type 0 where
   pub ends : (q : ℕ) → IsAmong q part.ends.items → LiesWithin low high q
   pub edges : (p c q : ℕ) → HasEdge part.edges.items p c q
       → LiesWithin low high p × LiesWithin low high q
-
--- the number lies between these two, and leads to the state
-abbrev pub HasPiece : ℕ → ℕ → ℕ → ℕ → ℕ → Type 0
-HasPiece first last to c q = ((first ≤ c) × (c ≤ last)) × (q ≡ to)
-
--- the numbers from first to last are characters, on one side of the surrogates
-abbrev pub AreCharacters : ℕ → ℕ → Type 0
-AreCharacters first last = first ≤ last → (last ≤ 0xD7FF) ⊎ ((0xE000 ≤ first) × (last ≤ 0x10_FFFF))

@@ -7,7 +7,6 @@ ghost use Rattle.lexing_patterns.specs.Faults.{IsFaultIn, IsTooMuch};
 
 use crate::error::PatternError;
 use crate::part::{self, Part};
-use crate::pieces;
 use regex_class::{Class, ClassRange};
 use std::alloc::Global;
 
@@ -71,7 +70,7 @@ impl Builder {
     {
         self.spend(ranges.len())?;
         let state = self.state()?;
-        Ok(pieces::one_of(self.alloc, ranges, state)?)
+        Ok(part::one_of(self.alloc, ranges, state)?)
     }
 
     /// Matches one byte of the class, if all its bytes are ASCII.

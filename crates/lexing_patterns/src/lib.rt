@@ -20,8 +20,8 @@
 //!   `specs/Languages.antt`, `proofs/{Meanings,Literals,Repeating}.antt`
 //! - a pattern as a part of an automaton, whose states are each entered by one character or class:
 //!   `src/{trees,builder}.rt`, `specs/Built.antt`, `proofs/Building.antt`
-//! - parts, and how they are put together: `src/{part,pieces}.rt`, `specs/Parts.antt`,
-//!   `proofs/{Joining,Any,Within,CharacterRanges}.antt`
+//! - parts, and how they are put together: `src/part.rt`, `specs/Parts.antt`,
+//!   `proofs/{Joining,Within,CharacterRanges}.antt`
 //! - the automata of several rules side by side, and as those of a lexer: `src/{draft,pour}.rt`,
 //!   `specs/Drafts.antt`, `proofs/{Drafting,Pouring}.antt`
 #![tactic(auto)]
@@ -31,7 +31,6 @@ mod draft;
 mod error;
 mod part;
 mod patterns;
-mod pieces;
 mod pour;
 mod trees;
 

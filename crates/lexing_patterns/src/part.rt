@@ -1,17 +1,14 @@
 //! Automata in parts, and how parts are put together.
-ghost use Rattle.std.specs.Prelude.{ℕ, ◌≤◌, ◌≡◌, ◌↔◌, ◌⊎◌, [], ◌∷◌, List, IsTrue, IfOk, OnOk};
-ghost use Rattle.lexing_patterns.specs.Languages.{InTurn, RoundsOf};
-ghost use Rattle.lexing_patterns.specs.Parts.{Leads, HasEdge, IsAmong, Reads, IsWithin};
+ghost use Rattle.std.specs.Prelude.{ℕ, ◌≤◌, ◌+◌, ◌≡◌, ◌↔◌, ◌⊎◌, [], ◌∷◌, List, true, IsTrue, IfOk, OnOk};
+ghost use Rattle.std.specs.Str.{all_scalars};
+ghost use Rattle.regex_class.specs.Ranges.{in_ranges};
+ghost use Rattle.character_leads.specs.Leads.{Leads};
+ghost use Rattle.lexing_patterns.specs.Languages.{InTurn, OneOf, RoundsOf};
+ghost use Rattle.lexing_patterns.specs.Parts.{HasEdge, IsAmong, Reads, IsWithin};
 
+use character_leads::{Lead, leads_of};
+use regex_class::ClassRange;
 use std::alloc::{AllocError, Global};
-
-/// Each character of a range leads to a state.
-#[derive(Clone, Copy)]
-pub(crate) struct Lead {
-    pub(crate) first: char,
-    pub(crate) last: char,
-    pub(crate) to: u32,
-}
 
 /// A state from which characters lead on.
 #[derive(Clone, Copy)]
@@ -42,6 +39,22 @@ pub(crate) fn nothing(alloc: Global) -> Part
         edges: Vec::new(alloc),
         empty: false,
     }
+}
+
+/// Accepts one character of the ranges, which leads to the state.
+pub(crate) fn one_of(alloc: Global, ranges: &[ClassRange], state: u32) -> Result<Part, AllocError>
+    ensures reads { IfOk result (λ r. (w : List ℕ) → all_scalars w ≡ true
+        → Reads r w ↔ OneOf (in_ranges ranges.now) w) }
+    ensures within { IfOk result (λ r. IsWithin r state (state + 1)) }
+{
+    let leads = leads_of(alloc, ranges, state)?;
+    let ends = Vec::from_slice(alloc, &[state])?;
+    Ok(Part {
+        leads,
+        ends,
+        edges: Vec::new(alloc),
+        empty: false,
+    })
 }
 
 /// Accepts the empty text too.

@@ -1,7 +1,8 @@
--- The lines around a place of a text, and what marks it.
-use Rattle.std.specs.Prelude.{◌≡◌, ◌⊎◌, ℕ, ◌==◌, List, ◌∷◌, ◌++◌, map, codes, if◌then◌else◌}
+-- What is shown where no token begins.
+use Rattle.std.specs.Prelude.{◌≡◌, ◌⊎◌, ℕ, ◌==◌, List, ◌∷◌, ◌++◌, map, codes, decimal, if◌then◌else◌}
 use Rattle.std.specs.Str.{chars}
 use Rattle.line_program.specs.Lines.{Lacks}
+use Rattle.tokens.specs.declared.place.Place.{Place}
 
 -- the line is the last of the text
 abbrev pub EndsWithLine : List ℕ → List ℕ → Type 0
@@ -20,3 +21,18 @@ blank_below c = if c == 9 then 9 else 32
 -- the line below a line that marks the character behind the text
 abbrev pub mark_below : List ℕ → List ℕ
 mark_below before = codes "  " ++ map blank_below (chars before) ++ codes "^\n"
+
+abbrev pub fault_place : List ℕ → Place → List ℕ
+fault_place path place =
+    path ++ codes ":" ++ decimal place.line ++ codes ":" ++ decimal place.column
+    ++ codes ": no token begins here\n"
+
+abbrev pub shown_line : List ℕ → List ℕ → List ℕ
+shown_line before behind = codes "  " ++ before ++ behind ++ codes "\n"
+
+-- what is shown where no token begins at the place, between the two texts: path and place, the line,
+-- and a mark below the character
+abbrev pub ShowsFault : List ℕ → Place → List ℕ → List ℕ → List ℕ → Type 0
+ShowsFault path place front rest shown = (before : List ℕ) × (behind : List ℕ)
+    × EndsWithLine front before × BeginsWithLine rest behind
+    × (shown ≡ fault_place path place ++ shown_line before behind ++ mark_below before)

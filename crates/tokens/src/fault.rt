@@ -1,7 +1,8 @@
 //! Places in a text, shown to whoever wrote it.
 ghost use Rattle.std.specs.Prelude.{◌≡◌, OnOk};
 ghost use Rattle.std.specs.Io.KnownBytes.{Appends};
-ghost use Rattle.tokens.specs.Faults.{BeginsWithLine, EndsWithLine, blank_below, mark_below};
+ghost use Rattle.line_program.specs.Listing.{Writes};
+ghost use Rattle.tokens.specs.Faults.{BeginsWithLine, EndsWithLine, ShowsFault, blank_below, fault_place, mark_below, shown_line};
 
 use crate::place::Place;
 use line_program::line::split_at;
@@ -47,6 +48,23 @@ fn first_line(text: &str) -> &str
     }
 }
 
+/// Says that no token begins at the place.
+fn show_place<E: Write>(path: &str, place: Place, err: &mut E) -> io::Result<()>
+    ensures { OnOk result (Appends (E.contents err.old) (E.contents err.new)
+        (fault_place path.now place)) }
+{
+    let Place { line, column } = place;
+    writeln!(err, "{path}:{line}:{column}: no token begins here")
+}
+
+/// Shows a line of two parts.
+fn show_parts<E: Write>(before: &str, behind: &str, err: &mut E) -> io::Result<()>
+    ensures { OnOk result (Appends (E.contents err.old) (E.contents err.new)
+        (shown_line before.now behind.now)) }
+{
+    writeln!(err, "  {before}{behind}")
+}
+
 /// Says that no token begins at the place, shows the line, and marks it.
 pub(crate) fn show_fault<E: Write>(
     path: &str,
@@ -54,11 +72,13 @@ pub(crate) fn show_fault<E: Write>(
     front: &str,
     rest: &str,
     err: &mut E,
-) -> io::Result<()> {
-    let Place { line, column } = place;
+) -> io::Result<()>
+    ensures { OnOk result (Writes (E.contents err.old) (E.contents err.new)
+        (ShowsFault path.now place front.now rest.now)) }
+{
     let before = last_line(front);
     let behind = first_line(rest);
-    writeln!(err, "{path}:{line}:{column}: no token begins here")?;
-    writeln!(err, "  {before}{behind}")?;
+    show_place(path, place, err)?;
+    show_parts(before, behind, err)?;
     mark(before, err)
 }

@@ -1,9 +1,10 @@
 use Rattle.std.proofs.Common.{◌≡◌, refl, sym, subst, ◌<◌, length, Some, arith}
 use Rattle.std.specs.List.{slice_get}
 use Rattle.std.proofs.lemmas.Option.{slice_get_read}
-use Rattle.lexing.specs.Lexers.{rules_in, IsFirstAmong}
+use Rattle.state_sets.specs.Tokens.{IsFirstAmong}
+use Rattle.lexing.specs.Lexers.{rules_in, Accepts}
 use Rattle.lexing.specs.Building.{IsRowAt}
-use Rattle.lexing.proofs.Lists.{one_item}
+use Rattle.state_sets.proofs.Lists.{one_item}
 use Rattle.lexing.proofs.Growing.{states_grow}
 use Rattle.lexing.proofs.build.grow.Goals as goal
 
@@ -31,7 +32,7 @@ returns-clause-states c =
     (subst (λ k. IsRowAt (rules_in lexer) sets after k c.in_ok-row.row) place
     c.in_ok-row.ensures.row)
     (λ other stands.
-    subst (λ s. IsFirstAmong lexer s first)
+    subst (λ s. IsFirstAmong (Accepts lexer) s first)
     (one_item after c.len-at.result set other stood
     (subst (λ k. slice_get after k ≡ Some other) (sym place) stands))
     c.first_rule-first_rule.ensures)

@@ -6,7 +6,7 @@ use Rattle.btree_range_map.specs.Counted.{counted_complete}
 use Rattle.lexing.specs.Lexers.{rules_in}
 use Rattle.lexing.specs.Budgets.{IsReached}
 use Rattle.lexing.specs.Machines.{IsRowOf}
-use Rattle.lexing.proofs.Lists.{one_item}
+use Rattle.state_sets.proofs.Lists.{one_item}
 use Rattle.lexing.proofs.Rows.{Entry, row_none, row_more, row_all, next_reached}
 use Rattle.lexing.proofs.build.row_of.Goals as goal
 use Rattle.lexing.proofs.build.row_of.Goals.{In-Some}

@@ -1,8 +1,8 @@
 use Rattle.std.proofs.Common.{◌≤◌, vec_len, length}
 use Rattle.lexing.specs.Lexers.{rules_in}
-use Rattle.lexing.specs.Building.{KeepsAll}
+use Rattle.state_sets.specs.Listed.{KeepsAll}
 use Rattle.lexing.specs.Budgets.{AreMet}
-use Rattle.lexing.specs.Found.{AreFound}
+use Rattle.state_sets.specs.Found.{AreFound}
 use Rattle.lexing.proofs.Rows.{IsRowSoFar}
 use Rattle.lexing.proofs.build.row_of.Given as goal
 

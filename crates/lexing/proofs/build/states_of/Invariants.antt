@@ -2,7 +2,7 @@ use Rattle.std.proofs.Common.{◌≤◌, ◌-◌, vec_len}
 use Rattle.lexing.specs.Lexers.{rules_in}
 use Rattle.lexing.specs.Machines.{AreStates}
 use Rattle.lexing.specs.Budgets.{AreMet}
-use Rattle.lexing.specs.Found.{AreFound}
+use Rattle.state_sets.specs.Found.{AreFound}
 use Rattle.lexing.proofs.build.states_of.Given as goal
 
 abbrev pub invariant-loop-alloc : goal.invariant-loop-alloc

@@ -2,7 +2,7 @@ use Rattle.std.proofs.Common.{◌≡◌, ap, ◌∙◌, take, length, arith}
 use Rattle.std.proofs.lemmas.List.{take_more}
 use Rattle.std.proofs.Math.Seq.{take-length}
 use Rattle.lexing_patterns.specs.Drafts.{HasEnd}
-use Rattle.lexing_patterns.proofs.Any.{any-more, any-also, left_or}
+use Rattle.character_leads.proofs.Any.{any-more, any-also, left_or}
 use Rattle.lexing_patterns.proofs.draft.add_ends.Goals as goal
 
 pub loop-state-preserved : goal.loop-state-preserved

@@ -1,5 +1,5 @@
 use Rattle.std.proofs.Common.{ℕ, ◌≡◌, ◌↔◌, ◌⊎◌, take}
-use Rattle.lexing_patterns.specs.Parts.{AnyOf}
+use Rattle.character_leads.specs.Leads.{AnyOf}
 use Rattle.lexing_patterns.specs.Drafts.{HasEnd}
 use Rattle.lexing_patterns.proofs.draft.add_ends.Given as goal
 

@@ -1,6 +1,7 @@
 use Rattle.std.proofs.Common.{◌≡◌, sym, ◌∙◌, ◌↔◌, ◌⊎◌, inl, inr, ℕ, IsTrue}
-use Rattle.lexing_patterns.specs.Parts.{Leads, HasEdge, LeadsBy, IsAmong}
-use Rattle.lexing_patterns.proofs.Any.{any-append}
+use Rattle.character_leads.specs.Leads.{Leads, LeadsBy}
+use Rattle.lexing_patterns.specs.Parts.{HasEdge, IsAmong}
+use Rattle.character_leads.proofs.Any.{any-append}
 use Rattle.lexing_patterns.proofs.Joining.{reads-same, either_reads, same_both}
 use Rattle.lexing_patterns.proofs.Within.{low_lies, high_lies}
 use Rattle.lexing_patterns.proofs.part.either.Goals as goal

@@ -1,6 +1,6 @@
 use Rattle.std.proofs.Common.{ap, ◌∙◌}
-use Rattle.lexing_patterns.specs.Parts.{LeadsBy}
-use Rattle.lexing_patterns.proofs.Any.{any-wanted, any-unwanted}
+use Rattle.character_leads.specs.Leads.{LeadsBy}
+use Rattle.character_leads.proofs.Any.{any-wanted, any-unwanted}
 use Rattle.lexing_patterns.proofs.part.leads_with.Goals as goal
 use Rattle.lexing_patterns.proofs.part.leads_with.Goals.{then-wanted+in_ok-extend_from_slice, else-wanted}
 

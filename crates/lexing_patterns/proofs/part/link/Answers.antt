@@ -1,9 +1,10 @@
 use Rattle.std.proofs.Common.{◌≡◌, ap, ◌∙◌, take, length, arith}
 use Rattle.std.proofs.lemmas.List.{take_more}
 use Rattle.std.proofs.Math.Seq.{take-length}
-use Rattle.lexing_patterns.specs.declared.part.Lead.{Lead}
-use Rattle.lexing_patterns.specs.Parts.{HasEdge, LeadsBy}
-use Rattle.lexing_patterns.proofs.Any.{any-more, any-given, left_or}
+use Rattle.character_leads.specs.declared.leads.Lead.{Lead}
+use Rattle.character_leads.specs.Leads.{LeadsBy}
+use Rattle.lexing_patterns.specs.Parts.{HasEdge}
+use Rattle.character_leads.proofs.Any.{any-more, any-given, left_or}
 use Rattle.lexing_patterns.proofs.part.link.Goals as goal
 
 pub loop-lead-preserved : goal.loop-lead-preserved

@@ -1,5 +1,6 @@
 use Rattle.std.proofs.Common.{ℕ, ◌≡◌, ◌↔◌, ◌⊎◌, take}
-use Rattle.lexing_patterns.specs.Parts.{AnyOf, HasEdge, LeadsBy}
+use Rattle.character_leads.specs.Leads.{AnyOf, LeadsBy}
+use Rattle.lexing_patterns.specs.Parts.{HasEdge}
 use Rattle.lexing_patterns.proofs.part.link.Given as goal
 
 abbrev pub invariant-loop-lead : goal.invariant-loop-lead

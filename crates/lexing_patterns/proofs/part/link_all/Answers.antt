@@ -1,8 +1,9 @@
 use Rattle.std.proofs.Common.{◌≡◌, ap, ◌∙◌, take, length, arith}
 use Rattle.std.proofs.lemmas.List.{take_more}
 use Rattle.std.proofs.Math.Seq.{take-length}
-use Rattle.lexing_patterns.specs.Parts.{HasEdge, Leads}
-use Rattle.lexing_patterns.proofs.Any.{any-step, any-also, left_or}
+use Rattle.character_leads.specs.Leads.{Leads}
+use Rattle.lexing_patterns.specs.Parts.{HasEdge}
+use Rattle.character_leads.proofs.Any.{any-step, any-also, left_or}
 use Rattle.lexing_patterns.proofs.part.link_all.Goals as goal
 
 pub loop-state-preserved : goal.loop-state-preserved

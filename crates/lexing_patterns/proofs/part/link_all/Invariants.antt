@@ -1,5 +1,6 @@
 use Rattle.std.proofs.Common.{ℕ, ◌≡◌, ◌↔◌, ◌⊎◌, take}
-use Rattle.lexing_patterns.specs.Parts.{AnyOf, HasEdge, Leads}
+use Rattle.character_leads.specs.Leads.{AnyOf, Leads}
+use Rattle.lexing_patterns.specs.Parts.{HasEdge}
 use Rattle.lexing_patterns.proofs.part.link_all.Given as goal
 
 abbrev pub invariant-loop-state : goal.invariant-loop-state

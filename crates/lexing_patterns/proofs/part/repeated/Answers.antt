@@ -1,5 +1,6 @@
 use Rattle.std.proofs.Common.{◌↔◌, ◌⊎◌, inl, inr, ℕ, IsTrue}
-use Rattle.lexing_patterns.specs.Parts.{Leads, HasEdge, IsAmong}
+use Rattle.character_leads.specs.Leads.{Leads}
+use Rattle.lexing_patterns.specs.Parts.{HasEdge, IsAmong}
 use Rattle.lexing_patterns.proofs.Joining.{reads-same, loop_reads, same_both}
 use Rattle.lexing_patterns.proofs.part.repeated.Goals as goal
 

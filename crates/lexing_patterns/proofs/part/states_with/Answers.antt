@@ -1,5 +1,5 @@
 use Rattle.std.proofs.Common.{◌≡◌, ap, ◌∙◌}
-use Rattle.lexing_patterns.proofs.Any.{any-wanted, any-unwanted}
+use Rattle.character_leads.proofs.Any.{any-wanted, any-unwanted}
 use Rattle.lexing_patterns.proofs.part.states_with.Goals as goal
 use Rattle.lexing_patterns.proofs.part.states_with.Goals.{then-wanted+in_ok-extend_from_slice, else-wanted}
 

@@ -3,7 +3,7 @@ use Rattle.std.specs.Option.{option_map}
 use Rattle.std.specs.String.{string_bytes}
 use Rattle.regex_hir.specs.Meaning.{meaning}
 use Rattle.regex_syntax.specs.Verdict.{Reads}
-use Rattle.lexing_patterns.proofs.Results.{on_ok}
+use Rattle.character_leads.proofs.Results.{on_ok}
 use Rattle.lexing_patterns.proofs.patterns.add_pattern.Goals as goal
 
 pub returns-in-Ok-parse-clause-added : goal.returns-in-Ok-parse-clause-added

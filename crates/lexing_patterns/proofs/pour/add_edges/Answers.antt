@@ -2,8 +2,8 @@ use Rattle.std.proofs.Common.{◌≡◌, take}
 use Rattle.std.proofs.lemmas.List.{take_more}
 use Rattle.charmoves.specs.Automata.{HasRule}
 use Rattle.lexing_patterns.specs.declared.part.Edge.{Edge}
-use Rattle.lexing_patterns.specs.Parts.{LeadsBy}
-use Rattle.lexing_patterns.proofs.Any.{any-step, left_or}
+use Rattle.character_leads.specs.Leads.{LeadsBy}
+use Rattle.character_leads.proofs.Any.{any-step, left_or}
 use Rattle.lexing_patterns.proofs.Joining.{same_both}
 use Rattle.lexing_patterns.proofs.Pouring.{not_above}
 use Rattle.lexing_patterns.proofs.pour.add_edges.Goals as goal

@@ -1,7 +1,7 @@
 use Rattle.std.proofs.Common.{◌≡◌, take}
 use Rattle.std.proofs.lemmas.List.{take_more}
 use Rattle.charmoves.specs.Automata.{IsStart}
-use Rattle.lexing_patterns.proofs.Any.{any-step}
+use Rattle.character_leads.proofs.Any.{any-step}
 use Rattle.lexing_patterns.proofs.Joining.{same_both}
 use Rattle.lexing_patterns.proofs.pour.add_starts.Goals as goal
 

@@ -4,7 +4,7 @@ use Rattle.std.specs.Option.{option_copied}
 use Rattle.std.proofs.lemmas.Map.Iter.{rest_more, rest_all}
 use Rattle.charmoves.specs.Automata.{rules_of}
 use Rattle.charmoves.proofs.Leads.{leads_more, leads_pass, all_leads}
-use Rattle.charmoves.proofs.Stepping.{none_of}
+use Rattle.state_sets.proofs.Members.{none_of}
 use Rattle.charmoves.proofs.moves.Moves.leads.Goals as goal
 
 pub loop-state-preserved-in-Some-get : goal.loop-state-preserved-in-Some-get

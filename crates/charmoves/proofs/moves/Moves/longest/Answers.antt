@@ -4,9 +4,10 @@ use Rattle.std.proofs.lemmas.Iterator.{YieldsList-from_chars}
 use Rattle.std.proofs.lemmas.Iterator.Consumers.{YieldsList-so_far, YieldsList-turn, YieldsList-end}
 use Rattle.std.proofs.lemmas.List.{map-id}
 use Rattle.std.proofs.lemmas.Str.{encodes-chars}
-use Rattle.charmoves.specs.Automata.{rules_of, Accepts}
-use Rattle.charmoves.proofs.Leading.{after_more, accepted_among, never_again}
-use Rattle.charmoves.proofs.Fronts.{bytes_of, bytes_push, bytes_of_front, one_more_char, longest_grows, longest_stays, longest_when_stuck, longest_by_bytes, IsLongestFront, no_member}
+use Rattle.charmoves.specs.Automata.{rules_of, HasRule, IsStart, Accepts}
+use Rattle.charmoves.proofs.Paths.{accepted_among, never_again}
+use Rattle.state_sets.proofs.Leading.{after_more}
+use Rattle.state_sets.proofs.Fronts.{bytes_of, bytes_push, bytes_of_front, one_more_char, longest_grows, longest_stays, longest_when_stuck, longest_by_bytes, IsLongestFront, no_member}
 use Rattle.charmoves.proofs.moves.Moves.longest.Goals as goal
 
 pub returns-then-is_empty : goal.returns-then-is_empty
@@ -23,8 +24,8 @@ returns-then-is_empty c =
       longest = longest_by_bytes (Accepts rules) text c.utf8.text c.loop-c.longest
           (longest_when_stuck (Accepts rules) (chars text) read c.in-Some.c c.loop-c.longest so_far
           turn.0 turn.1
-          (λ more. never_again rules (read ++ c.in-Some.c ∷ []) more c.in_ok-states-2.states
-          (after_more rules read c.loop-c.states c.in_ok-states-2.states c.in-Some.c
+          (never_again rules (read ++ c.in-Some.c ∷ []) c.in_ok-states-2.states
+          (after_more (HasRule rules) (IsStart rules) read c.loop-c.states c.in_ok-states-2.states c.in-Some.c
           c.loop-c.invariant.after c.in_ok-states-2.ensures.reached)
           (no_member c.in_ok-states-2.states (c.is_empty.ensures.0 c.if-is_empty.true)))
           c.loop-c.invariant.best);
@@ -53,7 +54,7 @@ loop-c-preserved-then-is_accepting-2 c =
     let rules = rules_of c.args.self.now in
     let read = c.loop-c.yielded in
     let after =
-    after_more rules read c.loop-c.states c.in_ok-states-2.states c.in-Some.c
+    after_more (HasRule rules) (IsStart rules) read c.loop-c.states c.in_ok-states-2.states c.in-Some.c
     c.loop-c.invariant.after c.in_ok-states-2.ensures.reached in
     let grown = bytes_push read c.in-Some.c in
     let was = c.loop-c.invariant.bytes in
@@ -75,7 +76,7 @@ loop-c-preserved c =
     let rules = rules_of c.args.self.now in
     let read = c.loop-c.yielded in
     let after =
-    after_more rules read c.loop-c.states c.in_ok-states-2.states c.in-Some.c
+    after_more (HasRule rules) (IsStart rules) read c.loop-c.states c.in_ok-states-2.states c.in-Some.c
     c.loop-c.invariant.after c.in_ok-states-2.ensures.reached in
     let grown = bytes_push read c.in-Some.c in
     let was = c.loop-c.invariant.bytes in

@@ -8,7 +8,8 @@ use Rattle.std.proofs.lemmas.Iterator.Adapters.{fact_from_extend}
 use Rattle.std.proofs.lemmas.Iterator.Consumers.{YieldsList-from_rest}
 use Rattle.std.proofs.lemmas.Map.Iter.{rest_more, rest_all}
 use Rattle.charmoves.specs.Automata.{rules_of}
-use Rattle.charmoves.proofs.Stepping.{followed_rules_are_reached, state_without_rule_is_passed, none_of, all_reached}
+use Rattle.charmoves.proofs.Stepping.{followed_rules_are_reached, state_without_rule_is_passed, all_reached}
+use Rattle.state_sets.proofs.Members.{none_of}
 use Rattle.charmoves.proofs.moves.Moves.step.Goals as goal
 
 pub loop-state-preserved-in-Continue-1 : goal.loop-state-preserved-in-Continue-1

@@ -1,7 +1,7 @@
 use Rattle.std.proofs.Common.{◌≡◌, refl, sym, subst, IsTrue, length, Some, arith}
 use Rattle.std.specs.List.{slice_get}
 use Rattle.lexing.specs.declared.lexer.Kind.{Kind}
-use Rattle.lexing.proofs.Lists.{one_item, pushed_there, still_at}
+use Rattle.state_sets.proofs.Lists.{one_item, pushed_there, still_at}
 use Rattle.lexing.proofs.lexer.Lexer.add_rule.Goals as goal
 
 pub returns-clause-named : goal.returns-clause-named

@@ -1,7 +1,7 @@
 use Rattle.std.proofs.Common.{◌≡◌, refl, subst, IsTrue, length, Some, arith}
 use Rattle.std.specs.List.{slice_get}
 use Rattle.std.proofs.lemmas.Option.{slice_get_read, slice_get_within}
-use Rattle.lexing.proofs.Lists.{one_item}
+use Rattle.state_sets.proofs.Lists.{one_item}
 use Rattle.lexing.proofs.lexer.LexerScanner.is_skipped.Goals as goal
 
 pub returns-in-Some : goal.returns-in-Some

@@ -7,7 +7,7 @@ use Rattle.std.proofs.lemmas.Iterator.Consumers.{YieldsList-so_far, YieldsList-t
 use Rattle.std.proofs.lemmas.List.{map-id}
 use Rattle.std.proofs.lemmas.Option.{slice_get_read}
 use Rattle.std.proofs.lemmas.Str.{encodes-chars}
-use Rattle.charmoves.proofs.Fronts.{bytes_of, bytes_push, bytes_of_front, one_more_char}
+use Rattle.state_sets.proofs.Fronts.{bytes_of, bytes_push, bytes_of_front, one_more_char}
 use Rattle.lexing.proofs.Running.{running_none, running_grows, running_stays, token_at_end, token_when_stuck, some_state}
 use Rattle.lexing.proofs.machine.MachineScanner.longest_match.Goals as goal
 

@@ -5,7 +5,7 @@ use Rattle.regex_hir.specs.Meaning.{meaning, cat_all, alt_all, copies, up_to}
 use Rattle.regex_hir.proofs.MeaningLemmas.{meaning-Empty, meaning-Repetition}
 use Rattle.lexing_patterns.proofs.Faults.{if_err, fault_of, has_in_turn, has_as_choice, has_in_copies, has_in_up_to, bounded_rest, bounded_copies, unbounded_once, unbounded_copies}
 use Rattle.lexing_patterns.proofs.Repeating.{repeat_bounded, repeat_star, repeat_plus}
-use Rattle.lexing_patterns.proofs.Results.{if_ok}
+use Rattle.character_leads.proofs.Results.{if_ok}
 use Rattle.lexing_patterns.proofs.builder.Builder.+part.Goals as goal
 
 pub all_of-loop-i-init : goal.all_of-loop-i-init

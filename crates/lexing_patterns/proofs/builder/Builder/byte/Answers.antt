@@ -1,7 +1,7 @@
 use Rattle.regex_hir.specs.Re.{char_in}
 use Rattle.lexing_patterns.specs.Built.{IsBuilt}
 use Rattle.lexing_patterns.proofs.Building.{built_byte}
-use Rattle.lexing_patterns.proofs.Results.{if_ok}
+use Rattle.character_leads.proofs.Results.{if_ok}
 use Rattle.lexing_patterns.proofs.builder.Builder.byte.Goals as goal
 
 pub returns-clause-built : goal.returns-clause-built

@@ -2,8 +2,9 @@ use Rattle.std.proofs.Common.{◌≡◌, sym, subst, ◌∙◌, ◌↔◌, ◌�
 use Rattle.regex_hir.specs.Meaning.{meaning}
 use Rattle.lexing_patterns.specs.Built.{IsBuilt}
 use Rattle.lexing_patterns.specs.Drafts.{HasEnd}
-use Rattle.lexing_patterns.specs.Parts.{HasEdge, Leads, LeadsBy, IsAmong}
-use Rattle.lexing_patterns.proofs.Any.{any-append}
+use Rattle.character_leads.specs.Leads.{Leads, LeadsBy}
+use Rattle.lexing_patterns.specs.Parts.{HasEdge, IsAmong}
+use Rattle.character_leads.proofs.Any.{any-append}
 use Rattle.lexing_patterns.proofs.Drafting.{one_more_drafted}
 use Rattle.lexing_patterns.proofs.draft.Draft.add.Goals as goal
 

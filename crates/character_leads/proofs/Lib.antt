@@ -1,0 +1,3 @@
+pub mod Any
+pub mod Ranges
+pub mod Results

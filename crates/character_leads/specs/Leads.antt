@@ -1,0 +1,23 @@
+-- Ranges of characters that lead to states.
+use Rattle.std.specs.Prelude.{◌≡◌, ℕ, ◌≤◌, ◌⊎◌, List, [], ◌∷◌}
+use Rattle.character_leads.specs.declared.leads.Lead.{Lead}
+
+-- of one in the list this holds
+abbrev pub AnyOf : {X : Type 0} → (X → Type 0) → List X → Type 0
+AnyOf P [] = ⊥
+AnyOf P (x ∷ xs) = P x ⊎ AnyOf P xs
+
+-- the character leads to the state
+abbrev pub LeadsBy : ℕ → ℕ → Lead → Type 0
+LeadsBy c q lead = (lead.first ≤ c) × (c ≤ lead.last) × (q ≡ lead.to)
+
+abbrev pub Leads : List Lead → ℕ → ℕ → Type 0
+Leads leads c q = AnyOf (LeadsBy c q) leads
+
+-- the number lies between these two, and leads to the state
+abbrev pub HasPiece : ℕ → ℕ → ℕ → ℕ → ℕ → Type 0
+HasPiece first last to c q = ((first ≤ c) × (c ≤ last)) × (q ≡ to)
+
+-- the numbers from first to last are characters, on one side of the surrogates
+abbrev pub AreCharacters : ℕ → ℕ → Type 0
+AreCharacters first last = first ≤ last → (last ≤ 0xD7FF) ⊎ ((0xE000 ≤ first) × (last ≤ 0x10_FFFF))
