@@ -1,15 +1,19 @@
 //! Many stored ranges at once.
-ghost use Rattle.std.specs.Prelude.{◌≡◌, ◌<◌, ◌≤◌, ◌∷◌, ◌++◌, List, [], take, drop, map, reverse, length, MatchOption};
+ghost use Rattle.std.specs.Prelude.{◌≡◌, ◌⊎◌, ◌<◌, ◌≤◌, ◌∷◌, ◌++◌, List, [], take, drop, map, reverse, length, MatchOption};
+ghost use Rattle.btree_range_map.specs.Holding.{box_items};
+ghost use Rattle.btree_range_map.specs.Overlapping.{AreOverlapping};
 ghost use Rattle.btree_range_map.specs.Position.{bound_of};
+ghost use Rattle.btree_range_map.specs.Range.{IsEmptyRange};
 ghost use Rattle.btree_range_map.specs.References.{range_of};
-ghost use Rattle.range_ffi.specs.Flags.{said_range};
+ghost use Rattle.range_ffi.specs.Flags.{from_key, said_range, upto_key};
 
 use crate::key::Key;
 use btree_range_map::generic::map::{GapsWithin, Overlapping, Pieces};
 use btree_range_map::range::traits::PartialEnum;
 use btree_range_map::storage::Item;
-use btree_range_map::{AnyRange, DefaultMapContainer};
+use btree_range_map::{AnyRange, DefaultMapContainer, RangeMap};
 use range_ffi::items::Shown;
+use range_ffi::status::{DONE, NONE};
 use std::ops::Bound;
 
 /// What gives what crosses to C, one after the other.
@@ -43,6 +47,56 @@ pub fn fill<X, E: Copy + Drop, S: Source<E, X>>(source: &mut S, slots: &mut [E])
         }
     }
     count
+}
+
+/// Writes what the source gives next, if it gives anything.
+pub fn fill_one<X, E: Copy + Drop, S: Source<E, X>>(source: &mut S, slot: &mut E) -> u32
+    ensures shown { result ≡ DONE
+        → S.left source.old ≡ S.says slot.new ∷ S.left source.new }
+    ensures none { result ≡ NONE → S.left source.old ≡ [] }
+    ensures unwritten { result ≡ NONE → slot.new ≡ slot.old }
+    ensures answer { (result ≡ DONE) ⊎ (result ≡ NONE) }
+{
+    match source.give() {
+        Some(given) => {
+            *slot = given;
+            DONE
+        }
+        None => NONE,
+    }
+}
+
+/// What is stored of a map.
+type Stored<'a, K, V> = Overlapping<'a, K, V, DefaultMapContainer<Item<AnyRange<K>, V>>>;
+
+/// The stored ranges from the first that ends at the key or after it on.
+pub fn from<K: Key, V: Eq + Drop>(stored: &RangeMap<K, V>, key: K) -> Stored<'_, K, V>
+    ensures { AreOverlapping K.order (box_items stored.now) (from_key key) result }
+{
+    stored.iter_from(key)
+}
+
+/// The stored ranges that meet the range.
+pub fn within<K: Key, V: Eq + Drop>(stored: &RangeMap<K, V>, range: AnyRange<K>) -> Stored<'_, K, V>
+    ensures items { ¬ IsEmptyRange K.order range
+        → AreOverlapping K.order (box_items stored.now) range result }
+    ensures empty { IsEmptyRange K.order range → result ≡ [] }
+{
+    stored.overlapping(range)
+}
+
+/// The stored ranges up to the last that starts at the key or before it, the last first.
+pub fn upto<K: Key, V: Eq + Drop>(stored: &RangeMap<K, V>, key: K) -> Backwards<'_, K, V>
+    ensures { AreOverlapping K.order (box_items stored.now) (upto_key key) result.items }
+{
+    key.known();
+    let range = AnyRange {
+        start: Bound::Unbounded,
+        end: Bound::Included(key),
+    };
+    Backwards {
+        items: within(stored, range),
+    }
 }
 
 impl<'a, K: PartialEnum, V: Eq + Drop, E: Shown<K, V>> Source<E, Item<AnyRange<K>, V>>

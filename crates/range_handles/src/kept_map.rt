@@ -21,6 +21,7 @@ pub mod together;
 
 use crate::in_order::map_in_order;
 use crate::key::Key;
+use crate::reads;
 use btree_range_map::json::{Json, JsonError, map_from_json, map_to_json};
 use btree_range_map::range::traits::PartialEnum;
 use btree_range_map::storage::Item;
@@ -51,8 +52,7 @@ impl<K: PartialEnum> Model for KeptMap<K> {
 
 impl<K: PartialEnum> Drop for KeptMap<K> {
     fn drop(self) {
-        let KeptMap { map } = self;
-        drop(map);
+        let KeptMap { map: _map } = self;
     }
 }
 
@@ -76,7 +76,7 @@ impl<K: Key> KeptMap<K> {
         ensures value { result ≡ length self.now }
         ensures least { IsLeastCount K.order nat_eq self.now result }
     {
-        self.map.range_count()
+        reads::range_count(&self.map)
     }
 
     pub fn clear(&mut self)
@@ -97,7 +97,7 @@ impl<K: Key> KeptMap<K> {
     pub fn equals(&self, other: &KeptMap<K>) -> bool
         ensures { IsTrue result ↔ BindAlike K.order nat_eq self.now other.now }
     {
-        self.map.eq_across(&other.map)
+        reads::equal(&self.map, &other.map)
     }
 
     /// A map that binds each key as the other does, or else as this one does.

@@ -15,6 +15,7 @@ ghost use Rattle.range_ffi.specs.Flags.{said_range};
 pub mod algebra;
 
 use crate::key::Key;
+use crate::reads;
 use btree_range_map::json::{Json, JsonError, set_from_json, set_to_json};
 use btree_range_map::range::traits::PartialEnum;
 use btree_range_map::storage::Item;
@@ -67,7 +68,7 @@ impl<K: Key> KeptSet<K> {
         ensures value { result ≡ length self.now }
         ensures least { IsLeastCount K.order self.now result }
     {
-        self.set.range_count()
+        reads::range_count(self.as_map())
     }
 
     pub fn clear(&mut self)
@@ -88,7 +89,9 @@ impl<K: Key> KeptSet<K> {
     pub fn equals(&self, other: &KeptSet<K>) -> bool
         ensures { IsTrue result ↔ HoldAlike K.order self.now other.now }
     {
-        self.set.eq_across(&other.set)
+        let first = self.as_map();
+        let second = other.as_map();
+        reads::equal(first, second)
     }
 
     /// Adds each key of the range.

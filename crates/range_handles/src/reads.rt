@@ -1,8 +1,8 @@
 //! What is asked of a map of ranges, and of a set as the map of its keys to nothing.
-ghost use Rattle.std.specs.Prelude.{◌<◌, ◌≤◌, ◌≡◌, ◌⊎◌, List, [], ◌∷◌, ◌++◌, Option, Some, length, map, nat_eq, take, drop, reverse};
+ghost use Rattle.std.specs.Prelude.{◌<◌, ◌≤◌, ◌≡◌, ◌⊎◌, ◌↔◌, IsTrue, List, [], ◌∷◌, ◌++◌, Option, Some, length, map, nat_eq, take, drop, reverse};
 ghost use Rattle.std.specs.List.{AllZip};
 ghost use Rattle.btree_range_map.specs.AnyRange.{AnyRange};
-ghost use Rattle.btree_range_map.specs.Bindings.{Binds, IsBound, IsItemFor};
+ghost use Rattle.btree_range_map.specs.Bindings.{BindAlike, Binds, IsBound, IsItemFor, IsLeastCount};
 ghost use Rattle.btree_range_map.specs.Holding.{box_items};
 ghost use Rattle.btree_range_map.specs.Item.{Item};
 ghost use Rattle.btree_range_map.specs.Lookups.{BindsKeyOf};
@@ -14,13 +14,29 @@ ghost use Rattle.btree_range_map.specs.Range.{IsEmptyRange};
 ghost use Rattle.range_ffi.specs.Bindings.{binding_value};
 ghost use Rattle.range_ffi.specs.Flags.{number_of, from_key, upto_key, said_range};
 
-use crate::batch::{Backwards, fill};
+use crate::batch::{fill, fill_one, from, upto, within};
 use crate::key::Key;
 use btree_range_map::range::traits::measure_counts_keys;
 use btree_range_map::{AnyRange, RangeMap};
 use range_ffi::bounds::{Binding, Length};
 use range_ffi::items::Shown;
 use range_ffi::status::{DONE, NO_ROOM, NONE, answer};
+
+/// How many ranges are stored.
+pub fn range_count<K: Key, V: Eq + Drop>(stored: &RangeMap<K, V>) -> usize
+    ensures value { result ≡ length (box_items stored.now) }
+    ensures least { IsLeastCount K.order V.eq (box_items stored.now) result }
+{
+    stored.range_count()
+}
+
+/// Whether both bind each key alike.
+pub fn equal<K: Key, V: Eq + Drop>(stored: &RangeMap<K, V>, other: &RangeMap<K, V>) -> bool
+    ensures { IsTrue result
+        ↔ BindAlike K.order V.eq (box_items stored.now) (box_items other.now) }
+{
+    stored.eq(other)
+}
 
 /// Writes the stored range that holds the key, with its value.
 pub fn get<K: Key, V: Eq + Drop, E: Shown<K, V>>(
@@ -124,13 +140,7 @@ pub fn next<K: Key, V: Eq + Drop, E: Shown<K, V>>(
     ensures unwritten { result ≡ NONE → entry.new ≡ entry.old }
     ensures answer { (result ≡ DONE) ⊎ (result ≡ NONE) }
 {
-    match stored.iter_from(key).next() {
-        Some((range, value)) => {
-            *entry = E::of_item(range, value);
-            DONE
-        }
-        None => NONE,
-    }
+    fill_one(&mut from(stored, key), entry)
 }
 
 /// Writes the last stored range that starts at the key or before it, with its value.
@@ -147,14 +157,7 @@ pub fn previous<K: Key, V: Eq + Drop, E: Shown<K, V>>(
     ensures unwritten { result ≡ NONE → entry.new ≡ entry.old }
     ensures answer { (result ≡ DONE) ⊎ (result ≡ NONE) }
 {
-    key.known();
-    match stored.overlapping(..=key).next_back() {
-        Some((range, value)) => {
-            *entry = E::of_item(range, value);
-            DONE
-        }
-        None => NONE,
-    }
+    fill_one(&mut upto(stored, key), entry)
 }
 
 /// Writes the stored ranges from the first that ends at the key or after it on, in ascending
@@ -176,7 +179,7 @@ pub fn read<K: Key, V: Eq + Drop, E: Shown<K, V>>(
     ensures behind { drop count.new entries.new ≡ drop count.new entries.old }
     ensures done { result ≡ DONE }
 {
-    let mut items = stored.iter_from(key);
+    let mut items = from(stored, key);
     *count = fill(&mut items, entries);
     DONE
 }
@@ -200,10 +203,7 @@ pub fn read_back<K: Key, V: Eq + Drop, E: Shown<K, V>>(
     ensures behind { drop count.new entries.new ≡ drop count.new entries.old }
     ensures done { result ≡ DONE }
 {
-    key.known();
-    let mut items = Backwards {
-        items: stored.overlapping(..=key),
-    };
+    let mut items = upto(stored, key);
     *count = fill(&mut items, entries);
     DONE
 }
@@ -228,7 +228,7 @@ pub fn overlapping<K: Key, V: Eq + Drop, E: Shown<K, V>>(
     ensures behind { drop count.new entries.new ≡ drop count.new entries.old }
     ensures done { result ≡ DONE }
 {
-    let mut items = stored.overlapping(range);
+    let mut items = within(stored, range);
     *count = fill(&mut items, entries);
     DONE
 }
