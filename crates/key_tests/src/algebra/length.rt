@@ -1,14 +1,10 @@
 //! Ranges whose length is known from outside, each proved and run.
 
 ghost use Rattle.std.specs.Prelude.{◌≡◌, Some, None};
-ghost use Rattle.range_algebra.specs.Numbers.{IsNumberOfKeys};
-ghost use Rattle.range_algebra.specs.Range.{Holds};
 
 use super::page::Page;
 use crate::expecting::expect_length;
 use range_algebra::any::AnyRange;
-use range_keys::inner::counted::{Counted, measure_counts_keys};
-use range_keys::traits::Bounded;
 use std::ops::Bound;
 
 fn bytes_from_ten() -> u128
@@ -83,15 +79,10 @@ fn pages_reversed() -> Option<u128>
     AnyRange::new(Bound::Excluded(Page(3)), Bound::Excluded(Page(3))).bounded_len()
 }
 
-fn number_of_keys<T: Counted + Bounded>(range: &AnyRange<T>) -> u128
-    ensures { IsNumberOfKeys T.order (Holds T.order range.now) result }
+fn beside_surrogates() -> u128
+    ensures { result ≡ 2 }
 {
-    measure_counts_keys::<T>();
-    range.len()
-}
-
-fn number_of_all<T: Counted + Bounded>() -> u128 {
-    number_of_keys(&AnyRange::<T>::new(Bound::Unbounded, Bound::Unbounded))
+    AnyRange::new(Bound::Included('\u{D7FF}'), Bound::Included('\u{E000}')).len()
 }
 
 #[test]
@@ -104,6 +95,7 @@ fn lengths_are_known(rt: HostRuntime) {
     expect_length(&rt, "reversed", reversed(), 0);
     expect_length(&rt, "between itself", between_itself(), 0);
     expect_length(&rt, "all characters", all_characters(), 1_112_064);
+    expect_length(&rt, "beside surrogates", beside_surrogates(), 2);
     expect_length(
         &rt,
         "all numbers",
@@ -113,38 +105,4 @@ fn lengths_are_known(rt: HostRuntime) {
     assert!(rt; pages_from_three() == None);
     assert!(rt; pages_above_three_to_five() == Some(8192));
     assert!(rt; pages_reversed() == Some(0));
-}
-
-fn beside_surrogates() -> u128 {
-    number_of_keys(&AnyRange::new(Bound::Included('\u{D7FF}'), Bound::Included('\u{E000}')))
-}
-
-#[test]
-fn shipped_keys_are_counted(rt: HostRuntime) {
-    expect_length(&rt, "u8", number_of_all::<u8>(), 256);
-    expect_length(&rt, "u16", number_of_all::<u16>(), 65_536);
-    expect_length(&rt, "u32", number_of_all::<u32>(), 4_294_967_296);
-    expect_length(
-        &rt,
-        "u64",
-        number_of_all::<u64>(),
-        18_446_744_073_709_551_616,
-    );
-    expect_length(
-        &rt,
-        "usize",
-        number_of_all::<usize>(),
-        18_446_744_073_709_551_616,
-    );
-    expect_length(&rt, "i8", number_of_all::<i8>(), 256);
-    expect_length(&rt, "i16", number_of_all::<i16>(), 65_536);
-    expect_length(&rt, "i32", number_of_all::<i32>(), 4_294_967_296);
-    expect_length(
-        &rt,
-        "i64",
-        number_of_all::<i64>(),
-        18_446_744_073_709_551_616,
-    );
-    expect_length(&rt, "char", number_of_all::<char>(), 1_112_064);
-    expect_length(&rt, "beside surrogates", beside_surrogates(), 2);
 }

@@ -3,7 +3,6 @@ use range_algebra::any::AnyRange;
 use range_algebra::range::{
     AsRange, IntoRange, RangeFromExcluded, RangeFromExcludedTo, RangeFromExcludedToIncluded,
 };
-use range_keys::traits::Measure;
 use std::alloc::AllocError;
 use std::ops::{Bound, RangeBounds};
 use std::test::Fail;
@@ -59,24 +58,10 @@ fn reads_ranges_behind_references(rt: HostRuntime) {
     expect_range(&rt, "&(3..=5)", (&range).into_range(), range);
 }
 
-/// Whether a key is read as the range from it to itself.
-fn is_alone<T: IntoRange<Item = T> + Measure + Copy>(key: T) -> bool {
-    key.into_range() == (key..=key).into_range()
-}
-
 #[test]
 fn reads_keys(rt: HostRuntime) {
-    expect_answer(&rt, "u8", is_alone(4u8), true);
-    expect_answer(&rt, "u16", is_alone(4u16), true);
-    expect_answer(&rt, "u32", is_alone(4u32), true);
-    expect_answer(&rt, "u64", is_alone(4u64), true);
-    expect_answer(&rt, "usize", is_alone(4usize), true);
-    expect_answer(&rt, "i8", is_alone(-4i8), true);
-    expect_answer(&rt, "i16", is_alone(-4i16), true);
-    expect_answer(&rt, "i32", is_alone(-4i32), true);
-    expect_answer(&rt, "i64", is_alone(-4i64), true);
-    expect_answer(&rt, "char", is_alone('x'), true);
     expect_answer(&rt, "4 in 0..5", 4u8.intersects(&(0..5)), true);
+    expect_range(&rt, "4", 4i32.into_range(), through(4, 4));
 }
 
 /// Whether these are the bounds of a range, as they were given.
