@@ -26,8 +26,8 @@ type MapsIn<K, C> = Named<RangeMap<K, i64, C>>;
 /// These maps in trees.
 pub type Maps<K> = MapsIn<K, DefaultMapContainer<Item<AnyRange<K>, i64>>>;
 
-pub fn no_maps<K: MapKey>(alloc: Global) -> Maps<K>
-    ensures { stored_in result ≡ none_stored }
+pub fn no_maps<K: MapKey, C: Storage<Item<AnyRange<K>, i64>>>(alloc: Global) -> MapsIn<K, C>
+    ensures { each C.items result ≡ none_stored }
 {
     Named {
         a: RangeMap::new(alloc),

@@ -48,7 +48,7 @@ fn serve_keys<K: MapKey, R: BufRead, W: Write, E: Write>(
 {
     let mut program = MapsProgram::<K> {
         alloc,
-        maps: no_maps::<K>(alloc),
+        maps: no_maps(alloc),
     };
     line_program::program::serve(alloc, &mut program, input, out, err)
 }

@@ -12,7 +12,7 @@ pub returns-in_err-range-clause-none : goal.returns-in_err-range-clause-none
 returns-in_err-range-clause-none g c =
     if_none c.from_residual-in_err-range.result _
     (λ range value (r, v, spelled, number, e). c.in_err-range.ensures.none range
-    (binding_splits_at_space g.K.MaybeBounded.order.is_key g.K.SpelledKey.as_number c.args.text.now
+    (binding_splits_at_space g.K.MaybeBounded.order.is_key g.K.NumberKey.as_number c.args.text.now
     c.in_ok-spelled.spelled.now c.in_ok-spelled.value.now range value c.in_ok-spelled.ensures
     (r, v, spelled, number, e)).0)
 
@@ -20,7 +20,7 @@ pub returns-in_err-value-clause-none : goal.returns-in_err-value-clause-none
 returns-in_err-value-clause-none g c =
     if_none c.from_residual-in_err-value.result _
     (λ range value (r, v, spelled, number, e). c.in_err-value.ensures.none value
-    (binding_splits_at_space g.K.MaybeBounded.order.is_key g.K.SpelledKey.as_number c.args.text.now
+    (binding_splits_at_space g.K.MaybeBounded.order.is_key g.K.NumberKey.as_number c.args.text.now
     c.in_ok-spelled.spelled.now c.in_ok-spelled.value.now range value c.in_ok-spelled.ensures
     (r, v, spelled, number, e)).1)
 

@@ -12,14 +12,14 @@ pub returns-in_err-range-clause-none : goal.returns-in_err-range-clause-none
 returns-in_err-range-clause-none g c =
     if_none c.from_residual-in_err-range.result _
     (λ range tag spelled. c.in_err-range.ensures.none range
-    (parted_update g.K.MaybeBounded.order.is_key g.K.SpelledKey.as_number c.args.text.now
+    (parted_update g.K.MaybeBounded.order.is_key g.K.NumberKey.as_number c.args.text.now
     c.in_ok-spelled.spelled.now c.in_ok-spelled.action.now range tag c.in_ok-spelled.ensures
     spelled).0)
 
 pub returns-in_err-tag-clause-none : goal.returns-in_err-tag-clause-none
 returns-in_err-tag-clause-none g c =
     if_none c.from_residual-in_err-tag.result _ (λ range tag spelled. c.in_err-tag.ensures.none tag
-    (parted_update g.K.MaybeBounded.order.is_key g.K.SpelledKey.as_number c.args.text.now
+    (parted_update g.K.MaybeBounded.order.is_key g.K.NumberKey.as_number c.args.text.now
     c.in_ok-spelled.spelled.now c.in_ok-spelled.action.now range tag c.in_ok-spelled.ensures
     spelled).1)
 

@@ -7,7 +7,7 @@ use Rattle.rangerun.proofs.reply.answer_line.Goals as goal
 pub returns-in-None : goal.returns-in-None
 returns-in-None g c =
     let order = g.K.MaybeBounded.order in
-    let as_number = g.K.SpelledKey.as_number in
+    let as_number = g.K.NumberKey.as_number in
     let shape = g.K.Json.shape in
     let reads = g.K.Json.reads in
     let is_read = g.K.Json.is_read in
@@ -24,7 +24,7 @@ returns-in-None g c =
 pub returns-in_default : goal.returns-in_default
 returns-in_default g c =
     let order = g.K.MaybeBounded.order in
-    let as_number = g.K.SpelledKey.as_number in
+    let as_number = g.K.NumberKey.as_number in
     let shape = g.K.Json.shape in
     let reads = g.K.Json.reads in
     let is_read = g.K.Json.is_read in

@@ -25,7 +25,7 @@ returns g c =
       (
         span.0,
         span.1,
-        subst (λ r. HasEnds g.K.MaybeBounded.order g.K.SpelledKey.as_number r span.0 span.1)
+        subst (λ r. HasEnds g.K.MaybeBounded.order g.K.NumberKey.as_number r span.0 span.1)
             (sym same) c.in_ok-span.ensures,
         refl,
       ),

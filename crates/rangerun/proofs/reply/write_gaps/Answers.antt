@@ -9,7 +9,7 @@ use Rattle.rangerun.proofs.reply.write_gaps.Goals as goal
 
 pub loop-gap-init : goal.loop-gap-init
 loop-gap-init g c =
-    let Spells = SpellsSpan g.K.MaybeBounded.order g.K.SpelledKey.as_number in
+    let Spells = SpellsSpan g.K.MaybeBounded.order g.K.NumberKey.as_number in
     record {
       nonempty = c.requires;
       listing = listing_none Spells c.args.gaps (g.W.Write.contents c.args.out.now);
@@ -18,7 +18,7 @@ loop-gap-init g c =
 pub loop-gap-preserved : goal.loop-gap-preserved
 loop-gap-preserved g c =
     let order = g.K.MaybeBounded.order in
-    let Spells = SpellsSpan order g.K.SpelledKey.as_number in
+    let Spells = SpellsSpan order g.K.NumberKey.as_number in
     let all = c.args.gaps in
     let left = c.next.new.self in
     let gap = range_of c.in-Some.gap in
@@ -36,7 +36,7 @@ loop-gap-preserved g c =
 
 pub returns-then-is_full : goal.returns-then-is_full
 returns-then-is_full g c =
-    let Spells = SpellsSpan g.K.MaybeBounded.order g.K.SpelledKey.as_number in
+    let Spells = SpellsSpan g.K.MaybeBounded.order g.K.NumberKey.as_number in
     let all = c.args.gaps in
     let before = g.W.Write.contents c.args.out.now in
     let now = g.W.Write.contents c.loop-gap.out in
@@ -50,7 +50,7 @@ returns-then-is_full g c =
 
 pub returns : goal.returns
 returns g c =
-    let Spells = SpellsSpan g.K.MaybeBounded.order g.K.SpelledKey.as_number in
+    let Spells = SpellsSpan g.K.MaybeBounded.order g.K.NumberKey.as_number in
     let all = c.args.gaps in
     let before = g.W.Write.contents c.args.out.now in
     let now = g.W.Write.contents c.loop-gap.out in

@@ -8,7 +8,7 @@ use Rattle.rangerun.proofs.reply.write_gaps.Given as goal
 abbrev pub invariant-loop-gap : goal.invariant-loop-gap
 invariant-loop-gap g l = record {
   nonempty : Every (λ gap. ¬ IsEmptyRange g.K.MaybeBounded.order gap) l.gaps;
-  listing : IsListing (SpellsSpan g.K.MaybeBounded.order g.K.SpelledKey.as_number) l.fn.gaps l.gaps
+  listing : IsListing (SpellsSpan g.K.MaybeBounded.order g.K.NumberKey.as_number) l.fn.gaps l.gaps
       (g.W.Write.contents l.fn.out) (g.W.Write.contents l.out) l.is_full;
 }
 

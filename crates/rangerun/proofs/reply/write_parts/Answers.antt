@@ -12,7 +12,7 @@ loop-range-init g c =
     let items = g.C.Storage.items c.args.map.now in
     let all : c.iter-parts.result ≡ items = c.iter-parts.ensures.items in
     let before = g.W.Write.contents c.args.out.now in
-    let Spells = SpellsPart g.K.MaybeBounded.order g.K.SpelledKey.as_number in
+    let Spells = SpellsPart g.K.MaybeBounded.order g.K.NumberKey.as_number in
     record {
       nonempty = c.iter-parts.ensures.form.nonempty;
       shown =
@@ -23,7 +23,7 @@ loop-range-init g c =
 pub loop-range-preserved : goal.loop-range-preserved
 loop-range-preserved g c =
     let order = g.K.MaybeBounded.order in
-    let as_number = g.K.SpelledKey.as_number in
+    let as_number = g.K.NumberKey.as_number in
     let all = g.C.Storage.items c.args.map.now in
     let left = c.next.new.self in
     let item : Item (AnyRange _) ℤ =
@@ -49,7 +49,7 @@ loop-range-preserved g c =
 pub returns : goal.returns
 returns g c =
     let order = g.K.MaybeBounded.order in
-    let as_number = g.K.SpelledKey.as_number in
+    let as_number = g.K.NumberKey.as_number in
     let all = g.C.Storage.items c.args.map.now in
     let before = g.W.Write.contents c.args.out.now in
     let now = g.W.Write.contents c.loop-range.out in

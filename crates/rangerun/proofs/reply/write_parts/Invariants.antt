@@ -8,7 +8,7 @@ use Rattle.rangerun.proofs.reply.write_parts.Given as goal
 abbrev pub invariant-loop-range : goal.invariant-loop-range
 invariant-loop-range g l = record {
   nonempty : AllByRecursion (λ item. ¬ IsEmptyRange g.K.MaybeBounded.order item.key) l.parts;
-  shown : HasShown (SpellsPart g.K.MaybeBounded.order g.K.SpelledKey.as_number)
+  shown : HasShown (SpellsPart g.K.MaybeBounded.order g.K.NumberKey.as_number)
       (g.C.Storage.items l.map) l.parts (g.W.Write.contents l.fn.out) (g.W.Write.contents l.out);
 }
 
