@@ -1,5 +1,6 @@
 -- What the closure of an update may be asked and may answer, and what its answers make of a list.
-use Rattle.range_change.specs.Common.{◌≡◌, ◌↔◌, ◌++◌, ◌∷◌, Bool, IsTrue, List, Option, Some, None, Result, Ok, Err, map, option_copied, Bor, Every, KeyOrder, Any, Holds, AnyRange, Item}
+use Rattle.std.specs.Prelude.{◌≡◌, ◌↔◌, ◌++◌, ◌∷◌}
+use Rattle.range_change.specs.Common.{Bool, IsTrue, List, Option, Some, None, Result, Ok, Err, map, option_copied, Bor, Every, KeyOrder, Any, Holds, AnyRange, Item}
 use Rattle.std.specs.Fn.{Shared}
 use Rattle.range_change.specs.Bindings.{Binds}
 use Rattle.range_change.specs.Frames.{IsMergeFrame}

@@ -1,6 +1,7 @@
 -- Where a range stands that neither meets nor touches a stored one, and what is said where there is
 -- no such place.
-use Rattle.range_change.specs.Common.{Every, ◌≡◌, ◌↔◌, ℕ, ◌≤◌, Bool, true, false, IsTrue, List, length, take, drop, slice_index_or, Option, Some, None, ⊤, KeyOrder, position_cmp, lower, upper, Lt, AnyRange, Item, IsAt, LiesBefore, Touches}
+use Rattle.std.specs.Prelude.{◌≡◌, ◌↔◌, ◌≤◌}
+use Rattle.range_change.specs.Common.{Every, ℕ, Bool, true, false, IsTrue, List, length, take, drop, slice_index_or, Option, Some, None, ⊤, KeyOrder, position_cmp, lower, upper, Lt, AnyRange, Item, IsAt, LiesBefore, Touches}
 use Rattle.range_change.specs.Stored.{item_lower, item_upper}
 use Rattle.range_change.specs.Lookups.{IsConnectedToSome}
 use Rattle.range_change.specs.declared.apart.Gap.{Gap}

@@ -1,6 +1,7 @@
 -- What a list of ranges with values binds, one key at a time, and which lists are as short as their
 -- bindings allow.
-use Rattle.range_change.specs.Common.{◌≡◌, Option, Some, None, Bool, IsTrue, List, [], ◌∷◌, ◌⊎◌, ◌↔◌, ⊤, ℕ, ◌≤◌, length, KeyOrder, Any, Holds, IsKeyless, HoldSame, AnyRange, Item, AllZip, AreBelow, AreJoined}
+use Rattle.std.specs.Prelude.{◌≡◌, ◌∷◌, ◌⊎◌, ◌↔◌, ◌≤◌}
+use Rattle.range_change.specs.Common.{Option, Some, None, Bool, IsTrue, List, [], ⊤, ℕ, length, KeyOrder, Any, Holds, IsKeyless, HoldSame, AnyRange, Item, AllZip, AreBelow, AreJoined}
 use Rattle.std.specs.List.{AllByRecursion}
 use Rattle.range_change.specs.Neighbours.{EachNext}
 

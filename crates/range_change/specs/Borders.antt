@@ -1,5 +1,6 @@
 -- How a range that is bound joins what stands beside it.
-use Rattle.range_change.specs.Common.{Every, ◌≡◌, ℕ, ◌+◌, ◌-◌, ◌<◌, ◌≤◌, Bool, true, List, ◌++◌, length, take, drop, slice_index_or, slice_set, Option, Some, None, MatchOption, ⊤, Bound, IsEquivalence, KeyOrder, IsLawful, start_position, end_position, IsKnownRange, IsKnownBound, unwrap_or, Border, Reach, SameBound, AnyRange, place_before, IsAt, Item, Window, past, lower, upper, Touches}
+use Rattle.std.specs.Prelude.{◌≡◌, ◌+◌, ◌-◌, ◌<◌, ◌≤◌, ◌++◌}
+use Rattle.range_change.specs.Common.{Every, ℕ, Bool, true, List, length, take, drop, slice_index_or, slice_set, Option, Some, None, MatchOption, ⊤, Bound, IsEquivalence, KeyOrder, IsLawful, start_position, end_position, IsKnownRange, IsKnownBound, unwrap_or, Border, Reach, SameBound, AnyRange, place_before, IsAt, Item, Window, past, lower, upper, Touches}
 use Rattle.std.specs.declared.ops.Bound.TheVariants.{Unbounded}
 use Rattle.range_change.specs.declared.borders.Border.TheVariants.{Plain, Cut, Joined}
 use Rattle.range_change.specs.declared.borders.Joins.{Joins}

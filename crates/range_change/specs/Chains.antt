@@ -1,7 +1,8 @@
 -- Items over intervals of places, each before the next, and touching only beside another value:
 -- what is cut out of them and put
 -- between.
-use Rattle.range_change.specs.Common.{Every, ◌≡◌, Bool, true, List, [], ◌∷◌, ◌⊎◌, ◌↔◌, IsTotalOrder, IsEquivalence, KeyOrder, IsLawful, position_cmp, Position, Le, Lt, Any, AnyRange, Item}
+use Rattle.std.specs.Prelude.{◌≡◌, ◌∷◌, ◌⊎◌, ◌↔◌}
+use Rattle.range_change.specs.Common.{Every, Bool, true, List, [], IsTotalOrder, IsEquivalence, KeyOrder, IsLawful, position_cmp, Position, Le, Lt, Any, AnyRange, Item}
 use Rattle.std.specs.declared.cmp.Ordering.{Ordering}
 use Rattle.range_keys.specs.PositionOrder.{position_total}
 use Rattle.range_change.specs.Stored.{item_lower, item_upper}

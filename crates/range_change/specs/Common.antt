@@ -2,7 +2,7 @@
 pub use Rattle.std.specs.Cmp.{IsEquivalence, IsTotalOrder}
 pub use Rattle.std.specs.List.{AllByRecursion as Every, AllWithin, AllZip}
 pub use Rattle.std.specs.Option.{option_copied, unwrap_or}
-pub use Rattle.std.specs.Prelude.{Bool, Err, IsTrue, List, MatchOption, None, Ok, Option, Result, Some, [], drop, false, if◌then◌else◌, insert, length, map, min, nat_lt, slice_index_or, slice_set, suc, take, true, zero, ℕ, ⊤, ◌*◌, ◌++◌, ◌+◌, ◌-◌, ◌<◌, ◌^◌, ◌↔◌, ◌∷◌, ◌≡◌, ◌≤◌, ◌⊎◌}
+pub use Rattle.std.specs.Prelude.{Bool, Err, IsTrue, List, MatchOption, None, Ok, Option, Result, Some, [], drop, false, insert, length, map, min, nat_lt, slice_index_or, slice_set, suc, take, true, zero, ℕ, ⊤}
 pub use Rattle.std.specs.declared.cmp.Ordering.TheVariants.{Equal}
 pub use Rattle.std.specs.declared.ops.Bound.{Bound}
 pub use Rattle.range_keys.specs.Order.{IsLawful, KeyOrder}

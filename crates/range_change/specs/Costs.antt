@@ -1,6 +1,7 @@
 -- How many steps a counted call adds, and the greatest number of levels that a tree of so many
 -- items may have.
-use Rattle.range_change.specs.Common.{ℕ, ◌+◌, ◌*◌, ◌≤◌, min, ◌≡◌, zero, suc, ◌-◌, ◌^◌, ◌⊎◌, if◌then◌else◌, nat_lt}
+use Rattle.std.specs.Prelude.{◌+◌, ◌*◌, ◌≤◌, ◌≡◌, ◌-◌, ◌^◌, ◌⊎◌, if◌then◌else◌}
+use Rattle.range_change.specs.Common.{ℕ, min, zero, suc, nat_lt}
 use Rattle.range_store.specs.Counting.{greatest_count}
 use Rattle.range_store.specs.declared.btree.nodes.TheConstants.{MIN_LEN}
 

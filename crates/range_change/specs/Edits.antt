@@ -1,6 +1,7 @@
 -- A bound on its other side, an item with another bound, and what an edit in place leaves as it
 -- was.
-use Rattle.range_change.specs.Common.{◌≡◌, ℕ, List, slice_index_or, slice_set, Bound, AnyRange, Item}
+use Rattle.std.specs.Prelude.{◌≡◌}
+use Rattle.range_change.specs.Common.{ℕ, List, slice_index_or, slice_set, Bound, AnyRange, Item}
 use Rattle.std.specs.declared.ops.Bound.TheVariants.{Included, Excluded, Unbounded}
 
 -- what the one includes the other excludes

@@ -1,5 +1,6 @@
 -- How a change leaves what it does not concern, and what it puts in the place of the rest.
-use Rattle.range_change.specs.Common.{Every, ◌≡◌, ◌+◌, ◌≤◌, Bool, IsTrue, List, [], ◌∷◌, ◌++◌, ◌⊎◌, length, Bound, KeyOrder, SameBound, Any, AnyRange, Item, Touches}
+use Rattle.std.specs.Prelude.{◌≡◌, ◌+◌, ◌≤◌, ◌∷◌, ◌++◌, ◌⊎◌}
+use Rattle.range_change.specs.Common.{Every, Bool, IsTrue, List, [], length, Bound, KeyOrder, SameBound, Any, AnyRange, Item, Touches}
 use Rattle.range_change.specs.Edits.{flipped_bound}
 use Rattle.range_change.specs.Lookups.{Overlap}
 

@@ -1,5 +1,6 @@
 -- What a range meets among the stored ones, and where it stands once it is put among them.
-use Rattle.range_change.specs.Common.{◌≡◌, ℕ, ◌≤◌, ◌⊎◌, ◌↔◌, List, length, insert, KeyOrder, Any, Holds, IsEmptyRange, IsKnownRange, AnyRange, Item, Touches, LiesBefore}
+use Rattle.std.specs.Prelude.{◌≡◌, ◌≤◌, ◌⊎◌, ◌↔◌}
+use Rattle.range_change.specs.Common.{ℕ, List, length, insert, KeyOrder, Any, Holds, IsEmptyRange, IsKnownRange, AnyRange, Item, Touches, LiesBefore}
 use Rattle.range_change.specs.Bindings.{IsBound}
 
 -- neither lies before the other

@@ -1,5 +1,6 @@
 -- The pieces of a range as a list, read off from the items that meet it.
-use Rattle.range_change.specs.Common.{List, [], ◌∷◌, ◌++◌, Option, Some, None, map, if◌then◌else◌, option_copied, Bound, Bor, KeyOrder, flipped, starts_past_end, AnyRange, Item}
+use Rattle.std.specs.Prelude.{◌∷◌, ◌++◌, if◌then◌else◌}
+use Rattle.range_change.specs.Common.{List, [], Option, Some, None, map, option_copied, Bound, Bor, KeyOrder, flipped, starts_past_end, AnyRange, Item}
 use Rattle.range_algebra.specs.Combined.{common}
 use Rattle.range_algebra.specs.References.{range_of}
 

@@ -1,5 +1,6 @@
 -- The parts of a range that the items of a list bind, and those that they leave free.
-use Rattle.range_change.specs.Common.{Every, ◌≡◌, List, Option, Some, None, if◌then◌else◌, Equal, KeyOrder, start_position, end_position, position_cmp, Position, Le, Any, IsKnownRange, IsEmptyRange, AnyRange, Item, LiesBefore}
+use Rattle.std.specs.Prelude.{◌≡◌, if◌then◌else◌}
+use Rattle.range_change.specs.Common.{Every, List, Option, Some, None, Equal, KeyOrder, start_position, end_position, position_cmp, Position, Le, Any, IsKnownRange, IsEmptyRange, AnyRange, Item, LiesBefore}
 use Rattle.std.specs.Ordering.{is_gt}
 use Rattle.range_algebra.specs.RangeOrder.{range_cmp}
 use Rattle.range_change.specs.Neighbours.{EachNext}

@@ -1,5 +1,6 @@
 -- What is to become of the items beside a range that is bound.
-use Rattle.range_change.specs.Common.{Every, ◌≡◌, ℕ, ◌+◌, ◌≤◌, Bool, IsTrue, List, [], ◌++◌, length, take, drop, Option, Some, None, IsEquivalence, Bound, KeyOrder, IsLawful, SameBound, IsKnownBound, AnyRange, Item, IsAt, place_before, Border, unwrap_or, Touches, Reach}
+use Rattle.std.specs.Prelude.{◌≡◌, ◌+◌, ◌≤◌, ◌++◌}
+use Rattle.range_change.specs.Common.{Every, ℕ, Bool, IsTrue, List, [], length, take, drop, Option, Some, None, IsEquivalence, Bound, KeyOrder, IsLawful, SameBound, IsKnownBound, AnyRange, Item, IsAt, place_before, Border, unwrap_or, Touches, Reach}
 use Rattle.range_change.specs.Frames.{IsStartOf, IsEndOf, IsNewItem}
 use Rattle.range_change.specs.Window.{option_items}
 use Rattle.range_change.specs.Borders.{IsLeftBorder, IsRightBorder, IsLeftShape, IsRightShape, IsRunStart, joined_count, seam_border}

@@ -1,5 +1,6 @@
 -- How an answer is added to those before it.
-use Rattle.range_change.specs.Common.{◌≡◌, ◌-◌, ◌<◌, ◌⊎◌, Bool, true, List, [], ◌∷◌, ◌++◌, length, slice_index_or, slice_set, Option, Some, None, Bound, KeyOrder, IsBoundClone, IsKnownBound, Touches, AnyRange, Item}
+use Rattle.std.specs.Prelude.{◌≡◌, ◌-◌, ◌<◌, ◌⊎◌, ◌∷◌, ◌++◌}
+use Rattle.range_change.specs.Common.{Bool, true, List, [], length, slice_index_or, slice_set, Option, Some, None, Bound, KeyOrder, IsBoundClone, IsKnownBound, Touches, AnyRange, Item}
 use Rattle.range_change.specs.Edits.{with_end}
 
 module _ {K : Type 0} (order : KeyOrder K) {V : Type 0} (same : V → V → Bool) where

@@ -1,5 +1,6 @@
 -- Which of the items that a range meets reach out of it, and all that is found before a change.
-use Rattle.range_change.specs.Common.{◌≡◌, ℕ, ◌+◌, ◌-◌, ◌<◌, ◌≤◌, Bool, List, length, slice_index_or, Option, Some, None, KeyOrder, position_cmp, AnyRange, Item, Le, Lt, lower, upper, place_before, Reach, Window}
+use Rattle.std.specs.Prelude.{◌≡◌, ◌+◌, ◌-◌, ◌<◌, ◌≤◌}
+use Rattle.range_change.specs.Common.{ℕ, Bool, List, length, slice_index_or, Option, Some, None, KeyOrder, position_cmp, AnyRange, Item, Le, Lt, lower, upper, place_before, Reach, Window}
 use Rattle.range_change.specs.Stored.{item_lower, item_upper}
 use Rattle.range_change.specs.Window.{option_items, IsWindow}
 

@@ -1,5 +1,6 @@
 -- What a list becomes where the keys of a range come to be bound as another list says.
-use Rattle.range_change.specs.Common.{Every, Bool, List, ◌↔◌, Option, KeyOrder, Holds, AnyRange, Item}
+use Rattle.std.specs.Prelude.{◌↔◌}
+use Rattle.range_change.specs.Common.{Every, Bool, List, Option, KeyOrder, Holds, AnyRange, Item}
 use Rattle.range_change.specs.Bindings.{Binds}
 use Rattle.range_change.specs.Frames.{IsMergeFrame, HasValue}
 use Rattle.range_change.specs.Pieces.{LiesIn}

@@ -1,5 +1,6 @@
 -- The items that a range meets, as they stand in a list, and the run of items between two of them.
-use Rattle.range_change.specs.Common.{◌≡◌, ℕ, ◌+◌, ◌-◌, ◌≤◌, List, [], ◌++◌, take, drop, Option, Some, None, ⊤, Bor, Every, KeyOrder, LiesBefore, AnyRange, Item}
+use Rattle.std.specs.Prelude.{◌≡◌, ◌+◌, ◌-◌, ◌≤◌, ◌++◌}
+use Rattle.range_change.specs.Common.{ℕ, List, [], take, drop, Option, Some, None, ⊤, Bor, Every, KeyOrder, LiesBefore, AnyRange, Item}
 use Rattle.range_change.specs.Lookups.{Overlap}
 
 -- the item that a pair of references shows

@@ -1,5 +1,6 @@
 -- What is to become of the items beside a range in which a list of items comes to stand.
-use Rattle.range_change.specs.Common.{Every, ◌≡◌, ℕ, ◌+◌, Bool, List, [], ◌∷◌, ◌⊎◌, length, take, drop, Option, Some, None, IsEquivalence, Equal, Bound, KeyOrder, IsLawful, position_cmp, SameBound, lower, upper, IsKnownBound, Lt, AnyRange, Item, IsAt, place_before, Border, Reach}
+use Rattle.std.specs.Prelude.{◌≡◌, ◌+◌, ◌∷◌, ◌⊎◌}
+use Rattle.range_change.specs.Common.{Every, ℕ, Bool, List, [], length, take, drop, Option, Some, None, IsEquivalence, Equal, Bound, KeyOrder, IsLawful, position_cmp, SameBound, lower, upper, IsKnownBound, Lt, AnyRange, Item, IsAt, place_before, Border, Reach}
 use Rattle.range_change.specs.Borders.{IsLeftRest, IsRightRest, IsLeftShape, IsRightShape, IsRunStart, seam_border}
 use Rattle.range_change.specs.Edits.{flipped_bound, with_start, with_end}
 use Rattle.range_change.specs.Frames.{IsPart}

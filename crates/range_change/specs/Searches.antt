@@ -1,5 +1,6 @@
 -- Which item of an ascending list an element belongs to.
-use Rattle.range_change.specs.Common.{ℕ, ◌+◌, ◌<◌, Bool, IsTrue, List, length, slice_index_or, AllWithin, KeyOrder, range_ordering, is_before, AnyRange, Item}
+use Rattle.std.specs.Prelude.{◌+◌, ◌<◌}
+use Rattle.range_change.specs.Common.{ℕ, Bool, IsTrue, List, length, slice_index_or, AllWithin, KeyOrder, range_ordering, is_before, AnyRange, Item}
 
 module _ {K : Type 0} (order : KeyOrder K) (element : AnyRange K) (connected : Bool) where
   -- the element lies before the range, and apart from it where touching counts as meeting

@@ -1,5 +1,6 @@
 -- How the bounds of a new list are written, where those of an earlier one lay at the same places.
-use Rattle.range_change.specs.Common.{Every, ◌≡◌, List, Equal, Bound, KeyOrder, start_position, end_position, position_cmp, SameBound, AnyRange, Item}
+use Rattle.std.specs.Prelude.{◌≡◌}
+use Rattle.range_change.specs.Common.{Every, List, Equal, Bound, KeyOrder, start_position, end_position, position_cmp, SameBound, AnyRange, Item}
 
 module _ {K : Type 0} (order : KeyOrder K) {V : Type 0} (items : List (Item (AnyRange K) V)) where
   -- an item that starts where the bound does has the same start bound

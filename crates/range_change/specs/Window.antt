@@ -1,5 +1,6 @@
 -- Where a range lies among the items.
-use Rattle.range_change.specs.Common.{Every, ◌≡◌, ℕ, ◌+◌, ◌-◌, ◌<◌, ◌≤◌, Bool, List, [], ◌∷◌, length, take, drop, slice_index_or, Option, Some, None, KeyOrder, start_position, end_position, position_cmp, Position, IsEmptyRange, IsKnownRange, AnyRange, Item, IsAt, place_before, Le, Lt, lower, upper, Window}
+use Rattle.std.specs.Prelude.{◌≡◌, ◌+◌, ◌-◌, ◌<◌, ◌≤◌, ◌∷◌}
+use Rattle.range_change.specs.Common.{Every, ℕ, Bool, List, [], length, take, drop, slice_index_or, Option, Some, None, KeyOrder, start_position, end_position, position_cmp, Position, IsEmptyRange, IsKnownRange, AnyRange, Item, IsAt, place_before, Le, Lt, lower, upper, Window}
 use Rattle.range_change.specs.Stored.{item_lower, item_upper, IsStored}
 
 -- a good position just below the place, or none at the front
