@@ -23,7 +23,7 @@
 //!   `specs/Automata.antt`, over `Steps` of the crate `state_sets`
 //! - one state after the other: `proofs/{Stepping,Leads}.antt`
 //! - whether a state accepts, and the longest beginning of a text that is accepted:
-//!   `src/longest.rt`, `proofs/{Paths,Longest}.antt`
+//!   `src/longest.rt`, `proofs/Paths.antt`
 #![tactic(auto)]
 
 mod longest;

@@ -11,7 +11,8 @@
 //! - the first rule of which a text may end in a set: `src/first.rt`, `proofs/{Members,Firsts}.antt`
 //! - the token that a text begins with: `src/longest.rt`, `specs/{Beginnings,Tokens}.antt`,
 //!   `proofs/{Fronts,Best}.antt`
-//! - sets that are found again: `src/sets.rt`, `specs/Listed.antt`, `proofs/{Lists,Finding}.antt`
+//! - sets that are found again: `src/sets.rt`, `specs/{Listed,Found}.antt`,
+//!   `proofs/{Lists,Finding}.antt`
 #![tactic(auto)]
 
 mod automaton;
