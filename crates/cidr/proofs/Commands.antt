@@ -91,11 +91,6 @@ pub unread_one : (reading : Reading) (input : Option (List ℕ)) (name : String 
 unread_one reading None name error why = tt
 unread_one reading (Some bytes) name error why = inl (refl, why)
 
-pub memory_one : (reading : Reading) (input : Option (List ℕ)) (name : String Global)
-    → IsUnread reading input name Memory
-memory_one reading None name = tt
-memory_one reading (Some bytes) name = tt
-
 -- why not all sources are read
 abbrev pub AreUnread : Reading → List (Option (List ℕ)) → List (String Global) → Stop → Type 0
 AreUnread reading inputs names stop =

@@ -1,5 +1,5 @@
 -- Two lists compared.
-use Rattle.std.proofs.Common.{◌≡◌, ℕ, List, [], ◌∷◌, ◌++◌, Option, None, Some, IfSome, Result, Ok, Err, OnOk, ap, ◌∙◌, append_assoc}
+use Rattle.std.proofs.Common.{◌≡◌, ℕ, List, [], ◌∷◌, ◌++◌, Option, None, Some, IfSome, Result, OnOk, ap, ◌∙◌, append_assoc}
 use Rattle.line_program.proofs.Listing.{on_ok_as}
 use Rattle.line_program.specs.Listing.{Writes}
 use Rattle.address_lists.specs.declared.addresses.Addresses.{Addresses}
