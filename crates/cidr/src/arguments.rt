@@ -1,6 +1,6 @@
 //! The command line.
 
-use crate::serve::{Command, Form, Output, Reading};
+use crate::serve::{Command, Form, Lines, Output, Reading};
 use address_lists::BadLines;
 use address_text::Family;
 use std::alloc::{AllocError, Global};
@@ -35,12 +35,14 @@ Puts lists of IP addresses together, and prints what comes of it in as few prefi
 
   --ranges    ranges in place of prefixes
   --single    each address on a line
+  --json      one JSON object: the set of each family, as arrays of ranges
   --v4, --v6  only what is of this family is printed
   --strict    a prefix that has bits of 1 after its length is bad
   --skip-bad  bad lines are left out, and counted on standard error
 
 A line is an address, a prefix such as 10.0.0.0/8 or a range such as 10.0.0.0-10.0.0.5, and what
-follows # is a comment. A file named - is standard input.
+follows # is a comment. A list that begins with { is JSON, as --json prints it. A file named - is
+standard input.
 
   cidr merge blocked.txt more.txt
   cidr except exceptions.txt --from blocked.txt
@@ -49,27 +51,43 @@ follows # is a comment. A file named - is standard input.
   cidr has blocked.txt 10.1.2.3 2001:db8::1
 ";
 
-/// What is to be done with the lists.
-#[derive(Clone, Copy, PartialEq, Eq, Debug)]
-pub enum Task {
-    /// They are put together, and printed.
-    Combine(Command),
-    /// The first of two is compared with the second.
-    Compare,
-    /// Addresses are looked up in one list.
-    LookUp,
+/// What is to be done with the lists of these names.
+#[derive(Drop)]
+pub enum Task<'a> {
+    /// They are put together, that of `--from` first, and printed.
+    Combine(Command, Vec<&'a str>, Output),
+    /// The first is compared with the second.
+    Compare(&'a str, &'a str),
+    /// The addresses are looked up in it.
+    LookUp(&'a str, Vec<IpAddr>),
+}
+
+impl<'a> Task<'a> {
+    /// The name of the list that is read after so many others.
+    pub fn file(&self, place: usize) -> Option<&'a str> {
+        match (self, place) {
+            (Task::Combine(_, files, _), _) => files.as_slice().get(place).copied(),
+            (Task::Compare(first, _), 0) => Some(*first),
+            (Task::Compare(_, second), 1) => Some(*second),
+            (Task::LookUp(file, _), 0) => Some(*file),
+            _ => None,
+        }
+    }
 }
 
 /// What the arguments ask for.
 #[derive(Drop)]
 pub struct Request<'a> {
-    pub task: Task,
-    /// The names of the lists, that of `--from` first.
-    pub files: Vec<&'a str>,
-    /// The addresses that are looked up.
-    pub addresses: Vec<IpAddr>,
+    pub task: Task<'a>,
     pub reading: Reading,
-    pub output: Output,
+}
+
+/// What a word names.
+#[derive(Clone, Copy, PartialEq, Eq, Debug)]
+enum Verb {
+    Combine(Command),
+    Compare,
+    LookUp,
 }
 
 /// An option whose value is the next word.
@@ -133,8 +151,9 @@ impl<'a> Options<'a> {
             "--skip-bad" => self.reading.bad_lines = BadLines::Skipped,
             "--v4" => self.only = Some(Family::V4),
             "--v6" => self.only = Some(Family::V6),
-            "--ranges" => self.form = Some(Form::Ranges),
-            "--single" => self.form = Some(Form::Singles),
+            "--ranges" => self.form = Some(Form::Lines(Lines::Ranges)),
+            "--single" => self.form = Some(Form::Lines(Lines::Singles)),
+            "--json" => self.form = Some(Form::Json),
             "--from" if !self.has_from => self.awaited = Some(Awaited::From),
             "--at" => self.awaited = Some(Awaited::At),
             _ => return false,
@@ -176,16 +195,16 @@ fn read_options<'a>(alloc: Global, words: &'a [String]) -> Result<Option<Options
     Ok(Some(options))
 }
 
-/// The task of a command.
-fn task_of(word: &str) -> Option<Task> {
+/// What a command is to do.
+fn verb_of(word: &str) -> Option<Verb> {
     match word {
-        "merge" | "count" | "split" => Some(Task::Combine(Command::Merge)),
-        "common" => Some(Task::Combine(Command::Common)),
-        "except" => Some(Task::Combine(Command::Except)),
-        "diff" => Some(Task::Combine(Command::Diff)),
-        "invert" => Some(Task::Combine(Command::Invert)),
-        "compare" => Some(Task::Compare),
-        "has" => Some(Task::LookUp),
+        "merge" | "count" | "split" => Some(Verb::Combine(Command::Merge)),
+        "common" => Some(Verb::Combine(Command::Common)),
+        "except" => Some(Verb::Combine(Command::Except)),
+        "diff" => Some(Verb::Combine(Command::Diff)),
+        "invert" => Some(Verb::Combine(Command::Invert)),
+        "compare" => Some(Verb::Compare),
+        "has" => Some(Verb::LookUp),
         _ => None,
     }
 }
@@ -193,23 +212,21 @@ fn task_of(word: &str) -> Option<Task> {
 /// The form in which a command prints, or `None` where it does not have the one that is asked for.
 fn form_of(word: &str, form: Option<Form>, length: Option<u8>) -> Option<Form> {
     match (word, form, length) {
-        ("split", None, Some(length)) => Some(Form::Split(length)),
+        ("split", None, Some(length)) => Some(Form::Lines(Lines::Split(length))),
         ("split", _, _) | (_, _, Some(_)) => None,
-        ("count", None, None) => Some(Form::Count),
+        ("count", None, None) => Some(Form::Lines(Lines::Count)),
         ("count" | "compare" | "has", Some(_), None) => None,
         (_, Some(form), None) => Some(form),
-        (_, None, None) => Some(Form::Prefixes),
+        (_, None, None) => Some(Form::Lines(Lines::Prefixes)),
     }
 }
 
-/// Whether a task can be done with so many names, and of one family alone if this is asked.
-fn can_do(task: Task, names: usize, is_of_one_family: bool) -> bool {
-    match task {
-        Task::Combine(Command::Diff) => names == 2,
-        Task::Combine(Command::Except) => names >= 2,
-        Task::Combine(_) => names >= 1,
-        Task::Compare => names == 2 && !is_of_one_family,
-        Task::LookUp => names >= 2 && !is_of_one_family,
+/// Whether a command is for so many lists.
+fn takes(command: Command, lists: usize) -> bool {
+    match command {
+        Command::Diff => lists == 2,
+        Command::Except => lists >= 2,
+        _ => lists >= 1,
     }
 }
 
@@ -225,13 +242,33 @@ fn addresses_of(alloc: Global, words: &[&str]) -> Result<Option<Vec<IpAddr>>, Al
     Ok(Some(addresses))
 }
 
+/// The task of the names, or `None` where they are not as many as it takes.
+fn task_of<'a>(
+    alloc: Global,
+    verb: Verb,
+    names: Vec<&'a str>,
+    output: Output,
+) -> Result<Option<Task<'a>>, AllocError> {
+    match (verb, names.as_slice(), output.only) {
+        (Verb::Combine(command), lists, _) if takes(command, lists.len()) => {
+            Ok(Some(Task::Combine(command, names, output)))
+        }
+        (Verb::Compare, [first, second], None) => Ok(Some(Task::Compare(*first, *second))),
+        (Verb::LookUp, [list, _, ..], None) => {
+            let addresses = addresses_of(alloc, &names.as_slice()[1..])?;
+            Ok(addresses.map(|addresses| Task::LookUp(*list, addresses)))
+        }
+        _ => Ok(None),
+    }
+}
+
 /// What the words ask for, which begin with the program's name; `None` where they are wrong.
 pub fn read_request(alloc: Global, words: &[String]) -> Result<Option<Request<'_>>, AllocError> {
     let [_, word, words @ ..] = words else {
         return Ok(None);
     };
     let word = word.as_str();
-    let Some(task) = task_of(word) else {
+    let Some(verb) = verb_of(word) else {
         return Ok(None);
     };
     let Some(options) = read_options(alloc, words)? else {
@@ -243,40 +280,23 @@ pub fn read_request(alloc: Global, words: &[String]) -> Result<Option<Request<'_
     if options.awaited.is_some() || options.has_from != (word == "except") {
         return Ok(None);
     }
-    request_of(alloc, task, form, options)
+    request_of(alloc, verb, form, options)
 }
 
 fn request_of<'a>(
     alloc: Global,
-    task: Task,
+    verb: Verb,
     form: Form,
     options: Options<'a>,
 ) -> Result<Option<Request<'a>>, AllocError> {
     let Options {
-        names: mut files,
+        names,
         reading,
         only,
         ..
     } = options;
-    if !can_do(task, files.len(), only.is_some()) {
-        return Ok(None);
+    match task_of(alloc, verb, names, Output { only, form })? {
+        Some(task) => Ok(Some(Request { task, reading })),
+        None => Ok(None),
     }
-    let mut addresses = Vec::new(alloc);
-    if task == Task::LookUp {
-        let [_, words @ ..] = files.as_slice() else {
-            return Ok(None);
-        };
-        let Some(found) = addresses_of(alloc, words)? else {
-            return Ok(None);
-        };
-        addresses = found;
-        files.truncate(1);
-    }
-    Ok(Some(Request {
-        task,
-        files,
-        addresses,
-        reading,
-        output: Output { only, form },
-    }))
 }

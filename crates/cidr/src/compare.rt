@@ -2,11 +2,9 @@
 
 ghost use Rattle.std.specs.Prelude.{◌≡◌, ◌≢◌, ◌++◌, ◌∷◌, ℕ, List, [], Err, IfErr, IfSome, OnErr, OnOk};
 ghost use Rattle.std.specs.Io.KnownBytes.{Appends};
-ghost use Rattle.address_text.specs.declared.line.Line.{Line};
-ghost use Rattle.address_lists.specs.Lists.{HasJust, IsListed};
 ghost use Rattle.address_lists.specs.declared.addresses.Addresses.{Addresses};
 ghost use Rattle.line_program.specs.Listing.{Writes};
-ghost use Rattle.cidr.specs.Commands.{IsList};
+ghost use Rattle.cidr.specs.Commands.{AreKnown, IsList, IsStop};
 ghost use Rattle.cidr.specs.Relations.{IsCompared, IsRelation, relation_text};
 ghost use Rattle.cidr.specs.declared.serve.Stop.TheVariants.{Unwritable};
 
@@ -94,14 +92,15 @@ pub fn compare<R: BufRead + Drop, W: Write>(
     out: &mut W,
 ) -> Result<(), Stop>
     ensures printed { OnOk result (IfSome (R.remaining first.reader)
-        (λ one. IfSome (R.remaining second.reader) (λ other. (list : List Line × ℕ)
-        × (other_list : List Line × ℕ) × IsList reading one list × IsList reading other other_list
+        (λ one. IfSome (R.remaining second.reader) (λ other. (list : Addresses × ℕ)
+        × (other_list : Addresses × ℕ) × IsList reading one list × IsList reading other other_list
         × (left_out.new.items ≡ left_out.old.items ++ list.1 ∷ other_list.1 ∷ [])
-        × (new : Addresses) × (other_new : Addresses)
-        × HasJust new (λ family n. IsListed family n list.0)
-        × HasJust other_new (λ family n. IsListed family n other_list.0)
-        × Writes (W.contents out.old) (W.contents out.new) (IsCompared new other_new)))) }
+        × Writes (W.contents out.old) (W.contents out.new)
+        (IsCompared list.0 other_list.0)))) }
     ensures silent { result ≢ Err Unwritable → OnErr result (out.new ≡ out.old) }
+    ensures bad { IfErr result (λ stop. (files : List (List ℕ))
+        → AreKnown (R.remaining first.reader ∷ R.remaining second.reader ∷ []) files
+        → IsStop reading (first.name ∷ second.name ∷ []) files stop) }
 {
     let first = read_source(alloc, first, reading, left_out)?;
     let second = read_source(alloc, second, reading, left_out)?;

@@ -2,12 +2,10 @@
 
 ghost use Rattle.std.specs.Prelude.{◌≡◌, ◌≢◌, ◌↔◌, ◌++◌, ◌∷◌, ℕ, List, [], Err, IfErr, IfOk, IfSome, IsTrue, OnErr, OnOk};
 ghost use Rattle.std.specs.List.{AllByRecursion};
-ghost use Rattle.address_text.specs.declared.line.Line.{Line};
-ghost use Rattle.address_lists.specs.Lists.{HasJust, IsListed};
 ghost use Rattle.address_lists.specs.Lookups.{HasIp, IsLookup};
 ghost use Rattle.address_lists.specs.declared.addresses.Addresses.{Addresses};
 ghost use Rattle.line_program.specs.Listing.{SpellsEach, Writes};
-ghost use Rattle.cidr.specs.Commands.{IsList};
+ghost use Rattle.cidr.specs.Commands.{AreKnown, IsList, IsStop};
 ghost use Rattle.cidr.specs.declared.serve.Stop.TheVariants.{Unwritable};
 
 use crate::serve::{Reading, Source, Stop, read_source};
@@ -47,13 +45,15 @@ pub fn look_up<R: BufRead + Drop, W: Write>(
     out: &mut W,
 ) -> Result<bool, Stop>
     ensures printed { IfOk result (λ all. IfSome (R.remaining source.reader)
-        (λ bytes. (list : List Line × ℕ) × IsList reading bytes list
+        (λ bytes. (list : Addresses × ℕ) × IsList reading bytes list
         × (left_out.new.items ≡ left_out.old.items ++ list.1 ∷ [])
-        × (new : Addresses) × HasJust new (λ family n. IsListed family n list.0)
-        × (IsTrue all ↔ AllByRecursion (HasIp new) addresses.now)
+        × (IsTrue all ↔ AllByRecursion (HasIp list.0) addresses.now)
         × Writes (W.contents out.old) (W.contents out.new)
-        (SpellsEach (IsLookup new) addresses.now))) }
+        (SpellsEach (IsLookup list.0) addresses.now))) }
     ensures silent { result ≢ Err Unwritable → OnErr result (out.new ≡ out.old) }
+    ensures bad { IfErr result (λ stop. (files : List (List ℕ))
+        → AreKnown (R.remaining source.reader ∷ []) files
+        → IsStop reading (source.name ∷ []) files stop) }
 {
     let list = read_source(alloc, source, reading, left_out)?;
     print(&list, addresses, out)

@@ -21,68 +21,66 @@ use crate::inputs::Input;
 use crate::lookup::look_up;
 use crate::serve::{Source, Stop, serve};
 use anyhow::{Context, bail};
-use std::alloc::Global;
 use std::env;
-use std::io::{self, BufRead, BufReader, BufWriter, Write};
+use std::io::{self, BufReader, BufWriter, Write};
 use std::process::ExitCode;
 
 const BUFFER_BYTES: usize = 65536;
 
-/// The lists of these names; `-` is standard input.
-fn sources(rt: &HostRuntime, names: &[&str]) -> anyhow::Result<Vec<Source<BufReader<Input>>>> {
+/// The list of this name; `-` is standard input.
+fn source(rt: &HostRuntime, name: &str) -> anyhow::Result<Source<BufReader<Input>>> {
     let alloc = rt.alloc();
-    let mut sources = Vec::new(alloc);
+    let input = Input::open(rt, name).context(format_args!("{name}"))?;
+    Ok(Source {
+        name: String::from_str(alloc, name)?,
+        reader: BufReader::with_capacity(alloc, BUFFER_BYTES, input)?,
+    })
+}
+
+fn sources(rt: &HostRuntime, names: &[&str]) -> anyhow::Result<Vec<Source<BufReader<Input>>>> {
+    let mut sources = Vec::new(rt.alloc());
     for name in names {
-        let input = Input::open(rt, name).context(format_args!("{name}"))?;
-        sources.push(Source {
-            name: String::from_str(alloc, name)?,
-            reader: BufReader::with_capacity(alloc, BUFFER_BYTES, input)?,
-        })?;
+        sources.push(source(rt, name)?)?;
     }
     Ok(sources)
 }
 
-/// Does what the arguments ask with the lists, and returns whether they have all addresses that are
-/// looked up. Adds how many bad lines are left out of each list.
-fn answer<R: BufRead + Drop, W: Write>(
-    alloc: Global,
+/// Does what the arguments ask, and returns whether the list has all addresses that are looked up.
+/// Adds how many bad lines are left out of each list.
+fn answer<W: Write>(
+    rt: &HostRuntime,
     request: &Request<'_>,
-    sources: Vec<Source<R>>,
     left_out: &mut Vec<u64>,
     out: &mut W,
-) -> Result<bool, Stop> {
+) -> anyhow::Result<Result<bool, Stop>> {
+    let alloc = rt.alloc();
     let reading = request.reading;
-    if let Task::Combine(command) = request.task {
-        serve(
-            alloc,
-            command,
-            sources,
-            reading,
-            request.output,
-            left_out,
-            out,
-        )?;
-        return Ok(true);
-    }
-    let mut sources = sources.into_iter();
-    match (request.task, sources.next(), sources.next()) {
-        (Task::Compare, Some(first), Some(second)) => {
-            compare(alloc, first, second, reading, left_out, out)?;
-            Ok(true)
+    match &request.task {
+        Task::Combine(command, files, output) => {
+            let sources = sources(rt, files.as_slice())?;
+            let served = serve(alloc, *command, sources, reading, *output, left_out, out);
+            Ok(served.map(|()| true))
         }
-        (Task::LookUp, Some(source), _) => {
-            let addresses = request.addresses.as_slice();
-            look_up(alloc, source, reading, addresses, left_out, out)
+        Task::Compare(first, second) => {
+            let first = source(rt, first)?;
+            let second = source(rt, second)?;
+            let compared = compare(alloc, first, second, reading, left_out, out);
+            Ok(compared.map(|()| true))
         }
-        _ => Ok(true),
+        Task::LookUp(file, addresses) => {
+            let source = source(rt, file)?;
+            let addresses = addresses.as_slice();
+            Ok(look_up(alloc, source, reading, addresses, left_out, out))
+        }
     }
 }
 
 /// Says on standard error how many bad lines are left out of each list, where there are any.
-fn tell_left_out(rt: &HostRuntime, names: &[&str], left_out: &[u64]) -> io::Result<()> {
-    for (name, others) in names.iter().zip(left_out) {
-        if *others > 0 {
-            eprintln!(rt; "{name}: bad lines left out: {others}")?;
+fn tell_left_out(rt: &HostRuntime, task: &Task<'_>, left_out: &[u64]) -> io::Result<()> {
+    for (place, others) in left_out.iter().enumerate() {
+        match task.file(place) {
+            Some(name) if *others > 0 => eprintln!(rt; "{name}: bad lines left out: {others}")?,
+            _ => {}
         }
     }
     Ok(())
@@ -91,11 +89,10 @@ fn tell_left_out(rt: &HostRuntime, names: &[&str], left_out: &[u64]) -> io::Resu
 /// Does what the arguments ask, and returns the exit status.
 fn run(rt: &HostRuntime, request: &Request<'_>) -> anyhow::Result<ExitCode> {
     let alloc = rt.alloc();
-    let sources = sources(rt, request.files.as_slice())?;
     let mut left_out = Vec::new(alloc);
     let mut out = BufWriter::with_capacity(alloc, BUFFER_BYTES, rt.stdout())?;
-    let answered = answer(alloc, request, sources, &mut left_out, &mut out);
-    tell_left_out(rt, request.files.as_slice(), left_out.as_slice())?;
+    let answered = answer(rt, request, &mut left_out, &mut out)?;
+    tell_left_out(rt, &request.task, left_out.as_slice())?;
     match answered {
         Ok(true) => Ok(ExitCode::SUCCESS),
         Ok(false) | Err(Stop::Unwritable) => Ok(ExitCode::FAILURE),

@@ -1,18 +1,18 @@
 //! The commands, over any readers and writer.
 
-ghost use Rattle.std.specs.Prelude.{◌≡◌, ◌≢◌, ◌++◌, ◌∷◌, ℕ, List, [], Err, length, map, IfErr, IfOk, IfSome, OnErr, OnOk};
+ghost use Rattle.std.specs.Prelude.{◌≡◌, ◌≢◌, ◌⊎◌, ◌++◌, ◌∷◌, ℕ, List, [], Err, length, map, IfErr, IfOk, IfSome, OnErr, OnOk};
 ghost use Rattle.std.specs.Vec.Iter.{into_iter_items, into_iter_len};
-ghost use Rattle.address_text.specs.declared.line.Line.{Line};
-ghost use Rattle.address_lists.specs.Lists.{Has, HasJust, IsListed};
+ghost use Rattle.std.specs.Io.KnownBytes.{Appends};
+ghost use Rattle.address_lists.specs.Lists.{Has, HasJust};
 ghost use Rattle.address_lists.specs.declared.addresses.Addresses.{Addresses};
 ghost use Rattle.line_program.specs.Listing.{Writes};
-ghost use Rattle.cidr.specs.Commands.{AreKnown, AreLists, Asked, Combined, IsAnswer, IsList, Put, left_out_of};
-ghost use Rattle.cidr.specs.Shown.{IsShown, Kept};
-ghost use Rattle.cidr.specs.declared.serve.Stop.TheVariants.{Unwritable};
+ghost use Rattle.cidr.specs.Commands.{AreKnown, AreLists, Asked, Combined, IsAnswer, IsList, IsStop, Put, left_out_of};
+ghost use Rattle.cidr.specs.Shown.{AreShown, IsShown, Kept};
+ghost use Rattle.cidr.specs.declared.serve.Stop.TheVariants.{Memory, Unwritable};
 
 use address_lists::{
-    Addresses, BadLines, ListError, read_list, write_counts, write_prefixes, write_ranges,
-    write_singles, write_split_prefixes,
+    Addresses, BadLines, ListError, list_to_text, read_addresses, write_counts, write_prefixes,
+    write_ranges, write_singles, write_split_prefixes,
 };
 use address_sets::AddressSet;
 use address_text::Family;
@@ -36,9 +36,9 @@ pub enum Command {
     Invert,
 }
 
-/// What is printed of addresses.
+/// The lines that are printed of addresses.
 #[derive(Clone, Copy, PartialEq, Eq, Debug)]
-pub enum Form {
+pub enum Lines {
     /// The prefixes that have just these, as few as can be.
     Prefixes,
     /// Their ranges, as wide as they go.
@@ -49,6 +49,14 @@ pub enum Form {
     Count,
     /// Those prefixes, each that is shorter than this length split into prefixes of it.
     Split(u8),
+}
+
+/// What is printed of addresses.
+#[derive(Clone, Copy, PartialEq, Eq, Debug)]
+pub enum Form {
+    Lines(Lines),
+    /// An object with the set of either family, as the library writes it as JSON.
+    Json,
 }
 
 /// What is printed of an answer.
@@ -92,16 +100,16 @@ pub fn read_source<R: BufRead + Drop>(
     reading: Reading,
     left_out: &mut Vec<u64>,
 ) -> Result<Addresses, Stop>
-    ensures { IfOk result (λ new. IfSome (R.remaining source.reader)
-        (λ bytes. (list : List Line × ℕ) × IsList reading bytes list
-        × (left_out.new.items ≡ left_out.old.items ++ list.1 ∷ [])
-        × HasJust new (λ family n. IsListed family n list.0))) }
+    ensures read { IfOk result (λ new. IfSome (R.remaining source.reader)
+        (λ bytes. (others : ℕ) × IsList reading bytes (new, others)
+        × (left_out.new.items ≡ left_out.old.items ++ others ∷ []))) }
+    ensures bad { IfErr result (λ stop. IfSome (R.remaining source.reader)
+        (λ bytes. IsStop reading (source.name ∷ []) (bytes ∷ []) stop)) }
 {
     let Source { name, mut reader } = source;
     let Reading { strict, bad_lines } = reading;
-    let mut list = Addresses::new(alloc);
-    let others = match read_list(alloc, &mut list, &mut reader, strict, bad_lines) {
-        Ok(others) => others,
+    let (list, others) = match read_addresses(alloc, &mut reader, strict, bad_lines) {
+        Ok(found) => found,
         Err(error) => return Err(Stop::Bad(name, error)),
     };
     match left_out.push(others) {
@@ -135,11 +143,14 @@ fn gathered<R: BufRead + Drop>(
     left_out: &mut Vec<u64>,
 ) -> Result<Addresses, Stop>
     requires { into_iter_len sources ≡ length (into_iter_items sources) }
-    ensures { IfOk result (λ new. (files : List (List ℕ))
+    ensures made { IfOk result (λ new. (files : List (List ℕ))
         → AreKnown (map (λ s. R.remaining s.reader) (into_iter_items sources)) files
-        → (lists : List (List Line × ℕ)) × AreLists reading files lists
+        → (lists : List (Addresses × ℕ)) × AreLists reading files lists
         × (left_out.new.items ≡ left_out.old.items ++ left_out_of lists)
         × HasJust new (Put command (Has list) lists)) }
+    ensures bad { IfErr result (λ stop. (files : List (List ℕ))
+        → AreKnown (map (λ s. R.remaining s.reader) (into_iter_items sources)) files
+        → IsStop reading (map (λ s. s.name) (into_iter_items sources)) files stop) }
 {
     while let Some(source) = sources.next() {
         let other = read_source(alloc, source, reading, left_out)?;
@@ -160,11 +171,14 @@ fn asked<R: BufRead + Drop>(
     left_out: &mut Vec<u64>,
 ) -> Result<Addresses, Stop>
     requires { into_iter_len sources ≡ length (into_iter_items sources) }
-    ensures { IfOk result (λ new. (files : List (List ℕ))
+    ensures made { IfOk result (λ new. (files : List (List ℕ))
         → AreKnown (map (λ s. R.remaining s.reader) (into_iter_items sources)) files
-        → (lists : List (List Line × ℕ)) × AreLists reading files lists
+        → (lists : List (Addresses × ℕ)) × AreLists reading files lists
         × (left_out.new.items ≡ left_out.old.items ++ left_out_of lists)
         × HasJust new (Asked command lists)) }
+    ensures bad { IfErr result (λ stop. (files : List (List ℕ))
+        → AreKnown (map (λ s. R.remaining s.reader) (into_iter_items sources)) files
+        → IsStop reading (map (λ s. s.name) (into_iter_items sources)) files stop) }
 {
     match sources.next() {
         Some(source) => {
@@ -184,11 +198,14 @@ fn answered<R: BufRead + Drop>(
     left_out: &mut Vec<u64>,
 ) -> Result<Addresses, Stop>
     requires { into_iter_len sources ≡ length (into_iter_items sources) }
-    ensures { IfOk result (λ new. (files : List (List ℕ))
+    ensures made { IfOk result (λ new. (files : List (List ℕ))
         → AreKnown (map (λ s. R.remaining s.reader) (into_iter_items sources)) files
-        → (lists : List (List Line × ℕ)) × AreLists reading files lists
+        → (lists : List (Addresses × ℕ)) × AreLists reading files lists
         × (left_out.new.items ≡ left_out.old.items ++ left_out_of lists)
         × HasJust new (IsAnswer command lists)) }
+    ensures bad { IfErr result (λ stop. (files : List (List ℕ))
+        → AreKnown (map (λ s. R.remaining s.reader) (into_iter_items sources)) files
+        → IsStop reading (map (λ s. s.name) (into_iter_items sources)) files stop) }
 {
     let list = asked(alloc, command, sources, reading, left_out)?;
     match command {
@@ -218,31 +235,61 @@ fn kept(alloc: Global, list: Addresses, only: Option<Family>) -> Addresses
     }
 }
 
-fn write_list<W: Write>(form: Form, list: &Addresses, out: &mut W) -> io::Result<()>
+fn write_lines<W: Write>(lines: Lines, list: &Addresses, out: &mut W) -> io::Result<()>
     ensures { OnOk result (Writes (W.contents out.old) (W.contents out.new)
-        (IsShown form list.now)) }
+        (AreShown lines list.now)) }
 {
-    match form {
-        Form::Prefixes => write_prefixes(list, out),
-        Form::Ranges => write_ranges(list, out),
-        Form::Singles => write_singles(list, out),
-        Form::Count => write_counts("", list, out),
-        Form::Split(length) => write_split_prefixes(list, length, out),
+    match lines {
+        Lines::Prefixes => write_prefixes(list, out),
+        Lines::Ranges => write_ranges(list, out),
+        Lines::Singles => write_singles(list, out),
+        Lines::Count => write_counts("", list, out),
+        Lines::Split(length) => write_split_prefixes(list, length, out),
     }
 }
 
-fn print<W: Write>(form: Form, list: &Addresses, out: &mut W) -> Result<(), Stop>
+fn print_lines<W: Write>(lines: Lines, list: &Addresses, out: &mut W) -> Result<(), Stop>
     ensures printed { OnOk result (Writes (W.contents out.old) (W.contents out.new)
-        (IsShown form list.now)) }
+        (AreShown lines list.now)) }
     ensures failed { IfErr result (λ stop. stop ≡ Unwritable) }
 {
-    match write_list(form, list, out) {
+    match write_lines(lines, list, out) {
         Ok(()) => {}
         Err(_) => return Err(Stop::Unwritable),
     }
     match out.flush() {
         Ok(()) => Ok(()),
         Err(_) => Err(Stop::Unwritable),
+    }
+}
+
+fn print_text<W: Write>(text: &str, out: &mut W) -> Result<(), Stop>
+    ensures printed { OnOk result (Appends (W.contents out.old) (W.contents out.new)
+        (text.now ++ 10 ∷ [])) }
+    ensures failed { IfErr result (λ stop. stop ≡ Unwritable) }
+{
+    match writeln!(out, "{text}") {
+        Ok(()) => {}
+        Err(_) => return Err(Stop::Unwritable),
+    }
+    match out.flush() {
+        Ok(()) => Ok(()),
+        Err(_) => Err(Stop::Unwritable),
+    }
+}
+
+fn print<W: Write>(alloc: Global, form: Form, list: &Addresses, out: &mut W) -> Result<(), Stop>
+    ensures printed { OnOk result (Writes (W.contents out.old) (W.contents out.new)
+        (IsShown form list.now)) }
+    ensures failed { IfErr result (λ stop. (stop ≡ Memory) ⊎ (stop ≡ Unwritable)) }
+    ensures silent { result ≢ Err Unwritable → OnErr result (out.new ≡ out.old) }
+{
+    match form {
+        Form::Lines(lines) => print_lines(lines, list, out),
+        Form::Json => match list_to_text(alloc, list) {
+            Ok(text) => print_text(text.as_str(), out),
+            Err(_) => Err(Stop::Memory),
+        },
     }
 }
 
@@ -262,12 +309,15 @@ pub fn serve<R: BufRead + Drop, W: Write>(
 ) -> Result<(), Stop>
     ensures printed { OnOk result ((files : List (List ℕ))
         → AreKnown (map (λ s. R.remaining s.reader) sources.items) files
-        → (lists : List (List Line × ℕ)) × (list : Addresses) × AreLists reading files lists
+        → (lists : List (Addresses × ℕ)) × (list : Addresses) × AreLists reading files lists
         × (left_out.new.items ≡ left_out.old.items ++ left_out_of lists)
         × HasJust list (Kept output.only (IsAnswer command lists))
         × Writes (W.contents out.old) (W.contents out.new) (IsShown output.form list)) }
     ensures silent { result ≢ Err Unwritable → OnErr result (out.new ≡ out.old) }
+    ensures bad { IfErr result (λ stop. (files : List (List ℕ))
+        → AreKnown (map (λ s. R.remaining s.reader) sources.items) files
+        → IsStop reading (map (λ s. s.name) sources.items) files stop) }
 {
     let list = answered(alloc, command, sources.into_iter(), reading, left_out)?;
-    print(output.form, &kept(alloc, list, output.only), out)
+    print(alloc, output.form, &kept(alloc, list, output.only), out)
 }

@@ -1,23 +1,26 @@
-use Rattle.std.proofs.Common.{◌≡◌, ℕ, [], ◌∷◌, List, Option, length, ap, sym, subst, ◌∙◌, arith}
+use Rattle.std.proofs.Common.{◌≡◌, ℕ, [], ◌∷◌, List, length, ap, sym, subst, ◌∙◌, arith}
+use Rattle.std.proofs.lemmas.Result.{err_from_is_err_and}
 use Rattle.std.specs.Prelude.{map}
 use Rattle.std.specs.Vec.Iter.{into_iter_items}
 use Rattle.cidr.specs.declared.serve.Source.{Source}
-use Rattle.cidr.proofs.Commands.{IsPutTo, all_put, nothing_left, one_put, put_none}
+use Rattle.cidr.proofs.Commands.{IsPutTo, all_put, nothing_left, one_put, one_unread, put_none}
 use Rattle.cidr.proofs.serve.gathered.Goals as goal
 
 pub loop-source-init : goal.loop-source-init
 loop-source-init g c = (
   c.requires,
-  λ files known. put_none c.args.reading c.args.command c.args.list c.args.left_out.now.items files
-      _ known,
+  λ files known. put_none c.args.reading c.args.command c.args.list c.args.left_out.now.items
+      (map (λ (s : Source _). s.name) (into_iter_items c.args.sources)) files _ known,
 )
 
 pub loop-source-preserved : goal.loop-source-preserved
 loop-source-preserved g c =
     let numbers = c.loop-source.left_out.items in
-    let IsPut : List (List ℕ) → List (Option (List ℕ)) → Type 0 =
-    λ files inputs. IsPutTo c.args.reading c.args.command c.args.list c.args.left_out.now.items
-    files inputs numbers c.loop-source.list in
+    let names = map (λ (s : Source _). s.name) (into_iter_items c.args.sources) in
+    let IsPut : List (List ℕ) → List (Source _) → Type 0 =
+    λ files left. IsPutTo c.args.reading c.args.command c.args.list c.args.left_out.now.items names
+    files (map (λ (s : Source _). g.R.Read.remaining s.reader) left)
+    (map (λ (s : Source _). s.name) left) numbers c.loop-source.list in
     let steps : into_iter_items c.loop-source.sources ≡ c.in-Some.source ∷ into_iter_items c.next.new.self =
     c.in-Some.ensures.items in (
       let was = c.loop-source.invariant.0 in
@@ -25,13 +28,13 @@ loop-source-preserved g c =
           let short = ap length steps in
           omega arith,
       λ files known. one_put c.args.reading c.args.command c.args.list c.args.left_out.now.items
-          files (g.R.Read.remaining c.in-Some.source.reader)
+          names files (g.R.Read.remaining c.in-Some.source.reader) c.in-Some.source.name
           (map (λ (s : Source _). g.R.Read.remaining s.reader) (into_iter_items c.next.new.self))
+          (map (λ (s : Source _). s.name) (into_iter_items c.next.new.self))
           numbers c.read_source.new.left_out.items c.loop-source.list c.in_ok-other.other
           c.in-Ok.list
-          (subst (IsPut files) (ap (map (λ (s : Source _). g.R.Read.remaining s.reader)) steps)
-          (c.loop-source.invariant.1 files known))
-          c.in_ok-other.ensures c.in-Ok.ensures,
+          (subst (IsPut files) steps (c.loop-source.invariant.1 files known))
+          c.in_ok-other.ensures.read c.in-Ok.ensures,
     )
 
 pub loop-source-smaller : goal.loop-source-smaller
@@ -39,15 +42,37 @@ loop-source-smaller g c =
     let short = ap length c.in-Some.ensures.items in
     omega arith
 
-pub returns : goal.returns
-returns g c = λ files known.
+pub returns-clause-made : goal.returns-clause-made
+returns-clause-made g c = λ files known.
     let numbers = c.loop-source.left_out.items in
-    let IsPut : List (Option (List ℕ)) → Type 0 =
-    λ inputs. IsPutTo c.args.reading c.args.command c.args.list c.args.left_out.now.items files
-    inputs numbers c.loop-source.list in
+    let names = map (λ (s : Source _). s.name) (into_iter_items c.args.sources) in
+    let IsPut : List (Source _) → Type 0 =
+    λ left. IsPutTo c.args.reading c.args.command c.args.list c.args.left_out.now.items names files
+    (map (λ (s : Source _). g.R.Read.remaining s.reader) left)
+    (map (λ (s : Source _). s.name) left) numbers c.loop-source.list in
     let ended : into_iter_items c.loop-source.sources ≡ [] =
     nothing_left _ (sym c.loop-source.invariant.0 ∙ c.in_default.ensures.cases.0) in
-    all_put c.args.reading c.args.command c.args.list c.args.left_out.now.items files numbers
-    c.loop-source.list
-    (subst IsPut (ap (map (λ (s : Source _). g.R.Read.remaining s.reader)) ended)
-    (c.loop-source.invariant.1 files known))
+    all_put c.args.reading c.args.command c.args.list c.args.left_out.now.items names files []
+    numbers c.loop-source.list
+    (subst IsPut ended (c.loop-source.invariant.1 files known))
+
+pub returns-in_err-other-clause-bad : goal.returns-in_err-other-clause-bad
+returns-in_err-other-clause-bad g c =
+    let error = err_from_is_err_and c.from_residual.result c.from_residual.ensures.1 in
+    let numbers = c.loop-source.left_out.items in
+    let names = map (λ (s : Source _). s.name) (into_iter_items c.args.sources) in
+    let IsPut : List (List ℕ) → List (Source _) → Type 0 =
+    λ files left. IsPutTo c.args.reading c.args.command c.args.list c.args.left_out.now.items names
+    files (map (λ (s : Source _). g.R.Read.remaining s.reader) left)
+    (map (λ (s : Source _). s.name) left) numbers c.loop-source.list in
+    let steps : into_iter_items c.loop-source.sources ≡ c.in-Some.source ∷ into_iter_items c.next.new.self =
+    c.in-Some.ensures.items in
+    rw (error.1, error.2)
+    (λ files known. one_unread c.args.reading c.args.command c.args.list
+    c.args.left_out.now.items names files (g.R.Read.remaining c.in-Some.source.reader)
+    c.in-Some.source.name
+    (map (λ (s : Source _). g.R.Read.remaining s.reader) (into_iter_items c.next.new.self))
+    (map (λ (s : Source _). s.name) (into_iter_items c.next.new.self))
+    numbers c.loop-source.list c.in_err-other.field-0.0
+    (subst (IsPut files) steps (c.loop-source.invariant.1 files known))
+    c.in_err-other.ensures.bad)

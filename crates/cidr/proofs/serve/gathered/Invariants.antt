@@ -9,8 +9,10 @@ abbrev pub invariant-loop-source : goal.invariant-loop-source
 invariant-loop-source g l = (into_iter_len l.sources ≡ length (into_iter_items l.sources))
     × ((files : List (List ℕ))
     → AreKnown (map (λ s. g.R.Read.remaining s.reader) (into_iter_items l.fn.sources)) files
-    → IsPutTo l.reading l.command l.fn.list l.fn.left_out.items files
-    (map (λ s. g.R.Read.remaining s.reader) (into_iter_items l.sources)) l.left_out.items l.list)
+    → IsPutTo l.reading l.command l.fn.list l.fn.left_out.items
+    (map (λ s. s.name) (into_iter_items l.fn.sources)) files
+    (map (λ s. g.R.Read.remaining s.reader) (into_iter_items l.sources))
+    (map (λ s. s.name) (into_iter_items l.sources)) l.left_out.items l.list)
 
 abbrev pub decreases-loop-source : goal.decreases-loop-source
 decreases-loop-source g l = length (into_iter_items l.sources)

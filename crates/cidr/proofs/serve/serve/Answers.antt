@@ -1,9 +1,10 @@
-use Rattle.std.proofs.Common.{ap}
+use Rattle.std.proofs.Common.{List, ap, subst}
+use Rattle.std.proofs.lemmas.Result.{err_from_is_err_and}
 use Rattle.std.specs.Prelude.{map}
 use Rattle.cidr.specs.Commands.{IsAnswer}
 use Rattle.cidr.specs.Shown.{Kept}
 use Rattle.cidr.specs.declared.serve.Source.{Source}
-use Rattle.cidr.proofs.Commands.{answer_printed, fails_unwritable}
+use Rattle.cidr.proofs.Commands.{AreUnread, answer_printed, unprinted}
 use Rattle.cidr.proofs.Kept.{kept_answer}
 use Rattle.cidr.proofs.serve.serve.Goals as goal
 
@@ -16,8 +17,20 @@ returns-clause-printed g c =
     (g.W.Write.contents c.print.new.out) c.print.result
     (ap (map (λ (s : Source _). g.R.Read.remaining s.reader)) c.into_iter.ensures.rest)
     (kept_answer c.args.reading c.args.command c.args.output.only _ numbers later c.in_ok-list.list
-    c.kept.result c.in_ok-list.ensures c.kept.ensures)
+    c.kept.result c.in_ok-list.ensures.made c.kept.ensures)
     c.print.ensures.printed
 
 pub returns-clause-silent : goal.returns-clause-silent
-returns-clause-silent g c = fails_unwritable _ c.print.result c.print.ensures.failed
+returns-clause-silent g c = c.print.ensures.silent
+
+pub returns-clause-bad : goal.returns-clause-bad
+returns-clause-bad g c = unprinted c.args.reading _ _ c.print.result c.print.ensures.failed
+
+pub returns-in_err-list-clause-bad : goal.returns-in_err-list-clause-bad
+returns-in_err-list-clause-bad g c =
+    let error = err_from_is_err_and c.from_residual.result c.from_residual.ensures.1 in
+    rw (error.1, error.2)
+    (subst (λ (all : List (Source _)). AreUnread c.args.reading
+    (map (λ (s : Source _). g.R.Read.remaining s.reader) all) (map (λ (s : Source _). s.name) all)
+    c.in_err-list.field-0.0)
+    c.into_iter.ensures.rest c.in_err-list.ensures.bad)
