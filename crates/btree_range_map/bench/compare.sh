@@ -10,12 +10,8 @@ top=$(cd "$bench/../../.." && pwd)
 ranges=${1:-100000}
 work=$(mktemp -d)
 trap 'rm -rf "$work"' EXIT
+(cd "$top" && cp --parents -r crates.txt crates/*/src crates/*/specs "$work")
 mkdir -p "$work/crates/algebra/src"
-crates="$(sed -n 's/^btree_range_map: //p' "$top/crates.txt") btree_range_map"
-for crate in $crates; do
-    cp -r "$top/crates/$crate" "$work/crates/"
-    grep "^$crate:" "$top/crates.txt" >> "$work/crates.txt"
-done
 echo 'algebra: btree_range_map anyhow' >> "$work/crates.txt"
 cp "$bench/algebra.txt" "$work/crates/algebra/src/main.rt"
 python3 "$top/bindings/unproved.py" "$work" "$work/crates/algebra"

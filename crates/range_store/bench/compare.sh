@@ -7,12 +7,8 @@ set -eu
 top=$(cd "$(dirname "$0")/../../.." && pwd)
 work=$(mktemp -d)
 trap 'rm -rf "$work"' EXIT
+(cd "$top" && cp --parents -r crates.txt crates/*/src crates/*/specs "$work")
 mkdir -p "$work/crates/containers/src"
-crates="$(sed -n 's/^btree_range_map: //p' "$top/crates.txt") btree_range_map"
-for crate in $crates; do
-    cp -r "$top/crates/$crate" "$work/crates/"
-    grep "^$crate:" "$top/crates.txt" >> "$work/crates.txt"
-done
 echo 'containers: btree_range_map anyhow' >> "$work/crates.txt"
 cp "$(dirname "$0")/containers.txt" "$work/crates/containers/src/main.rt"
 python3 "$top/bindings/unproved.py" "$work" "$work/crates/containers"
