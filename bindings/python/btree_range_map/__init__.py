@@ -36,7 +36,7 @@ from ._keys import KEYS, Keys, Range
 from ._library import library as _calls
 
 __all__ = ["Connected", "NotLoaded", "Range", "RangeMap", "RangeSet"]
-__version__ = "0.3.2"
+__version__ = "0.3.3"
 
 V = TypeVar("V")
 
@@ -66,7 +66,7 @@ def _check(status: int) -> bool:
     if status in (_c.NONE, _c.OCCUPIED):
         return False
     if status == _c.NO_MEMORY:
-        raise MemoryError("no memory, and nothing was changed")
+        raise MemoryError("no memory")
     if status == _c.CONNECTED:
         raise Connected("the range meets or touches a stored one")
     if status in (_c.NOT_JSON, _c.NOT_READ):
@@ -138,18 +138,22 @@ class _Values:
 class _Collection:
     """What maps and sets share: a handle that is destroyed once, and the calls on it.
 
-    A lock is held through each method, which may be more than one call.
+    A lock is held through each method, which may be more than one call; through each batch alone of one that goes over
+    many ranges. Two locks at once are taken by `_locked_with`, in one order.
     """
 
     _handle: _c.Handle
 
     def _open(self, kind: _c.Kind, keys: Keys, offset: int) -> None:
-        self.close()
-        self._kind, self._keys, self._offset = kind, keys, offset
-        self._handle = _c.Handle()
-        self._lock = threading.RLock()
-        self._found = ctypes.create_string_buffer(kind.form.size)
-        _check(kind.create(self._handle))
+        # a second time the lock stays, which others may hold
+        if not hasattr(self, "_lock"):
+            self._lock = threading.RLock()
+        with self._lock:
+            self.close()
+            self._kind, self._keys, self._offset = kind, keys, offset
+            self._found = ctypes.create_string_buffer(kind.form.size)
+            self._handle = _c.Handle()
+            _check(kind.create(self._handle))
 
     # keys and ranges
 
@@ -292,8 +296,17 @@ class _Collection:
         """A collection of the same kind, closed."""
         made = type(self).__new__(type(self))
         made._kind, made._keys, made._offset = self._kind, self._keys, self._offset
-        made._handle, made._lock = _c.Handle(), threading.RLock()
+        made._lock, made._handle = threading.RLock(), _c.Handle()
         made._found = ctypes.create_string_buffer(self._kind.form.size)
+        return made
+
+    def _loaded(self, raw: bytes) -> Any:
+        """A collection of the same kind that holds what the JSON says; `RuntimeError` where this one is closed."""
+        if not self._handle.is_open:
+            _check(_c.CLOSED)
+        made = self._opened()
+        _check(self._kind.create(made._handle))
+        _check(_calls.brm_load(made._handle, raw, len(raw)))
         return made
 
     # methods
@@ -385,7 +398,8 @@ class _Collection:
     def close(self) -> None:
         """Frees the memory. Each later call but this one raises `RuntimeError`, and `len` is 0."""
         if getattr(self, "_handle", None) is not None:
-            _calls.brm_raw_destroy(self._handle)
+            with self._lock:
+                _calls.brm_raw_destroy(self._handle)
 
     def __enter__(self) -> Any:
         return self
@@ -463,20 +477,32 @@ class RangeMap(_Collection, Generic[V]):
     def update(self, items: Any = (), /) -> None:
         """Binds each range to its value, in order: of a map, or of pairs."""
         pairs = items.items() if hasattr(items, "items") else items
-        with self._lock:
-            self._in_batches(list(pairs) if isinstance(items, RangeMap) else pairs)
+        self._in_batches(list(pairs) if isinstance(items, RangeMap) else pairs)
 
     def _insert_batch(self, items: list[Any]) -> None:
-        self._free_values()
-        values, packed, size = self._values, bytearray(), 0
-        values.batches += 1
-        try:
-            for keys, value in items:
-                packed += self._raw(keys) + _c.VALUE.pack(values.number(value))
-                size += 1
-        finally:
-            values.batches -= 1
-            self._insert_packed(packed, size)
+        with self._lock:
+            self._free_values()
+            values, packed, size = self._values, bytearray(), 0
+            values.batches += 1
+            try:
+                for keys, value in items:
+                    packed += self._raw(keys) + _c.VALUE.pack(values.number(value))
+                    size += 1
+            finally:
+                values.batches -= 1
+                self._insert_packed(packed, size)
+
+    def append(self, other: RangeMap[V]) -> None:
+        """Moves all bindings of the other map into this one, where they replace those of the same keys.
+
+        After an error the other is as it was.
+        """
+        if not isinstance(other, RangeMap):
+            raise TypeError("what is moved into a map of ranges is another")
+        if other is not self:
+            with self._locked_with(other):
+                self.update(other)
+                other.clear()
 
     def __setitem__(self, keys: Any, value: V) -> None:
         self._insert("insert", keys, value)
@@ -673,18 +699,31 @@ class RangeMap(_Collection, Generic[V]):
 
     def __and__(self, other: Any) -> RangeMap[V]:
         """A map of the bindings of keys that the set has."""
-        if not isinstance(other, RangeSet):
-            return NotImplemented
-        return RangeMap((piece for keys in other for piece in self.pieces(keys)), keys=self._keys.name)
+        return self.restrict(other) if isinstance(other, RangeSet) else NotImplemented
 
     def __sub__(self, other: Any) -> RangeMap[V]:
         """A map of the bindings of keys that the set has not."""
-        if not isinstance(other, RangeSet):
-            return NotImplemented
-        made = self.copy()
-        for keys in other:
-            del made[keys]
-        return made
+        return self.without(other) if isinstance(other, RangeSet) else NotImplemented
+
+    def restrict(self, keys: RangeMap[Any] | RangeSet) -> RangeMap[V]:
+        """A map of the bindings of keys that the other map binds, or that the set has."""
+        return self._made_by(_calls.brm_raw_restrict, keys)
+
+    def without(self, keys: RangeMap[Any] | RangeSet) -> RangeMap[V]:
+        """A map of the bindings of keys that the other map does not bind, or that the set has not."""
+        return self._made_by(_calls.brm_raw_without, keys)
+
+    def _made_by(self, call: Any, keys: Any) -> RangeMap[V]:
+        if not isinstance(keys, _Collection):
+            raise TypeError("keys are those of a map of ranges, or of a set")
+        # the call takes no map twice, and no set of numbers that are not the map's
+        if keys is self or keys._keys is not self._keys or keys._offset:
+            keys = RangeMap(((part, None) for part in keys), keys=self._keys.name)
+        with self._locked_with(keys):
+            made = self._opened()
+            _check(call(self._handle, keys._handle, made._handle))
+            made._values = self._values.copied()
+            return made
 
     def clear(self) -> None:
         with self._lock:
@@ -718,10 +757,8 @@ class RangeMap(_Collection, Generic[V]):
         except (KeyError, TypeError, ValueError):
             raise NotLoaded("the JSON is no such map") from None
         with self._lock:
-            made = self._opened()
+            made = self._loaded(raw)
             made._values = values
-            _check(self._kind.create(made._handle))
-            _check(_calls.brm_load(made._handle, raw, len(raw)))
             made._close_to(self._keys)
             self._handle, made._handle = made._handle, self._handle
             self._values = values
@@ -936,9 +973,7 @@ class RangeSet(_Collection):
             raise NotLoaded("the JSON is no such set")
         raw = json.dumps(self._bounds_with(self._number, data)).encode()
         with self._lock:
-            made = self._opened()
-            _check(self._kind.create(made._handle))
-            _check(_calls.brm_load(made._handle, raw, len(raw)))
+            made = self._loaded(raw)
             if not self._keys.is_native:
                 every = RangeSet([slice(None)], keys=self._keys.name)
                 made = made & every
