@@ -25,6 +25,7 @@ import array
 import contextlib
 import copy as _copy
 import ctypes
+import itertools
 import json
 import operator
 import struct
@@ -47,6 +48,7 @@ _UNBOUNDED = _c.START_UNBOUNDED | _c.END_UNBOUNDED
 
 #: whether a range with these flags holds its start, and whether it holds its end
 _HELD_ENDS = [(not flags & 3, not flags & 12) for flags in range(16)]
+_HOLDS_START, _HOLDS_END = zip(*_HELD_ENDS)
 
 _MISSING: Any = object()
 
@@ -221,8 +223,11 @@ class _Collection:
         """The values by the numbers that the library keeps of them."""
         return {}
 
-    def _batches(self, form: struct.Struct, backward: bool = False) -> Iterator[tuple[Iterator[tuple[int, ...]], dict[int, Any]]]:
-        """What is stored, as the form reads it, ascending or descending: a batch at a time, with the values at that time."""
+    def _batches(self, backward: bool = False) -> Iterator[tuple[memoryview, dict[int, Any]]]:
+        """What is stored, as it lies in memory, ascending or descending: a batch at a time, with the values at that time.
+
+        The next batch is written over it.
+        """
         least, greatest = self._keys.least + self._offset, self._keys.greatest + self._offset
         key, read = (greatest, self._kind.read_back) if backward else (least, self._kind.read)
         size, count = self._kind.form.size, ctypes.c_size_t(0)
@@ -231,7 +236,7 @@ class _Collection:
             with self._lock:
                 _check(read(self._handle, key, buffer, _c.BATCH, count))
                 values = self._table()
-            yield form.iter_unpack(memoryview(buffer)[: size * count.value]), values
+            yield memoryview(buffer)[: size * count.value], values
             if count.value < _c.BATCH:
                 return
             start, end, flags = self._kind.range_form.unpack_from(buffer, size * (_c.BATCH - 1))
@@ -241,19 +246,34 @@ class _Collection:
 
     def _entries(self) -> Iterator[tuple[int, ...]]:
         """What is stored, as the library has it, ascending."""
-        for entries, _ in self._batches(self._kind.form):
-            yield from entries
+        for batch, _ in self._batches():
+            yield from self._kind.form.iter_unpack(batch)
 
     def _ranges(self, backward: bool = False) -> Iterator[Range]:
         """The stored ranges, ascending or descending."""
         is_plain, new = self._keys.is_plain and not self._offset, tuple.__new__
-        for entries, _ in self._batches(self._kind.form_of_ranges, backward):
-            for start, end, flags in entries:
+        for batch, _ in self._batches(backward):
+            if is_plain and len(batch) == self._kind.whole_form.size:
+                yield from self._whole(batch)[0]
+                continue
+            for start, end, flags in self._kind.form_of_ranges.iter_unpack(batch):
                 if is_plain and not flags & _UNBOUNDED:
                     holds_start, holds_end = _HELD_ENDS[flags]
                     yield new(Range, (start, end, holds_start, holds_end))
                 else:
                     yield self._range(start, end, flags)
+
+    def _whole(self, batch: memoryview) -> tuple[Iterator[Range], tuple[int, ...]]:
+        """The ranges of a whole batch, where a key is its number, and the numbers of their values: with no step for each."""
+        words, width = self._kind.whole_form.unpack(batch), self._kind.width
+        starts, ends, flags = words[::width], words[1::width], words[2::width]
+        if (flags[0] | flags[-1]) & _UNBOUNDED:
+            return map(self._range, starts, ends, flags), words[3::width]
+        if flags.count(flags[0]) == len(flags):
+            held: Any = map(itertools.repeat, _HELD_ENDS[flags[0]])
+        else:
+            held = map(_HOLDS_START.__getitem__, flags), map(_HOLDS_END.__getitem__, flags)
+        return map(tuple.__new__, itertools.repeat(Range), zip(starts, ends, *held)), words[3::width]
 
     def _within(self, call: Any, form: struct.Struct, keys: Any) -> Iterator[tuple[list[tuple[int, ...]], dict[int, Any]]]:
         """What the call finds in the range, as the form reads it, ascending: a batch at a time, with the values at that time."""
@@ -458,8 +478,12 @@ class RangeMap(_Collection, Generic[V]):
     def items(self) -> Iterator[tuple[Range, V]]:
         """The stored ranges with their values, ascending."""
         is_plain, new = self._keys.is_plain and not self._offset, tuple.__new__
-        for entries, values in self._batches(self._kind.form):
-            for start, end, flags, number in entries:
+        for batch, values in self._batches():
+            if is_plain and len(batch) == self._kind.whole_form.size:
+                ranges, numbers = self._whole(batch)
+                yield from zip(ranges, [values[number] for number in numbers])
+                continue
+            for start, end, flags, number in self._kind.form.iter_unpack(batch):
                 if is_plain and not flags & _UNBOUNDED:
                     holds_start, holds_end = _HELD_ENDS[flags]
                     yield new(Range, (start, end, holds_start, holds_end)), values[number]
@@ -677,8 +701,8 @@ class RangeMap(_Collection, Generic[V]):
     def _bindings(self) -> Iterator[tuple[tuple[int, int], V]]:
         """The numbers of the first and the last key of each stored range, with its value, ascending."""
         ends = self._ends(slice(None))
-        for entries, values in self._batches(self._kind.form):
-            for start, end, flags, number in entries:
+        for batch, values in self._batches():
+            for start, end, flags, number in self._kind.form.iter_unpack(batch):
                 yield _first_and_last(ends, start, end, flags), values[number]
 
     def __repr__(self) -> str:

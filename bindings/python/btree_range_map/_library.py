@@ -52,6 +52,10 @@ class Kind:
         self.range_form = struct.Struct(f"{key}{key}I4x")
         #: the ranges of the same alone
         self.form_of_ranges = struct.Struct(f"{key}{key}I4x" + ("8x" if has_values else ""))
+        #: how many numbers `form` reads
+        self.width = 4 if has_values else 3
+        #: a whole batch, as `form` reads it
+        self.whole_form = struct.Struct(self.form.format * BATCH)
         #: start, end, flags, the value, and whether there is one
         self.piece_form = struct.Struct(f"{key}{key}I4xQ?7x")
         self.key_code = key

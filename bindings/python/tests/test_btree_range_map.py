@@ -334,6 +334,17 @@ class Maps(unittest.TestCase):
             self.assertEqual(len(list(reversed(touching))), count)
             self.assertEqual(len(list(RangeSet(keys))), count)
 
+    def test_ends_of_each_kind_are_read_in_batches(self):
+        for kind in ("u64", "i64", "u16"):
+            keys = RangeMap([(slice(None), "free")], keys=kind)
+            keys.update((Range(10 * at, 10 * at + 5, at % 2 == 0, at % 3 == 0), at) for at in range(10, 610))
+            wanted = list(dict.fromkeys(keys.entry(key) for key in range(6200)))
+            self.assertEqual((len(wanted), list(keys.items()), list(keys)), (len(keys), wanted, [held for held, _ in wanted]))
+            self.assertEqual((list(keys.values()), list(reversed(keys))), ([value for _, value in wanted], [held for held, _ in wanted][::-1]))
+            held = RangeSet([slice(None)], keys=kind) - RangeSet((range(10 * at + 7, 10 * at + 9) for at in range(10, 610)), keys=kind)
+            self.assertEqual(list(held), list(dict.fromkeys(found for key in range(6200) if (found := held.range_of(key)))))
+            self.assertEqual({type(part) for part in (*keys, *held, *reversed(held))}, {Range})
+
     def test_what_was_read_is_shown_whatever_changes(self):
         def shown(call):
             keys = RangeMap((slice(10 * at, 10 * at + 5), ("value", at)) for at in range(100))
