@@ -142,22 +142,22 @@ impl<'a, N: Copy, E: Stored<N>> Batches<'a, N, E> {
 
     #[inline]
     pub fn next_back(&mut self) -> Option<E> {
-        let left = self.left();
-        if left == 0 {
+        // the last of those that are left, whether the front has read it or not
+        if self.later > 0 {
+            self.later -= 1;
+        } else if self.front.read.len() > self.front.shown {
+            self.front.read.pop();
+        } else {
             return None;
         }
         if self.back.shown == self.back.read.len() {
+            let left = self.left() + 1;
             self.back.refill(self.handle, self.calls.read_back, left, |range| {
                 (range.start, range.flags & START_EXCLUDED == 0)
             });
         }
-        let shown = self.back.read[self.back.shown];
         self.back.shown += 1;
-        match self.later {
-            0 => self.front.read.truncate(self.front.shown + left - 1),
-            _ => self.later -= 1,
-        }
-        Some(shown)
+        Some(self.back.read[self.back.shown - 1])
     }
 }
 
