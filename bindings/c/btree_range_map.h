@@ -11,8 +11,8 @@
 
 #define BRM_VERSION_MAJOR 0
 #define BRM_VERSION_MINOR 3
-#define BRM_VERSION_PATCH 2
-#define BRM_VERSION "0.3.2"
+#define BRM_VERSION_PATCH 3
+#define BRM_VERSION "0.3.3"
 
 #ifdef __cplusplus
 extern "C" {

@@ -1,5 +1,5 @@
-/* Several threads read one map and one set at once, and each has a map of its own that moves to it. Run under helgrind,
- * which tells of a read beside a write that nothing orders. */
+/* Several threads read one map of each kind of keys and one set at once, and each has maps of its own that move to it. Run
+ * under helgrind, which tells of a read beside a write that nothing orders. */
 #include "btree_range_map.h"
 
 #include <pthread.h>
@@ -9,8 +9,8 @@
 enum { THREADS = 4, RANGES = 300 };
 
 typedef struct {
-    const brm_handle *shared, *shared_keys;
-    brm_handle own;
+    const brm_handle *shared, *shared_signed, *shared_keys;
+    brm_handle own, own_signed;
     unsigned long wrong;
 } job;
 
@@ -18,6 +18,16 @@ static void fill(brm_handle *map, job *it) {
     for (uint64_t i = 0; i < RANGES; i++) {
         brm_range_u64 range = {10 * i, 10 * i + 5, BRM_END_EXCLUDED};
         it->wrong += brm_map_u64_insert(map, &range, i) != BRM_DONE;
+    }
+}
+
+/* The least of the signed keys: half of them are below 0. */
+enum { LEAST = -5 * RANGES };
+
+static void fill_signed(brm_handle *map, job *it) {
+    for (int64_t i = 0; i < RANGES; i++) {
+        brm_range_i64 range = {LEAST + 10 * i, LEAST + 10 * i + 5, BRM_END_EXCLUDED};
+        it->wrong += brm_map_i64_insert(map, &range, (uint64_t)i) != BRM_DONE;
     }
 }
 
@@ -62,12 +72,48 @@ static void read_all(const brm_handle *map, job *it) {
     it->wrong += brm_save(map, text, sizeof text, &size) != BRM_NO_ROOM;
 }
 
+/* The same of a map of signed keys. */
+static void read_signed(const brm_handle *map, job *it) {
+    brm_range_i64 every = {0, 0, BRM_START_UNBOUNDED | BRM_END_UNBOUNDED};
+    brm_entry_i64 entry = {{0, 0, 0}, 0}, entries[10];
+    brm_range_i64 gaps[10];
+    brm_piece_i64 pieces[10];
+    brm_binding bound[2];
+    int64_t keys[] = {LEAST + 4, LEAST + 5};
+    size_t read = 0, size = 0;
+    brm_key_count count = {0, 0};
+    uint8_t text[8];
+    for (int64_t i = 0; i < RANGES; i++) {
+        int64_t key = LEAST + 10 * i;
+        uint64_t value = (uint64_t)i;
+        it->wrong += brm_map_i64_get(map, key + 4, &entry) != BRM_DONE || entry.value != value;
+        it->wrong += brm_map_i64_contains(map, key + 5) != BRM_NONE;
+        it->wrong += brm_map_i64_next(map, key, &entry) != BRM_DONE || entry.value != value;
+        it->wrong += brm_map_i64_previous(map, key, &entry) != BRM_DONE || entry.value != value;
+    }
+    it->wrong += brm_map_i64_intersects(map, &every) != BRM_DONE || brm_count(map) != RANGES;
+    it->wrong += brm_map_i64_len(map, &count) != BRM_DONE || count.low != 5 * RANGES;
+    it->wrong += brm_map_i64_first(map, &entry) != BRM_DONE || brm_map_i64_last(map, &entry) != BRM_DONE;
+    memset(entries, 0, sizeof entries);
+    memset(gaps, 0, sizeof gaps);
+    memset(pieces, 0, sizeof pieces);
+    memset(bound, 0, sizeof bound);
+    it->wrong += brm_map_i64_read(map, LEAST, entries, 10, &read) != BRM_DONE || entries[9].value != 9;
+    it->wrong += brm_map_i64_read_back(map, LEAST + 99, entries, 10, &read) != BRM_DONE || read != 10;
+    it->wrong += brm_map_i64_overlapping(map, &every, entries, 10, &read) != BRM_DONE || entries[9].value != 9;
+    it->wrong += brm_map_i64_gaps(map, &every, gaps, 10, &read) != BRM_DONE || gaps[9].start != LEAST + 85;
+    it->wrong += brm_map_i64_pieces(map, &every, pieces, 10, &read) != BRM_DONE || pieces[9].binding.value != 4;
+    it->wrong += brm_map_i64_get_many(map, keys, bound, 2) != BRM_DONE || !bound[0].is_bound || bound[1].is_bound;
+    it->wrong += brm_save(map, text, sizeof text, &size) != BRM_NO_ROOM;
+}
+
 /* The same of a set of the same keys. */
 static void read_keys(const brm_handle *set, job *it) {
     brm_range_u64 every = {0, 0, BRM_START_UNBOUNDED | BRM_END_UNBOUNDED};
     brm_range_u64 range = {0, 0, 0}, ranges[10];
     brm_key_count count = {0, 0};
-    size_t read = 0;
+    uint8_t text[8];
+    size_t read = 0, size = 0;
     for (uint64_t i = 0; i < RANGES; i++) {
         it->wrong += brm_set_u64_get(set, 10 * i + 4, &range) != BRM_DONE || range.start != 10 * i;
         it->wrong += brm_set_u64_contains(set, 10 * i + 5) != BRM_NONE;
@@ -82,6 +128,7 @@ static void read_keys(const brm_handle *set, job *it) {
     it->wrong += brm_set_u64_read_back(set, 99, ranges, 10, &read) != BRM_DONE || ranges[9].start != 0;
     it->wrong += brm_set_u64_overlapping(set, &every, ranges, 10, &read) != BRM_DONE || ranges[9].start != 90;
     it->wrong += brm_set_u64_gaps(set, &every, ranges, 10, &read) != BRM_DONE || ranges[9].start != 95;
+    it->wrong += brm_save(set, text, sizeof text, &size) != BRM_NO_ROOM;
 }
 
 typedef brm_status of_two(const brm_handle *set, const brm_handle *other, brm_handle *made);
@@ -102,46 +149,65 @@ static void put_together(const brm_handle *set, job *it) {
     brm_destroy(&result);
 }
 
+/* Each call that makes a map of one that others read too, and of one of the thread's own that is like it. */
+static void put_beside(const brm_handle *map, const brm_handle *own, job *it) {
+    brm_handle copy = BRM_HANDLE_CLOSED;
+    it->wrong += brm_clone(map, &copy) != BRM_DONE || brm_equal(map, &copy) != BRM_DONE;
+    it->wrong += brm_equal(own, &copy) != BRM_DONE;
+    brm_destroy(&copy);
+    it->wrong += brm_overlay(map, own, &copy) != BRM_DONE || brm_count(&copy) != RANGES;
+    brm_destroy(&copy);
+    it->wrong += brm_without(map, own, &copy) != BRM_DONE || brm_count(&copy) != 0;
+    brm_destroy(&copy);
+    it->wrong += brm_restrict(map, own, &copy) != BRM_DONE || brm_count(&copy) != RANGES;
+    brm_destroy(&copy);
+}
+
 static void *work(void *given) {
     job *it = given;
     brm_handle copy = BRM_HANDLE_CLOSED;
     read_all(it->shared, it);
+    read_signed(it->shared_signed, it);
     read_keys(it->shared_keys, it);
     put_together(it->shared_keys, it);
-    it->wrong += brm_clone(it->shared, &copy) != BRM_DONE || brm_equal(it->shared, &copy) != BRM_DONE;
     fill(&it->own, it);
-    it->wrong += brm_equal(&it->own, &copy) != BRM_DONE;
-    brm_destroy(&copy);
-    it->wrong += brm_overlay(it->shared, &it->own, &copy) != BRM_DONE || brm_count(&copy) != RANGES;
-    brm_destroy(&copy);
-    it->wrong += brm_without(it->shared, &it->own, &copy) != BRM_DONE || brm_count(&copy) != 0;
-    brm_destroy(&copy);
+    put_beside(it->shared, &it->own, it);
+    fill_signed(&it->own_signed, it);
+    put_beside(it->shared_signed, &it->own_signed, it);
     it->wrong += brm_restrict(it->shared, it->shared_keys, &copy) != BRM_DONE || brm_count(&copy) != RANGES;
+    brm_destroy(&copy);
+    it->wrong += brm_without(it->shared, it->shared_keys, &copy) != BRM_DONE || brm_count(&copy) != 0;
     brm_destroy(&copy);
     return NULL;
 }
 
 int main(void) {
-    brm_handle map = BRM_HANDLE_CLOSED, set = BRM_HANDLE_CLOSED;
+    brm_handle map = BRM_HANDLE_CLOSED, of_signed = BRM_HANDLE_CLOSED, set = BRM_HANDLE_CLOSED;
     pthread_t threads[THREADS];
-    job jobs[THREADS] = {{&map, &set, BRM_HANDLE_CLOSED, 0}};
+    job jobs[THREADS] = {{&map, &of_signed, &set, BRM_HANDLE_CLOSED, BRM_HANDLE_CLOSED, 0}};
     unsigned long wrong = brm_map_u64_create(&map) != BRM_DONE || brm_set_u64_create(&set) != BRM_DONE;
+    wrong += brm_map_i64_create(&of_signed) != BRM_DONE;
     fill(&map, &jobs[0]);
+    fill_signed(&of_signed, &jobs[0]);
     fill_keys(&set, &jobs[0]);
     for (int i = 0; i < THREADS; i++) {
         jobs[i].shared = &map;
+        jobs[i].shared_signed = &of_signed;
         jobs[i].shared_keys = &set;
-        wrong += brm_map_u64_create(&jobs[i].own) != BRM_DONE;
+        wrong += brm_map_u64_create(&jobs[i].own) != BRM_DONE || brm_map_i64_create(&jobs[i].own_signed) != BRM_DONE;
         wrong += pthread_create(&threads[i], NULL, work, &jobs[i]) != 0;
     }
     for (int i = 0; i < THREADS; i++) {
         wrong += pthread_join(threads[i], NULL) != 0;
         /* filled by that thread, read and freed by this one */
         read_all(&jobs[i].own, &jobs[i]);
+        read_signed(&jobs[i].own_signed, &jobs[i]);
         wrong += jobs[i].wrong;
         brm_destroy(&jobs[i].own);
+        brm_destroy(&jobs[i].own_signed);
     }
     brm_destroy(&map);
+    brm_destroy(&of_signed);
     brm_destroy(&set);
     printf("threads: %s\n", wrong ? "FAILED" : "passed");
     return wrong != 0;

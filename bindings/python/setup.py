@@ -1,4 +1,5 @@
-"""Makes a wheel for this platform: python3 setup.py bdist_wheel. The shared library lies in btree_range_map/.
+"""Makes a wheel for this platform: python3 setup.py bdist_wheel. The shared library lies in btree_range_map/, and beside this
+file the page and the licence: bindings/package puts them there.
 
 setuptools before 70.1 makes wheels by the package `wheel` alone, which need not be there, so the command is given here.
 """
@@ -36,6 +37,7 @@ class bdist_wheel(Command):
         files = [(str(it.relative_to(built)), it.read_bytes()) for it in sorted(built.rglob("*")) if it.is_file()]
         wheel = f"Wheel-Version: 1.0\nGenerator: setup.py\nRoot-Is-Purelib: false\nTag: {TAG}\n"
         files += [(f"{name}.dist-info/METADATA", metadata), (f"{name}.dist-info/WHEEL", wheel.encode())]
+        files += [(f"{name}.dist-info/licenses/LICENSE", pathlib.Path("LICENSE").read_bytes())]
         record = io.StringIO()
         lines = csv.writer(record, lineterminator="\n")
         for path, data in files:

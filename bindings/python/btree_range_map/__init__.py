@@ -25,6 +25,7 @@ import array
 import contextlib
 import copy as _copy
 import ctypes
+import itertools
 import json
 import operator
 import struct
@@ -36,7 +37,7 @@ from ._keys import KEYS, Keys, Range
 from ._library import library as _calls
 
 __all__ = ["Connected", "NotLoaded", "Range", "RangeMap", "RangeSet"]
-__version__ = "0.3.2"
+__version__ = "0.3.3"
 
 V = TypeVar("V")
 
@@ -47,6 +48,7 @@ _UNBOUNDED = _c.START_UNBOUNDED | _c.END_UNBOUNDED
 
 #: whether a range with these flags holds its start, and whether it holds its end
 _HELD_ENDS = [(not flags & 3, not flags & 12) for flags in range(16)]
+_HOLDS_START, _HOLDS_END = zip(*_HELD_ENDS)
 
 _MISSING: Any = object()
 
@@ -66,7 +68,7 @@ def _check(status: int) -> bool:
     if status in (_c.NONE, _c.OCCUPIED):
         return False
     if status == _c.NO_MEMORY:
-        raise MemoryError("no memory, and nothing was changed")
+        raise MemoryError("no memory")
     if status == _c.CONNECTED:
         raise Connected("the range meets or touches a stored one")
     if status in (_c.NOT_JSON, _c.NOT_READ):
@@ -138,18 +140,22 @@ class _Values:
 class _Collection:
     """What maps and sets share: a handle that is destroyed once, and the calls on it.
 
-    A lock is held through each method, which may be more than one call.
+    A lock is held through each method, which may be more than one call; through each batch alone of one that goes over
+    many ranges. Two locks at once are taken by `_locked_with`, in one order.
     """
 
     _handle: _c.Handle
 
     def _open(self, kind: _c.Kind, keys: Keys, offset: int) -> None:
-        self.close()
-        self._kind, self._keys, self._offset = kind, keys, offset
-        self._handle = _c.Handle()
-        self._lock = threading.RLock()
-        self._found = ctypes.create_string_buffer(kind.form.size)
-        _check(kind.create(self._handle))
+        # a second time the lock stays, which others may hold
+        if not hasattr(self, "_lock"):
+            self._lock = threading.RLock()
+        with self._lock:
+            self.close()
+            self._kind, self._keys, self._offset = kind, keys, offset
+            self._found = ctypes.create_string_buffer(kind.form.size)
+            self._handle = _c.Handle()
+            _check(kind.create(self._handle))
 
     # keys and ranges
 
@@ -217,8 +223,11 @@ class _Collection:
         """The values by the numbers that the library keeps of them."""
         return {}
 
-    def _batches(self, form: struct.Struct, backward: bool = False) -> Iterator[tuple[Iterator[tuple[int, ...]], dict[int, Any]]]:
-        """What is stored, as the form reads it, ascending or descending: a batch at a time, with the values at that time."""
+    def _batches(self, backward: bool = False) -> Iterator[tuple[memoryview, dict[int, Any]]]:
+        """What is stored, as it lies in memory, ascending or descending: a batch at a time, with the values at that time.
+
+        The next batch is written over it.
+        """
         least, greatest = self._keys.least + self._offset, self._keys.greatest + self._offset
         key, read = (greatest, self._kind.read_back) if backward else (least, self._kind.read)
         size, count = self._kind.form.size, ctypes.c_size_t(0)
@@ -227,7 +236,7 @@ class _Collection:
             with self._lock:
                 _check(read(self._handle, key, buffer, _c.BATCH, count))
                 values = self._table()
-            yield form.iter_unpack(memoryview(buffer)[: size * count.value]), values
+            yield memoryview(buffer)[: size * count.value], values
             if count.value < _c.BATCH:
                 return
             start, end, flags = self._kind.range_form.unpack_from(buffer, size * (_c.BATCH - 1))
@@ -237,19 +246,34 @@ class _Collection:
 
     def _entries(self) -> Iterator[tuple[int, ...]]:
         """What is stored, as the library has it, ascending."""
-        for entries, _ in self._batches(self._kind.form):
-            yield from entries
+        for batch, _ in self._batches():
+            yield from self._kind.form.iter_unpack(batch)
 
     def _ranges(self, backward: bool = False) -> Iterator[Range]:
         """The stored ranges, ascending or descending."""
         is_plain, new = self._keys.is_plain and not self._offset, tuple.__new__
-        for entries, _ in self._batches(self._kind.form_of_ranges, backward):
-            for start, end, flags in entries:
+        for batch, _ in self._batches(backward):
+            if is_plain and len(batch) == self._kind.whole_form.size:
+                yield from self._whole(batch)[0]
+                continue
+            for start, end, flags in self._kind.form_of_ranges.iter_unpack(batch):
                 if is_plain and not flags & _UNBOUNDED:
                     holds_start, holds_end = _HELD_ENDS[flags]
                     yield new(Range, (start, end, holds_start, holds_end))
                 else:
                     yield self._range(start, end, flags)
+
+    def _whole(self, batch: memoryview) -> tuple[Iterator[Range], tuple[int, ...]]:
+        """The ranges of a whole batch, where a key is its number, and the numbers of their values: with no step for each."""
+        words, width = self._kind.whole_form.unpack(batch), self._kind.width
+        starts, ends, flags = words[::width], words[1::width], words[2::width]
+        if (flags[0] | flags[-1]) & _UNBOUNDED:
+            return map(self._range, starts, ends, flags), words[3::width]
+        if flags.count(flags[0]) == len(flags):
+            held: Any = map(itertools.repeat, _HELD_ENDS[flags[0]])
+        else:
+            held = map(_HOLDS_START.__getitem__, flags), map(_HOLDS_END.__getitem__, flags)
+        return map(tuple.__new__, itertools.repeat(Range), zip(starts, ends, *held)), words[3::width]
 
     def _within(self, call: Any, form: struct.Struct, keys: Any) -> Iterator[tuple[list[tuple[int, ...]], dict[int, Any]]]:
         """What the call finds in the range, as the form reads it, ascending: a batch at a time, with the values at that time."""
@@ -292,8 +316,17 @@ class _Collection:
         """A collection of the same kind, closed."""
         made = type(self).__new__(type(self))
         made._kind, made._keys, made._offset = self._kind, self._keys, self._offset
-        made._handle, made._lock = _c.Handle(), threading.RLock()
+        made._lock, made._handle = threading.RLock(), _c.Handle()
         made._found = ctypes.create_string_buffer(self._kind.form.size)
+        return made
+
+    def _loaded(self, raw: bytes) -> Any:
+        """A collection of the same kind that holds what the JSON says; `RuntimeError` where this one is closed."""
+        if not self._handle.is_open:
+            _check(_c.CLOSED)
+        made = self._opened()
+        _check(self._kind.create(made._handle))
+        _check(_calls.brm_load(made._handle, raw, len(raw)))
         return made
 
     # methods
@@ -385,7 +418,8 @@ class _Collection:
     def close(self) -> None:
         """Frees the memory. Each later call but this one raises `RuntimeError`, and `len` is 0."""
         if getattr(self, "_handle", None) is not None:
-            _calls.brm_raw_destroy(self._handle)
+            with self._lock:
+                _calls.brm_raw_destroy(self._handle)
 
     def __enter__(self) -> Any:
         return self
@@ -444,8 +478,12 @@ class RangeMap(_Collection, Generic[V]):
     def items(self) -> Iterator[tuple[Range, V]]:
         """The stored ranges with their values, ascending."""
         is_plain, new = self._keys.is_plain and not self._offset, tuple.__new__
-        for entries, values in self._batches(self._kind.form):
-            for start, end, flags, number in entries:
+        for batch, values in self._batches():
+            if is_plain and len(batch) == self._kind.whole_form.size:
+                ranges, numbers = self._whole(batch)
+                yield from zip(ranges, [values[number] for number in numbers])
+                continue
+            for start, end, flags, number in self._kind.form.iter_unpack(batch):
                 if is_plain and not flags & _UNBOUNDED:
                     holds_start, holds_end = _HELD_ENDS[flags]
                     yield new(Range, (start, end, holds_start, holds_end)), values[number]
@@ -463,20 +501,32 @@ class RangeMap(_Collection, Generic[V]):
     def update(self, items: Any = (), /) -> None:
         """Binds each range to its value, in order: of a map, or of pairs."""
         pairs = items.items() if hasattr(items, "items") else items
-        with self._lock:
-            self._in_batches(list(pairs) if isinstance(items, RangeMap) else pairs)
+        self._in_batches(list(pairs) if isinstance(items, RangeMap) else pairs)
 
     def _insert_batch(self, items: list[Any]) -> None:
-        self._free_values()
-        values, packed, size = self._values, bytearray(), 0
-        values.batches += 1
-        try:
-            for keys, value in items:
-                packed += self._raw(keys) + _c.VALUE.pack(values.number(value))
-                size += 1
-        finally:
-            values.batches -= 1
-            self._insert_packed(packed, size)
+        with self._lock:
+            self._free_values()
+            values, packed, size = self._values, bytearray(), 0
+            values.batches += 1
+            try:
+                for keys, value in items:
+                    packed += self._raw(keys) + _c.VALUE.pack(values.number(value))
+                    size += 1
+            finally:
+                values.batches -= 1
+                self._insert_packed(packed, size)
+
+    def append(self, other: RangeMap[V]) -> None:
+        """Moves all bindings of the other map into this one, where they replace those of the same keys.
+
+        After an error the other is as it was.
+        """
+        if not isinstance(other, RangeMap):
+            raise TypeError("what is moved into a map of ranges is another")
+        if other is not self:
+            with self._locked_with(other):
+                self.update(other)
+                other.clear()
 
     def __setitem__(self, keys: Any, value: V) -> None:
         self._insert("insert", keys, value)
@@ -651,8 +701,8 @@ class RangeMap(_Collection, Generic[V]):
     def _bindings(self) -> Iterator[tuple[tuple[int, int], V]]:
         """The numbers of the first and the last key of each stored range, with its value, ascending."""
         ends = self._ends(slice(None))
-        for entries, values in self._batches(self._kind.form):
-            for start, end, flags, number in entries:
+        for batch, values in self._batches():
+            for start, end, flags, number in self._kind.form.iter_unpack(batch):
                 yield _first_and_last(ends, start, end, flags), values[number]
 
     def __repr__(self) -> str:
@@ -673,18 +723,31 @@ class RangeMap(_Collection, Generic[V]):
 
     def __and__(self, other: Any) -> RangeMap[V]:
         """A map of the bindings of keys that the set has."""
-        if not isinstance(other, RangeSet):
-            return NotImplemented
-        return RangeMap((piece for keys in other for piece in self.pieces(keys)), keys=self._keys.name)
+        return self.restrict(other) if isinstance(other, RangeSet) else NotImplemented
 
     def __sub__(self, other: Any) -> RangeMap[V]:
         """A map of the bindings of keys that the set has not."""
-        if not isinstance(other, RangeSet):
-            return NotImplemented
-        made = self.copy()
-        for keys in other:
-            del made[keys]
-        return made
+        return self.without(other) if isinstance(other, RangeSet) else NotImplemented
+
+    def restrict(self, keys: RangeMap[Any] | RangeSet) -> RangeMap[V]:
+        """A map of the bindings of keys that the other map binds, or that the set has."""
+        return self._made_by(_calls.brm_raw_restrict, keys)
+
+    def without(self, keys: RangeMap[Any] | RangeSet) -> RangeMap[V]:
+        """A map of the bindings of keys that the other map does not bind, or that the set has not."""
+        return self._made_by(_calls.brm_raw_without, keys)
+
+    def _made_by(self, call: Any, keys: Any) -> RangeMap[V]:
+        if not isinstance(keys, _Collection):
+            raise TypeError("keys are those of a map of ranges, or of a set")
+        # the call takes no map twice, and no set of numbers that are not the map's
+        if keys is self or keys._keys is not self._keys or keys._offset:
+            keys = RangeMap(((part, None) for part in keys), keys=self._keys.name)
+        with self._locked_with(keys):
+            made = self._opened()
+            _check(call(self._handle, keys._handle, made._handle))
+            made._values = self._values.copied()
+            return made
 
     def clear(self) -> None:
         with self._lock:
@@ -718,10 +781,8 @@ class RangeMap(_Collection, Generic[V]):
         except (KeyError, TypeError, ValueError):
             raise NotLoaded("the JSON is no such map") from None
         with self._lock:
-            made = self._opened()
+            made = self._loaded(raw)
             made._values = values
-            _check(self._kind.create(made._handle))
-            _check(_calls.brm_load(made._handle, raw, len(raw)))
             made._close_to(self._keys)
             self._handle, made._handle = made._handle, self._handle
             self._values = values
@@ -936,9 +997,7 @@ class RangeSet(_Collection):
             raise NotLoaded("the JSON is no such set")
         raw = json.dumps(self._bounds_with(self._number, data)).encode()
         with self._lock:
-            made = self._opened()
-            _check(self._kind.create(made._handle))
-            _check(_calls.brm_load(made._handle, raw, len(raw)))
+            made = self._loaded(raw)
             if not self._keys.is_native:
                 every = RangeSet([slice(None)], keys=self._keys.name)
                 made = made & every

@@ -52,6 +52,10 @@ class Kind:
         self.range_form = struct.Struct(f"{key}{key}I4x")
         #: the ranges of the same alone
         self.form_of_ranges = struct.Struct(f"{key}{key}I4x" + ("8x" if has_values else ""))
+        #: how many numbers `form` reads
+        self.width = 4 if has_values else 3
+        #: a whole batch, as `form` reads it
+        self.whole_form = struct.Struct(self.form.format * BATCH)
         #: start, end, flags, the value, and whether there is one
         self.piece_form = struct.Struct(f"{key}{key}I4xQ?7x")
         self.key_code = key
@@ -104,6 +108,8 @@ _HANDLE = ctypes.POINTER(Handle)
 _declare("brm_raw_destroy", [_HANDLE], None)
 _declare("brm_raw_clone", [_HANDLE, _HANDLE])
 _declare("brm_raw_equal", [_HANDLE, _HANDLE])
+_declare("brm_raw_restrict", [_HANDLE, _HANDLE, _HANDLE])
+_declare("brm_raw_without", [_HANDLE, _HANDLE, _HANDLE])
 _declare("brm_clear", [_HANDLE])
 _declare("brm_count", [_HANDLE], ctypes.c_size_t)
 _declare("brm_save", [_HANDLE, ctypes.c_char_p, ctypes.c_size_t, ctypes.POINTER(ctypes.c_size_t)])

@@ -10,6 +10,7 @@ import random
 import threading
 import time
 import unittest
+import unittest.mock
 
 import btree_range_map
 from btree_range_map import Connected, NotLoaded, Range, RangeMap, RangeSet
@@ -133,14 +134,48 @@ class Maps(unittest.TestCase):
         keys[Index(5)] = 4
         self.assertEqual((keys[5], keys[Index(5)], Index(5) in keys), (4, 4, True))
 
+    def test_keys_that_are_none(self):
+        """Which calls are quiet of a number outside of the kind, and of a key of a wrong type."""
+        keys, held = RangeMap([(slice(0, 10), "a")], keys="u8"), RangeSet([slice(0, 10)], keys="u8")
+        for wrong in (-1, 256, "a", None, 1.5):
+            self.assertFalse(wrong in keys or wrong in held)
+            with self.assertRaises(KeyError):
+                held.remove(wrong)
+        for wrong in (-1, 256):
+            self.assertEqual((keys.get(wrong, 7), keys.pop(wrong, 7), keys.get_many([wrong, 5], 7)), (7, 7, [7, "a"]))
+            for call in (keys.__getitem__, keys.pop):
+                self.assertRaises(KeyError, call, wrong)
+            calls = [keys.entry, keys.next, keys.previous, keys.intersects, keys.setdefault, keys.__delitem__, keys.split_off]
+            calls += [held.range_of, held.next, held.previous, held.intersects, held.add, held.discard]
+            calls += [lambda key: list(keys.pieces(key)), lambda key: list(held.gaps(key)), lambda key: list(held.overlapping(key))]
+            for call in calls:
+                self.assertRaises(OverflowError, call, wrong)
+        for wrong in ("a", None, 1.5):
+            calls = [keys.get, keys.pop, lambda key: keys.pop(key, 7), lambda key: keys.get_many([key]), keys.__getitem__]
+            for call in (*calls, keys.entry, keys.intersects, keys.setdefault, keys.__delitem__, held.range_of, held.discard):
+                self.assertRaises(TypeError, call, wrong)
+        self.assertEqual((len(keys), len(held)), (1, 1))
+
     def test_closed_collections_raise(self):
         with RangeMap([(1, 1)]) as keys:
             self.assertEqual(keys[1], 1)
         keys.close()
-        self.assertEqual(len(keys), 0)
-        for call in (lambda: keys[1], keys.first, keys.clear, keys.key_count, keys.to_json, keys.copy, lambda: list(keys)):
-            with self.assertRaises(RuntimeError):
-                call()
+        held = RangeSet([1])
+        held.close()
+        calls = [lambda: keys[1], lambda: keys.load_json("[]"), lambda: held.load_json("[]"), lambda: held.add(1)]
+        calls += [lambda: keys.restrict(held), lambda: RangeMap().append(keys), lambda: keys.append(RangeMap([(1, 1)]))]
+        for closed in (keys, held):
+            calls += [closed.first, closed.clear, closed.key_count, closed.to_json, closed.copy, lambda it=closed: list(it)]
+        for call in calls:
+            self.assertRaises(RuntimeError, call)
+            self.assertEqual((len(keys), len(held)), (0, 0))
+
+    def test_no_memory_says_no_more(self):
+        """Of many ranges some may have been inserted before."""
+        keys = RangeMap()
+        with unittest.mock.patch.object(keys._kind, "insert_many", lambda *words: 1):
+            with self.assertRaisesRegex(MemoryError, "^no memory$"):
+                keys.update([(1, "a")])
 
     def test_copies_share_nothing(self):
         first = RangeMap([(slice(0, 10), "a"), (20, ["b"])], keys="i64")
@@ -195,6 +230,47 @@ class Maps(unittest.TestCase):
         self.assertEqual([keys.next(15), keys.previous(15)], [(Range(20, 25), "b"), (Range(0, 10), "a")])
         self.assertEqual(list(reversed(keys)), list(keys)[::-1])
         self.assertEqual(list(zip(keys.keys(), keys.values())), list(keys.items()))
+
+    def test_maps_by_the_keys_of_others(self):
+        numbers = random.Random(3)
+
+        def drawn(kind):
+            """A map of random ranges, and the same as a dict of numbers."""
+            held, wanted = RangeMap(keys=kind), {}
+            for _ in range(numbers.randrange(12)):
+                start, value = numbers.randrange(100), ("value", numbers.randrange(3))
+                span = range(start, start + numbers.randrange(20))
+                held[Range(at_key(span.start), at_key(span.stop))] = value
+                wanted.update((key, value) for key in span)
+            return held, wanted
+
+        def shown(held):
+            return {key: value for key in range(120) if (value := held.get(at_key(key))) is not None}
+
+        for kind, least in [("u64", 0), ("i64", -50), ("u8", 0), ("i8", -50), ("char", None)] * 20:
+            at_key = (lambda key: chr(0xD7D0 + key + 0x800 * (key >= 0x30))) if least is None else (lambda key: least + key)
+            (some, first), (more, second), whole = drawn(kind), drawn(kind), RangeMap([(slice(None), 1)], keys=kind)
+            both, rest = ({key: first[key] for key in first if (key in second) == is_kept} for is_kept in (True, False))
+            for keys in (more, RangeSet(more, keys=kind)):
+                self.assertEqual((shown(some.restrict(keys)), shown(some.without(keys))), (both, rest))
+            self.assertEqual((some & RangeSet(more, keys=kind), some - RangeSet(more, keys=kind)), (some.restrict(more), some.without(more)))
+            self.assertEqual((some.restrict(some), len(some.without(some)), some.restrict(whole)), (some, 0, some))
+            self.assertEqual((len(some.without(whole)), whole.without(RangeMap(keys=kind))), (0, whole))
+            some.append(more)
+            self.assertEqual((shown(some), len(more)), ({**first, **second}, 0))
+            some.append(some)
+            self.assertEqual(shown(some), {**first, **second})
+            more[at_key(5)] = "more"
+            self.assertEqual((more[at_key(5)], some.get(at_key(5))), ("more", {**first, **second}.get(5)))
+        some, more = RangeMap([(slice(0, 4), ["a"])]), RangeMap([(slice(2, 9), ["b"])], keys="u8")
+        self.assertIs(some.restrict(more)[3], some[0])
+        self.assertEqual([repr(it) for it in (some.restrict(more), some.without(more))], ["RangeMap({2:4: ['a']})", "RangeMap({0:2: ['a']})"])
+        for call in (some.append, some.restrict, some.without):
+            self.assertRaises(TypeError, call, {3: "c"})
+        wide = RangeMap([(5, 1), (300, 1)])
+        with self.assertRaises(OverflowError):
+            more.append(wide)
+        self.assertEqual((len(wide), more[5], more[8]), (2, 1, ["b"]))
 
     def test_many_keys_and_ranges_in_one_call(self):
         for kind, least in (("u64", 0), ("i64", -3000), ("i16", -3000), ("char", None)):
@@ -257,6 +333,17 @@ class Maps(unittest.TestCase):
             self.assertEqual([value for _, value in touching.items()], list(range(count)))
             self.assertEqual(len(list(reversed(touching))), count)
             self.assertEqual(len(list(RangeSet(keys))), count)
+
+    def test_ends_of_each_kind_are_read_in_batches(self):
+        for kind in ("u64", "i64", "u16"):
+            keys = RangeMap([(slice(None), "free")], keys=kind)
+            keys.update((Range(10 * at, 10 * at + 5, at % 2 == 0, at % 3 == 0), at) for at in range(10, 610))
+            wanted = list(dict.fromkeys(keys.entry(key) for key in range(6200)))
+            self.assertEqual((len(wanted), list(keys.items()), list(keys)), (len(keys), wanted, [held for held, _ in wanted]))
+            self.assertEqual((list(keys.values()), list(reversed(keys))), ([value for _, value in wanted], [held for held, _ in wanted][::-1]))
+            held = RangeSet([slice(None)], keys=kind) - RangeSet((range(10 * at + 7, 10 * at + 9) for at in range(10, 610)), keys=kind)
+            self.assertEqual(list(held), list(dict.fromkeys(found for key in range(6200) if (found := held.range_of(key)))))
+            self.assertEqual({type(part) for part in (*keys, *held, *reversed(held))}, {Range})
 
     def test_what_was_read_is_shown_whatever_changes(self):
         def shown(call):
@@ -419,6 +506,75 @@ class Threads(unittest.TestCase):
         for thread in threads:
             thread.join()
         self.assertEqual(errors, [])
+
+    def test_two_maps_take_each_other_in(self):
+        """Each is read while the other one waits for it too: neither keeps its lock meanwhile."""
+        both_read = threading.Barrier(2)
+
+        class Met(RangeMap):
+            def items(self):
+                both_read.wait(10)
+                yield from super().items()
+
+        first, second = Met([(slice(0, 10), "a")]), Met([(slice(20, 30), "b")])
+        threads = [threading.Thread(target=it.__ior__, args=[more], daemon=True) for it, more in ((first, second), (second, first))]
+        for thread in threads:
+            thread.start()
+        for thread in threads:
+            thread.join(10)
+        self.assertFalse(any(thread.is_alive() for thread in threads))
+        self.assertEqual((first[25], second[5], len(first), len(second)), ("b", "a", 2, 2))
+
+    def test_maps_are_moved_into_each_other(self):
+        """Neither is lost, whichever is first, and none waits for ever."""
+        first, second = RangeMap([(0, "a")]), RangeMap([(1, "b")])
+        moved = []
+
+        def move(it, more):
+            for _ in range(500):
+                it.append(more)
+            moved.append(it)
+
+        threads = [threading.Thread(target=move, args=it, daemon=True) for it in ((first, second), (second, first))]
+        for thread in threads:
+            thread.start()
+        for thread in threads:
+            thread.join(20)
+        self.assertFalse(any(thread.is_alive() for thread in threads))
+        self.assertEqual((len(moved), len(first) + len(second)), (2, 2))
+
+    def test_what_is_written_while_a_map_is_moved_stays(self):
+        class Slow(RangeMap):
+            def items(self):
+                yield from super().items()
+                writing.start()
+                writing.join(0.2)
+
+        held, moved = RangeMap(), Slow([(0, "a")])
+        writing = threading.Thread(target=moved.__setitem__, args=[1, "b"], daemon=True)
+        held.append(moved)
+        writing.join(10)
+        self.assertEqual((held[0], held.get(1), moved.get(0), moved[1]), ("a", None, None, "b"))
+
+    def test_a_close_waits_for_who_reads(self):
+        for held in (RangeMap([(1, 1)]), RangeSet([1])):
+            closing = threading.Thread(target=held.close, daemon=True)
+            with held._lock:
+                closing.start()
+                closing.join(0.2)
+                self.assertTrue(closing.is_alive())
+                self.assertIn(1, held)
+            closing.join(10)
+            self.assertRaises(RuntimeError, held.first)
+
+    def test_one_that_was_never_opened_is_dropped(self):
+        told = []
+        with unittest.mock.patch("sys.unraisablehook", told.append):
+            with unittest.mock.patch("threading.RLock", side_effect=MemoryError):
+                for made in (RangeMap, RangeSet):
+                    self.assertRaises(MemoryError, made)
+            gc.collect()
+        self.assertEqual(told, [])
 
     def test_nothing_is_left_behind(self):
         def resident():

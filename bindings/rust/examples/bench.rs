@@ -176,7 +176,7 @@ fn main() {
         // what a call takes that looks at nothing but the handle
         row(
             "number of ranges",
-            best(n, || (0..n).for_each(|_| count(ours.range_count()))),
+            best(n, || (0..n).for_each(|_| count(ours.len()))),
             best(n, || (0..n).for_each(|_| count(black_box(&theirs).0.len()))),
         );
     }

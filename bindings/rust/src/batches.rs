@@ -50,10 +50,11 @@ pub struct Batches<'a, N: 'static, E: 'static> {
     calls: &'static Calls<N, E>,
     front: End<N, E>,
     back: End<N, E>,
-    left: usize,
+    /// How many are left beside those that the front has read.
+    later: usize,
 }
 
-/// What was read at one end and is not shown yet.
+/// What was read at one end and is not shown yet. What the front has read the back may show too, and takes it away then.
 #[derive(Clone)]
 struct End<N, E> {
     read: Vec<E>,
@@ -71,35 +72,24 @@ impl<N: Copy, E: Stored<N>> End<N, E> {
         End { read: Vec::new(), shown: 0, next, is_again: false }
     }
 
-    /// The next range of `left` that are left; `bound` is that end of a range which the next batch goes on from, and
-    /// whether the range holds it.
-    #[inline]
-    fn show(
+    /// Reads the next batch, of `left` ranges that are left; `bound` is that end of a range which the batch after it goes on
+    /// from, and whether the range holds it.
+    #[cold]
+    fn refill(
         &mut self,
         handle: &Handle,
         reads: Reads<N, E>,
         left: usize,
         bound: impl Fn(&RawRange<N>) -> (N, bool),
-    ) -> E {
-        if self.shown >= self.read.len() {
-            let last = self.refill(handle, reads, left);
-            (self.next, self.is_again) = bound(&last);
-        }
-        self.shown += 1;
-        self.read[self.shown - 1]
-    }
-
-    /// Reads the next batch, and returns its last range.
-    #[cold]
-    fn refill(&mut self, handle: &Handle, reads: Reads<N, E>, left: usize) -> RawRange<N> {
+    ) {
         let again = usize::from(self.is_again);
         self.read.resize((left + again).min(size_after(self.read.len())), E::default());
         let mut count = 0;
-        // SAFETY: the buffer is as many ranges as is said, and the handle is not written while it is borrowed
+        // SAFETY: the buffer is as many ranges as is said, initialised, and the handle is not written while it is borrowed
         unsafe { reads(handle.get(), self.next, self.read.as_mut_ptr(), self.read.len(), &mut count) };
         self.read.truncate(count);
         self.shown = again;
-        *self.read[count - 1].range()
+        (self.next, self.is_again) = bound(self.read[count - 1].range());
     }
 }
 
@@ -107,35 +97,67 @@ impl<'a, N: Copy, E: Stored<N>> Batches<'a, N, E> {
     /// All ranges of the collection, whose least and greatest keys are the ends.
     pub fn new(handle: &'a Handle, calls: &'static Calls<N, E>, ends: (N, N)) -> Self {
         let (least, greatest) = ends;
-        Batches { handle, calls, front: End::new(least), back: End::new(greatest), left: handle.count() }
+        Batches { handle, calls, front: End::new(least), back: End::new(greatest), later: handle.count() }
     }
 
     pub fn left(&self) -> usize {
-        self.left
+        self.later + self.front.read.len() - self.front.shown
+    }
+
+    /// Reads the next batch at the front, where more is left.
+    fn read_on(&mut self) -> bool {
+        if self.later == 0 {
+            return false;
+        }
+        self.front.refill(self.handle, self.calls.read, self.later, |range| {
+            (range.end, range.flags & END_EXCLUDED == 0)
+        });
+        self.later -= self.front.read.len() - self.front.shown;
+        true
     }
 
     #[inline]
     pub fn next(&mut self) -> Option<E> {
-        if self.left == 0 {
-            return None;
+        loop {
+            if let Some(shown) = self.front.read.get(self.front.shown) {
+                self.front.shown += 1;
+                return Some(*shown);
+            }
+            if !self.read_on() {
+                return None;
+            }
         }
-        let shown = self.front.show(self.handle, self.calls.read, self.left, |range| {
-            (range.end, range.flags & END_EXCLUDED == 0)
-        });
-        self.left -= 1;
-        Some(shown)
+    }
+
+    #[inline]
+    pub fn fold<T>(mut self, mut made: T, mut call: impl FnMut(T, E) -> T) -> T {
+        loop {
+            let batch = &self.front.read[self.front.shown..];
+            made = batch.iter().fold(made, |made, entry| call(made, *entry));
+            if !self.read_on() {
+                return made;
+            }
+        }
     }
 
     #[inline]
     pub fn next_back(&mut self) -> Option<E> {
-        if self.left == 0 {
+        // the last of those that are left, whether the front has read it or not
+        if self.later > 0 {
+            self.later -= 1;
+        } else if self.front.read.len() > self.front.shown {
+            self.front.read.pop();
+        } else {
             return None;
         }
-        let shown = self.back.show(self.handle, self.calls.read_back, self.left, |range| {
-            (range.start, range.flags & START_EXCLUDED == 0)
-        });
-        self.left -= 1;
-        Some(shown)
+        if self.back.shown == self.back.read.len() {
+            let left = self.left() + 1;
+            self.back.refill(self.handle, self.calls.read_back, left, |range| {
+                (range.start, range.flags & START_EXCLUDED == 0)
+            });
+        }
+        self.back.shown += 1;
+        Some(self.back.read[self.back.shown - 1])
     }
 }
 
@@ -172,7 +194,7 @@ impl<'a, N: Copy, E: Stored<N>> Within<'a, N, E> {
         let capacity = size_after(self.read.len());
         self.read.resize(capacity, E::default());
         let mut count = 0;
-        // SAFETY: the buffer is as many ranges as is said, and the handle is not written while it is borrowed
+        // SAFETY: the buffer is as many ranges as is said, initialised, and the handle is not written while it is borrowed
         unsafe { (self.reads)(self.handle.get(), &range, self.read.as_mut_ptr(), capacity, &mut count) };
         self.read.truncate(count);
         self.shown = 0;
@@ -260,7 +282,8 @@ impl<N: Native, I: Iterator<Item = N>> Iterator for Bindings<'_, N, I> {
             self.size = filled(&mut self.numbers, &mut self.keys);
             self.shown = 0;
             let (keys, found) = (self.numbers.as_ptr(), self.found.as_mut_ptr());
-            // SAFETY: both arrays are as long as is said, and the handle is not written while it is borrowed
+            // SAFETY: both arrays are as long as is said or longer, initialised, and the handle is not written while it is
+            // borrowed
             unsafe { (N::BINDS.get_many)(self.handle.get(), keys, self.size, found, self.size) };
         }
         let found = self.found[..self.size].get(self.shown)?;

@@ -221,8 +221,9 @@ pub struct Handle(RawHandle);
 unsafe impl Send for Handle {}
 unsafe impl Sync for Handle {}
 
-// SAFETY, of each call below: the handles are valid, no two of one call are one, and none that is written is in another
-// call, by the references to them; buffers are as many bytes as is said.
+// SAFETY, of each call below: a handle is closed, or what a call made of it, and none that is written is in another call, by
+// the references to it. Two handles of one call are not one: `made` is new, and `answers` compares the two. Buffers are as
+// many bytes as is said, initialised, and not null, even where they are empty.
 impl Handle {
     pub fn closed() -> Handle {
         Handle(RawHandle { is_open: false, at: std::ptr::null_mut() })

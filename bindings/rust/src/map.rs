@@ -11,7 +11,8 @@ use std::ops::{Bound, Index, RangeBounds};
 /// A map of keys to values, kept as ranges: ranges that touch and have equal values are one.
 ///
 /// The proved part is the map of keys to the numbers of the values. The values themselves lie in a table, in which equal
-/// ones have one number; the table is Rust. Calls that allocate panic where memory runs out, as std's collections do;
+/// ones have one number; the table is Rust. A value that no range has any more is freed at a later insertion, or by
+/// [`RangeMap::clear`]. Where memory runs out, a call panics, [`RangeMap::try_insert`] among them, or aborts as std does;
 /// [`NumberMap`] has the calls that answer by an error.
 ///
 /// ```
@@ -54,7 +55,7 @@ impl<K: Key, V: Eq + Hash> RangeMap<K, V> {
 
     /// Frees values that no range has, where there may be many.
     fn free_values(&mut self) {
-        if self.values.is_due(self.numbers.range_count()) {
+        if self.values.is_due(self.numbers.len()) {
             self.values.keep(self.numbers.iter().map(|(_, number)| number));
         }
     }
@@ -62,6 +63,25 @@ impl<K: Key, V: Eq + Hash> RangeMap<K, V> {
     /// Binds each key of the range to the value, where none of them is bound; else gives the value back.
     pub fn try_insert(&mut self, range: impl RangeBounds<K>, value: V) -> Result<(), V> {
         if self.intersects((range.start_bound().cloned(), range.end_bound().cloned())) {
+            return Err(value);
+        }
+        self.insert(range, value);
+        Ok(())
+    }
+
+    /// Binds each key of a range that neither meets nor touches a stored one; else gives the value back.
+    ///
+    /// ```
+    /// # use btree_range_map_proved::RangeMap;
+    /// let mut map: RangeMap<u8, &str> = [(0..5, "low")].into();
+    /// assert_eq!(map.insert_disconnected(5..7, "high"), Err("high"));
+    /// assert_eq!(map.insert_disconnected(6..7, "high"), Ok(()));
+    /// ```
+    pub fn insert_disconnected(&mut self, range: impl RangeBounds<K>, value: V) -> Result<(), V> {
+        let range = Range { start: range.start_bound().cloned(), end: range.end_bound().cloned() };
+        let Some((first, last)) = range.ends() else { return Ok(()) };
+        let with_neighbours = first.predecessor().unwrap_or(first)..=last.successor().unwrap_or(last);
+        if self.intersects(with_neighbours) {
             return Err(value);
         }
         self.insert(range, value);
@@ -93,9 +113,14 @@ impl<K: Key, V: Eq + Hash> RangeMap<K, V> {
     }
 
     /// The stored range that holds the key, with its value.
-    #[doc(alias = "get_key_value")]
+    pub fn get_key_value(&self, key: K) -> Option<(Range<K>, &V)> {
+        self.shown(self.numbers.get_key_value(key))
+    }
+
+    /// The former name of [`RangeMap::get_key_value`].
+    #[deprecated(since = "0.3.3", note = "use `get_key_value`, as std and rangemap name it")]
     pub fn get_range_value(&self, key: K) -> Option<(Range<K>, &V)> {
-        self.shown(self.numbers.get_range_value(key))
+        self.get_key_value(key)
     }
 
     /// Whether the key is bound.
@@ -109,9 +134,9 @@ impl<K: Key, V: Eq + Hash> RangeMap<K, V> {
         self.numbers.intersects(range)
     }
 
-    /// How many ranges are stored.
+    /// How many ranges are stored. The number of keys is [`RangeMap::key_count`].
     pub fn len(&self) -> usize {
-        self.numbers.range_count()
+        self.numbers.len()
     }
 
     /// Whether no key is bound.
@@ -132,6 +157,23 @@ impl<K: Key, V: Eq + Hash> RangeMap<K, V> {
     /// The last stored range, with its value.
     pub fn last_range_value(&self) -> Option<(Range<K>, &V)> {
         self.shown(self.numbers.last_range_value())
+    }
+
+    /// The first stored range that ends at the key or after it, with its value.
+    ///
+    /// ```
+    /// # use btree_range_map_proved::RangeMap;
+    /// let map: RangeMap<u8, &str> = [(0..5, "low"), (7..9, "high")].into();
+    /// assert_eq!(map.next(5), Some(((7..9).into(), &"high")));
+    /// assert_eq!(map.previous(5), Some(((0..5).into(), &"low")));
+    /// ```
+    pub fn next(&self, key: K) -> Option<(Range<K>, &V)> {
+        self.shown(self.numbers.next(key))
+    }
+
+    /// The last stored range that starts at the key or before it, with its value.
+    pub fn previous(&self, key: K) -> Option<(Range<K>, &V)> {
+        self.shown(self.numbers.previous(key))
     }
 
     /// Takes the first stored range out. Its value stays in the map where other ranges have it, so it is cloned.
@@ -371,6 +413,11 @@ impl<'a, K: Key, V: Eq + Hash> Iterator for Iter<'a, K, V> {
     #[inline]
     fn next(&mut self) -> Option<(Range<K>, &'a V)> {
         self.numbers.next().map(|(range, number)| (range, self.values.get(number)))
+    }
+
+    #[inline]
+    fn fold<T, F: FnMut(T, Self::Item) -> T>(self, made: T, mut call: F) -> T {
+        self.numbers.fold(made, |made, (range, number)| call(made, (range, self.values.get(number))))
     }
 
     fn size_hint(&self) -> (usize, Option<usize>) {

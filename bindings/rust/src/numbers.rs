@@ -12,8 +12,8 @@ use std::ops::RangeBounds;
 
 /// A map of keys to numbers, kept as ranges: ranges that touch and have equal numbers are one.
 ///
-/// It is the proved map itself. No call panics or aborts where memory runs out: those that allocate say so by an error,
-/// and leave the map as it was.
+/// It is the proved map itself. Where memory runs out, a call says so by an error and leaves the map as it was;
+/// [`NumberMap::insert_many`] tells how many ranges it has inserted. Iterators, `Debug` and `Hash` allocate as std does.
 ///
 /// ```
 /// use btree_range_map_proved::NumberMap;
@@ -21,7 +21,7 @@ use std::ops::RangeBounds;
 /// let mut map: NumberMap<u64> = NumberMap::new()?;
 /// map.insert(0..10, 1)?;
 /// map.insert(4..=5, 2)?;
-/// assert_eq!((map.get(5), map.range_count(), map.key_count()), (Some(2), 3, 10));
+/// assert_eq!((map.get(5), map.len(), map.key_count()), (Some(2), 3, 10));
 /// # Ok::<(), btree_range_map_proved::NoMemory>(())
 /// ```
 pub struct NumberMap<K: Key> {
@@ -47,7 +47,8 @@ fn found<K: Key>(call: impl FnOnce(&mut RawEntry<K::Native>) -> u32) -> Option<(
 }
 
 // SAFETY, of each call below: the handle is the map's own, open on a map of these keys, and written by no other call, by
-// the references to the map; what a call writes to is an initialised local.
+// the references to the map. A second handle in a call is another one: it is new, or borrowed apart in `append`, or the
+// caller of `with` has compared the two. An array is as long as is said, and initialised, as are the locals written to.
 impl<K: Key> NumberMap<K> {
     /// A map that binds no key.
     pub fn new() -> Result<NumberMap<K>, NoMemory> {
@@ -105,7 +106,7 @@ impl<K: Key> NumberMap<K> {
 
     /// The number that the key is bound to.
     pub fn get(&self, key: K) -> Option<u64> {
-        self.get_range_value(key).map(|(_, number)| number)
+        self.get_key_value(key).map(|(_, number)| number)
     }
 
     /// The numbers that the keys are bound to, in their order, looked up many in one call of the library.
@@ -125,9 +126,14 @@ impl<K: Key> NumberMap<K> {
     }
 
     /// The stored range that holds the key, with its number.
-    #[doc(alias = "get_key_value")]
-    pub fn get_range_value(&self, key: K) -> Option<(Range<K>, u64)> {
+    pub fn get_key_value(&self, key: K) -> Option<(Range<K>, u64)> {
         found(|it| unsafe { (calls::<K>().get)(self.handle.get(), key.number(), it) })
+    }
+
+    /// The former name of [`NumberMap::get_key_value`].
+    #[deprecated(since = "0.3.3", note = "use `get_key_value`, as std and rangemap name it")]
+    pub fn get_range_value(&self, key: K) -> Option<(Range<K>, u64)> {
+        self.get_key_value(key)
     }
 
     /// Whether the key is bound.
@@ -141,14 +147,20 @@ impl<K: Key> NumberMap<K> {
         (unsafe { (calls::<K>().intersects)(self.handle.get(), &raw(&range)) }) == ffi::DONE
     }
 
-    /// How many ranges are stored.
-    pub fn range_count(&self) -> usize {
+    /// How many ranges are stored. The number of keys is [`NumberMap::key_count`].
+    pub fn len(&self) -> usize {
         self.handle.count()
+    }
+
+    /// The former name of [`NumberMap::len`].
+    #[deprecated(since = "0.3.3", note = "use `len`, as std, rangemap and `RangeMap` name it")]
+    pub fn range_count(&self) -> usize {
+        self.len()
     }
 
     /// Whether no key is bound.
     pub fn is_empty(&self) -> bool {
-        self.range_count() == 0
+        self.len() == 0
     }
 
     /// How many keys are bound. Goes over all stored ranges.
@@ -242,6 +254,7 @@ impl<K: Key> NumberMap<K> {
         if std::ptr::eq(self, other) { NumberMap::new() } else { self.with(other, ffi::brm_raw_without) }
     }
 
+    /// What the call makes of this map and another one.
     fn with(&self, other: &NumberMap<K>, call: OfTwo) -> Result<NumberMap<K>, NoMemory> {
         let handle = Handle::opened(|made| unsafe { call(self.handle.get(), other.handle.get(), made) })?;
         Ok(NumberMap { handle, _keys: PhantomData })
@@ -277,7 +290,7 @@ impl<K: Key> Eq for NumberMap<K> {}
 
 impl<K: Key + Hash> Hash for NumberMap<K> {
     fn hash<H: Hasher>(&self, state: &mut H) {
-        self.range_count().hash(state);
+        self.len().hash(state);
         self.iter().for_each(|(range, number)| (range.ends(), number).hash(state));
     }
 }
@@ -300,6 +313,11 @@ impl<K: Key> Iterator for Iter<'_, K> {
     #[inline]
     fn next(&mut self) -> Option<(Range<K>, u64)> {
         self.batches.next().map(shown::<K>)
+    }
+
+    #[inline]
+    fn fold<T, F: FnMut(T, Self::Item) -> T>(self, made: T, mut call: F) -> T {
+        self.batches.fold(made, |made, entry| call(made, shown::<K>(entry)))
     }
 
     fn size_hint(&self) -> (usize, Option<usize>) {

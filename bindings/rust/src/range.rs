@@ -236,11 +236,28 @@ pub fn raw_range<K: Key, N: Default>(
 }
 
 /// The range that the library wrote, by the key of a number.
+#[inline]
 pub fn range_of<K, N: Copy>(raw: &RawRange<N>, key: impl Fn(N) -> K) -> Range<K> {
-    let bound = |number, excluded, unbounded| match (raw.flags & excluded != 0, raw.flags & unbounded != 0) {
-        (_, true) => Bound::Unbounded,
-        (true, false) => Bound::Excluded(key(number)),
-        (false, false) => Bound::Included(key(number)),
+    // nearly all have both ends
+    if raw.flags & (ffi::START_UNBOUNDED | ffi::END_UNBOUNDED) != 0 {
+        return unbounded_range(raw, key);
+    }
+    Range {
+        start: held_or_not(raw.start, raw.flags & ffi::START_EXCLUDED, &key),
+        end: held_or_not(raw.end, raw.flags & ffi::END_EXCLUDED, &key),
+    }
+}
+
+#[inline]
+fn held_or_not<K, N>(number: N, excluded: u32, key: &impl Fn(N) -> K) -> Bound<K> {
+    if excluded == 0 { Bound::Included(key(number)) } else { Bound::Excluded(key(number)) }
+}
+
+#[cold]
+fn unbounded_range<K, N: Copy>(raw: &RawRange<N>, key: impl Fn(N) -> K) -> Range<K> {
+    let bound = |number, excluded, unbounded| match raw.flags & unbounded {
+        0 => held_or_not(number, raw.flags & excluded, &key),
+        _ => Bound::Unbounded,
     };
     Range {
         start: bound(raw.start, ffi::START_EXCLUDED, ffi::START_UNBOUNDED),

@@ -11,7 +11,8 @@ use std::ops::{BitAnd, BitOr, BitXor, RangeBounds, Sub};
 
 /// A set of keys, kept as ranges that neither meet nor touch.
 ///
-/// Calls that allocate panic where memory runs out, as std's collections do; those named `try_` answer by an error.
+/// Where memory runs out, a call panics; [`RangeSet::try_insert`] and [`RangeSet::try_remove`] answer by an error.
+/// Iterators, `Debug` and `Hash` allocate as std does.
 ///
 /// ```
 /// use btree_range_map_proved::RangeSet;
@@ -39,7 +40,8 @@ fn found<K: Key>(call: impl FnOnce(&mut RawRange<u64>) -> u32) -> Option<Range<K
 }
 
 // SAFETY, of each call below: the handle is the set's own, open on a set, and written by no other call, by the references
-// to the set; the handles of one call are not one; what a call writes to is an initialised local.
+// to the set. A second handle in a call is another one: it is new, or the caller of `with` has compared the two. An array
+// is as long as is said, and initialised, as are the locals written to.
 impl<K: Key> RangeSet<K> {
     /// A set without a key.
     pub fn new() -> RangeSet<K> {
@@ -91,7 +93,7 @@ impl<K: Key> RangeSet<K> {
         (unsafe { (CALLS.intersects)(self.handle.get(), &raw(&range)) }) == ffi::DONE
     }
 
-    /// How many ranges are stored.
+    /// How many ranges are stored. The number of keys is [`RangeSet::key_count`].
     pub fn len(&self) -> usize {
         self.handle.count()
     }
@@ -184,6 +186,7 @@ impl<K: Key> RangeSet<K> {
         }
     }
 
+    /// What the call makes of this set and another one.
     fn with(&self, other: &RangeSet<K>, call: OfTwo) -> RangeSet<K> {
         RangeSet::opened(|made| unsafe { call(self.handle.get(), other.handle.get(), made) })
             .expect(NO_MEMORY)
@@ -333,6 +336,11 @@ impl<K: Key> Iterator for Iter<'_, K> {
     #[inline]
     fn next(&mut self) -> Option<Range<K>> {
         self.batches.next().map(shown)
+    }
+
+    #[inline]
+    fn fold<T, F: FnMut(T, Self::Item) -> T>(self, made: T, mut call: F) -> T {
+        self.batches.fold(made, |made, range| call(made, shown(range)))
     }
 
     fn size_hint(&self) -> (usize, Option<usize>) {

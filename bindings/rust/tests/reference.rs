@@ -1,6 +1,6 @@
 //! The same random calls on the proved map and on a reference over std's `BTreeMap`.
 use btree_range_map_proved::{NotInserted, NotLoaded, NumberMap, Range, RangeMap, RangeSet};
-use std::collections::BTreeMap;
+use std::collections::{BTreeMap, VecDeque};
 use std::ops::Bound;
 
 /// Ranges of keys below `u64::MAX`, by their first key, with their last and their value. Joined where they touch.
@@ -113,7 +113,7 @@ fn random_changes_answer_as_the_reference() {
                     map.remove((Bound::Included(first), Bound::Included(last))).unwrap();
                     reference.remove(first, last);
                 }
-                5 => assert_eq!(map.get_range_value(first).map(told), reference.get(first)),
+                5 => assert_eq!(map.get_key_value(first).map(told), reference.get(first)),
                 6 => assert_eq!(map.contains_key(last), reference.get(last).is_some()),
                 7 => assert_eq!(map.previous(first).map(told), reference.previous(first)),
                 8 => assert_eq!(map.next(first).map(told), reference.next(first)),
@@ -123,7 +123,7 @@ fn random_changes_answer_as_the_reference() {
                     assert_eq!(map.intersects(first..=last), meets);
                 }
             }
-            assert_eq!(map.range_count(), reference.0.len());
+            assert_eq!(map.len(), reference.0.len());
         }
         let keys = reference.0.iter().map(|(first, (last, _))| u128::from(last - first) + 1).sum::<u128>();
         assert_eq!(map.key_count(), keys);
@@ -140,7 +140,7 @@ fn random_changes_answer_as_the_reference() {
         assert!(backward.iter().eq(of_reference.iter().rev()));
         assert_eq!(map.iter().len(), of_reference.len());
         let copy = map.try_clone().unwrap();
-        assert!(copy == map && copy.range_count() == of_reference.len());
+        assert!(copy == map && copy.len() == of_reference.len());
         let taken: Vec<_> = std::iter::from_fn(|| map.pop_first()).map(told).collect();
         assert_eq!(taken, of_reference);
         assert!(map.is_empty() && (copy == map) == of_reference.is_empty());
@@ -152,11 +152,40 @@ fn ranges_keep_their_bounds() {
     let mut map: NumberMap<i64> = NumberMap::new().unwrap();
     map.insert(.., 7).unwrap();
     assert_eq!(map.key_count(), 1 << 64);
-    assert_eq!(map.get_range_value(-3), Some((Range::from(..), 7)));
+    assert_eq!(map.get_key_value(-3), Some((Range::from(..), 7)));
     map.remove(-5..5).unwrap();
     assert_eq!((map.get(-6), map.get(-5), map.get(4), map.get(5)), (Some(7), None, None, Some(7)));
     assert_eq!(map.iter().rev().collect::<Vec<_>>(), [(Range::from(5..), 7), (Range::from(..-5), 7)]);
     assert_eq!(format!("{map:?}"), "{..-5: 7, 5..: 7}");
+}
+
+/// From both ends by turns, more often from one of them: each range is shown once, wherever batches end.
+#[test]
+fn an_iteration_meets_itself_on_the_way() {
+    let mut random = Random(11);
+    for (count, of_four) in
+        [0, 1, 2, 5, 40, 513, 3000].into_iter().flat_map(|it| (0..=4).map(move |of| (it, of)))
+    {
+        let mut map: NumberMap<i64> = NumberMap::new().unwrap();
+        map.insert_many((0..count).map(|at| (3 * at..=3 * at + 1, at as u64))).unwrap();
+        let mut wanted: VecDeque<u64> = (0..count as u64).collect();
+        let mut shown = map.iter();
+        while !wanted.is_empty() {
+            let (found, next) = if random.below(4) < of_four {
+                (shown.next(), wanted.pop_front())
+            } else {
+                (shown.next_back(), wanted.pop_back())
+            };
+            assert_eq!(found.map(|(_, number)| number), next);
+            assert_eq!(shown.len(), wanted.len());
+            if random.below(100) == 0 {
+                let mut rest = Vec::new();
+                shown.clone().for_each(|(_, number)| rest.push(number));
+                assert_eq!(wanted, rest);
+            }
+        }
+        assert_eq!((shown.next(), shown.next_back(), shown.len()), (None, None, 0));
+    }
 }
 
 /// What lies in a range comes in batches, of which the first has four ranges.
@@ -180,13 +209,13 @@ fn ranges_within_a_range_come_whole() {
     assert_eq!((gaps.next(), gaps.clone().count()), (Some(Range::from(..0)), 600));
     assert_eq!(gaps.last(), Some(Range::from(5996..)));
     assert_eq!(map.try_insert(4..7, 1), Err(NotInserted::Occupied));
-    assert_eq!((map.try_insert(6..10, 0), map.range_count()), (Ok(()), 600));
+    assert_eq!((map.try_insert(6..10, 0), map.len()), (Ok(()), 600));
     let mut rest = map.split_off(3003).unwrap();
-    assert_eq!((map.range_count(), rest.range_count()), (301, 300));
+    assert_eq!((map.len(), rest.len()), (301, 300));
     assert_eq!(map.last_range_value(), Some((Range::from(3000..3003), 300)));
     assert_eq!(rest.first_range_value(), Some((Range::from(3003..3006), 300)));
     assert_eq!(rest.append(&mut map), Err(NotInserted::OutOfOrder));
-    assert_eq!((map.append(&mut rest), map.range_count(), rest.range_count()), (Ok(()), 600, 0));
+    assert_eq!((map.append(&mut rest), map.len(), rest.len()), (Ok(()), 600, 0));
     let mut other: NumberMap<i64> = NumberMap::new().unwrap();
     other.insert(-5..15, 9).unwrap();
     let overlay = map.overlay(&other).unwrap();
@@ -230,7 +259,7 @@ fn values_of_any_type_answer_as_a_reference() {
         let last = first + random.below(20) as u16;
         // many values that are used for a while alone
         let value = format!("{}", random.below(4) + step / 300);
-        match random.below(6) {
+        match random.below(7) {
             0..3 => {
                 map.insert(first..=last, value.clone());
                 wanted.extend((first..=last).map(|key| (key, value.clone())));
@@ -246,6 +275,16 @@ fn values_of_any_type_answer_as_a_reference() {
                     if is_free { Ok(()) } else { Err(value.clone()) }
                 );
                 if is_free {
+                    wanted.extend((first..=last).map(|key| (key, value.clone())));
+                }
+            }
+            5 => {
+                let is_apart = wanted.range(first.saturating_sub(1)..=last + 1).next().is_none();
+                assert_eq!(
+                    map.insert_disconnected(first..last + 1, value.clone()),
+                    if is_apart { Ok(()) } else { Err(value.clone()) }
+                );
+                if is_apart {
                     wanted.extend((first..=last).map(|key| (key, value.clone())));
                 }
             }
@@ -265,6 +304,19 @@ fn values_of_any_type_answer_as_a_reference() {
         }
         assert_eq!(map.get(first), wanted.get(&first));
         assert_eq!(map.contains_key(last), wanted.contains_key(&last));
+        for (found, nearest) in [
+            (map.next(first), wanted.range(first..).next()),
+            (map.previous(first), wanted.range(..=first).next_back()),
+        ] {
+            // the stored range of the nearest bound key, which it begins or ends with unless it holds this one
+            assert_eq!(found.map(|(_, value)| value), nearest.map(|(_, value)| value));
+            let is_of_it = |(start, end): (u16, u16), key: u16| {
+                (start..=end).contains(&key) && ((start..=end).contains(&first) || start == key || end == key)
+            };
+            assert!(
+                found.zip(nearest).is_none_or(|((range, _), (key, _))| is_of_it(range.ends().unwrap(), *key))
+            );
+        }
     }
     assert_eq!(map.key_count(), wanted.len() as u128);
     let ranges = map.iter().map(|(range, _)| range).collect::<Vec<_>>();
@@ -272,6 +324,32 @@ fn values_of_any_type_answer_as_a_reference() {
     let joins =
         wanted.iter().filter(|(key, value)| key.checked_sub(1).and_then(|it| wanted.get(&it)) == Some(value));
     assert_eq!(map.len(), wanted.len() - joins.count());
+}
+
+#[test]
+fn ranges_that_touch_no_stored_one_are_told_apart() {
+    let mut map: RangeMap<char, u8> = [('a'..='\u{d7ff}', 1)].into();
+    assert_eq!(map.insert_disconnected('\u{e000}'..'\u{e002}', 2), Err(2));
+    assert_eq!(map.insert_disconnected('\u{e001}'..'\u{e003}', 2), Ok(()));
+    assert_eq!(map.insert_disconnected('b'..'b', 3), Ok(()));
+    assert_eq!(map.insert_disconnected(..'`', 3), Ok(()));
+    assert_eq!(map.iter().map(|(_, value)| *value).collect::<Vec<_>>(), [3, 1, 2]);
+    let mut ends: RangeMap<i64, &str> = RangeMap::new();
+    assert_eq!(ends.insert_disconnected(i64::MAX.., "last"), Ok(()));
+    assert_eq!(ends.insert_disconnected(..=i64::MIN, "first"), Ok(()));
+    assert_eq!(ends.insert_disconnected(.., "all"), Err("all"));
+    assert_eq!((ends.next(0), ends.previous(0)), (ends.last_range_value(), ends.first_range_value()));
+    assert_eq!((ends.get(i64::MIN), ends.get(i64::MAX), ends.len()), (Some(&"first"), Some(&"last"), 2));
+}
+
+/// The names that calls had before still stand.
+#[test]
+#[allow(deprecated)]
+fn former_names_answer_alike() {
+    let map: RangeMap<u8, u8> = [(0..5, 1)].into();
+    let numbers = map.as_numbers();
+    assert_eq!((numbers.range_count(), map.get_range_value(3)), (numbers.len(), map.get_key_value(3)));
+    assert_eq!(numbers.get_range_value(3), numbers.get_key_value(3));
 }
 
 #[test]
