@@ -2,7 +2,7 @@
 
     python3 -m tools.clauses OLD NEW
 
-Of each public function of `range_map` and of the crates above it: its signature, its clauses and the
+Of each public function of `range_store` and of the crates above it: its signature, its clauses and the
 text of each definition that they cite, and that these cite in turn. Prints the difference; where
 definitions stand makes none. The exit status is 1 where there is one.
 """
@@ -16,7 +16,7 @@ from tools.mutants import heading
 from tools.pages import HEAD, IMPL, definitions_of, imported, text_from
 from tools.repository import Crate, below, listed
 
-FIRST = "range_map"
+FIRST = "range_store"
 
 
 def crates_of(top):

@@ -1,6 +1,7 @@
 //! Callers of the containers.
 
-ghost use Rattle.std.specs.Prelude.{true};
+ghost use Rattle.std.specs.Prelude.{◌≡◌, true, length};
+ghost use Rattle.btree_range_map.specs.Holding.{box_items, level_count};
 
 use btree_range_map::btree::BoxStorage;
 use btree_range_map::storage::{Item, Probe, Steps, Storage, VecStorage};
@@ -71,6 +72,13 @@ fn taken_out(tree: &mut Tree) -> Option<u64> {
 
 fn popped(list: &mut List) -> (Option<u64>, Option<u64>) {
     (list.pop_first(), list.pop_last())
+}
+
+fn sizes(tree: &Tree) -> (usize, usize)
+    ensures items { result.0 ≡ length (box_items tree.now) }
+    ensures levels { result.1 ≡ level_count tree.now }
+{
+    (tree.len(), tree.levels())
 }
 
 fn copied(tree: &Tree) -> Result<Tree, AllocError> {

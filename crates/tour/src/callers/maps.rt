@@ -1,6 +1,6 @@
 //! Callers of maps.
 
-ghost use Rattle.std.specs.Prelude.{◌↔◌, IsTrue, OnOk, OnErr, ◌≡◌, pos};
+ghost use Rattle.std.specs.Prelude.{◌↔◌, IsTrue, OnOk, OnErr, ◌≡◌, [], pos};
 ghost use Rattle.std.specs.Ordering.{int_eq};
 ghost use Rattle.btree_range_map.specs.Bindings.{BindAlike, Binds, IsBoundAfter, IsUnboundAfter};
 ghost use Rattle.btree_range_map.specs.Names.{bindings_of, i32_order, range_from_to};
@@ -29,6 +29,12 @@ fn bind_all(map: &mut VectorMap) -> Result<(), UpdateError<u8>> {
     map.update(0..9, |old: Option<&i64>| -> Result<Option<i64>, u8> {
         Ok(Some(old.copied().unwrap_or(0)))
     })
+}
+
+fn has_none(map: &Map) -> bool
+    ensures { IsTrue result ↔ bindings_of map.now ≡ [] }
+{
+    map.is_empty()
 }
 
 fn value_counted(map: &Map, steps: &mut Steps) -> Option<i64>
