@@ -21,6 +21,7 @@ There may also be a line
     breaks                where reading fails after the input, which else ends there
     room 0..9             where standard output takes no more bytes than that, for each number of
                           the range
+    closed                where nobody reads standard output any more
 
 `\r`, `\x00` and the like stand for a byte, `\\` for a backslash, `\200{[}` for what is in the braces
 so many times, and a `\` at the end of a line takes that end away.
@@ -28,6 +29,7 @@ so many times, and a `\` at the end of a line takes that end away.
 
 import contextlib
 import dataclasses
+import os
 import re
 import resource
 import socket
@@ -50,6 +52,7 @@ class Conversation:
     status: int = 0
     times: int = 1
     breaks: bool = False
+    closed: bool = False
     rooms: list = dataclasses.field(default_factory=lambda: [None])
 
     def input(self):
@@ -87,8 +90,8 @@ def of_file(file):
             found[-1].errors += bytes_of(rest + b"\n")
         elif word in (b"status", b"times"):
             setattr(found[-1], word.decode(), int(rest))
-        elif word == b"breaks":
-            found[-1].breaks = True
+        elif word in (b"breaks", b"closed"):
+            setattr(found[-1], word.decode(), True)
         elif word == b"room":
             found[-1].rooms = range(*map(int, rest.split(b"..")))
         elif line and word != b"#":
@@ -120,15 +123,24 @@ def opened(given, kind):
             yield {"stdin": theirs}
 
 
+def unread():
+    """Returns the end of a pipe to write to, whose other end is shut."""
+    theirs, ours = os.pipe()
+    os.close(theirs)
+    return open(ours, "wb")
+
+
 def play(program, talk, kind, room):
     """Plays a conversation with a built program."""
     size = resource.RLIM_INFINITY if room is None else room
-    # A write beyond the limit gives an error: the signal for it stays ignored, as Python has it.
+    # A write beyond the limit, or to a shut pipe, gives an error: the signals for it stay ignored, as Python has them.
     limit = lambda: resource.setrlimit(resource.RLIMIT_FSIZE, (size, size))
     how = {"preexec_fn": limit, "restore_signals": False, "stderr": subprocess.PIPE, "timeout": 60}
     folder = program.parent.parent
-    with opened(talk.input(), kind) as given, tempfile.TemporaryFile() as out:
+    with opened(talk.input(), kind) as given, unread() if talk.closed else tempfile.TemporaryFile() as out:
         ran = subprocess.run([program, *talk.words], cwd=folder, stdout=out, **given, **how)
+        if talk.closed:
+            return Ended(b"", ran.stderr, ran.returncode)
         out.seek(0)
         return Ended(out.read(), ran.stderr, ran.returncode)
 
@@ -145,7 +157,7 @@ def play_built(folder):
 
 def play_unproved(folder):
     """Plays them once, with a program built without a proof, but for those with a stream that fails."""
-    talks = [it for it in of_crate(folder) if not it.breaks and it.rooms == [None]]
+    talks = [it for it in of_crate(folder) if not it.breaks and not it.closed and it.rooms == [None]]
     files = [it.relative_to(folder) for it in sorted(folder.glob("data/*"))]
     flags = [word for it in files for word in ("--data", f"{it}={it}")]
     ended = cases(folder, {talk.name: (talk.input(), talk.words) for talk in talks}, flags)

@@ -11,11 +11,12 @@ use Rattle.address_lists.specs.Files.{IsFile, IsFileReason, IsReadAs, IsReasonAs
 use Rattle.address_lists.specs.Json.{IsDocument}
 use Rattle.address_lists.specs.Lists.{AreGood, Has, HasJust, IsListed}
 use Rattle.address_lists.specs.Lists.AreGood.{Ended}
+use Rattle.address_lists.specs.Reading.{HasFault}
 use Rattle.address_lists.specs.declared.addresses.Addresses.{Addresses}
 use Rattle.address_lists.specs.declared.read.BadLines.{BadLines}
-use Rattle.address_lists.specs.declared.read.BadLines.TheVariants.{Refused}
+use Rattle.address_lists.specs.declared.read.BadLines.TheVariants.{Refused, Skipped}
 use Rattle.address_lists.specs.declared.read.ListError.{ListError}
-use Rattle.address_lists.specs.declared.read.ListError.TheVariants.{Unread}
+use Rattle.address_lists.specs.declared.read.ListError.TheVariants.{Memory, Unread}
 
 has_not : (list : Addresses) → box_items list.v4 ≡ [] → box_items list.v6 ≡ [] → (family : Family)
     (n : ℕ) → ¬ Has list family n
@@ -62,33 +63,43 @@ module _ (strict : Bool) where
       subst (λ t. IsReadAs strict t bad_lines bytes list others) is
       (subst (λ b. IsReadAs strict told bad_lines b list others) kept found)
 
-  pub file_unread : (input later : Option (List ℕ)) (told : Bool) (error : ListError)
-      → Keeps input later → IfSome input (λ bytes. told ≡ is_json bytes)
-      → IfSome later (λ bytes. IsReasonAs strict told bytes error)
-      → IfSome input (λ bytes. IsFileReason strict bytes error)
-  file_unread None later told error kept is why = tt
-  file_unread (Some bytes) None told error kept is why = absurd kept
-  file_unread (Some bytes) (Some more) told error kept is why =
-      subst (λ t. IsReasonAs strict t bytes error) is
-      (subst (λ b. IsReasonAs strict told b error) kept why)
+  pub file_unread : (bad_lines : BadLines) (input later : Option (List ℕ)) (told : Bool)
+      (error : ListError) → Keeps input later → IfSome input (λ bytes. told ≡ is_json bytes)
+      → IfSome later (λ bytes. IsReasonAs strict told bad_lines bytes error)
+      → IfSome input (λ bytes. IsFileReason strict bad_lines bytes error)
+  file_unread bad_lines None later told error kept is why = tt
+  file_unread bad_lines (Some bytes) None told error kept is why = absurd kept
+  file_unread bad_lines (Some bytes) (Some more) told error kept is why =
+      subst (λ t. IsReasonAs strict t bad_lines bytes error) is
+      (subst (λ b. IsReasonAs strict told bad_lines b error) kept why)
+
+  -- why lines are not read
+  pub lines_refused : (bad_lines : BadLines) (input : Option (List ℕ)) (error : ListError)
+      → IfSome input (λ bytes. HasFault strict bytes error)
+      → (bad_lines ≡ Skipped → (error ≡ Unread) ⊎ (error ≡ Memory))
+      → IfSome input (λ bytes. IsReasonAs strict false bad_lines bytes error)
+  lines_refused bad_lines None error bad skipped = tt
+  lines_refused bad_lines (Some bytes) error bad skipped = (bad, skipped)
 
   -- lines that are not read
-  pub lines_unread : {A : Type 0} (input later : Option (List ℕ)) (told : Bool)
-      (result : Result A ListError) → Keeps input later
+  pub lines_unread : {A : Type 0} (bad_lines : BadLines) (input later : Option (List ℕ))
+      (told : Bool) (result : Result A ListError) → Keeps input later
       → IfSome input (λ bytes. told ≡ is_json bytes) → told ≡ false
-      → IfErr result (λ error. IfSome later (λ bytes. IsReasonAs strict false bytes error))
-      → IfErr result (λ error. IfSome input (λ bytes. IsFileReason strict bytes error))
-  lines_unread input later told (Ok found) kept is lines why = tt
-  lines_unread input later told (Err error) kept is lines why =
-      file_unread input later false error kept
+      → IfErr result
+      (λ error. IfSome later (λ bytes. IsReasonAs strict false bad_lines bytes error))
+      → IfErr result (λ error. IfSome input (λ bytes. IsFileReason strict bad_lines bytes error))
+  lines_unread bad_lines input later told (Ok found) kept is lines why = tt
+  lines_unread bad_lines input later told (Err error) kept is lines why =
+      file_unread bad_lines input later false error kept
       (subst (λ t. IfSome input (λ bytes. t ≡ is_json bytes)) lines is) why
 
-  any_unread : (told : Bool) (bytes : List ℕ) → IsReasonAs strict told bytes Unread
-  any_unread true bytes = tt
-  any_unread false bytes = ([], bytes, Ended bytes, tt)
+  any_unread : (told : Bool) (bad_lines : BadLines) (bytes : List ℕ)
+      → IsReasonAs strict told bad_lines bytes Unread
+  any_unread true bad_lines bytes = tt
+  any_unread false bad_lines bytes = (([], bytes, Ended bytes, tt), λ skipped. inl refl)
 
   -- an input that cannot be looked at
-  pub none_seen : (input : Option (List ℕ))
-      → IfSome input (λ bytes. IsFileReason strict bytes Unread)
-  none_seen None = tt
-  none_seen (Some bytes) = any_unread (is_json bytes) bytes
+  pub none_seen : (bad_lines : BadLines) (input : Option (List ℕ))
+      → IfSome input (λ bytes. IsFileReason strict bad_lines bytes Unread)
+  none_seen bad_lines None = tt
+  none_seen bad_lines (Some bytes) = any_unread (is_json bytes) bad_lines bytes

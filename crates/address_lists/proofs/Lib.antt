@@ -7,3 +7,4 @@ mod Reading
 mod Relations
 mod RunsFit
 mod Series
+mod Undivided

@@ -144,14 +144,14 @@ module _ (strict : Bool) where
       (subst (λ o. IsNext strict o later (SaysNothingKnown strict)) read.left_is one)
 
   -- where no line is left, the whole input is read
-  pub all_read : (input left : Option (List ℕ)) (number others : ℕ) (old next : Addresses)
+  pub all_read : (input left : Option (List ℕ)) (number others : ℕ) (old : Addresses)
       (IsRead : Family → ℕ → Type 0)
       → IfSome input (λ bytes. IsReadTo bytes left number others old IsRead)
-      → IfSome left (λ bytes. bytes ≡ []) → HasJust next IsRead
+      → IfSome left (λ bytes. bytes ≡ [])
       → IfSome input (λ bytes. (lines : List Line) × AreGood strict bytes lines others []
-      × HasRead old next lines)
-  all_read None left number others old next IsRead read ended added = tt
-  all_read (Some bytes) left number others old next IsRead read ended added =
+      × AreRead old IsRead lines)
+  all_read None left number others old IsRead read ended = tt
+  all_read (Some bytes) left number others old IsRead read ended =
       let empty : read.remaining ≡ [] =
       subst (λ o. IfSome o (λ bytes. bytes ≡ [])) read.left_is ended in
       let none : others + 0 ≡ others = omega arith in (
@@ -160,11 +160,26 @@ module _ (strict : Bool) where
             (subst (λ all. AreGood strict bytes all (others + 0) []) (append-nil read.lines)
             (read.goes_on [] 0 []
             (subst (λ rest. AreGood strict rest [] 0 []) (sym empty) (Ended [])))),
-        λ family n h.
-            let one = added family n h in
-            let before = read.added family n h in
-            (λ has. before.0 (one.0 has), λ h. one.1 (before.1 h)),
+        read.added,
       )
+
+  -- and where what waits is added too, the list has all
+  pub all_added : (input : Option (List ℕ)) (others : ℕ) (old next : Addresses)
+      (IsRead : Family → ℕ → Type 0)
+      → IfSome input (λ bytes. (lines : List Line) × AreGood strict bytes lines others []
+      × AreRead old IsRead lines)
+      → HasJust next IsRead
+      → IfSome input (λ bytes. (lines : List Line) × AreGood strict bytes lines others []
+      × HasRead old next lines)
+  all_added None others old next IsRead read added = tt
+  all_added (Some bytes) others old next IsRead (lines, good, read) added = (
+    lines,
+    good,
+    λ family n h.
+        let one = added family n h in
+        let before = read family n h in
+        (λ has. before.0 (one.0 has), λ said. one.1 (before.1 said)),
+  )
 
   fault_at : (bytes : List ℕ) (left : Option (List ℕ)) (number : ℕ) (old : Addresses)
       (IsRead : Family → ℕ → Type 0) (error : ListError)

@@ -3,10 +3,11 @@ use Rattle.std.proofs.Common.{◌≡◌, ◌↔◌, Bool, true, false, sym, ◌�
 use Rattle.std.specs.Prelude.{IsTrue}
 use Rattle.std.proofs.lemmas.Bool.{false≢true}
 use Rattle.btree_range_map.specs.Holding.{box_items}
+use Rattle.btree_range_map.specs.KeySets.{HoldsTheOthers}
 use Rattle.btree_range_map.specs.Together.{BindKeysOf, ShareNoKey}
 use Rattle.address_sets.specs.Addresses.{ipv4_at, ipv4_number, ipv4_order, ipv6_at, ipv6_number, ipv6_order}
 use Rattle.address_text.specs.declared.family.Family.TheVariants.{V4, V6}
-use Rattle.address_lists.specs.Lists.{HasAllOf, ShareNone}
+use Rattle.address_lists.specs.Lists.{Has, HasAllOf, HasJust, ShareNone}
 use Rattle.address_lists.specs.declared.addresses.Addresses.{Addresses}
 
 module _ (list other : Addresses) where
@@ -58,3 +59,10 @@ module _ (list other : Addresses) where
       → (ShareNoKey ipv4_order (box_items list.v4) (box_items other.v4) → IsTrue one)
       → IsTrue one ↔ ShareNone list other
   none_else one is told = (λ yes. absurd (false≢true (sym is ∙ yes)), λ none. told (none_v4 none))
+
+  -- the other list has the others
+  pub inverse_is : HoldsTheOthers ipv4_order (box_items list.v4) (box_items other.v4)
+      → HoldsTheOthers ipv6_order (box_items list.v6) (box_items other.v6)
+      → HasJust other (λ family n. ¬ Has list family n)
+  inverse_is v4 v6 V4 n small = v4 (ipv4_at n) small
+  inverse_is v4 v6 V6 n small = v6 (ipv6_at n) small

@@ -1,12 +1,13 @@
 -- The prefixes of a list as they are printed.
 use Rattle.std.specs.Prelude.{◌≡◌, ℕ, List, ◌++◌}
+use Rattle.std.specs.List.{AllByRecursion}
 use Rattle.btree_range_map.specs.AnyRange.{AnyRange}
 use Rattle.btree_range_map.specs.FreeRanges.{item_ranges}
 use Rattle.btree_range_map.specs.Holding.{box_items}
 use Rattle.btree_range_map.specs.Order.{KeyOrder}
 use Rattle.line_program.specs.Listing.{SpellsEach}
 use Rattle.address_sets.specs.Addresses.{ipv4_number, ipv4_order, ipv6_number, ipv6_order}
-use Rattle.address_sets.specs.Prefixes.{AreAscending, AreFewest, HaveJust}
+use Rattle.address_sets.specs.Prefixes.{AreAscending, AreFewest, HaveJust, IsPrefix}
 use Rattle.address_sets.specs.declared.prefix.Prefix.{Prefix}
 use Rattle.address_text.specs.Texts.{prefix_line}
 use Rattle.address_text.specs.declared.family.Family.{Family}
@@ -23,6 +24,7 @@ pub record ArePrinted {A : Type 0} (family : Family) (number : A → ℕ) (order
     (width : ℕ) (ranges : List (AnyRange A)) (text : List ℕ) : Type 0 where
   pub prefixes : List (Prefix A)
   pub exact : HaveJust number order prefixes ranges
+  pub whole : AllByRecursion (IsPrefix number width) prefixes
   pub ascending : AreAscending number prefixes
   pub fewest : AreFewest number order width prefixes ranges
   pub spelled : SpellsEach (λ prefix line. line ≡ prefix_of family number prefix) prefixes text

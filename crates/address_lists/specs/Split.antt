@@ -1,12 +1,13 @@
 -- Prefixes that are printed as others of a greater length.
 use Rattle.std.specs.Prelude.{◌≡◌, ℕ, ◌-◌, ◌^◌, ◌≤◌, ◌<◌, ◌⊎◌, List, ◌++◌}
+use Rattle.std.specs.List.{AllByRecursion}
 use Rattle.btree_range_map.specs.AnyRange.{AnyRange}
 use Rattle.btree_range_map.specs.FreeRanges.{item_ranges}
 use Rattle.btree_range_map.specs.Holding.{box_items}
 use Rattle.btree_range_map.specs.Order.{KeyOrder}
 use Rattle.line_program.specs.Listing.{SpellsEach}
 use Rattle.address_sets.specs.Addresses.{ipv4_number, ipv4_order, ipv6_number, ipv6_order}
-use Rattle.address_sets.specs.Prefixes.{AreAscending, AreFewest, HaveJust}
+use Rattle.address_sets.specs.Prefixes.{AreAscending, AreFewest, HaveJust, IsPrefix}
 use Rattle.address_sets.specs.declared.prefix.Prefix.{Prefix}
 use Rattle.address_text.specs.Texts.{prefix_line, width}
 use Rattle.address_text.specs.declared.family.Family.{Family}
@@ -42,6 +43,7 @@ module _ {A : Type 0} (family : Family) (number : A → ℕ) (length : ℕ) wher
       : Type 0 where
     pub prefixes : List (Prefix A)
     pub exact : HaveJust number order prefixes ranges
+    pub whole : AllByRecursion (IsPrefix number bits) prefixes
     pub ascending : AreAscending number prefixes
     pub fewest : AreFewest number order bits prefixes ranges
     pub spelled : SpellsEach IsSplit prefixes text

@@ -29,7 +29,7 @@ fn read_lines<R: BufRead>(
     ensures read { IfOk result (λ found. IfSome (R.remaining input.old)
         (λ bytes. IsReadAs strict false bad_lines bytes found.0 found.1)) }
     ensures fault { IfErr result (λ error. IfSome (R.remaining input.old)
-        (λ bytes. IsReasonAs strict false bytes error)) }
+        (λ bytes. IsReasonAs strict false bad_lines bytes error)) }
 {
     let mut list = Addresses::new(alloc);
     let others = read_list(alloc, &mut list, input, strict, bad_lines)?;
@@ -49,7 +49,7 @@ pub fn read_addresses<R: BufRead>(
     ensures read { IfOk result (λ found. IfSome (R.remaining input.old)
         (λ bytes. IsFile strict bad_lines bytes found.0 found.1)) }
     ensures fault { IfErr result (λ error. IfSome (R.remaining input.old)
-        (λ bytes. IsFileReason strict bytes error)) }
+        (λ bytes. IsFileReason strict bad_lines bytes error)) }
 {
     match begins_as_json(input) {
         Ok(true) => Ok((read_json(alloc, input)?, 0)),

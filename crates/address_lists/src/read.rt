@@ -1,8 +1,12 @@
 //! Reading a list.
 
-ghost use Rattle.std.specs.Prelude.{◌⊎◌, ◌≡◌, ◌≢◌, List, [], Ok, IfErr, IfOk, IfSome};
+ghost use Rattle.std.specs.Prelude.{◌⊎◌, ◌↔◌, ◌≡◌, ◌≢◌, ◌<◌, ◌^◌, ℕ, List, [], Ok, IfErr, IfOk, IfSome, OnOk};
+ghost use Rattle.address_text.specs.Lines.{AreAddresses};
+ghost use Rattle.address_text.specs.Texts.{width};
+ghost use Rattle.address_text.specs.declared.family.Family.{Family};
 ghost use Rattle.address_text.specs.declared.line.Line.{Line};
 ghost use Rattle.address_lists.specs.Lists.{AreGood, Has, HasJust, IsListed};
+ghost use Rattle.address_lists.specs.Waiting.{HasSoFar};
 ghost use Rattle.address_lists.specs.Reading.{HasFault, IsBad, IsFound};
 ghost use Rattle.address_lists.specs.declared.read.BadLines.TheVariants.{Refused, Skipped};
 ghost use Rattle.address_lists.specs.declared.read.Found.TheVariants.{Other};
@@ -106,6 +110,41 @@ fn read_line<R: BufRead>(
     }
 }
 
+/// Reads all lines: what they say is added, or waits. Returns how many lines were left out.
+fn read_all<R: BufRead>(
+    buffer: &mut Vec<u8>,
+    waiting: &mut Waiting,
+    list: &mut Addresses,
+    input: &mut R,
+    strict: bool,
+    bad_lines: BadLines,
+) -> Result<u64, ListError>
+    requires last { AreAddresses waiting.old.last }
+    requires none { (family : Family) (n : ℕ) → HasSoFar list.old waiting.old family n
+        ↔ Has list.old family n }
+    ensures read { IfOk result (λ others. IfSome (R.remaining input.old) (λ bytes.
+        (lines : List Line) × AreGood strict bytes lines others []
+        × ((family : Family) (n : ℕ) → n < 2 ^ width family
+        → HasSoFar list.new waiting.new family n
+        ↔ (Has list.old family n ⊎ IsListed family n lines)))) }
+    ensures last { OnOk result (AreAddresses waiting.new.last) }
+    ensures all { bad_lines ≡ Refused → IfOk result (λ others. others ≡ 0) }
+    ensures bad { IfErr result
+        (λ error. IfSome (R.remaining input.old) (λ bytes. HasFault strict bytes error)) }
+    ensures skipped { bad_lines ≡ Skipped
+        → IfErr result (λ error. (error ≡ Unread) ⊎ (error ≡ Memory)) }
+{
+    let mut others = 0;
+    for number in 1..u64::MAX {
+        match read_line(buffer, input, number, strict, bad_lines)? {
+            Found::Good(line) => waiting.take(list, line)?,
+            Found::Other => others += 1,
+            Found::End => return Ok(others),
+        }
+    }
+    Err(ListError::Unread)
+}
+
 /// Adds the addresses of a list, which is read to its end. Returns how many lines were left out.
 ///
 /// Each line is blank, an address, a prefix `address/length` or a range `first-last`, of either
@@ -139,16 +178,7 @@ pub fn read_list<R: BufRead>(
 {
     let mut buffer = Vec::new(alloc);
     let mut waiting = Waiting::new(alloc);
-    let mut others = 0;
-    for number in 1..u64::MAX {
-        match read_line(&mut buffer, input, number, strict, bad_lines)? {
-            Found::Good(line) => waiting.take(list, line)?,
-            Found::Other => others += 1,
-            Found::End => {
-                waiting.add_all(list)?;
-                return Ok(others);
-            }
-        }
-    }
-    Err(ListError::Unread)
+    let others = read_all(&mut buffer, &mut waiting, list, input, strict, bad_lines)?;
+    waiting.add_all(list)?;
+    Ok(others)
 }

@@ -1,8 +1,10 @@
 """Times `cidr merge` beside its peers: compare.py PROGRAM, called by compare.sh.
 
-The lists are all blocks of Debian's tor-geoipdb, each family in order and in no order. Those that
-read ranges are given ranges, the others the prefixes of these. All have to print the same prefixes.
-The processor time is the least of some runs; the memory is the greatest resident size.
+The lists are all blocks of Debian's tor-geoipdb, each family in order and in no order, as ranges
+and as the prefixes of these. `cidr` and `iprange` are given the one and the other, `aggregate`,
+`ipaddress` and `netaddr` prefixes, which are all that they read. All have to print the same
+prefixes. Then the first halves of all blocks of IPv4 are merged with the second ones, two lists in
+order. The processor time is the least of some runs; the memory is the greatest resident size.
 """
 
 import ipaddress
@@ -56,6 +58,16 @@ def write_lists(folder):
             random.shuffle(ranges)
 
 
+def write_halves(folder):
+    """Writes two lists in order, of the first and of the second halves of all blocks of IPv4."""
+    with open(folder / "first halves", "w") as one, open(folder / "second halves", "w") as other:
+        for first, last in blocks(4):
+            middle = first + (int(last) - int(first)) // 2
+            one.write(f"{first}-{middle}\n")
+            if middle < last:
+                other.write(f"{middle + 1}-{last}\n")
+
+
 def limited():
     resource.setrlimit(resource.RLIMIT_CPU, (LIMIT, LIMIT))
 
@@ -80,30 +92,41 @@ def spent(words, given, runs):
 
 def peers(family, given):
     """Gives each program's name, how it is called on a list, and how often it is run."""
-    yield "cidr", [program, "merge", given("ranges")], RUNS
+    yield "cidr, of ranges", [program, "merge", given("ranges")], RUNS
     if family == 4:
-        yield "iprange", ["iprange", given("ranges")], RUNS
+        yield "iprange, of ranges", ["iprange", given("ranges")], RUNS
     yield "cidr, of prefixes", [program, "merge", given("prefixes")], RUNS
     if family == 4:
         yield "iprange, of prefixes", ["iprange", given("prefixes")], RUNS
         yield "aggregate, of prefixes", ["aggregate", "-q"], 1
     collapse = ["/usr/bin/python3", "-c", COLLAPSE, str(family), given("prefixes")]
-    yield "ipaddress.collapse_addresses", collapse, 1
-    yield "netaddr.cidr_merge", ["/usr/bin/python3", "-c", MERGE, str(family), given("prefixes")], 1
+    yield "ipaddress.collapse_addresses, of prefixes", collapse, 1
+    yield "netaddr.cidr_merge, of prefixes", ["/usr/bin/python3", "-c", MERGE, str(family), given("prefixes")], 1
 
 
-def compare(folder, family, order):
-    given = lambda kind: str(folder / f"{family} {kind} {order}")
+def compare(head, calls, given):
+    """Prints what each call takes, and where it does not print the prefixes that the first one does."""
     wanted = None
-    for name, words, runs in peers(family, given):
-        measured = spent(words, given("prefixes"), runs)
+    for name, words, runs in calls:
+        measured = spent(words, given, runs)
         if not measured:
-            print(f"IPv{family} {order}: {name}: failed, or took more than {LIMIT} s of processor time", flush=True)
+            print(f"{head}: {name}: failed, or took more than {LIMIT} s of processor time", flush=True)
             continue
         seconds, size, prefixes = measured
         wanted = wanted or prefixes
         same = "" if prefixes == wanted else f", {len(prefixes)} prefixes and not {len(wanted)}"
-        print(f"IPv{family} {order}: {name}: {seconds:.2f} s, {size / 1024:.1f} MB{same}", flush=True)
+        print(f"{head}: {name}: {seconds:.2f} s, {size / 1024:.1f} MB{same}", flush=True)
+
+
+def compare_list(folder, family, order):
+    given = lambda kind: str(folder / f"{family} {kind} {order}")
+    compare(f"IPv{family} {order}", peers(family, given), given("prefixes"))
+
+
+def compare_halves(folder):
+    halves = [str(folder / "first halves"), str(folder / "second halves")]
+    calls = [("cidr, of ranges", [program, "merge", *halves], RUNS), ("iprange, of ranges", ["iprange", *halves], RUNS)]
+    compare("IPv4, two lists in order", calls, os.devnull)
 
 
 def main():
@@ -112,11 +135,13 @@ def main():
         child = os.fork()  # so that this process stays small
         if not child:
             write_lists(folder)
+            write_halves(folder)
             os._exit(0)
         os.waitpid(child, 0)
         for family in TABLES:
             for order in ("in order", "in no order"):
-                compare(folder, family, order)
+                compare_list(folder, family, order)
+        compare_halves(folder)
 
 
 program = str(pathlib.Path(sys.argv[1]).resolve())

@@ -4,7 +4,7 @@ use Rattle.address_text.specs.Lines.{AreAddresses}
 use Rattle.address_lists.specs.Waiting.{HasSoFar}
 use Rattle.address_lists.specs.declared.read.BadLines.TheVariants.{Refused}
 use Rattle.address_lists.proofs.Reading.{IsReadTo}
-use Rattle.address_lists.proofs.read.read_list.Given as goal
+use Rattle.address_lists.proofs.read.read_all.Given as goal
 
 abbrev pub invariant-loop-number : goal.invariant-loop-number
 invariant-loop-number g l =

@@ -1,0 +1,47 @@
+-- Prefixes split at length 0 are whole, since none is shorter.
+use Rattle.std.proofs.Common.{arith, ◌≡◌, ℕ, List, [], ◌∷◌, ◌⊎◌, inl, inr}
+use Rattle.btree_range_map.specs.AnyRange.{AnyRange}
+use Rattle.btree_range_map.specs.Order.{KeyOrder}
+use Rattle.line_program.specs.Listing.{SpellsEach}
+use Rattle.address_sets.specs.declared.prefix.Prefix.{Prefix}
+use Rattle.address_text.specs.Texts.{prefix_line}
+use Rattle.address_text.specs.declared.family.Family.{Family}
+use Rattle.address_lists.specs.Printed.{ArePrinted, IsPrinted, prefix_of}
+use Rattle.address_lists.specs.Split.{AreSplit, IsPrintedSplit, IsSplit, IsSplitText}
+use Rattle.address_lists.specs.declared.addresses.Addresses.{Addresses}
+
+line_whole : (family : Family) (length network : ℕ) (text : List ℕ)
+    → IsSplitText family 0 length network text → text ≡ prefix_line family network length
+line_whole family length network text (inl divided) =
+    let less = divided.0.0 in absurd (omega (arith, less))
+line_whole family length network text (inr whole) = whole.1
+
+module _ {A : Type 0} (family : Family) (number : A → ℕ) where
+  lines_whole : (prefixes : List (Prefix A)) (text : List ℕ)
+      → SpellsEach (IsSplit family number 0) prefixes text
+      → SpellsEach (λ prefix line. line ≡ prefix_of family number prefix) prefixes text
+  lines_whole [] text none = none
+  lines_whole (prefix ∷ prefixes) text (line, lines, one, rest, is) = (
+    line,
+    lines,
+    line_whole family prefix.length (number prefix.network) line one,
+    lines_whole prefixes lines rest,
+    is,
+  )
+
+  set_whole : (order : KeyOrder A) (width : ℕ) (ranges : List (AnyRange A)) (text : List ℕ)
+      → AreSplit family number 0 order width ranges text
+      → ArePrinted family number order width ranges text
+  set_whole order width ranges text split = record {
+    prefixes = split.prefixes;
+    exact = split.exact;
+    whole = split.whole;
+    ascending = split.ascending;
+    fewest = split.fewest;
+    spelled = lines_whole split.prefixes text split.spelled;
+  }
+
+pub printed_whole : (list : Addresses) (text : List ℕ) → IsPrintedSplit 0 list text
+    → IsPrinted list text
+printed_whole list text (first, second, v4, v6, is) =
+    (first, second, set_whole _ _ _ _ _ first v4, set_whole _ _ _ _ _ second v6, is)
