@@ -5,7 +5,7 @@ use Rattle.regex_hir.specs.Meaning.{meaning, cat_all, alt_all, copies, up_to, op
 use Rattle.regex_hir.specs.declared.hir.Hir.{Hir}
 use Rattle.lexing_patterns.specs.declared.error.PatternError.{PatternError}
 use Rattle.lexing_patterns.specs.declared.error.PatternError.TheVariants.{Syntax, Assertion, NotText, TooLarge, Memory}
-use Rattle.lexing_patterns.specs.Faults.{HasAssertion, IsFaultIn, IsTooMuch}
+use Rattle.lexing_patterns.specs.Faults.{HasLeaf, IsAssertion, IsBytes, IsFaultIn}
 use Rattle.lexing_patterns.proofs.Repeating.{repeat_bounded, repeat_plus}
 
 pub if_err : {T E : Type 0} (r : Result T E) (P Q : E → Type 0) → ((e : E) → P e → Q e)
@@ -13,68 +13,64 @@ pub if_err : {T E : Type 0} (r : Result T E) (P Q : E → Type 0) → ((e : E) �
 if_err (Ok x) P Q more h = tt
 if_err (Err e) P Q more h = more e h
 
-pub too_much : (re : Re) (error : PatternError) → IsTooMuch error → IsFaultIn re error
-too_much re (Syntax fault) is = elim is [ inl e ↦ absurd cc | inr e ↦ absurd cc ]
-too_much re Assertion is = elim is [ inl e ↦ absurd cc | inr e ↦ absurd cc ]
-too_much re NotText is = tt
-too_much re TooLarge is = tt
-too_much re Memory is = tt
+-- the leaves of the one pattern are among those of the other
+abbrev pub HasLeavesOf : Re → Re → Type 1
+HasLeavesOf b a = (Is : Re → Type 0) → HasLeaf Is a → HasLeaf Is b
 
--- a fault of a part is one of the whole, where its assertions are
-pub fault_of : (a b : Re) → (HasAssertion a → HasAssertion b) → (error : PatternError)
-    → IsFaultIn a error → IsFaultIn b error
+-- a fault of a part is one of the whole, where its leaves are
+pub fault_of : (a b : Re) → HasLeavesOf b a → (error : PatternError) → IsFaultIn a error
+    → IsFaultIn b error
 fault_of a b more (Syntax fault) is = is
-fault_of a b more Assertion is = more is
-fault_of a b more NotText is = tt
+fault_of a b more Assertion is = more IsAssertion is
+fault_of a b more NotText is = more IsBytes is
 fault_of a b more TooLarge is = tt
 fault_of a b more Memory is = tt
 
--- the assertions of one in the list are those of all, in turn or as choices
+-- the leaves of one in the list are those of all, in turn or as choices
 pub has_in_turn : (subs : List Hir) (i : ℕ) (sub : Hir) → i < length subs → sub ≡ get_or subs i sub
-    → HasAssertion (meaning sub) → HasAssertion (cat_all (map meaning subs))
-has_in_turn [] i sub within is has = absurd (omega (arith, within))
-has_in_turn (x ∷ subs) zero sub within is has = inl (subst (λ s. HasAssertion (meaning s)) is has)
-has_in_turn (x ∷ subs) (suc i) sub within is has =
-    inr (has_in_turn subs i sub (omega (arith, within)) is has)
+    → HasLeavesOf (cat_all (map meaning subs)) (meaning sub)
+has_in_turn [] i sub within is Is has = absurd (omega (arith, within))
+has_in_turn (x ∷ subs) zero sub within is Is has = inl (subst (λ s. HasLeaf Is (meaning s)) is has)
+has_in_turn (x ∷ subs) (suc i) sub within is Is has =
+    inr (has_in_turn subs i sub (omega (arith, within)) is Is has)
 
 pub has_as_choice : (subs : List Hir) (i : ℕ) (sub : Hir) → i < length subs
-    → sub ≡ get_or subs i sub → HasAssertion (meaning sub) → HasAssertion (alt_all (map meaning subs))
-has_as_choice [] i sub within is has = absurd (omega (arith, within))
-has_as_choice (x ∷ subs) zero sub within is has = inl (subst (λ s. HasAssertion (meaning s)) is has)
-has_as_choice (x ∷ subs) (suc i) sub within is has =
-    inr (has_as_choice subs i sub (omega (arith, within)) is has)
+    → sub ≡ get_or subs i sub → HasLeavesOf (alt_all (map meaning subs)) (meaning sub)
+has_as_choice [] i sub within is Is has = absurd (omega (arith, within))
+has_as_choice (x ∷ subs) zero sub within is Is has = inl (subst (λ s. HasLeaf Is (meaning s)) is has)
+has_as_choice (x ∷ subs) (suc i) sub within is Is has =
+    inr (has_as_choice subs i sub (omega (arith, within)) is Is has)
 
--- the assertions of what is repeated
-pub has_in_copies : (n count : ℕ) (a b : Re) → n < count → HasAssertion a
-    → HasAssertion (copies count a b)
-has_in_copies n zero a b within has = absurd (omega (arith, within))
-has_in_copies n (suc count) a b within has = inl has
+-- the leaves of what is repeated
+pub has_in_copies : (n count : ℕ) (a b : Re) → n < count → HasLeavesOf (copies count a b) a
+has_in_copies n zero a b within Is has = absurd (omega (arith, within))
+has_in_copies n (suc count) a b within Is has = inl has
 
-has_behind_copies : (count : ℕ) (a b : Re) → HasAssertion b → HasAssertion (copies count a b)
-has_behind_copies zero a b has = has
-has_behind_copies (suc count) a b has = inr (has_behind_copies count a b has)
+has_behind_copies : (count : ℕ) (a b : Re) → HasLeavesOf (copies count a b) b
+has_behind_copies zero a b Is has = has
+has_behind_copies (suc count) a b Is has = inr (has_behind_copies count a b Is has)
 
-has_in_optional : (greedy : Bool) (a : Re) → HasAssertion a → HasAssertion (optional greedy a)
-has_in_optional true a has = inl has
-has_in_optional false a has = inr has
+has_in_optional : (greedy : Bool) (a : Re) → HasLeavesOf (optional greedy a) a
+has_in_optional true a Is has = inl has
+has_in_optional false a Is has = inr has
 
-pub has_in_up_to : (n count : ℕ) (greedy : Bool) (a : Re) → n < count → HasAssertion a
-    → HasAssertion (up_to greedy count a)
-has_in_up_to n zero greedy a within has = absurd (omega (arith, within))
-has_in_up_to n (suc count) greedy a within has =
-    has_in_optional greedy (cat a (up_to greedy count a)) (inl has)
+pub has_in_up_to : (n count : ℕ) (greedy : Bool) (a : Re) → n < count
+    → HasLeavesOf (up_to greedy count a) a
+has_in_up_to n zero greedy a within Is has = absurd (omega (arith, within))
+has_in_up_to n (suc count) greedy a within Is has =
+    has_in_optional greedy (cat a (up_to greedy count a)) Is (inl has)
 
 pub has_in_bounded : (least most : ℕ) (greedy : Bool) (a : Re)
-    → HasAssertion (up_to greedy (most - least) a) → HasAssertion (repeat least (Some most) greedy a)
-has_in_bounded least most greedy a has =
-    subst HasAssertion (sym (repeat_bounded least most greedy a))
-    (has_behind_copies least a (up_to greedy (most - least) a) has)
+    → HasLeavesOf (repeat least (Some most) greedy a) (up_to greedy (most - least) a)
+has_in_bounded least most greedy a Is has =
+    subst (HasLeaf Is) (sym (repeat_bounded least most greedy a))
+    (has_behind_copies least a (up_to greedy (most - least) a) Is has)
 
-pub has_in_unbounded : (least : ℕ) (greedy : Bool) (a : Re) → HasAssertion a
-    → HasAssertion (repeat least None greedy a)
+pub has_in_unbounded : (least : ℕ) (greedy : Bool) (a : Re)
+    → HasLeavesOf (repeat least None greedy a) a
 unfolding repeat
-has_in_unbounded zero greedy a has = has_in_optional greedy (plus greedy a) has
-has_in_unbounded (suc least) greedy a has = has_behind_copies least a (plus greedy a) has
+has_in_unbounded zero greedy a Is has = has_in_optional greedy (plus greedy a) Is has
+has_in_unbounded (suc least) greedy a Is has = has_behind_copies least a (plus greedy a) Is has
 
 -- why a repetition is not taken, by why its parts are not
 module _ (least : ℕ) (max : Option ℕ) (greedy : Bool) (a : Re) (error : PatternError) where
