@@ -15,6 +15,7 @@ use crate::fraction::Fraction;
 use crate::half::Half;
 use crate::only::Only;
 use crate::promises::{Commands, NoSum, added};
+use crate::ring::RingStorage;
 use btree_range_map::generic::RangeMap;
 use btree_range_map::generic::map::{Command, Reply, run};
 use btree_range_map::range::traits::MaybeBounded;
@@ -75,6 +76,22 @@ where
 /// What commands to a map of numbers are answered, and what a key is bound to after them.
 pub type Numbers<K> = Result<Answered<K, i64, NoSum>, MapError>;
 
+fn number_in<K: Measure + Clone, C: Storage<Item<AnyRange<K>, i64>>>(
+    alloc: Global,
+    commands: Commands<K>,
+    key: K,
+    container: PhantomData<C>,
+) -> Numbers<K>
+    requires { ClonesAreEqual K.is_clone K.eq }
+    ensures { IfOk result (λ answered. IsDecided K.order int_eq IsAdded key
+        commands.items answered.replies.items answered.value) }
+{
+    let add = |tag: &i64, old: Option<&i64>| -> Result<Option<i64>, NoSum>
+        ensures { IsAdded tag.now (option_copied old.entry) result }
+    { added(tag, old) };
+    bound_by_commands(alloc, commands, &add, key, container)
+}
+
 fn number_by_commands<K: Measure + Clone>(
     alloc: Global,
     commands: Commands<K>,
@@ -84,21 +101,18 @@ fn number_by_commands<K: Measure + Clone>(
     ensures { IfOk result (λ answered. IsDecided K.order int_eq IsAdded key
         commands.items answered.replies.items answered.value) }
 {
-    let add = |tag: &i64, old: Option<&i64>| -> Result<Option<i64>, NoSum>
-        ensures { IsAdded tag.now (option_copied old.entry) result }
-    { added(tag, old) };
     let container: PhantomData<DefaultMapContainer<Item<AnyRange<K>, i64>>> = PhantomData;
-    bound_by_commands(alloc, commands, &add, key, container)
+    number_in(alloc, commands, key, container)
 }
 
 /// Over keys of which nothing but the order is known.
-pub fn over_blind_bytes(
+pub fn over_blind(
     alloc: Global,
-    commands: Commands<Blind<u8>>,
-    key: Blind<u8>,
-) -> Numbers<Blind<u8>>
-    ensures { IfOk result (λ answered. IsDecided ⟦<Blind<u8> as MaybeBounded>⟧.order int_eq IsAdded key
-        commands.items answered.replies.items answered.value) }
+    commands: Commands<Blind<i32>>,
+    key: Blind<i32>,
+) -> Numbers<Blind<i32>>
+    ensures { IfOk result (λ answered. IsDecided ⟦<Blind<i32> as MaybeBounded>⟧.order int_eq
+        IsAdded key commands.items answered.replies.items answered.value) }
 {
     number_by_commands(alloc, commands, key)
 }
@@ -145,6 +159,15 @@ pub fn over_fractions(
         commands.items answered.replies.items answered.value) }
 {
     number_by_commands(alloc, commands, key)
+}
+
+/// In a container that stands above the library.
+pub fn over_ring(alloc: Global, commands: Commands<u8>, key: u8) -> Numbers<u8>
+    ensures { IfOk result (λ answered. IsDecided u8_order int_eq IsAdded key
+        commands.items answered.replies.items answered.value) }
+{
+    let container: PhantomData<RingStorage<Item<AnyRange<u8>, i64>>> = PhantomData;
+    number_in(alloc, commands, key, container)
 }
 
 pub fn over_u8(alloc: Global, commands: Commands<u8>, key: u8) -> Numbers<u8>

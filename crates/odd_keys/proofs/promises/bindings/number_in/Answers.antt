@@ -4,7 +4,7 @@ use Rattle.std.specs.Option.{option_copied}
 use Rattle.std.specs.Ordering.{int_eq}
 use Rattle.odd_keys.specs.Promises.{IsAdded}
 use Rattle.odd_keys.proofs.Decided.{bind_over_more}
-use Rattle.odd_keys.proofs.promises.bindings.number_by_commands.Goals as goal
+use Rattle.odd_keys.proofs.promises.bindings.number_in.Goals as goal
 
 pub returns : goal.returns
 returns g c =
