@@ -86,7 +86,8 @@ IsUnread reading input name stop =
     IfSome input (λ bytes. IsStop reading (name ∷ []) (bytes ∷ []) stop)
 
 pub unread_one : (reading : Reading) (input : Option (List ℕ)) (name : String Global)
-    (error : ListError) → IfSome input (λ bytes. IsFileReason reading.strict bytes error)
+    (error : ListError)
+    → IfSome input (λ bytes. IsFileReason reading.strict reading.bad_lines bytes error)
     → IsUnread reading input name (Bad name error)
 unread_one reading None name error why = tt
 unread_one reading (Some bytes) name error why = inl (refl, why)

@@ -41,7 +41,7 @@ abbrev pub IsBadAmong : Reading → List (String Global) → List (List ℕ) →
 IsBadAmong reading [] files name error = ⊥
 IsBadAmong reading (first ∷ names) [] name error = ⊥
 IsBadAmong reading (first ∷ names) (bytes ∷ files) name error =
-    ((name ≡ first) × IsFileReason reading.strict bytes error)
+    ((name ≡ first) × IsFileReason reading.strict reading.bad_lines bytes error)
     ⊎ ((list : Addresses × ℕ) × IsList reading bytes list
     × IsBadAmong reading names files name error)
 

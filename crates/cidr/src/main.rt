@@ -2,7 +2,8 @@
 //!
 //! Where to find what:
 //!
-//! - the command line: `src/arguments.rt`; standard input and files: `src/inputs.rt`
+//! - the command line: `src/arguments.rt`; standard input and files: `src/inputs.rt`; what is told
+//!   on a terminal while they are read: `src/progress.rt`
 //! - the commands over any readers and writer, and what they print: `src/serve.rt`,
 //!   `specs/{Commands,Shown}.antt`, `proofs/{Commands,Kept}.antt`; of `compare`,
 //!   `src/compare.rt`, `specs/Relations.antt`, `proofs/Compared.antt`; of `has`, `src/lookup.rt`,
@@ -13,11 +14,12 @@ mod arguments;
 mod compare;
 mod inputs;
 mod lookup;
+mod progress;
 mod serve;
 
 use crate::arguments::{HELP, Request, Task, USAGE, asks_for_help, read_request};
 use crate::compare::compare;
-use crate::inputs::Input;
+use crate::inputs::{Input, ToldInput};
 use crate::lookup::look_up;
 use crate::serve::{Source, Stop, serve};
 use anyhow::{Context, bail};
@@ -27,17 +29,20 @@ use std::process::ExitCode;
 
 const BUFFER_BYTES: usize = 65536;
 
+/// A list that is read from a file, or from standard input.
+type List<'a> = Source<BufReader<ToldInput<'a>>>;
+
 /// The list of this name; `-` is standard input.
-fn source(rt: &HostRuntime, name: &str) -> anyhow::Result<Source<BufReader<Input>>> {
+fn source<'a>(rt: &'a HostRuntime, name: &'a str) -> anyhow::Result<List<'a>> {
     let alloc = rt.alloc();
     let input = Input::open(rt, name).context(format_args!("{name}"))?;
     Ok(Source {
         name: String::from_str(alloc, name)?,
-        reader: BufReader::with_capacity(alloc, BUFFER_BYTES, input)?,
+        reader: BufReader::with_capacity(alloc, BUFFER_BYTES, input.told(rt, name))?,
     })
 }
 
-fn sources(rt: &HostRuntime, names: &[&str]) -> anyhow::Result<Vec<Source<BufReader<Input>>>> {
+fn sources<'a>(rt: &'a HostRuntime, names: &[&'a str]) -> anyhow::Result<Vec<List<'a>>> {
     let mut sources = Vec::new(rt.alloc());
     for name in names {
         sources.push(source(rt, name)?)?;
