@@ -2,7 +2,7 @@
 
     python3 -m tools.clauses OLD NEW
 
-Of each public function of `range_store` and of the crates above it: its signature, its clauses and the
+Of each public function of each proved crate: its signature, its clauses and the
 text of each definition that they cite, and that these cite in turn. Prints the difference; where
 definitions stand makes none. The exit status is 1 where there is one.
 """
@@ -14,9 +14,7 @@ import sys
 
 from tools.mutants import heading
 from tools.pages import HEAD, IMPL, definitions_of, imported, text_from
-from tools.repository import Crate, below, listed
-
-FIRST = "range_store"
+from tools.repository import Crate, listed
 
 
 def crates_of(top):
@@ -73,7 +71,7 @@ def promises(top):
             for word, place in all_imported(path.read_text()).items():
                 passed_on[name, file, word] = place
     lines, wanted = [], set()
-    for name in sorted(it for it in every if FIRST in below(every, it)):
+    for name in sorted(every):
         for title, text, imports in functions_of(every[name]):
             lines += ["", f"== {title}", *text.split("\n")]
             wanted |= cited(text, imports, ("", ""), known, passed_on)
