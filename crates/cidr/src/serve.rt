@@ -118,19 +118,20 @@ pub fn read_source<R: BufRead + Drop>(
     }
 }
 
-/// What the command makes of some addresses and those of one list more.
-fn combined(command: Command, mut list: Addresses, other: &Addresses) -> Result<Addresses, MapError>
-    ensures { IfOk result
-        (λ new. HasJust new (Combined command (Has list) (Has other.now))) }
+/// Puts some addresses together with those of one list more, as the command says.
+fn combine(command: Command, list: &mut Addresses, other: &Addresses) -> Result<(), MapError>
+    ensures { OnOk result
+        (HasJust list.new (Combined command (Has list.old) (Has other.now))) }
 {
     match command {
-        Command::Merge => list.join(other)?,
-        Command::Common => list.keep_common(other)?,
-        Command::Except => list.take_out(other)?,
-        Command::Diff => return list.difference(other),
-        Command::Invert => list.join(other)?,
+        Command::Merge | Command::Invert => list.join(other),
+        Command::Common => list.keep_common(other),
+        Command::Except => list.take_out(other),
+        Command::Diff => {
+            *list = list.difference(other)?;
+            Ok(())
+        }
     }
-    Ok(list)
 }
 
 /// What the command makes of some addresses and those of the sources.
@@ -154,10 +155,10 @@ fn gathered<R: BufRead + Drop>(
 {
     while let Some(source) = sources.next() {
         let other = read_source(alloc, source, reading, left_out)?;
-        list = match combined(command, list, &other) {
-            Ok(list) => list,
+        match combine(command, &mut list, &other) {
+            Ok(()) => {}
             Err(_) => return Err(Stop::Memory),
-        };
+        }
     }
     Ok(list)
 }

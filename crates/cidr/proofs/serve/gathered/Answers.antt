@@ -32,7 +32,7 @@ loop-source-preserved g c =
           (map (λ (s : Source _). g.R.Read.remaining s.reader) (into_iter_items c.next.new.self))
           (map (λ (s : Source _). s.name) (into_iter_items c.next.new.self))
           numbers c.read_source.new.left_out.items c.loop-source.list c.in_ok-other.other
-          c.in-Ok.list
+          c.combine.new.list
           (subst (IsPut files) steps (c.loop-source.invariant.1 files known))
           c.in_ok-other.ensures.read c.in-Ok.ensures,
     )
