@@ -5,10 +5,10 @@ ghost use Rattle.std.specs.Ordering.{int_eq};
 ghost use Rattle.btree_range_map.specs.Bindings.{BindAlike, Binds, IsBoundAfter, IsUnboundAfter};
 ghost use Rattle.btree_range_map.specs.Names.{bindings_of, i32_order, range_from_to};
 
-use btree_range_map::generic::map::{UpdateError, binary_search};
+use btree_range_map::generic::map::{NotInserted, UpdateError, binary_search};
 use btree_range_map::storage::{Item, Steps, VecStorage};
 use btree_range_map::{AnyRange, IntoRange, MapError, RangeMap, generic};
-use std::alloc::Global;
+use std::alloc::{AllocError, Global};
 use std::cmp::Ordering;
 use std::hash::{DefaultHasher, Hash};
 
@@ -35,6 +35,14 @@ fn has_none(map: &Map) -> bool
     ensures { IsTrue result ↔ bindings_of map.now ≡ [] }
 {
     map.is_empty()
+}
+
+fn copied(map: &Map) -> Result<Map, AllocError> {
+    map.clone()
+}
+
+fn bind_apart(map: &mut Map) -> Result<(), NotInserted<i32, i64>> {
+    map.insert_disconnected(0..5, 1)
 }
 
 fn value_counted(map: &Map, steps: &mut Steps) -> Option<i64>

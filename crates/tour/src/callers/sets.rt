@@ -7,7 +7,7 @@ ghost use Rattle.btree_range_map.specs.Numbers.{IsNumberOfKeys};
 
 use btree_range_map::storage::{Item, VecStorage};
 use btree_range_map::{AnyRange, MapError, RangeSet, generic};
-use std::alloc::Global;
+use std::alloc::{AllocError, Global};
 use std::cmp::Ordering;
 use std::hash::{DefaultHasher, Hash};
 
@@ -36,6 +36,10 @@ fn sizes(set: &Set) -> (bool, usize, u128)
     ensures keys { IsNumberOfKeys u8_order (HoldsKey u8_order (bindings_of set.now)) result.2 }
 {
     (set.is_empty(), set.range_count(), set.len())
+}
+
+fn copied(set: &Set) -> Result<Set, AllocError> {
+    set.clone()
 }
 
 fn is_equal_across(set: &Set, other: &VectorSet) -> bool {
