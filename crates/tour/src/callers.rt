@@ -1,5 +1,5 @@
-//! A caller at one type of each public call that no example and no program calls so. Their proofs
-//! show that what the calls require can be met.
+//! Callers at one type of calls that no example and no program calls so. Their proofs show that
+//! what the calls require can be met.
 
 mod bounds;
 mod commands;
