@@ -5,7 +5,8 @@ use Rattle.range_change.proofs.Found.{starts_rise, stored_tail, every_nonempty}
 use Rattle.range_change.proofs.Listed.{IsListed, stored_list_is_listed}
 use Rattle.range_change.proofs.RangePieces.{every_with}
 use Rattle.range_change.proofs.Tests.{not_both}
-use Rattle.std.proofs.Math.Seq.{take-append-add}
+use Rattle.std.proofs.Math.Seq.{take-append-add, get_or-append_seam}
+use Rattle.std.proofs.lemmas.List.{get_or-drop, get_or-take, length-append}
 use Rattle.range_change.proofs.Extents.{end_le}
 use Rattle.range_change.proofs.Windows.{first_of_run, last_of_run}
 
@@ -172,6 +173,18 @@ module _ {K : Type 0} {order : KeyOrder K} (lawful : IsLawful order) {V : Type 0
       overlapping_are lawful (with_bounds (Included k) Unbounded) items
       (place_before rank (length items) first) b found.below found.above (every_front _ b items all)
       (rw (drop_all items b (at_end last is_last)) tt)
+
+-- the last of the items that lie together stands at the last of their indices
+pub near_last : {T : Type 0} (items near front : List T) (k : ℕ) (x : T)
+    → near ≡ take (length near) (drop k items) → near ≡ front ++ x ∷ []
+    → x ≡ get_or items (k + length front) x
+near_last items near front k x is split =
+    let within : length front < length near =
+    omega (arith, ap length split, length-append front (x ∷ [])) in
+    sym (get_or-append_seam front x [] x)
+    ∙ (ap (λ ys. get_or ys (length front) x) (sym split ∙ is)
+    ∙ (get_or-take (length near) (drop k items) (length front) x within
+    ∙ get_or-drop k items (length front) x))
 
 -- the first of a run and the rest, and the last and those before it
 module _ {T : Type 0} (items : List T) (p q : ℕ) (x : T) (within : q < length items) where

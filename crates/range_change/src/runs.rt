@@ -116,6 +116,7 @@ struct Front<'a, T, P: Copy> {
 
 /// Takes the first item from a run, and those that lie with it, unless the last lies with them or
 /// so many items come first one by one.
+#[inline(never)]
 fn split_first<'a, K: PartialEnum, V: Eq, C: Storage<Item<AnyRange<K>, V>>>(
     stored: &'a C,
     first: C::Position,
@@ -129,15 +130,14 @@ fn split_first<'a, K: PartialEnum, V: Eq, C: Storage<Item<AnyRange<K>, V>>>(
         ≡ result.item.now ∷ (result.near
         ++ run_items (C.rank stored.now) (C.items stored.now) result.ends) }
 {
-    let item = stored.get(first);
     let end = stored.get(last);
-    if !stands_before(item, end) {
-        return alone(item, None, singles);
-    }
     if singles == 0 {
         let chunk = stored.chunk_from(first);
-        if let Some(after) = chunk.after {
-            if !stands_before(end, stored.get(after)) {
+        let Ok(mut rest) = chunk.rest.clone() else {
+            unreachable!()
+        };
+        if let (Some(after), Some(behind)) = (chunk.after, rest.next_back()) {
+            if stands_before(behind, end) {
                 return Front {
                     item: chunk.first,
                     near: chunk.rest,
@@ -146,6 +146,10 @@ fn split_first<'a, K: PartialEnum, V: Eq, C: Storage<Item<AnyRange<K>, V>>>(
                 };
             }
         }
+    }
+    let item = stored.get(first);
+    if !stands_before(item, end) {
+        return alone(item, None, singles);
     }
     match stored.next(first) {
         Some(p) => alone(item, Some((p, last)), singles),
