@@ -215,20 +215,21 @@ def try_edit(crate, edit):
     return goals, {function: len(of) for function, of in turned.items()}
 
 
-def without_bodies(text):
-    """Returns the lines of a file but for those of functions' bodies, as `rt fmt` lays them out."""
-    lines, left = text.split("\n"), []
-    bodies = set()
+def seen_above(text):
+    """Returns the lines of a file on which crates above may rest, as `rt fmt` lays it out: not the bodies of functions,
+    nor a private function beside the types, nor hints on inlining."""
+    lines = text.split("\n")
+    left_out = {number for number, line in enumerate(lines, 1) if line.lstrip().startswith("#[inline")}
     for it in functions("", text):
+        head = next(at for at in range(it.first, it.last + 1) if FUNCTION.match(lines[at - 1]))
+        if not it.owner and not lines[head - 1].startswith("pub "):
+            left_out.update(range(it.first, it.last + 1))
         indent = lines[it.last - 1][: len(lines[it.last - 1]) - len(lines[it.last - 1].lstrip())]
         opens = range(it.first, it.last)
         start = next((at for at in opens if lines[at - 1] == indent + "{"), None)
         start = start or next((at for at in opens if lines[at - 1].endswith("{")), it.last)
-        bodies.update(range(start + 1, it.last))
-    for number, line in enumerate(lines, 1):
-        if number not in bodies:
-            left.append(line)
-    return "\n".join(left)
+        left_out.update(range(start + 1, it.last))
+    return "\n".join(line for number, line in enumerate(lines, 1) if number not in left_out)
 
 
 def sum_of(crate, every):
@@ -243,7 +244,7 @@ def sum_of(crate, every):
         files = (it for it in (folder / part).rglob("*") if it.suffix in (".rt", ".antt", ".edit"))
         for file in sorted(files):
             text = file.read_text()
-            text = text if folder == crate else without_bodies(text)
+            text = text if folder == crate else seen_above(text)
             lines = [line.strip() for line in text.split("\n")]
             text = "\n".join(line for line in lines if not line.startswith(("//", "--")))
             tokens = " ".join(re.findall(r"\w+|[^\w\s]", text))
