@@ -2,9 +2,9 @@
 use Rattle.std.proofs.Common.{◌≡◌, ℕ, suc, ◌+◌, ◌<◌, ◌≤◌, ◌^◌, ◌↔◌, ◌⊎◌, Bool, List, [], ◌∷◌, ◌++◌, length, Option, None, Some, IfSome, ap, ◌∙◌, inl, inr, refl, sym, subst, append_assoc, length-append, arith}
 use Rattle.std.proofs.lemmas.List.{append-nil}
 use Rattle.std.specs.Io.BufRead.{drop_through, take_through}
-use Rattle.address_text.specs.Lines.{Says, SaysAddress, content}
+use Rattle.address_text.specs.Lines.{Says, SaysAddress}
 use Rattle.address_text.specs.Texts.{width}
-use Rattle.address_text.specs.Faults.{IsExpected}
+use Rattle.address_text.specs.Faults.{IsFault}
 use Rattle.address_text.specs.declared.family.Family.{Family}
 use Rattle.address_text.specs.declared.fault.Expected.{Expected}
 use Rattle.address_text.specs.declared.line.Line.{Line}
@@ -200,7 +200,7 @@ module _ (strict : Bool) where
       (expected : Expected) → start ≡ [] → 0 < length text → seen ≡ text → again ≡ text
       → IfSome left (λ bytes. text ≡ start ++ take_through 10 bytes)
       → SaysNothingKnown strict seen → 1 ≤ column → column ≤ length again + 1
-      → IsExpected (content again) expected
+      → IsFault again column expected
       → IfSome left (λ bytes. IsBad strict bytes number (BadLine number column expected))
   bad_found None start text seen again number column expected none some one other read nothing
       first last wrong =
@@ -212,7 +212,7 @@ module _ (strict : Bool) where
         refl,
         first,
         subst (λ l. column ≤ length l + 1) (other ∙ line) last,
-        subst (λ l. IsExpected (content l) expected) (other ∙ line) wrong,
+        subst (λ l. IsFault l column expected) (other ∙ line) wrong,
         λ ended. let empty = ap length (line ∙ ap (take_through 10) ended) in omega (arith, some, empty),
         subst (SaysNothingKnown strict) (one ∙ line) nothing,
       )

@@ -36,11 +36,10 @@ module _ (list other : Addresses) where
   -- after the sets of IPv4, those of IPv6 tell
   pub all_then : (one both : Bool) → one ≡ true
       → (IsTrue one → BindKeysOf ipv4_order (box_items other.v4) (box_items list.v4))
-      → (IsTrue both → BindKeysOf ipv6_order (box_items other.v6) (box_items list.v6))
-      → (BindKeysOf ipv6_order (box_items other.v6) (box_items list.v6) → IsTrue both)
+      → IsTrue both ↔ BindKeysOf ipv6_order (box_items other.v6) (box_items list.v6)
       → IsTrue both ↔ HasAllOf list other
-  all_then one both is v4 v6 told =
-      (λ yes. has_all (v4 is) (v6 yes), λ all. told (all_v6 all))
+  all_then one both is v4 v6 =
+      (λ yes. has_all (v4 is) (v6.0 yes), λ all. v6.1 (all_v6 all))
 
   pub all_else : (one : Bool) → one ≡ false
       → (BindKeysOf ipv4_order (box_items other.v4) (box_items list.v4) → IsTrue one)
@@ -49,11 +48,10 @@ module _ (list other : Addresses) where
 
   pub none_then : (one both : Bool) → one ≡ true
       → (IsTrue one → ShareNoKey ipv4_order (box_items list.v4) (box_items other.v4))
-      → (IsTrue both → ShareNoKey ipv6_order (box_items list.v6) (box_items other.v6))
-      → (ShareNoKey ipv6_order (box_items list.v6) (box_items other.v6) → IsTrue both)
+      → IsTrue both ↔ ShareNoKey ipv6_order (box_items list.v6) (box_items other.v6)
       → IsTrue both ↔ ShareNone list other
-  none_then one both is v4 v6 told =
-      (λ yes. share_none (v4 is) (v6 yes), λ none. told (none_v6 none))
+  none_then one both is v4 v6 =
+      (λ yes. share_none (v4 is) (v6.0 yes), λ none. v6.1 (none_v6 none))
 
   pub none_else : (one : Bool) → one ≡ false
       → (ShareNoKey ipv4_order (box_items list.v4) (box_items other.v4) → IsTrue one)

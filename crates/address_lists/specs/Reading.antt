@@ -1,8 +1,8 @@
 -- What is read next, and why a list is not read.
 use Rattle.std.specs.Prelude.{◌≡◌, ◌≢◌, ℕ, ◌+◌, ◌≤◌, Bool, List, [], length, Option, Some, IfSome}
 use Rattle.std.specs.Io.BufRead.{drop_through, take_through}
-use Rattle.address_text.specs.Faults.{IsExpected}
-use Rattle.address_text.specs.Lines.{AreAddresses, Says, content}
+use Rattle.address_text.specs.Faults.{IsFault}
+use Rattle.address_text.specs.Lines.{AreAddresses, Says}
 use Rattle.address_text.specs.declared.line.Line.{Line}
 use Rattle.address_lists.specs.Lists.{AreSaid, SaysNothingKnown}
 use Rattle.address_lists.specs.declared.read.Found.{Found}
@@ -23,12 +23,12 @@ module _ (strict : Bool) where
   IsFound left later Other = IsNext left later (SaysNothingKnown strict)
   IsFound left later End = IfSome left (λ bytes. bytes ≡ [])
 
-  -- a bad line is the first of the bytes, it says nothing that is known, this is its number, the
-  -- column is that of one of its bytes or of its end, and this was expected of its content
+  -- a bad line is the first of the bytes, it says nothing that is known, this is its number, and
+  -- this was expected in the column where the part begins that is wrong, or at the line's end
   abbrev pub IsBad : List ℕ → ℕ → ListError → Type 0
   IsBad bytes number (BadLine line column expected) =
       (line ≡ number) × (1 ≤ column) × (column ≤ length (take_through 10 bytes) + 1)
-      × IsExpected (content (take_through 10 bytes)) expected
+      × IsFault (take_through 10 bytes) column expected
       × (bytes ≢ []) × SaysNothingKnown strict (take_through 10 bytes)
   IsBad bytes number Unread = Unit {0}
   IsBad bytes number Memory = Unit {0}

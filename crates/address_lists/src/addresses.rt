@@ -5,6 +5,7 @@ ghost use Rattle.btree_range_map.specs.Holding.{box_items};
 ghost use Rattle.address_text.specs.Lines.{AreAddresses, SaysAddress};
 ghost use Rattle.address_lists.specs.Lists.{Has, HasAllOf, HasJust, ShareNone};
 
+use crate::sets;
 use address_sets::{AddressSet, Ipv4, Ipv6, take_out};
 use address_text::{Family, Line};
 use btree_range_map::MapError;
@@ -40,9 +41,11 @@ impl Addresses {
         match line {
             Line::Nothing => Ok(()),
             Line::Addresses(Family::V4, first, last) => {
-                self.v4.insert(Ipv4(first as u32)..=Ipv4(last as u32))
+                sets::insert(&mut self.v4, Ipv4(first as u32), Ipv4(last as u32))
             }
-            Line::Addresses(Family::V6, first, last) => self.v6.insert(Ipv6(first)..=Ipv6(last)),
+            Line::Addresses(Family::V6, first, last) => {
+                sets::insert(&mut self.v6, Ipv6(first), Ipv6(last))
+            }
         }
     }
 
@@ -51,8 +54,8 @@ impl Addresses {
         ensures { OnOk result (HasJust self.new
             (λ family n. Has self.old family n ⊎ Has other.now family n)) }
     {
-        self.v4.extend_from(&other.v4)?;
-        self.v6.extend_from(&other.v6)
+        sets::join(&mut self.v4, &other.v4)?;
+        sets::join(&mut self.v6, &other.v6)
     }
 
     /// Keeps the addresses that the other list has too.
@@ -60,8 +63,8 @@ impl Addresses {
         ensures { OnOk result (HasJust self.new
             (λ family n. Has self.old family n × Has other.now family n)) }
     {
-        self.v4.retain_all(&other.v4)?;
-        self.v6.retain_all(&other.v6)
+        sets::keep_common(&mut self.v4, &other.v4)?;
+        sets::keep_common(&mut self.v6, &other.v6)
     }
 
     /// Takes out the addresses of the other list.
@@ -79,8 +82,8 @@ impl Addresses {
             (λ family n. (Has self.now family n × ¬ Has other.now family n)
             ⊎ ((¬ Has self.now family n) × Has other.now family n))) }
     {
-        let v4 = self.v4.symmetric_difference(&other.v4)?;
-        let v6 = self.v6.symmetric_difference(&other.v6)?;
+        let v4 = sets::difference(&self.v4, &other.v4)?;
+        let v6 = sets::difference(&self.v6, &other.v6)?;
         Ok(Addresses { v4, v6 })
     }
 
@@ -88,8 +91,8 @@ impl Addresses {
     pub fn inverse(&self) -> Result<Addresses, MapError>
         ensures { IfOk result (λ new. HasJust new (λ family n. ¬ Has self.now family n)) }
     {
-        let v4 = self.v4.complement()?;
-        let v6 = self.v6.complement()?;
+        let v4 = sets::inverse(&self.v4)?;
+        let v6 = sets::inverse(&self.v6)?;
         Ok(Addresses { v4, v6 })
     }
 
@@ -97,13 +100,13 @@ impl Addresses {
     pub fn is_subset(&self, other: &Addresses) -> bool
         ensures { IsTrue result ↔ HasAllOf other.now self.now }
     {
-        self.v4.is_subset(&other.v4) && self.v6.is_subset(&other.v6)
+        sets::is_subset(&self.v4, &other.v4) && sets::is_subset(&self.v6, &other.v6)
     }
 
     /// Whether no address is in both lists. Allocates nothing.
     pub fn is_disjoint(&self, other: &Addresses) -> bool
         ensures { IsTrue result ↔ ShareNone self.now other.now }
     {
-        self.v4.is_disjoint(&other.v4) && self.v6.is_disjoint(&other.v6)
+        sets::is_disjoint(&self.v4, &other.v4) && sets::is_disjoint(&self.v6, &other.v6)
     }
 }

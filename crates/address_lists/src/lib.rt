@@ -3,7 +3,7 @@
 //! Where to find what:
 //!
 //! - the addresses of a list, of both families, and what two lists have together:
-//!   `src/addresses.rt`, `specs/Lists.antt`
+//!   `src/addresses.rt`, `specs/Lists.antt`; those of one family: `src/sets.rt`
 //! - reading a list, and where it is wrong: `src/read.rt`, `specs/Reading.antt`; what is read and
 //!   not added yet: `src/waiting.rt`, `specs/Waiting.antt`
 //! - a list as JSON: `src/json.rt`, `specs/Json.antt`; a list of either form: `src/file.rt`,
@@ -23,6 +23,7 @@ pub mod lookup;
 pub mod print;
 pub mod ranges;
 pub mod read;
+mod sets;
 pub mod split;
 mod waiting;
 

@@ -28,7 +28,7 @@ pub enum ListError {
     BadLine {
         /// The number of the line, from 1.
         line: u64,
-        /// The number of the byte in the line, from 1.
+        /// The number of the byte where the part begins that is wrong, from 1.
         column: usize,
         /// What was expected there.
         expected: Expected,

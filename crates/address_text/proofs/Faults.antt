@@ -51,31 +51,31 @@ content_from_word [] = refl
 content_from_word (x ∷ xs) =
     from_first x xs (is_ascii_whitespace x) refl (content_from_word xs)
 
-module _ (text : List ℕ) (expected : Expected) where
+module _ (text : List ℕ) (expected : Expected) (place : ℕ) where
   pub prefix_wrong : (address digits : List ℕ) → HasByte is_slash text
       → address ≡ before_first is_slash text → digits ≡ after_first is_slash text
-      → IsWrongPrefix address digits expected → IsWrong text expected
+      → IsWrongPrefix address digits expected place → IsWrong text expected place
   prefix_wrong address digits has front back wrong =
       inl (
         has,
-        subst (λ d. IsWrongPrefix (before_first is_slash text) d expected) back
-            (subst (λ a. IsWrongPrefix a digits expected) front wrong),
+        subst (λ d. IsWrongPrefix (before_first is_slash text) d expected place) back
+            (subst (λ a. IsWrongPrefix a digits expected place) front wrong),
       )
 
   pub range_wrong : (first last : List ℕ) → ¬ HasByte is_slash text → HasByte is_dash text
       → first ≡ before_first is_dash text → last ≡ after_first is_dash text
-      → IsWrongRange first last expected → IsWrong text expected
+      → IsWrongRange first last expected place → IsWrong text expected place
   range_wrong first last lacks has front back wrong =
       inr (inl (
         lacks,
         has,
-        subst (λ l. IsWrongRange (before_first is_dash text) l expected) back
-            (subst (λ f. IsWrongRange f last expected) front wrong),
+        subst (λ l. IsWrongRange (before_first is_dash text) l expected place) back
+            (subst (λ f. IsWrongRange f last expected place) front wrong),
       ))
 
 pub address_wrong : (text : List ℕ) → ¬ HasByte is_slash text → ¬ HasByte is_dash text
-    → IsWrong text Address
-address_wrong text lacks none = inr (inr (lacks, none, refl))
+    → IsWrong text Address 0
+address_wrong text lacks none = inr (inr (lacks, none, refl, refl))
 
 pub no_address : (text : List ℕ) → ((n : ℕ) → ¬ IsAddressText V4 text n)
     → ((n : ℕ) → ¬ IsAddressText V6 text n) → ¬ IsAddress text

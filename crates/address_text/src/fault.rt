@@ -1,8 +1,7 @@
 //! What is wrong with a line that says nothing.
 
-ghost use Rattle.std.specs.Prelude.{◌≡◌, ◌≤◌, ◌+◌, ℕ, MatchOption, drop, length};
-ghost use Rattle.address_text.specs.Faults.{IsAddress, IsExpected, IsOf, IsWrong, IsWrongLast, IsWrongPrefix, IsWrongRange};
-ghost use Rattle.address_text.specs.Lines.{content, from_word};
+ghost use Rattle.std.specs.Prelude.{◌≡◌, ◌≤◌, ◌+◌, MatchOption, length};
+ghost use Rattle.address_text.specs.Faults.{IsAddress, IsExpected, IsFault, IsOf, IsWrong, IsWrongLast, IsWrongPrefix, IsWrongRange, blank_count};
 
 use crate::family::Family;
 use crate::line::{content_of, length_of, trimmed_of};
@@ -54,14 +53,14 @@ fn family_of(text: &str) -> Option<Family>
 /// How many bytes of white space a text begins with.
 fn blanks(text: &[u8]) -> usize
     ensures most { result ≤ length text.now }
-    ensures word { drop result text.now ≡ from_word text.now }
+    ensures count { result ≡ blank_count text.now }
 {
     text.len().saturating_sub(text.trim_ascii_start().len())
 }
 
 fn fault_of_prefix(address: &str, digits: &str) -> Fault
     ensures last { result.column ≤ length address.now + 1 }
-    ensures expected { IsWrongPrefix address.now digits.now result.expected }
+    ensures expected { IsWrongPrefix address.now digits.now result.expected result.column }
 {
     match family_of(address) {
         None => Fault {
@@ -69,7 +68,7 @@ fn fault_of_prefix(address: &str, digits: &str) -> Fault
             expected: Expected::Address,
         },
         Some(family) if length_of(digits).is_none_or(|length| length > family.width()) => Fault {
-            column: address.len().saturating_add(1),
+            column: address.len() + 1,
             expected: Expected::Length(family.width()),
         },
         Some(_) => Fault {
@@ -91,7 +90,7 @@ fn expected_last(last: &str) -> Expected
 
 fn fault_of_range(first: &str, last: &str) -> Fault
     ensures last { result.column ≤ length first.now + 1 + length last.now }
-    ensures expected { IsWrongRange first.now last.now result.expected }
+    ensures expected { IsWrongRange first.now last.now result.expected result.column }
 {
     match family_of(trimmed_of(first)) {
         None => Fault {
@@ -101,7 +100,7 @@ fn fault_of_range(first: &str, last: &str) -> Fault
         Some(_) => {
             let blanks = blanks(last.as_bytes());
             Fault {
-                column: first.len().saturating_add(1).saturating_add(blanks),
+                column: first.len() + 1 + blanks,
                 expected: expected_last(trimmed_of(last)),
             }
         }
@@ -110,7 +109,7 @@ fn fault_of_range(first: &str, last: &str) -> Fault
 
 fn fault_in(text: &str) -> Fault
     ensures last { result.column ≤ length text.now }
-    ensures expected { IsWrong text.now result.expected }
+    ensures expected { IsWrong text.now result.expected result.column }
 {
     if let Some((address, digits)) = text.split_once('/') {
         return fault_of_prefix(address, digits);
@@ -126,7 +125,7 @@ fn fault_in(text: &str) -> Fault
 
 fn fault_in_content(content: &[u8]) -> Fault
     ensures last { result.column ≤ length content.now }
-    ensures expected { IsExpected content.now result.expected }
+    ensures expected { IsExpected content.now result.expected result.column }
 {
     match str::from_utf8(content) {
         Ok(text) => fault_in(text),
@@ -137,17 +136,17 @@ fn fault_in_content(content: &[u8]) -> Fault
     }
 }
 
-/// What is wrong with a line that [`line_of`](crate::line_of) reads as nothing, at one of its bytes
-/// or at its end. Allocates nothing.
+/// What is wrong with a line that [`line_of`](crate::line_of) reads as nothing, and the byte where
+/// the part begins that is wrong, or the line's end. Allocates nothing.
 pub fn fault_of(line: &[u8]) -> Fault
     ensures first { 1 ≤ result.column }
     ensures last { result.column ≤ length line.now + 1 }
-    ensures expected { IsExpected (content line.now) result.expected }
+    ensures expected { IsFault line.now result.column result.expected }
 {
     let blanks = blanks(line);
     let fault = fault_in_content(content_of(&line[blanks..]));
     Fault {
-        column: fault.column.saturating_add(blanks).saturating_add(1),
+        column: blanks + fault.column + 1,
         expected: fault.expected,
     }
 }

@@ -74,11 +74,15 @@ abbrev pub IsRead : Reading → Option (List ℕ) → List ℕ → List ℕ → 
 IsRead reading input before now new = IfSome input (λ bytes. (others : ℕ)
     × IsList reading bytes (new, others) × (now ≡ before ++ others ∷ []))
 
+-- a list is counted, or an allocation fails
 pub read_one : (reading : Reading) (input : Option (List ℕ)) (before now : List ℕ)
-    (list : Addresses) (others : ℕ) → IfSome input (λ bytes. IsList reading bytes (list, others))
-    → now ≡ before ++ others ∷ [] → IsRead reading input before now list
-read_one reading None before now list others found counted = tt
-read_one reading (Some bytes) before now list others found counted = (others, found, counted)
+    (found : Addresses × ℕ) (result : Result Addresses Stop)
+    → IfSome input (λ bytes. IsList reading bytes found) → IfOk result (λ list. list ≡ found.0)
+    → OnOk result (now ≡ before ++ found.1 ∷ []) → IfOk result (IsRead reading input before now)
+read_one reading input before now found (Err stop) is same counted = tt
+read_one reading None before now found (Ok list) is same counted = tt
+read_one reading (Some bytes) before now found (Ok list) is same counted =
+    (found.1, subst (λ one. IsList reading bytes (one, found.1)) (sym same) is, counted)
 
 -- why the one source of this name is not read, where its bytes are known
 abbrev pub IsUnread : Reading → Option (List ℕ) → String Global → Stop → Type 0
@@ -91,6 +95,18 @@ pub unread_one : (reading : Reading) (input : Option (List ℕ)) (name : String 
     → IsUnread reading input name (Bad name error)
 unread_one reading None name error why = tt
 unread_one reading (Some bytes) name error why = inl (refl, why)
+
+out_of_memory : (reading : Reading) (input : Option (List ℕ)) (name : String Global)
+    → IsUnread reading input name Memory
+out_of_memory reading None name = tt
+out_of_memory reading (Some bytes) name = tt
+
+pub uncounted : {X : Type 0} (reading : Reading) (input : Option (List ℕ)) (name : String Global)
+    (result : Result X Stop) → IfErr result (λ stop. stop ≡ Memory)
+    → IfErr result (IsUnread reading input name)
+uncounted reading input name (Ok done) memory = tt
+uncounted reading input name (Err stop) memory =
+    subst (IsUnread reading input name) (sym memory) (out_of_memory reading input name)
 
 -- why not all sources are read
 abbrev pub AreUnread : Reading → List (Option (List ℕ)) → List (String Global) → Stop → Type 0

@@ -93,6 +93,19 @@ pub enum Stop {
     Unwritable,
 }
 
+/// Adds how many bad lines are left out of a list, and hands out its addresses.
+fn counted(found: (Addresses, u64), left_out: &mut Vec<u64>) -> Result<Addresses, Stop>
+    ensures same { IfOk result (λ list. list ≡ found.0) }
+    ensures counted { OnOk result (left_out.new.items ≡ left_out.old.items ++ found.1 ∷ []) }
+    ensures memory { IfErr result (λ stop. stop ≡ Memory) }
+{
+    let (list, others) = found;
+    match left_out.push(others) {
+        Ok(()) => Ok(list),
+        Err(_) => Err(Stop::Memory),
+    }
+}
+
 /// The addresses of a list. Adds how many bad lines are left out of it.
 pub fn read_source<R: BufRead + Drop>(
     alloc: Global,
@@ -108,13 +121,9 @@ pub fn read_source<R: BufRead + Drop>(
 {
     let Source { name, mut reader } = source;
     let Reading { strict, bad_lines } = reading;
-    let (list, others) = match read_addresses(alloc, &mut reader, strict, bad_lines) {
-        Ok(found) => found,
-        Err(error) => return Err(Stop::Bad(name, error)),
-    };
-    match left_out.push(others) {
-        Ok(()) => Ok(list),
-        Err(_) => Err(Stop::Memory),
+    match read_addresses(alloc, &mut reader, strict, bad_lines) {
+        Ok(found) => counted(found, left_out),
+        Err(error) => Err(Stop::Bad(name, error)),
     }
 }
 

@@ -20,13 +20,16 @@ pub struct Coverage {
 impl Model for Coverage {
     ghost use Rattle.std.specs.Prelude.{◌≤◌};
     ghost use Rattle.btree_range_map.specs.Holding.{box_items};
+    ghost use Rattle.btree_range_map.specs.KeySets.{IsStoredSet};
+    ghost use Rattle.btree_range_map.specs.Names.{u64_order};
     ghost use Rattle.tour.specs.Coverage.{Bytes};
 
     ghost Value = { Bytes };
 
     ghost view = { λ c. record { size = c.size; come = box_items c.come } };
 
-    ghost invariant = { λ c. c.size ≤ 18446744073709551615 };
+    ghost invariant = { λ c. (c.size ≤ 18446744073709551615)
+        × IsStoredSet u64_order (box_items c.come) };
 }
 
 /// The first byte of a piece.
@@ -86,17 +89,13 @@ impl Coverage {
 
     /// The first bytes of the file that are missing, or `None` where it is whole.
     ///
-    /// Looks at the first two ranges that have come. Allocates nothing.
+    /// Costs two searches, and a few comparisons for each range that has come before these bytes.
+    /// Allocates nothing.
     pub fn missing(&self) -> Option<Range<u64>>
         ensures { MatchOption result (IsWhole self.now) (IsMissing self.now) }
     {
-        let _ranges = self.come.iter(); // whose contract says that none of them is empty
-        let gap = self.come.gaps().next()?;
-        let start = first_byte(gap.start);
-        if start < self.size {
-            Some(start..end_byte(gap.end, self.size))
-        } else {
-            None
-        }
+        let file = 0..self.size;
+        let gap = self.come.gaps_within(&file).next()?;
+        Some(first_byte(gap.start)..end_byte(gap.end, self.size))
     }
 }

@@ -11,8 +11,8 @@ returns-in-Some-clause-expected c =
     let has : position_or_len is_slash text < length text = grind (arith, common_steps) in
     let front : c.in-Some.address.now ≡ before_first is_slash text = grind (arith, common_steps) in
     let back : c.in-Some.digits.now ≡ after_first is_slash text = grind (arith, common_steps) in
-    prefix_wrong text c.fault_of_prefix.result.expected c.in-Some.address.now c.in-Some.digits.now
-    has front back c.fault_of_prefix.ensures.expected
+    prefix_wrong text c.fault_of_prefix.result.expected c.fault_of_prefix.result.column
+    c.in-Some.address.now c.in-Some.digits.now has front back c.fault_of_prefix.ensures.expected
 
 pub returns-in-Some-split_once-clause-expected : goal.returns-in-Some-split_once-clause-expected
 returns-in-Some-split_once-clause-expected c =
@@ -23,5 +23,5 @@ returns-in-Some-split_once-clause-expected c =
     grind (arith, common_steps) in
     let back : c.in-Some-split_once.last.now ≡ after_first is_dash text =
     grind (arith, common_steps) in
-    range_wrong text c.fault_of_range.result.expected c.in-Some-split_once.first.now
-    c.in-Some-split_once.last.now lacks has front back c.fault_of_range.ensures.expected
+    range_wrong text c.fault_of_range.result.expected c.fault_of_range.result.column
+    c.in-Some-split_once.first.now c.in-Some-split_once.last.now lacks has front back c.fault_of_range.ensures.expected

@@ -7,6 +7,6 @@ returns-in-Ok-clause-expected c =
     let cases = c.in-Ok.ensures.cases in
     inl (
       cases.1,
-      subst (λ text. IsWrong text c.fault_in.result.expected) cases.0
+      subst (λ text. IsWrong text c.fault_in.result.expected c.fault_in.result.column) cases.0
           c.fault_in.ensures.expected,
     )

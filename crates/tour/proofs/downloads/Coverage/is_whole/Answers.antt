@@ -8,7 +8,7 @@ use Rattle.tour.proofs.downloads.Coverage.is_whole.Goals as goal
 pub returns : goal.returns
 returns c =
     let bytes : Bytes = record { size = c.self.inside.size; come = box_items c.self.inside.come } in
-    let whole = whole_is bytes c.self.invariant in
+    let whole = whole_is bytes c.self.invariant.0 in
     let complete = counted_complete (unsigned_counted 18446744073709551615) in
     rw (← c.self.view_is) (
       λ yes. whole.0 (c.covers.ensures.held yes),
