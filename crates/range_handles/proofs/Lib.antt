@@ -1,5 +1,6 @@
 mod AsBox
 mod Fills
+mod Flags
 mod Floats
 mod InOrder
 mod Many

@@ -1,5 +1,7 @@
 pub mod Alike
+pub mod Bindings
 pub mod Fewest
+pub mod Flags
 pub mod Held
 pub mod Lending
 pub mod Lists
