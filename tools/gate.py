@@ -13,10 +13,8 @@ from tools import conversations, examples, faults, mutants
 from tools.repository import PROCESSORS, TOP, Counts, below, counted, crates, run, tell, told
 
 RESULT = re.compile(r"^test result: .*?(\d+) passed; (\d+) failed", re.M)
-# A check takes less than this; what `rt` expects of it, by its lines, is more.
+# A check takes less than this; what `rt` expects of it, by its lines, is up to three times as much.
 MEMORY_OF_A_CHECK = 5 * 1024**3
-# Up to this crate nearly each waits for the one before.
-CHAIN = ["range_map"]
 
 
 def lanes():
@@ -26,18 +24,8 @@ def lanes():
 
 
 def proofs(names):
-    """Runs `rt ci`, of the crates that are named or of all. Those of the chain come first: while one of them is proved
-    there is little else to prove, so `rt` gives it several processors. All others have one each."""
-    if not names:
-        chain = rt_ci(CHAIN, {})
-        if chain.failed:
-            return chain
-    return rt_ci(names, {"RT_JOBS": str(lanes())})
-
-
-def rt_ci(names, environment):
-    """Runs `rt ci` of these crates and tells all lines but those of what is proved."""
-    environment = {**environment, **os.environ, "PYTHONUNBUFFERED": "1"}
+    """Runs `rt ci`, of the crates that are named or of all, and tells all lines but those of what is proved."""
+    environment = {"RT_JOBS": str(lanes()), **os.environ, "PYTHONUNBUFFERED": "1"}
     how = {"stdout": subprocess.PIPE, "stderr": subprocess.STDOUT, "errors": "replace"}
     whole = subprocess.Popen(["rt", "ci", *names], cwd=TOP, env=environment, **how)
     line = ""
