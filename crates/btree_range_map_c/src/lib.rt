@@ -2,7 +2,7 @@
 //!
 //! A caller keeps a `Handle` of its own, all zero bytes before the first call. It neither copies it
 //! nor changes it, and gives it to one call at a time. Each call answers by a status of
-//! `range_handles`; `bindings/README.md` says what a caller owes.
+//! `range_ffi`; `bindings/README.md` says what a caller owes.
 //!
 //! Where to find what:
 //!

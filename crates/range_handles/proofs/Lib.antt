@@ -1,6 +1,5 @@
 mod AsBox
 mod Fills
-mod Flags
 mod Floats
 mod InOrder
 mod Many

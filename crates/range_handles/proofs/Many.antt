@@ -9,7 +9,7 @@ use Rattle.btree_range_map.specs.MapExtending.{AreBoundAfter}
 use Rattle.btree_range_map.specs.Order.{KeyOrder}
 use Rattle.range_map.proofs.ExtendedLists.{one_bound_after}
 use Rattle.range_sets.proofs.Membership.{one_more}
-use Rattle.range_handles.specs.Flags.{said_range}
+use Rattle.range_ffi.specs.Flags.{said_range}
 
 -- what is said of one more is said last
 more : {X E : Type 0} (said : E → X) (all : List E) (n : ℕ) (d : E) (x : X) → n < length all

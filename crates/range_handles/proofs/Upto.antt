@@ -3,7 +3,7 @@ use Rattle.btree_range_map.specs.Order.{KeyOrder, IsLawful}
 use Rattle.btree_range_map.specs.Range.{IsEmptyRange}
 use Rattle.range_algebra.proofs.Holding.{empty_is_keyless}
 use Rattle.range_algebra.specs.Orders.{le_refl}
-use Rattle.range_handles.specs.Flags.{upto_key}
+use Rattle.range_ffi.specs.Flags.{upto_key}
 
 pub upto_is_full : {K : Type 0} (order : KeyOrder K) → IsLawful order → (key : K)
     → order.is_key key → ¬ IsEmptyRange order (upto_key key)

@@ -1,7 +1,5 @@
 pub mod Alike
-pub mod Bindings
 pub mod Fewest
-pub mod Flags
 pub mod Held
 pub mod Lending
 pub mod Lists

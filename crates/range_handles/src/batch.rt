@@ -5,15 +5,15 @@ ghost use Rattle.btree_range_map.specs.Overlapping.{AreOverlapping};
 ghost use Rattle.btree_range_map.specs.Position.{bound_of};
 ghost use Rattle.btree_range_map.specs.Range.{IsEmptyRange};
 ghost use Rattle.btree_range_map.specs.References.{range_of};
-ghost use Rattle.range_handles.specs.Flags.{from_key, said_range, upto_key};
+ghost use Rattle.range_ffi.specs.Flags.{from_key, said_range, upto_key};
 
-use crate::items::Shown;
 use crate::key::Key;
-use crate::status::{DONE, NONE};
 use btree_range_map::generic::map::{GapsWithin, Overlapping, Pieces};
 use btree_range_map::range::traits::PartialEnum;
 use btree_range_map::storage::Item;
 use btree_range_map::{AnyRange, DefaultMapContainer, RangeMap};
+use range_ffi::items::Shown;
+use range_ffi::status::{DONE, NONE};
 use std::ops::Bound;
 
 /// What gives what crosses to C, one after the other.

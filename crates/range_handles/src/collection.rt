@@ -11,8 +11,8 @@ ghost use Rattle.range_handles.specs.Texts.{data_of, IsDataFault, IsDataRead, Is
 
 use crate::kept_map::KeptMap;
 use crate::kept_set::KeptSet;
-use crate::status::{DONE, NO_MEMORY, NONE, NOT_JSON, NOT_READ, OTHER_KIND, answer};
 use btree_range_map::json::JsonError;
+use range_ffi::status::{DONE, NO_MEMORY, NONE, NOT_JSON, NOT_READ, OTHER_KIND, answer};
 use serde_json::Value;
 use std::alloc::{AllocError, Global};
 

@@ -3,7 +3,7 @@ ghost use Rattle.std.specs.Prelude.{◌≡◌, ◌≢◌, ◌⊎◌, ◌↔◌, 
 
 use crate::collection::Collection;
 use crate::seal::Seal;
-use crate::status::{DONE, NO_MEMORY};
+use range_ffi::status::{DONE, NO_MEMORY};
 use std::alloc::Global;
 use std::mem;
 use std::ptr::null_mut;

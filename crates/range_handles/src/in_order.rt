@@ -4,10 +4,10 @@ ghost use Rattle.btree_range_map.specs.MapExtending.{AreBoundAfter};
 ghost use Rattle.btree_range_map.specs.Iteration.{pair_item};
 ghost use Rattle.btree_range_map.specs.Holding.{box_items};
 
-use crate::items::Told;
 use crate::key::Key;
 use btree_range_map::generic::map::stored_lists_bind_once;
 use btree_range_map::{AnyRange, RangeMap};
+use range_ffi::items::Told;
 use std::alloc::{AllocError, Global};
 
 /// The ranges with their values.

@@ -20,16 +20,16 @@ ghost use Rattle.range_handles.specs.Texts.{reads_unsigned, IsUnsignedRead};
 pub mod together;
 
 use crate::in_order::map_in_order;
-use crate::items::{Shown, Told};
 use crate::key::Key;
 use crate::reads;
-use crate::status::{
-    CONNECTED, DONE, NO_MEMORY, NONE, OCCUPIED, OUT_OF_ORDER, of_disorder, of_obstacle, of_refusal,
-};
 use btree_range_map::json::{Json, JsonError, map_from_json, map_to_json};
 use btree_range_map::range::traits::PartialEnum;
 use btree_range_map::storage::Item;
 use btree_range_map::{AnyRange, MapError, RangeMap};
+use range_ffi::items::{Shown, Told};
+use range_ffi::status::{
+    CONNECTED, DONE, NO_MEMORY, NONE, OCCUPIED, OUT_OF_ORDER, of_disorder, of_obstacle, of_refusal,
+};
 use serde_json::Value;
 use std::alloc::{AllocError, Global};
 use std::marker::Model;

@@ -10,18 +10,18 @@ ghost use Rattle.btree_range_map.specs.Range.{IsEmptyRange, ClonesAreEqual};
 ghost use Rattle.btree_range_map.specs.Shapes.{set_shape};
 ghost use Rattle.serde_json.specs.View.{view};
 ghost use Rattle.serde_json.specs.Written.{compact_text, has_float};
-ghost use Rattle.range_handles.specs.Flags.{said_range};
+ghost use Rattle.range_ffi.specs.Flags.{said_range};
 
 pub mod algebra;
 
-use crate::items::{Shown, Told};
 use crate::key::Key;
 use crate::reads;
-use crate::status::{DONE, NO_MEMORY, NONE};
 use btree_range_map::json::{Json, JsonError, set_from_json, set_to_json};
 use btree_range_map::range::traits::PartialEnum;
 use btree_range_map::storage::Item;
 use btree_range_map::{AnyRange, RangeMap, RangeSet};
+use range_ffi::items::{Shown, Told};
+use range_ffi::status::{DONE, NO_MEMORY, NONE};
 use serde_json::Value;
 use std::alloc::{AllocError, Global};
 use std::marker::Model;

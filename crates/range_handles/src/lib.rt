@@ -1,14 +1,11 @@
 //! Maps and sets of ranges behind handles, for callers from other languages.
 //!
 //! A handle is a struct of the caller's own: closed, or open on a collection whose type the caller
-//! does not see. A call on a collection that may be of another kind answers by a status. A range
-//! crosses as two keys and flags.
+//! does not see. A call on a collection that may be of another kind answers by a status of
+//! `range_ffi`, by which ranges cross too.
 //!
 //! Where to find what:
 //!
-//! - ranges as two keys and flags, and bindings: `src/bounds.rt`, `specs/{Flags,Bindings}.antt`,
-//!   `proofs/Flags.antt`; a range with its value, either way: `src/items.rt`; what a call answers:
-//!   `src/status.rt`
 //! - the handle of a caller in C: a box of a map or a set whose type C does not see, or nothing:
 //!   `src/{handle,seal,parts}.rt`, `specs/Seals.antt`; how a call reaches it where it lies:
 //!   `src/seal/lend.rt`, `specs/Lending.antt`; what it holds in `specs/Held.antt`, that no fewer
@@ -27,15 +24,12 @@
 #![tactic(auto)]
 
 mod batch;
-pub mod bounds;
 pub mod collection;
 pub mod handle;
 mod in_order;
-pub mod items;
 pub mod kept_map;
 pub mod kept_set;
 pub mod key;
 pub mod parts;
 pub mod reads;
 pub mod seal;
-pub mod status;

@@ -11,16 +11,16 @@ ghost use Rattle.btree_range_map.specs.Overlapping.{AreOverlapping};
 ghost use Rattle.btree_range_map.specs.PieceLists.{AreGapsWithin};
 ghost use Rattle.btree_range_map.specs.Pieces.{ArePieces};
 ghost use Rattle.btree_range_map.specs.Range.{IsEmptyRange};
-ghost use Rattle.range_handles.specs.Bindings.{binding_value};
-ghost use Rattle.range_handles.specs.Flags.{number_of, from_key, upto_key, said_range};
+ghost use Rattle.range_ffi.specs.Bindings.{binding_value};
+ghost use Rattle.range_ffi.specs.Flags.{number_of, from_key, upto_key, said_range};
 
 use crate::batch::{fill, fill_one, from, upto, within};
-use crate::bounds::{Binding, Length};
-use crate::items::Shown;
 use crate::key::Key;
-use crate::status::{DONE, NO_ROOM, NONE, answer};
 use btree_range_map::range::traits::measure_counts_keys;
 use btree_range_map::{AnyRange, RangeMap};
+use range_ffi::bounds::{Binding, Length};
+use range_ffi::items::Shown;
+use range_ffi::status::{DONE, NO_ROOM, NONE, answer};
 
 /// How many ranges are stored.
 pub fn range_count<K: Key, V: Eq + Drop>(stored: &RangeMap<K, V>) -> usize

@@ -6,10 +6,10 @@ ghost use Rattle.range_handles.specs.Fewest.{IsLeastRangeCount};
 ghost use Rattle.range_handles.specs.Held.{range_count, emptied};
 ghost use Rattle.range_handles.specs.Texts.{IsTextOf, IsTextRead, IsFaultyText};
 
-use range_handles::handle::Handle;
-use range_handles::status::{
+use range_ffi::status::{
     CLOSED, DONE, NO_MEMORY, NO_ROOM, NONE, NOT_JSON, NOT_READ, OPEN, OTHER_KIND,
 };
+use range_handles::handle::Handle;
 use std::alloc::Global;
 use std::mem;
 

@@ -5,9 +5,9 @@ ghost use Rattle.range_handles.specs.Held.{HoldsMap, HoldsSet, HoldsSignedMap, m
 ghost use Rattle.range_handles.specs.Lists.{unsigned_keys, signed_keys};
 ghost use Rattle.range_handles.specs.MapKinds.{AreMapAndKeys, AreMapsOfOneKind};
 
+use range_ffi::status::{CLOSED, DONE, NO_MEMORY, OPEN, OTHER_KIND};
 use range_handles::handle::Handle;
 use range_handles::kept_map::together;
-use range_handles::status::{CLOSED, DONE, NO_MEMORY, OPEN, OTHER_KIND};
 use std::alloc::Global;
 
 /// Opens a closed handle on a map that binds each key as the other map does, or else as the first

@@ -6,9 +6,9 @@ ghost use Rattle.btree_range_map.specs.TwoSets.{HoldsEither, HoldsBoth, HoldsFir
 ghost use Rattle.range_handles.specs.Held.{HoldsSet, set_items};
 ghost use Rattle.range_handles.specs.Lists.{unsigned_keys};
 
+use range_ffi::status::{CLOSED, DONE, NO_MEMORY, NONE, OPEN, OTHER_KIND};
 use range_handles::handle::Handle;
 use range_handles::kept_set::algebra;
-use range_handles::status::{CLOSED, DONE, NO_MEMORY, NONE, OPEN, OTHER_KIND};
 use std::alloc::Global;
 
 /// Opens a closed handle on a set of the keys that are in either set, which stay as they are.

@@ -5,19 +5,19 @@ ghost use Rattle.btree_range_map.specs.Lookups.{BindsKeyOf, IsConnectedToSome, M
 ghost use Rattle.btree_range_map.specs.Numbers.{IsNumberOfKeys};
 ghost use Rattle.btree_range_map.specs.Range.{IsEmptyRange};
 ghost use Rattle.btree_range_map.specs.Overlapping.{AreOverlapping};
-ghost use Rattle.range_handles.specs.Flags.{signed_range_of, signed_entry_item, number_of, from_key, upto_key};
+ghost use Rattle.range_ffi.specs.Flags.{signed_range_of, signed_entry_item, number_of, from_key, upto_key};
 ghost use Rattle.range_handles.specs.Held.{HoldsSignedMap, signed_items};
 ghost use Rattle.range_handles.specs.Lists.{signed_keys, SignedRanges};
 
 mod many;
 mod together;
 
-use range_handles::bounds::{Length, SignedBounds, SignedEntry};
+use range_ffi::bounds::{Length, SignedBounds, SignedEntry};
+use range_ffi::status::{CLOSED, CONNECTED, DONE, NO_MEMORY, NONE, OCCUPIED, OPEN, OTHER_KIND};
 use range_handles::collection::Collection;
 use range_handles::handle::Handle;
 use range_handles::kept_map::KeptMap;
 use range_handles::reads;
-use range_handles::status::{CLOSED, CONNECTED, DONE, NO_MEMORY, NONE, OCCUPIED, OPEN, OTHER_KIND};
 use std::alloc::Global;
 
 /// Opens a closed handle, on an empty map. Allocates one block.

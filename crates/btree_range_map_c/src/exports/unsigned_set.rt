@@ -7,18 +7,18 @@ ghost use Rattle.btree_range_map.specs.Lookups.{BindsKeyOf};
 ghost use Rattle.btree_range_map.specs.Numbers.{IsNumberOfKeys};
 ghost use Rattle.btree_range_map.specs.Overlapping.{AreOverlapping};
 ghost use Rattle.btree_range_map.specs.Range.{IsEmptyRange};
-ghost use Rattle.range_handles.specs.Flags.{range_of, bounds_item, number_of, from_key, upto_key};
+ghost use Rattle.range_ffi.specs.Flags.{range_of, bounds_item, number_of, from_key, upto_key};
 ghost use Rattle.range_handles.specs.Held.{HoldsSet, set_items};
 ghost use Rattle.range_handles.specs.Lists.{unsigned_keys, KeyRanges};
 
 mod many;
 
-use range_handles::bounds::{Bounds, Length};
+use range_ffi::bounds::{Bounds, Length};
+use range_ffi::status::{CLOSED, DONE, NO_MEMORY, NONE, OPEN, OTHER_KIND};
 use range_handles::collection::Collection;
 use range_handles::handle::Handle;
 use range_handles::kept_set::KeptSet;
 use range_handles::reads;
-use range_handles::status::{CLOSED, DONE, NO_MEMORY, NONE, OPEN, OTHER_KIND};
 use std::alloc::Global;
 
 /// Opens a closed handle, on an empty set. Allocates one block.

@@ -7,7 +7,7 @@ ghost use Rattle.range_handles.specs.MapKinds.{AreMapAndKeys, AreMapsOfOneKind};
 
 use crate::collection::Collection;
 use crate::handle::Handle;
-use crate::status::{DONE, NO_MEMORY, OTHER_KIND};
+use range_ffi::status::{DONE, NO_MEMORY, OTHER_KIND};
 use std::alloc::Global;
 
 /// Opens a closed handle on a map that binds each key as the other does, or else as the first does.

@@ -9,7 +9,7 @@ ghost use Rattle.range_handles.specs.Lists.{unsigned_keys};
 use crate::collection::Collection;
 use crate::handle::Handle;
 use crate::kept_set::KeptSet;
-use crate::status::{DONE, NO_MEMORY, NONE, OTHER_KIND, answer};
+use range_ffi::status::{DONE, NO_MEMORY, NONE, OTHER_KIND, answer};
 use std::alloc::Global;
 
 /// Opens a closed handle on a set of the keys that are in either set.

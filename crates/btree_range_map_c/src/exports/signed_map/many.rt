@@ -8,16 +8,16 @@ ghost use Rattle.btree_range_map.specs.Range.{IsEmptyRange};
 ghost use Rattle.btree_range_map.specs.Overlapping.{AreOverlapping};
 ghost use Rattle.btree_range_map.specs.PieceLists.{AreGapsWithin};
 ghost use Rattle.btree_range_map.specs.Pieces.{ArePieces};
-ghost use Rattle.range_handles.specs.Bindings.{binding_value, signed_piece_item};
-ghost use Rattle.range_handles.specs.Flags.{signed_range_of, signed_entry_item, from_key, upto_key};
+ghost use Rattle.range_ffi.specs.Bindings.{binding_value, signed_piece_item};
+ghost use Rattle.range_ffi.specs.Flags.{signed_range_of, signed_entry_item, from_key, upto_key};
 ghost use Rattle.range_handles.specs.Held.{HoldsSignedMap, signed_items};
 ghost use Rattle.range_handles.specs.Lists.{signed_keys, SignedRanges, SignedPieces};
 
-use range_handles::bounds::{Binding, SignedBounds, SignedEntry, SignedPiece};
+use range_ffi::bounds::{Binding, SignedBounds, SignedEntry, SignedPiece};
+use range_ffi::status::{CLOSED, DONE, NO_MEMORY, NO_ROOM, OTHER_KIND};
 use range_handles::collection::Collection;
 use range_handles::handle::Handle;
 use range_handles::reads;
-use range_handles::status::{CLOSED, DONE, NO_MEMORY, NO_ROOM, OTHER_KIND};
 use std::alloc::Global;
 
 /// Writes the stored ranges from the first that ends at the key or after it on, in ascending

@@ -6,9 +6,9 @@ ghost use Rattle.btree_range_map.specs.Splitting.{IsSplitAt};
 ghost use Rattle.range_handles.specs.Held.{HoldsMap, map_items};
 ghost use Rattle.range_handles.specs.Lists.{unsigned_keys};
 
+use range_ffi::status::{CLOSED, DONE, NO_MEMORY, OTHER_KIND, OUT_OF_ORDER};
 use range_handles::collection::Collection;
 use range_handles::handle::Handle;
-use range_handles::status::{CLOSED, DONE, NO_MEMORY, OTHER_KIND, OUT_OF_ORDER};
 
 /// Moves what lies from the key on, the key with it, to the other map, in place of what that held.
 ///

@@ -5,15 +5,15 @@ ghost use Rattle.btree_range_map.specs.KeySets.{HoldsAllAlso};
 ghost use Rattle.btree_range_map.specs.Overlapping.{AreOverlapping};
 ghost use Rattle.btree_range_map.specs.PieceLists.{AreGapsWithin};
 ghost use Rattle.btree_range_map.specs.Range.{IsEmptyRange};
-ghost use Rattle.range_handles.specs.Flags.{range_of, bounds_item, from_key, upto_key};
+ghost use Rattle.range_ffi.specs.Flags.{range_of, bounds_item, from_key, upto_key};
 ghost use Rattle.range_handles.specs.Held.{HoldsSet, set_items};
 ghost use Rattle.range_handles.specs.Lists.{unsigned_keys, KeyRanges};
 
-use range_handles::bounds::Bounds;
+use range_ffi::bounds::Bounds;
+use range_ffi::status::{CLOSED, DONE, NO_MEMORY, OTHER_KIND};
 use range_handles::collection::Collection;
 use range_handles::handle::Handle;
 use range_handles::reads;
-use range_handles::status::{CLOSED, DONE, NO_MEMORY, OTHER_KIND};
 
 /// Writes the stored ranges from the first that ends at the key or after it on, in ascending
 /// order, as many as the array takes, and how many.

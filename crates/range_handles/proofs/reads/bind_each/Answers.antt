@@ -2,7 +2,7 @@ use Rattle.std.proofs.Common.{◌≡◌, ◌∙◌, arith, rules, refl, sym, sub
 use Rattle.std.proofs.lemmas.List.{drop-set-lt}
 use Rattle.btree_range_map.specs.Bindings.{Binds}
 use Rattle.btree_range_map.specs.Holding.{box_items}
-use Rattle.range_handles.specs.Bindings.{binding_value}
+use Rattle.range_ffi.specs.Bindings.{binding_value}
 use Rattle.range_handles.proofs.Fills.{one_more_pair}
 use Rattle.range_handles.proofs.reads.bind_each.Goals as goal
 

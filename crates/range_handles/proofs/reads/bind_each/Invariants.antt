@@ -2,7 +2,7 @@ use Rattle.std.proofs.Common.{◌≡◌, ◌≤◌, ◌-◌, ℕ, take, drop, le
 use Rattle.std.specs.List.{AllZip}
 use Rattle.btree_range_map.specs.Bindings.{Binds}
 use Rattle.btree_range_map.specs.Holding.{box_items}
-use Rattle.range_handles.specs.Bindings.{binding_value}
+use Rattle.range_ffi.specs.Bindings.{binding_value}
 use Rattle.range_handles.proofs.reads.bind_each.Given as goal
 
 abbrev pub invariant-loop-count : goal.invariant-loop-count

@@ -1,7 +1,7 @@
 use Rattle.std.proofs.Common.{subst}
 use Rattle.btree_range_map.specs.Holding.{box_items}
 use Rattle.btree_range_map.specs.Overlapping.{AreOverlapping}
-use Rattle.range_handles.specs.Flags.{from_key}
+use Rattle.range_ffi.specs.Flags.{from_key}
 use Rattle.range_handles.proofs.reads.next.Goals as goal
 
 pub returns-clause-next : goal.returns-clause-next

@@ -2,7 +2,7 @@ use Rattle.std.proofs.Common.{◌∙◌, ap, subst, sym, reverse, take}
 use Rattle.std.proofs.lemmas.List.{reverse-reverse}
 use Rattle.btree_range_map.specs.Holding.{box_items}
 use Rattle.btree_range_map.specs.Overlapping.{AreOverlapping}
-use Rattle.range_handles.specs.Flags.{upto_key}
+use Rattle.range_ffi.specs.Flags.{upto_key}
 use Rattle.range_handles.proofs.Fills.{from_the_back}
 use Rattle.range_handles.proofs.reads.read_back.Goals as goal
 

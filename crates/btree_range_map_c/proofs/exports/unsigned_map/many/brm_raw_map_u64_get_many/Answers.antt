@@ -2,7 +2,7 @@ use Rattle.std.proofs.Common.{◌≡◌, rules, subst, take, length, nat_eq}
 use Rattle.std.specs.List.{AllZip}
 use Rattle.btree_range_map.specs.Bindings.{Binds}
 use Rattle.btree_range_map.specs.Holding.{box_items}
-use Rattle.range_handles.specs.Bindings.{binding_value}
+use Rattle.range_ffi.specs.Bindings.{binding_value}
 use Rattle.range_handles.specs.Held.{map_items}
 use Rattle.range_handles.specs.Lists.{unsigned_keys, Ranges}
 use Rattle.btree_range_map_c.proofs.exports.unsigned_map.many.brm_raw_map_u64_get_many.Goals as goal

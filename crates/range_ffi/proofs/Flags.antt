@@ -3,7 +3,7 @@ use Rattle.std.proofs.Common.{refl, ◌≡◌, ◌+◌, ℕ, ap, ◌∙◌}
 use Rattle.std.specs.declared.ops.Bound.{Bound}
 use Rattle.std.specs.declared.ops.Bound.TheVariants.{Included, Excluded, Unbounded}
 use Rattle.range_algebra.specs.declared.any.AnyRange.{AnyRange}
-use Rattle.range_handles.specs.Flags.{start_bound, end_bound, start_flag, end_flag, key_or}
+use Rattle.range_ffi.specs.Flags.{start_bound, end_bound, start_flag, end_flag, key_or}
 
 module _ {K : Type 0} where
   start_said : (s e : Bound K) (z : K)

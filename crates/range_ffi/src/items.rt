@@ -2,8 +2,8 @@
 ghost use Rattle.std.specs.Prelude.{◌≡◌};
 ghost use Rattle.range_algebra.specs.declared.any.AnyRange.{AnyRange};
 ghost use Rattle.range_store.specs.declared.storage.Item.{Item};
-ghost use Rattle.range_handles.specs.Bindings.{piece_item, signed_piece_item};
-ghost use Rattle.range_handles.specs.Flags.{bounds_item, entry_item, signed_bounds_item, signed_entry_item};
+ghost use Rattle.range_ffi.specs.Bindings.{piece_item, signed_piece_item};
+ghost use Rattle.range_ffi.specs.Flags.{bounds_item, entry_item, signed_bounds_item, signed_entry_item};
 
 use crate::bounds::{Binding, Bounds, Entry, Piece, SignedBounds, SignedEntry, SignedPiece};
 use range_algebra::any::AnyRange;

@@ -4,12 +4,12 @@ use Rattle.std.specs.declared.ops.Bound.{Bound}
 use Rattle.std.specs.declared.ops.Bound.TheVariants.{Included, Excluded, Unbounded}
 use Rattle.range_algebra.specs.declared.any.AnyRange.{AnyRange}
 use Rattle.range_store.specs.declared.storage.Item.{Item}
-use Rattle.range_handles.specs.declared.bounds.TheConstants.{START_EXCLUDED, START_UNBOUNDED, END_EXCLUDED, END_UNBOUNDED}
-use Rattle.range_handles.specs.declared.bounds.Bounds.{Bounds}
-use Rattle.range_handles.specs.declared.bounds.SignedBounds.{SignedBounds}
-use Rattle.range_handles.specs.declared.bounds.Entry.{Entry}
-use Rattle.range_handles.specs.declared.bounds.SignedEntry.{SignedEntry}
-use Rattle.range_handles.specs.declared.bounds.Length.{Length}
+use Rattle.range_ffi.specs.declared.bounds.TheConstants.{START_EXCLUDED, START_UNBOUNDED, END_EXCLUDED, END_UNBOUNDED}
+use Rattle.range_ffi.specs.declared.bounds.Bounds.{Bounds}
+use Rattle.range_ffi.specs.declared.bounds.SignedBounds.{SignedBounds}
+use Rattle.range_ffi.specs.declared.bounds.Entry.{Entry}
+use Rattle.range_ffi.specs.declared.bounds.SignedEntry.{SignedEntry}
+use Rattle.range_ffi.specs.declared.bounds.Length.{Length}
 
 abbrev pub has_flag : ℕ → ℕ → Bool
 has_flag flags flag = not (nat_eq (bit_and flags flag) 0)

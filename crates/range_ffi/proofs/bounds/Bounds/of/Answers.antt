@@ -1,5 +1,5 @@
-use Rattle.range_handles.proofs.Flags.{range_said}
-use Rattle.range_handles.proofs.bounds.Bounds.of.Goals as goal
+use Rattle.range_ffi.proofs.Flags.{range_said}
+use Rattle.range_ffi.proofs.bounds.Bounds.of.Goals as goal
 
 pub returns : goal.returns
 returns c =

@@ -2,10 +2,10 @@
 use Rattle.std.specs.Prelude.{ℕ, ℤ, Option, Some, None, if◌then◌else◌}
 use Rattle.range_algebra.specs.declared.any.AnyRange.{AnyRange}
 use Rattle.range_store.specs.declared.storage.Item.{Item}
-use Rattle.range_handles.specs.Flags.{range_of, signed_range_of}
-use Rattle.range_handles.specs.declared.bounds.Binding.{Binding}
-use Rattle.range_handles.specs.declared.bounds.Piece.{Piece}
-use Rattle.range_handles.specs.declared.bounds.SignedPiece.{SignedPiece}
+use Rattle.range_ffi.specs.Flags.{range_of, signed_range_of}
+use Rattle.range_ffi.specs.declared.bounds.Binding.{Binding}
+use Rattle.range_ffi.specs.declared.bounds.Piece.{Piece}
+use Rattle.range_ffi.specs.declared.bounds.SignedPiece.{SignedPiece}
 
 -- the value that the binding says, or none
 abbrev pub binding_value : Binding → Option ℕ

@@ -1,7 +1,7 @@
 //! Ranges and entries as they cross to C.
 ghost use Rattle.std.specs.Prelude.{◌≡◌, ◌+◌};
-ghost use Rattle.range_handles.specs.Bindings.{binding_value};
-ghost use Rattle.range_handles.specs.Flags.{range_of, signed_range_of, start_bound, end_bound, start_flag, end_flag, key_or, number_of};
+ghost use Rattle.range_ffi.specs.Bindings.{binding_value};
+ghost use Rattle.range_ffi.specs.Flags.{range_of, signed_range_of, start_bound, end_bound, start_flag, end_flag, key_or, number_of};
 
 use range_algebra::any::AnyRange;
 use std::ops::Bound;

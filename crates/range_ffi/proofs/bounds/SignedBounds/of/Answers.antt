@@ -2,8 +2,8 @@ use Rattle.std.proofs.Common.{rules, pos, ◌∙◌}
 use Rattle.std.proofs.Math.Facts.{to_z-of_z}
 use mir.Val.{SFits}
 use mir.Syntax.{w64}
-use Rattle.range_handles.proofs.Flags.{range_said}
-use Rattle.range_handles.proofs.bounds.SignedBounds.of.Goals as goal
+use Rattle.range_ffi.proofs.Flags.{range_said}
+use Rattle.range_ffi.proofs.bounds.SignedBounds.of.Goals as goal
 
 pub returns : goal.returns
 returns c =
