@@ -3,53 +3,83 @@
 use crate::serve::{Command, Form, Lines, Output, Reading};
 use address_lists::BadLines;
 use address_text::Family;
+use clap::error::ErrorKind;
+use clap::{self, Arg, ArgAction, ArgGroup, ArgMatches, value_parser};
 use std::alloc::{AllocError, Global};
 use std::net::IpAddr;
 
-/// How the program is called.
-pub const USAGE: &str = "\
-usage: cidr merge|common|invert|count [OPTION].. FILE..
-       cidr except [OPTION].. FILE.. --from FILE
-       cidr diff [OPTION].. FILE FILE
-       cidr split --at LENGTH [OPTION].. FILE..
-       cidr compare [--strict] [--skip-bad] FILE FILE
-       cidr has [--strict] [--skip-bad] FILE ADDRESS..
-       cidr --help
-";
+const ABOUT: &str =
+    "Puts lists of IP addresses together, and prints what comes of it in as few prefixes as can be.";
 
-/// What the program does, with examples, after the usage.
-pub const HELP: &str = "
-Puts lists of IP addresses together, and prints what comes of it in as few prefixes as can be.
-
-  merge    the addresses that are in any list
-  common   those that are in all lists
-  except   those of the list after --from that are in no other list
-  diff     those that are in just one of two lists
-  invert   those of both families that are in no list
-  count    how many addresses of each family are in any list
-  split    those that are in any list, in prefixes of LENGTH where they would be shorter
-  compare  how the first of two lists lies to the second: equal, subset, superset, overlapping or
-           apart, and how many addresses each has
-  has      each address, and the range around it in the list, or - where the list does not have it;
-           then the exit status is 1
-
-  --ranges    ranges in place of prefixes
-  --single    each address on a line
-  --json      one JSON object: the set of each family, as arrays of ranges
-  --v4, --v6  only what is of this family is printed
-  --strict    a prefix that has bits of 1 after its length is bad
-  --skip-bad  bad lines are left out, and counted on standard error
-
+const EXAMPLES: &str = "\
 A line is an address, a prefix such as 10.0.0.0/8 or a range such as 10.0.0.0-10.0.0.5, and what
-follows # is a comment. A list that begins with { is JSON, as --json prints it. A file named - is
-standard input.
+follows # is a comment. A list that begins with { is JSON, as --json prints it.
 
+Examples:
   cidr merge blocked.txt more.txt
   cidr except exceptions.txt --from blocked.txt
   cidr invert allowed.txt
   cidr split --at 24 --v4 blocked.txt
-  cidr has blocked.txt 10.1.2.3 2001:db8::1
-";
+  cidr has blocked.txt 10.1.2.3 2001:db8::1";
+
+/// A flag or a command, and what it does.
+type Named = (&'static str, &'static str);
+
+const READING: [Named; 2] = [
+    (
+        "strict",
+        "Refuse a prefix that has bits of 1 after its length",
+    ),
+    (
+        "skip-bad",
+        "Leave bad lines out, and count them on standard error",
+    ),
+];
+
+const FAMILIES: [Named; 2] = [("v4", "Print IPv4 alone"), ("v6", "Print IPv6 alone")];
+
+const FORMS: [Named; 3] = [
+    ("ranges", "Print ranges in place of prefixes"),
+    ("single", "Print each address on a line"),
+    (
+        "json",
+        "Print a JSON object: the set of each family, as an array of ranges",
+    ),
+];
+
+/// The commands that print what comes of any number of lists.
+const COMBINING: [Named; 3] = [
+    ("merge", "Print the addresses that are in any list"),
+    ("common", "Print those that are in all lists"),
+    ("invert", "Print those of both families that are in no list"),
+];
+
+const EXCEPT: Named = (
+    "except",
+    "Print those of the list after --from that are in no other list",
+);
+
+const DIFF: Named = ("diff", "Print those that are in just one of two lists");
+
+const COUNT: Named = (
+    "count",
+    "Print how many addresses of each family are in any list",
+);
+
+const SPLIT: Named = (
+    "split",
+    "Print those that are in any list, in prefixes of LENGTH where they would be shorter",
+);
+
+const COMPARE: Named = (
+    "compare",
+    "Print how the first of two lists lies to the second, and how many addresses each has",
+);
+
+const HAS: Named = (
+    "has",
+    "Print each address, and the range around it in the list, or - and exit with 1",
+);
 
 /// What is to be done with the lists of these names.
 #[derive(Drop)]
@@ -82,221 +112,244 @@ pub struct Request<'a> {
     pub reading: Reading,
 }
 
-/// What a word names.
-#[derive(Clone, Copy, PartialEq, Eq, Debug)]
-enum Verb {
-    Combine(Command),
-    Compare,
-    LookUp,
+fn flag<'a>((name, help): Named, alloc: Global) -> Arg<'a> {
+    Arg::new(alloc, name)
+        .long(name)
+        .action(ArgAction::SetTrue)
+        .help(help)
 }
 
-/// An option whose value is the next word.
-#[derive(Clone, Copy)]
-enum Awaited {
-    From,
-    At,
+/// The command with these flags, of which one at most may be given where they exclude each other.
+fn with_flags<'a>(
+    alloc: Global,
+    command: clap::Command<'a>,
+    flags: &[Named],
+) -> Result<clap::Command<'a>, AllocError> {
+    let mut command = command;
+    for named in flags {
+        command = command.arg(flag(*named, alloc))?;
+    }
+    Ok(command)
 }
 
-/// What the words after a command say.
-#[derive(Drop)]
-struct Options<'a> {
-    /// The names, that of `--from` first.
-    names: Vec<&'a str>,
-    has_from: bool,
-    reading: Reading,
-    only: Option<Family>,
-    /// The form that is asked for; `None` for that of the command.
-    form: Option<Form>,
-    /// The length of `--at`.
-    length: Option<u8>,
-    awaited: Option<Awaited>,
+/// The command with these flags, of which at most one may be given.
+fn with_one_of<'a>(
+    alloc: Global,
+    command: clap::Command<'a>,
+    group: &'static str,
+    flags: &[Named],
+) -> Result<clap::Command<'a>, AllocError> {
+    let mut choice = ArgGroup::new(alloc, group);
+    for (name, _) in flags {
+        choice = choice.arg(*name)?;
+    }
+    with_flags(alloc, command, flags)?.group(choice)
 }
 
-/// Whether the words, which begin with the program's name, are `--help` alone.
-pub fn asks_for_help(words: &[String]) -> bool {
-    match words {
-        [_, word] => word.as_str() == "--help",
-        _ => false,
+/// A command over at least so many lists and at most so many.
+fn over_lists<'a>(
+    alloc: Global,
+    (name, about): Named,
+    least: usize,
+    most: usize,
+) -> Result<clap::Command<'a>, AllocError> {
+    let lists = Arg::new(alloc, "FILE")
+        .required(true)
+        .num_args(least..=most)
+        .help("A list of addresses; - is standard input");
+    let command = clap::Command::new(alloc, name).about(about).arg(lists)?;
+    with_flags(alloc, command, &READING)
+}
+
+/// A command over lists that prints what is of one family alone where that is asked for.
+fn of_families<'a>(
+    alloc: Global,
+    named: Named,
+    least: usize,
+    most: usize,
+) -> Result<clap::Command<'a>, AllocError> {
+    let command = over_lists(alloc, named, least, most)?;
+    with_one_of(alloc, command, "family", &FAMILIES)
+}
+
+/// A command over lists that prints addresses in any form.
+fn printing<'a>(
+    alloc: Global,
+    named: Named,
+    least: usize,
+    most: usize,
+) -> Result<clap::Command<'a>, AllocError> {
+    let command = of_families(alloc, named, least, most)?;
+    with_one_of(alloc, command, "form", &FORMS)
+}
+
+fn except<'a>(alloc: Global) -> Result<clap::Command<'a>, AllocError> {
+    let from = Arg::new(alloc, "from")
+        .long("from")
+        .value_name("FILE")
+        .required(true)
+        .help("The list from which the others are taken");
+    printing(alloc, EXCEPT, 1, usize::MAX)?.arg(from)
+}
+
+fn split<'a>(alloc: Global) -> Result<clap::Command<'a>, AllocError> {
+    let at = Arg::new(alloc, "at")
+        .long("at")
+        .value_name("LENGTH")
+        .required(true)
+        .value_parser(value_parser!(u8).range(0..=128))
+        .help("The length of the prefixes that shorter ones are divided into");
+    of_families(alloc, SPLIT, 1, usize::MAX)?.arg(at)
+}
+
+fn has<'a>(alloc: Global) -> Result<clap::Command<'a>, AllocError> {
+    let addresses = Arg::new(alloc, "ADDRESS")
+        .required(true)
+        .num_args(1..)
+        .help("An address that is looked up");
+    over_lists(alloc, HAS, 1, 1)?.arg(addresses)
+}
+
+/// The program with the commands that print what comes of any number of lists.
+fn with_combining<'a>(
+    alloc: Global,
+    program: clap::Command<'a>,
+) -> Result<clap::Command<'a>, AllocError> {
+    let mut program = program;
+    for named in &COMBINING {
+        program = program.subcommand(printing(alloc, *named, 1, usize::MAX)?)?;
+    }
+    Ok(program)
+}
+
+/// What the program can be asked.
+fn program<'a>(alloc: Global) -> Result<clap::Command<'a>, AllocError> {
+    let program = clap::Command::new(alloc, "cidr")
+        .about(ABOUT)
+        .after_help(EXAMPLES)
+        .subcommand_required(true);
+    with_combining(alloc, program)?
+        .subcommand(except(alloc)?)?
+        .subcommand(printing(alloc, DIFF, 2, 2)?)?
+        .subcommand(of_families(alloc, COUNT, 1, usize::MAX)?)?
+        .subcommand(split(alloc)?)?
+        .subcommand(over_lists(alloc, COMPARE, 2, 2)?)?
+        .subcommand(has(alloc)?)
+}
+
+/// The names of the lists, that of `--from` first.
+fn names_of<'a>(alloc: Global, found: &ArgMatches<'a>) -> Result<Vec<&'a str>, AllocError> {
+    let mut names = Vec::new(alloc);
+    if let Some(from) = found.get_str("from") {
+        names.push(from)?;
+    }
+    if let Some(files) = found.get_strs("FILE") {
+        names.extend_from_slice(files)?;
+    }
+    Ok(names)
+}
+
+fn reading_of(found: &ArgMatches<'_>) -> Reading {
+    Reading {
+        strict: found.get_flag("strict"),
+        bad_lines: if found.get_flag("skip-bad") {
+            BadLines::Skipped
+        } else {
+            BadLines::Refused
+        },
     }
 }
 
-/// A length of a prefix.
-fn length_of(word: &str) -> Option<u8> {
-    match word.parse::<u8>() {
-        Ok(length) if length <= Family::V6.width() && !word.starts_with('+') => Some(length),
-        _ => None,
+fn family_of(found: &ArgMatches<'_>) -> Option<Family> {
+    if found.get_flag("v4") {
+        Some(Family::V4)
+    } else if found.get_flag("v6") {
+        Some(Family::V6)
+    } else {
+        None
     }
 }
 
-impl<'a> Options<'a> {
-    fn new(alloc: Global) -> Options<'a> {
-        Options {
-            names: Vec::new(alloc),
-            has_from: false,
-            reading: Reading {
-                strict: false,
-                bad_lines: BadLines::Refused,
-            },
-            only: None,
-            form: None,
-            length: None,
-            awaited: None,
-        }
-    }
-
-    /// Takes an option, and returns whether it is known.
-    fn take_option(&mut self, word: &str) -> bool {
-        match word {
-            "--strict" => self.reading.strict = true,
-            "--skip-bad" => self.reading.bad_lines = BadLines::Skipped,
-            "--v4" => self.only = Some(Family::V4),
-            "--v6" => self.only = Some(Family::V6),
-            "--ranges" => self.form = Some(Form::Lines(Lines::Ranges)),
-            "--single" => self.form = Some(Form::Lines(Lines::Singles)),
-            "--json" => self.form = Some(Form::Json),
-            "--from" if !self.has_from => self.awaited = Some(Awaited::From),
-            "--at" => self.awaited = Some(Awaited::At),
-            _ => return false,
-        }
-        true
-    }
-
-    /// Takes the next word, and returns whether it can stand there.
-    fn take(&mut self, word: &'a str) -> Result<bool, AllocError> {
-        if word.len() > 1 && word.starts_with('-') {
-            return Ok(self.awaited.is_none() && self.take_option(word));
-        }
-        match self.awaited {
-            Some(Awaited::From) => {
-                self.names.insert(0, word)?;
-                self.has_from = true;
-            }
-            Some(Awaited::At) => {
-                self.length = length_of(word);
-                if self.length.is_none() {
-                    return Ok(false);
-                }
-            }
-            None => self.names.push(word)?,
-        }
-        self.awaited = None;
-        Ok(true)
+fn form_of(name: &str, found: &ArgMatches<'_>) -> Form {
+    match name {
+        "count" => Form::Lines(Lines::Count),
+        "split" => Form::Lines(Lines::Split(found.get_one("at").unwrap_or(Family::V6.width()))),
+        _ if found.get_flag("json") => Form::Json,
+        _ if found.get_flag("ranges") => Form::Lines(Lines::Ranges),
+        _ if found.get_flag("single") => Form::Lines(Lines::Singles),
+        _ => Form::Lines(Lines::Prefixes),
     }
 }
 
-/// What the words say, or `None` where one of them cannot stand there.
-fn read_options<'a>(alloc: Global, words: &'a [String]) -> Result<Option<Options<'a>>, AllocError> {
-    let mut options = Options::new(alloc);
-    for word in words {
-        if !options.take(word.as_str())? {
-            return Ok(None);
-        }
-    }
-    Ok(Some(options))
-}
-
-/// What a command is to do.
-fn verb_of(word: &str) -> Option<Verb> {
-    match word {
-        "merge" | "count" | "split" => Some(Verb::Combine(Command::Merge)),
-        "common" => Some(Verb::Combine(Command::Common)),
-        "except" => Some(Verb::Combine(Command::Except)),
-        "diff" => Some(Verb::Combine(Command::Diff)),
-        "invert" => Some(Verb::Combine(Command::Invert)),
-        "compare" => Some(Verb::Compare),
-        "has" => Some(Verb::LookUp),
-        _ => None,
+/// What a command makes of its lists.
+fn command_of(name: &str) -> Command {
+    match name {
+        "common" => Command::Common,
+        "except" => Command::Except,
+        "diff" => Command::Diff,
+        "invert" => Command::Invert,
+        _ => Command::Merge,
     }
 }
 
-/// The form in which a command prints, or `None` where it does not have the one that is asked for.
-fn form_of(word: &str, form: Option<Form>, length: Option<u8>) -> Option<Form> {
-    match (word, form, length) {
-        ("split", None, Some(length)) => Some(Form::Lines(Lines::Split(length))),
-        ("split", _, _) | (_, _, Some(_)) => None,
-        ("count", None, None) => Some(Form::Lines(Lines::Count)),
-        ("count" | "compare" | "has", Some(_), None) => None,
-        (_, Some(form), None) => Some(form),
-        (_, None, None) => Some(Form::Lines(Lines::Prefixes)),
-    }
-}
-
-/// Whether a command is for so many lists.
-fn takes(command: Command, lists: usize) -> bool {
-    match command {
-        Command::Diff => lists == 2,
-        Command::Except => lists >= 2,
-        _ => lists >= 1,
-    }
-}
-
-/// The addresses that the words are, or `None` where one of them is none.
-fn addresses_of(alloc: Global, words: &[&str]) -> Result<Option<Vec<IpAddr>>, AllocError> {
+/// The addresses that the words are, or a word that is none.
+fn addresses_of<'a>(
+    alloc: Global,
+    words: &[&'a str],
+) -> Result<Result<Vec<IpAddr>, &'a str>, AllocError> {
     let mut addresses = Vec::new(alloc);
     for word in words {
         match word.parse::<IpAddr>() {
             Ok(address) => addresses.push(address)?,
-            Err(_) => return Ok(None),
+            Err(_) => return Ok(Err(*word)),
         }
     }
-    Ok(Some(addresses))
+    Ok(Ok(addresses))
 }
 
-/// The task of the names, or `None` where they are not as many as it takes.
+/// The task of a command, or a word that is no address.
 fn task_of<'a>(
     alloc: Global,
-    verb: Verb,
-    names: Vec<&'a str>,
-    output: Output,
-) -> Result<Option<Task<'a>>, AllocError> {
-    match (verb, names.as_slice(), output.only) {
-        (Verb::Combine(command), lists, _) if takes(command, lists.len()) => {
-            Ok(Some(Task::Combine(command, names, output)))
-        }
-        (Verb::Compare, [first, second], None) => Ok(Some(Task::Compare(*first, *second))),
-        (Verb::LookUp, [list, _, ..], None) => {
-            let addresses = addresses_of(alloc, &names.as_slice()[1..])?;
+    name: &str,
+    found: &ArgMatches<'a>,
+) -> Result<Result<Task<'a>, &'a str>, AllocError> {
+    let names = names_of(alloc, found)?;
+    match (name, names.as_slice()) {
+        ("compare", [first, second]) => Ok(Ok(Task::Compare(*first, *second))),
+        ("has", [list]) => {
+            let words = found.get_strs("ADDRESS").unwrap_or(&[]);
+            let addresses = addresses_of(alloc, words)?;
             Ok(addresses.map(|addresses| Task::LookUp(*list, addresses)))
         }
-        _ => Ok(None),
+        _ => {
+            let output = Output {
+                only: family_of(found),
+                form: form_of(name, found),
+            };
+            Ok(Ok(Task::Combine(command_of(name), names, output)))
+        }
     }
 }
 
-/// What the words ask for, which begin with the program's name; `None` where they are wrong.
-pub fn read_request(alloc: Global, words: &[String]) -> Result<Option<Request<'_>>, AllocError> {
-    let [_, word, words @ ..] = words else {
-        return Ok(None);
+/// What the words ask for, which begin with the program's name. An error has the text and the exit
+/// status of a wrong command line, or of one that asks for help.
+pub fn read_request<'a>(alloc: Global, words: &'a [String]) -> Result<Request<'a>, clap::Error> {
+    let mut program = program(alloc)?;
+    let matches = program.try_get_matches_from_mut(words)?;
+    let (name, found) = match matches.subcommand() {
+        Some(command) => command,
+        None => return Err(program.error(ErrorKind::MissingSubcommand, "a command is missing")?),
     };
-    let word = word.as_str();
-    let Some(verb) = verb_of(word) else {
-        return Ok(None);
-    };
-    let Some(options) = read_options(alloc, words)? else {
-        return Ok(None);
-    };
-    let Some(form) = form_of(word, options.form, options.length) else {
-        return Ok(None);
-    };
-    if options.awaited.is_some() || options.has_from != (word == "except") {
-        return Ok(None);
-    }
-    request_of(alloc, verb, form, options)
-}
-
-fn request_of<'a>(
-    alloc: Global,
-    verb: Verb,
-    form: Form,
-    options: Options<'a>,
-) -> Result<Option<Request<'a>>, AllocError> {
-    let Options {
-        names,
-        reading,
-        only,
-        ..
-    } = options;
-    match task_of(alloc, verb, names, Output { only, form })? {
-        Some(task) => Ok(Some(Request { task, reading })),
-        None => Ok(None),
+    match task_of(alloc, name, found)? {
+        Ok(task) => Ok(Request {
+            task,
+            reading: reading_of(found),
+        }),
+        Err(word) => {
+            let message = format!(in alloc;
+                "invalid value '{word}' for '<ADDRESS>...': expected an address"
+            )?;
+            Err(program.error(ErrorKind::ValueValidation, message.as_str())?)
+        }
     }
 }

@@ -17,7 +17,7 @@ mod lookup;
 mod progress;
 mod serve;
 
-use crate::arguments::{HELP, Request, Task, USAGE, asks_for_help, read_request};
+use crate::arguments::{Request, Task, read_request};
 use crate::compare::compare;
 use crate::inputs::{Input, ToldInput};
 use crate::lookup::look_up;
@@ -109,15 +109,11 @@ fn run(rt: &HostRuntime, request: &Request<'_>) -> anyhow::Result<ExitCode> {
 fn main(rt: HostRuntime) -> anyhow::Result<ExitCode> {
     let alloc = rt.alloc();
     let words: Vec<String> = env::args(&rt)?.collect(alloc)?;
-    if asks_for_help(words.as_slice()) {
-        print!(rt; "{USAGE}{HELP}")?;
-        return Ok(ExitCode::SUCCESS);
-    }
-    match read_request(alloc, words.as_slice())? {
-        Some(request) => run(&rt, &request),
-        None => {
-            eprint!(rt; "{USAGE}")?;
-            Ok(ExitCode::from(2))
+    match read_request(alloc, words.as_slice()) {
+        Ok(request) => run(&rt, &request),
+        Err(error) => {
+            error.print(&rt)?;
+            Ok(ExitCode::from(error.exit_code() as u8))
         }
     }
 }
