@@ -119,7 +119,7 @@ fn flag<'a>((name, help): Named, alloc: Global) -> Arg<'a> {
         .help(help)
 }
 
-/// The command with these flags, of which one at most may be given where they exclude each other.
+/// The command with these flags.
 fn with_flags<'a>(
     alloc: Global,
     command: clap::Command<'a>,
