@@ -23,6 +23,7 @@ use crate::inputs::{Input, ToldInput};
 use crate::lookup::look_up;
 use crate::serve::{Source, Stop, serve};
 use anyhow::{Context, bail};
+use clap::error::ErrorKind;
 use std::env;
 use std::io::{self, BufReader, BufWriter, Write};
 use std::process::ExitCode;
@@ -111,6 +112,7 @@ fn main(rt: HostRuntime) -> anyhow::Result<ExitCode> {
     let words: Vec<String> = env::args(&rt)?.collect(alloc)?;
     match read_request(alloc, words.as_slice()) {
         Ok(request) => run(&rt, &request),
+        Err(error) if error.kind() == ErrorKind::OutOfMemory => bail!("out of memory"),
         Err(error) => {
             error.print(&rt)?;
             Ok(ExitCode::from(error.exit_code() as u8))
