@@ -10,27 +10,6 @@ pub bind_inside-requires-clause-within : goal.bind_inside-requires-clause-within
 bind_inside-requires-clause-within g c =
     surrounded_by c.reaching-reach.ensures.reach c.in-Some.ensures
 
-pub returns-in-Some : goal.returns-in-Some
-returns-in-Some g c =
-    record {
-      succeeds = c.bind_inside.ensures.succeeds;
-      ok = search rules;
-      refused = search rules;
-      most =
-          grind (arith, common_steps);
-      least =
-          grind (arith, common_steps);
-    }
-
-pub returns-in-None : goal.returns-in-None
-returns-in-None g c =
-    record {
-      succeeds =
-          λ keys values enough. c.bind_outside.ensures.succeeds keys (omega (arith, enough));
-      ok = search rules;
-      refused = search rules;
-      most =
-          grind (arith, common_steps);
-      least =
-          grind (arith, common_steps);
-    }
+pub returns-in-None-clause-succeeds : goal.returns-in-None-clause-succeeds
+returns-in-None-clause-succeeds g c = λ keys values enough.
+    c.bind_outside.ensures.succeeds keys (omega (arith, enough))
