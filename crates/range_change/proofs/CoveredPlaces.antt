@@ -1,5 +1,5 @@
 -- Which ranges meet a list in which a range was bound, by the places that the list covers.
-use Rattle.range_change.proofs.Common.{ℕ, refl, true, Bool, Result, Ok, Err, OnOk, List, [], ◌∷◌, ◌++◌, take, drop, ◌⊎◌, inl, inr, ◌↔◌, Every, insert, IsEquivalence, KeyOrder, IsLawful, Position, AnyRange, IsKnownRange, lower, upper, line_of, IsBoundTo, Any, list_is_take_and_drop, any_left, any_right, any_split, le_refl, lt_le, le_lt_trans, lt_not_le, cases, not_le, PLe, PLt, Item, item_lower, item_upper, MeetsSome, MeetAlso, Overlap}
+use Rattle.range_change.proofs.Common.{refl, true, Bool, Result, Ok, Err, OnOk, List, [], ◌∷◌, inl, inr, ◌↔◌, Every, IsEquivalence, KeyOrder, IsLawful, Position, AnyRange, IsKnownRange, lower, upper, line_of, IsBoundTo, le_refl, lt_le, le_lt_trans, lt_not_le, cases, not_le, PLe, PLt, Item, item_lower, item_upper, MeetsSome, MeetAlso, Overlap}
 use Rattle.range_change.proofs.Forms.{nonempty_good, before_is, Known, Chained, Hold, respects_any}
 
 pub on_ok : {A E : Type 0} (P Q : Type 0) (r : Result A E) → (P → Q) → OnOk r P → OnOk r Q
@@ -156,30 +156,3 @@ module _ {K : Type 0} (order : KeyOrder K) (lawful : IsLawful order) where
                 ])
           ],
         )
-
-  -- an item that is put into a list is such, or one that stood there
-  put_any : {X : Type 0} (P : X → Type 0) (xs : List X) (n : ℕ) (x : X)
-      → Any P (take n xs ++ x ∷ drop n xs) ↔ (P x ⊎ Any P xs)
-  put_any P xs n x = (
-    λ h. elim (any_split P (take n xs) (x ∷ drop n xs) h) [
-      | inl k ↦ inr (rw (list_is_take_and_drop xs n) (any_left P (take n xs) (drop n xs) k))
-      | inr k ↦
-          elim k [
-            | inl e ↦ inl e
-            | inr e ↦
-                inr (rw (list_is_take_and_drop xs n) (any_right P (take n xs) (drop n xs) e))
-          ]
-    ],
-    λ h. elim h [
-      | inl e ↦ any_right P (take n xs) (x ∷ drop n xs) (inl e)
-      | inr e ↦ elim (any_split P (take n xs) (drop n xs) (rw (list_is_take_and_drop xs n) at e)) [
-        | inl k ↦ any_left P (take n xs) (x ∷ drop n xs) k
-        | inr k ↦ any_right P (take n xs) (x ∷ drop n xs) (inr k)
-      ]
-    ],
-  )
-
-  -- what meets an item that is put into a list, or one that stood there, meets one of the new list
-  pub meets_put : {V : Type 0} (items : List (Item (AnyRange K) V)) (n : ℕ)
-      (i : Item (AnyRange K) V) → MeetAlso order items (insert items n i) i.key
-  meets_put items n i = λ s known full. put_any (λ j. Overlap order j.key s) items n i

@@ -1,5 +1,6 @@
 -- What is left of an item that a range cuts, by places.
-use Rattle.range_change.proofs.Common.{same_itself, ◌≡◌, refl, sym, ◌∙◌, ◌↔◌, Some, None, false, IsTrue, Bound, Included, Excluded, Unbounded, Ordering, Less, Equal, Greater, is_gt, is_le, tied_back, tied_itself, KeyOrder, IsLawful, start_position, end_position, position_total, AnyRange, IsKnownBound, IsKnownRange, flipped, SameBound, same_start, eq_le, eq_ge, le_lt_trans, lt_not_le, PLt, past, upper, flipped_bound, reaching_is_before_past, flipped_bound_is_past, flipped_known, unbounded_start, unbounded_end}
+use Rattle.range_change.proofs.Common.{same_itself, ◌≡◌, refl, sym, ◌∙◌, ◌↔◌, Some, None, false, IsTrue, Bound, Included, Excluded, Unbounded, Ordering, Less, Equal, Greater, is_gt, is_le, tied_back, tied_itself, KeyOrder, IsLawful, start_position, end_position, position_total, AnyRange, IsKnownBound, IsKnownRange, flipped, SameBound, same_start, eq_le, eq_ge, le_lt_trans, lt_not_le, PLt, past, upper, flipped_bound, reaching_is_before_past, flipped_bound_is_past, flipped_known, unbounded_start, unbounded_end, Option, Border, seam_border}
+use Rattle.range_change.specs.Borders.{IsSeamAt}
 use Rattle.range_change.proofs.Forms.{places}
 
 module _ {K : Type 0} (order : KeyOrder K) (lawful : IsLawful order) where
@@ -82,6 +83,17 @@ module _ {K : Type 0} (order : KeyOrder K) (lawful : IsLawful order) where
 
   pub same_turned : (b : Bound K) → SameBound order (flipped_bound b) (flipped_bound b)
   same_turned b = same_itself order lawful (flipped_bound b)
+
+  -- where nothing is cut, any bound just outside serves
+  pub seam_stands : {P : Type 0} (joined reaching : Option P) (bound : Bound K) {border : Border K P}
+      → IsKnownBound order bound → border ≡ seam_border joined reaching (flipped_bound bound)
+      → IsSeamAt order joined reaching bound border
+  seam_stands joined reaching bound known at = record {
+    cut = flipped_bound bound;
+    at = at;
+    known = known_turned bound known;
+    flipped = same_turned bound;
+  }
 
   not_past_all : (e a : Bound K) → None ≡ flipped e → IsKnownBound order a
       → PLt lawful (past order (end_position order e)) (past order (end_position order a)) → ⊥

@@ -2,7 +2,7 @@
 use Rattle.range_change.proofs.Common.{Line, ◌≡◌, ℕ, ◌+◌, ◌-◌, ◌<◌, ◌≤◌, List, [], ◌∷◌, ◌++◌, length, take, drop, refl, ap, sym, ◌∙◌, arith, subst, Option, Some, None, Bool, true, false, IsTrue, Bor, ◌⊎◌, inl, inr, append_assoc, append-nil, Every, slice_get, option_copied, MatchOption, IsEquivalence, tied_itself, unwrap_or, Equal, Bound, KeyOrder, IsLawful, start_position, end_position, position_total, Position, any_left, any_right, every_weaker, every_append, every_left, every_right, line_of, IsLeftOf, IsRightOf, IsSpliced, flipped, past, lower, upper, Le, Lt, Any, eq_ge, le_lt_trans, le_refl, lt_le, eq_le, le_trans, lt_trans, lt_le_trans, lt_not_le, not_lt, PLe, PLt, IsKnownBound, IsKnownRange, Touches, AnyRange, reaching_is_before_past, flipped_bound_is_past, flipped_known, Item, IsAt, Border, Window, IsLeftShape, IsRightShape, IsRunStart, left_side, right_side, joined_count, seam_border, TouchesBefore, TouchesNoneBefore, TouchesAfter, TouchesNoneAfter, with_start, HasValue, item_lower, item_upper, IsStored, LiesIn, IsLeftPlan, IsRightPlan, ReachesBefore, ReachesAfter, AreWithin, with_first_start, with_last_end, IsLeftCutting, IsRightCutting, IsLeftSeam, IsRightSeam, IsWindow, option_items}
 use Rattle.range_change.proofs.Chains.{chain_before, chain_right, follows_above}
 use Rattle.range_change.proofs.CutParts.{ends_never}
-use Rattle.range_change.proofs.OuterBounds.{last_of, item_with_end, with_last, started_last}
+use Rattle.range_change.proofs.OuterBounds.{every_started, last_of, item_with_end, with_last, started_last}
 use Rattle.range_change.proofs.Forms.{places, Known, Chained, stored_chain, every_front, every_back}
 use Rattle.range_change.proofs.BoundEdits.{cut_joins_none}
 use Rattle.range_change.proofs.Lengths.{border_joins_none}
@@ -150,13 +150,6 @@ module _ {K : Type 0} (order : KeyOrder K) (lawful : IsLawful order) {V : Type 0
         (tied_itself total (start_position order b)) (tied_itself total (item_upper order m))
         (equal.refl m.value)
 
-    start_known : (start : Option (Bound K)) (m : Item (AnyRange K) V)
-        (ms : List (Item (AnyRange K) V)) → IsKnownBound order (unwrap_or start r.start)
-        → Known order lawful same equal (m ∷ ms)
-        → Known order lawful same equal (with_first_start start (m ∷ ms))
-    start_known None m ms known all = all
-    start_known (Some b) m ms known all = ((known, all.0.1), all.1)
-
     takes_start : (start : Option (Bound K)) (m : Item (AnyRange K) V)
         (ms : List (Item (AnyRange K) V)) (i : Item (AnyRange K) V) → start ≡ Some i.key.start
         → PLe lawful (start_position order (unwrap_or start r.start)) (lower order r)
@@ -202,7 +195,8 @@ module _ {K : Type 0} (order : KeyOrder K) (lawful : IsLawful order) {V : Type 0
               (with_first_start plan.start (m ∷ ms))
               (every_append _ (take plan.at items) (option_items plan.rest)
               (every_front _ plan.at items stored.known) plan.side.known)
-              (start_known plan.start m ms plan.side.known_start middle.known);
+              (every_started (λ j. IsKnownRange order j.key) plan.start (m ∷ ms)
+              (λ j b is h. (rw is at plan.side.known_start, h.1)) middle.known);
           extra = plan.frame.extra;
           split = plan.frame.split;
           touched =

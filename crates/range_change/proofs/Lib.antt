@@ -1,6 +1,5 @@
 pub mod AnswerLists
 pub mod ApartRanges
-pub mod Between
 pub mod BoundEdits
 pub mod ChainJoins
 pub mod ChainSides

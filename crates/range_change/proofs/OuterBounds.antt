@@ -97,18 +97,23 @@ module _ {K V : Type 0} where
   length_ended (Some b) (i ∷ j ∷ rest) = let more =
       length_ended (Some b) (j ∷ rest) in omega (arith, more)
 
-  pub every_started : (P : V → Type 0) (start : Option (Bound K)) (xs : List (Item (AnyRange K) V))
-      → Every (λ j. P j.value) xs → Every (λ j. P j.value) (with_first_start start xs)
-  every_started P None xs h = h
-  every_started P (Some b) [] h = h
-  every_started P (Some b) (i ∷ rest) h = h
+  -- what holds of each item, and of one with another outer bound, holds of each once it has that
+  pub every_started : (P : Item (AnyRange K) V → Type 0) (start : Option (Bound K))
+      (xs : List (Item (AnyRange K) V))
+      → ((i : Item (AnyRange K) V) (b : Bound K) → start ≡ Some b → P i → P (with_start i b))
+      → Every P xs → Every P (with_first_start start xs)
+  every_started P None xs f h = h
+  every_started P (Some b) [] f h = h
+  every_started P (Some b) (i ∷ rest) f h = (f i b refl h.0, h.1)
 
-  pub every_ended : (P : V → Type 0) (finish : Option (Bound K)) (xs : List (Item (AnyRange K) V))
-      → Every (λ j. P j.value) xs → Every (λ j. P j.value) (with_last_end finish xs)
-  every_ended P None xs h = h
-  every_ended P (Some b) [] h = h
-  every_ended P (Some b) (i ∷ []) h = h
-  every_ended P (Some b) (i ∷ j ∷ rest) h = (h.0, every_ended P (Some b) (j ∷ rest) h.1)
+  pub every_ended : (P : Item (AnyRange K) V → Type 0) (finish : Option (Bound K))
+      (xs : List (Item (AnyRange K) V))
+      → ((i : Item (AnyRange K) V) (b : Bound K) → finish ≡ Some b → P i → P (with_end i b))
+      → Every P xs → Every P (with_last_end finish xs)
+  every_ended P None xs f h = h
+  every_ended P (Some b) [] f h = h
+  every_ended P (Some b) (i ∷ []) f h = (f i b refl h.0, tt)
+  every_ended P (Some b) (i ∷ j ∷ rest) f h = (h.0, every_ended P (Some b) (j ∷ rest) f h.1)
 
   pub any_ended : (P : Item (AnyRange K) V → Type 0) (finish : Option (Bound K))
       (xs : List (Item (AnyRange K) V))

@@ -2,7 +2,6 @@
 use Rattle.range_change.proofs.Common.{◌≡◌, ℕ, ◌≤◌, ◌+◌, ◌++◌, ◌∷◌, ◌∙◌, List, [], length, take, drop, refl, sym, ap, append_assoc, Bool, inl, arith, insert, IsEquivalence, append-nil, KeyOrder, IsLawful, IsEmptyRange, IsKnownRange, AnyRange, list_is_take_and_drop, Item, IsInserted, IsStored}
 use Rattle.std.proofs.lemmas.List.Edits.{length-insert}
 use Rattle.range_change.specs.Apart.{LiesApartAt}
-use Rattle.range_change.proofs.CoveredPlaces.{meets_put}
 use Rattle.range_change.proofs.ApartRanges.{put_in}
 
 pub one_longer : {X : Type 0} (items new : List X) (place : ℕ) (x : X) → place ≤ length items
@@ -44,5 +43,5 @@ module _ {K : Type 0} (order : KeyOrder K) (lawful : IsLawful order) {V : Type 0
             made = (record { start = inl refl; end = inl refl; value = inl (equal.refl v) }, tt);
           };
         };
-        meets = rw done (meets_put order lawful items place x);
+        meets = rw done put.2;
       }

@@ -353,13 +353,6 @@ module _ {K : Type 0} (order : KeyOrder K) (lawful : IsLawful order) where
                 | inr le ↦ lt_not_le lawful _ _ upto' (le_trans lawful _ _ _ le g.1.0)
               ])
 
-          any_here : {R : Type 0} (P : Item (AnyRange K) V → Type 0)
-              (xs : List (Item (AnyRange K) V)) → Any P xs → ((x : Item (AnyRange K) V) → P x → R)
-              → R
-          any_here P [] h f = absurd h
-          any_here P (x ∷ xs) (inl h) f = f x h
-          any_here P (x ∷ xs) (inr h) f = any_here P xs h f
-
           -- a piece whose start lies in a part that is right is that part
           same_piece : (key part : AnyRange K) (value binding : Option V)
               → Chained order lawful same equal items → IsInside key → IsRight key value
@@ -371,8 +364,8 @@ module _ {K : Type 0} (order : KeyOrder K) (lawful : IsLawful order) where
               let held = common_held (Lo part) key w inside.0 h from upto in
               let other =
               common_held (Lo part) part v known piece.1 (le_refl lawful (Lo part)) good in
-              any_here _ items (both_held (Lo part) _ _ items chain held other)
-              (λ i g. (same_common i.key key part g.0.0 g.1.0, ap Some (sym g.0.1 ∙ g.1.1)))
+              any_use _ _ items (both_held (Lo part) _ _ items chain held other) full
+              (λ i g f. (same_common i.key key part g.0.0 g.1.0, ap Some (sym g.0.1 ∙ g.1.1)))
           same_piece key part (Some w) None chain inside h known piece from upto =
               let others = free_inside part piece.0 in
               absurd (common_place_is_not_clear (Lo part) key part w inside.0 h from upto

@@ -332,8 +332,8 @@ module _ {K : Type 0} {order : KeyOrder K} (lawful : IsLawful order) {V : Type 0
         }
 
     -- the list with the range bound to v
-    pub borders_insert : (new : List (Item (AnyRange K) V)) (v u : V) (at end : ℕ)
-        (left right : Option (Item (AnyRange K) V)) (start finish : Option (Bound K)) →
+    pub borders_insert : (new : List (Item (AnyRange K) V)) (v u : V) {at end : ℕ}
+        {left right : Option (Item (AnyRange K) V)} {start finish : Option (Bound K)} →
         IsLeftBorder order same lawful equal items r v at left start
         → IsRightBorder order same lawful equal items r v end right finish →
         IsLeftFrame order same items r v place w.count at left start
@@ -344,8 +344,8 @@ module _ {K : Type 0} {order : KeyOrder K} (lawful : IsLawful order) {V : Type 0
         ++ option_items (Some (joined_item (record { key = r; value = u }) start finish))
         ++ option_items right ++ drop end items →
         IsInserted order same items new r v
-    borders_insert new v u at end left right start finish on_left on_right frame_left frame_right
-        few values own_value changed =
+    borders_insert new v u {at} {end} {left} {right} {start} {finish} on_left on_right frame_left
+        frame_right few values own_value changed =
         let m : Item (AnyRange K) V = joined_item (record { key = r; value = u }) start finish in
         let all = window.stored.known in
         let front = take at items ++ option_items left in
@@ -372,8 +372,8 @@ module _ {K : Type 0} {order : KeyOrder K} (lawful : IsLawful order) {V : Type 0
               rw list (bound_after order lawful same equal items
               (front ++ m ∷ behind) r v window.known all others result);
           frame =
-              insertion_frame lawful equal window new v u at end left right start finish frame_left
-              frame_right few values own_value changed;
+              insertion_frame lawful equal window new v u frame_left frame_right few values own_value
+              changed;
           meets =
               rw list (meets_bound order lawful same equal items
               (front ++ m ∷ behind) r v all others

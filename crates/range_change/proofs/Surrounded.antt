@@ -118,9 +118,9 @@ module _ {K : Type 0} {order : KeyOrder K} (lawful : IsLawful order) {V : Type 0
       let list =
       standing_item_splits_list items place (place + w.count) x
       (omega (arith, window.in_range, some)) here next in
-      borders_insert lawful equal window items v x.value place (place + w.count) None None
-      (Some x.key.start) (Some x.key.end) left right (left_frame_inside lawful equal window v x here
-      some) (right_frame_inside lawful equal window v x here_end some) (omega arith) values
+      borders_insert lawful equal window items v x.value left right
+      (left_frame_inside lawful equal window v x here some)
+      (right_frame_inside lawful equal window v x here_end some) (omega arith) values
       (λ e. absurd (omega (arith, within.one, e))) list
 
   -- the range is cut out of it: what the copies are, and the list with the parts
@@ -174,11 +174,11 @@ module _ {K : Type 0} {order : KeyOrder K} (lawful : IsLawful order) {V : Type 0
         right_border_rest lawful equal window (place + w.count) v behind window.in_range
         (right_rest_cut lawful equal window x here_end some
         (within.ends x here) parts.start start_is.0 start_is.1 parts.value copied) other in
-        borders_insert lawful equal window new v v place (place + w.count) (Some front)
-        (Some behind) None None left right (left_frame_cut lawful equal window v x here some
-        parts.end end_is.1 differs) (right_frame_cut lawful equal window v x here_end some
-        parts.start parts.value start_is.1 copied other) (omega (arith, within.one)) (equal.refl v)
-        (λ e. refl) (list_is (Some (record { key = r; value = v })) divided)
+        borders_insert lawful equal window new v v left right
+        (left_frame_cut lawful equal window v x here some parts.end end_is.1 differs)
+        (right_frame_cut lawful equal window v x here_end some parts.start parts.value start_is.1
+        copied other) (omega (arith, within.one)) (equal.refl v) (λ e. refl)
+        (list_is (Some (record { key = r; value = v })) divided)
 
     -- the range is unbound
     pub divided_alone : IsDivided others new at parts None → IsRemoved order same items new r

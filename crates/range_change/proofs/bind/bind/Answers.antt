@@ -1,4 +1,4 @@
-use Rattle.range_change.proofs.Common.{rules, arith, common_steps}
+use Rattle.range_change.proofs.Common.{arith}
 use Rattle.range_change.proofs.Surrounded.{reach_is_met, surrounded_by}
 use Rattle.range_change.proofs.bind.bind.Goals as goal
 
