@@ -22,21 +22,6 @@ changed_length items new a b d at end within within_end made =
       length-drop end items,
     )
 
--- where some items stand for a run
-pub replaced_length : {T : Type 0} (items new put : List T) (at left : ℕ)
-    → at + left ≤ length items → new ≡ take at items ++ (put ++ drop (at + left) items)
-    → length new + left ≡ length items + length put
-replaced_length items new put at left within made =
-    omega (
-      arith,
-      ap length made,
-      within,
-      length-append (take at items) (put ++ drop (at + left) items),
-      length-append put (drop (at + left) items),
-      length-take-le at items (omega (arith, within)),
-      length-drop (at + left) items,
-    )
-
 pub le_sum : (a b : ℕ) → a ≤ a + b
 le_sum a b = omega arith
 

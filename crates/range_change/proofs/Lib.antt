@@ -40,5 +40,4 @@ pub mod Succeeding
 pub mod Surrounded
 pub mod Tests
 pub mod UpdatedLists
-pub mod WalkStarts
 pub mod Windows

@@ -1,5 +1,5 @@
 -- What becomes of the one item that a range meets where it surrounds the range.
-use Rattle.range_change.proofs.Common.{◌≡◌, ℕ, ◌+◌, ◌-◌, ◌<◌, ◌≤◌, List, [], ◌∷◌, ◌++◌, length, take, drop, get_or, refl, ap, sym, ◌∙◌, arith, Option, Some, None, Result, Bool, true, false, IsTrue, IsSome, IsEquivalence, Shared, ForSome, Bor, Every, KeyOrder, IsLawful, position_cmp, SameBound, lower, upper, Lt, IsKnownBound, AnyRange, good_at, Item, AnswersPiece, MayAnswer, IsInserted, IsRemoved, IsDivided, flipped_bound, with_end, Overlap, IsConnectedTo, ArePieces, ReachesBefore, ReachesAfter, IsReach, IsSurrounded, item_upper, option_items, Window, PLt, lt_le}
+use Rattle.range_change.proofs.Common.{◌≡◌, ℕ, ◌+◌, ◌-◌, ◌<◌, ◌≤◌, List, [], ◌∷◌, ◌++◌, length, take, drop, get_or, refl, ap, sym, ◌∙◌, arith, Option, Some, None, Result, Bool, true, false, IsTrue, IsEquivalence, Shared, Bor, Every, KeyOrder, IsLawful, SameBound, lower, upper, IsKnownBound, AnyRange, Item, AnswersPiece, MayAnswer, IsInserted, IsRemoved, IsDivided, flipped_bound, with_end, Overlap, IsConnectedTo, ArePieces, ReachesBefore, ReachesAfter, IsReach, IsSurrounded, option_items, Window, PLt, lt_le}
 use Rattle.range_change.specs.declared.cut.DividedItem.{DividedItem}
 use Rattle.range_change.specs.declared.reach.Reach.{Reach}
 use Rattle.range_change.proofs.RangePieces.{IsFull, all_full, item_at}
@@ -28,13 +28,6 @@ module _ {K : Type 0} (order : KeyOrder K) {V : Type 0} {P : Type 0} (is_good : 
   few_after None reach = omega arith
   few_after (Some p) reach = omega (arith, reach.2)
 
-  ends_by : (last : Option P) → count ≡ 1 → IsSome last
-      → ReachesAfter order is_good rank items r place count last → (x : Item (AnyRange K) V)
-      → x ≡ get_or items place x → Lt (position_cmp order.cmp) (upper order r) (item_upper order x)
-  ends_by None one some reach x read = absurd (cc)
-  ends_by (Some p) one some reach x read = let at : place ≡ place + count - 1 =
-      omega (arith, one) in reach.3 x (read ∙ ap (λ n. get_or items n x) at)
-
 module _ {K : Type 0} {order : KeyOrder K} {V : Type 0} {same : V → V → Bool} {P : Type 0}
     {is_good : P → Type 0} {rank : P → ℕ} {items : List (Item (AnyRange K) V)} {r : AnyRange K}
     {place : ℕ} where
@@ -47,14 +40,6 @@ module _ {K : Type 0} {order : KeyOrder K} {V : Type 0} {same : V → V → Bool
     few_after order is_good rank items r place reach.window.count reach.last found.last,
   )
 
-  -- and a run can start there
-  pub run_can_start : {reach : Reach P} → IsReach order same is_good rank items r reach place
-      → ForSome reach.window.from is_good × ForSome reach.first (λ p. is_good p × (rank p ≡ place))
-  run_can_start {reach} found = (
-    good_at is_good rank (length items) reach.window.from place found.window.position,
-    λ p is. let first = rw is at found.first in (first.0, first.1),
-  )
-
   -- so none does where the window is empty
   pub none_reach : {reach : Reach P} → IsReach order same is_good rank items r reach place
       → reach.window.count ≡ 0 → (reach.first ≡ None) × (reach.last ≡ None)
@@ -63,24 +48,6 @@ module _ {K : Type 0} {order : KeyOrder K} {V : Type 0} {same : V → V → Bool
         none_of reach.first (rw none at met.0),
         none_of reach.last (rw none at met.1),
       )
-
-  -- the one item of a window, which reaches out of the range on both sides
-  pub surrounded_by : {reach : Reach P} {p : P}
-      → IsReach order same is_good rank items r reach place
-      → (reach.window.count ≡ 1) × (reach.first ≡ Some p) × IsSome reach.last
-      → IsSurrounded order same is_good rank items r reach.window place p
-  surrounded_by {reach} {p} found alone =
-      let first = rw alone.1 at found.first in
-      record {
-        window = found.window;
-        one = alone.0;
-        good = first.0;
-        here = first.1;
-        starts = first.3;
-        ends =
-            ends_by order is_good rank items r place reach.window.count reach.last alone.0 alone.2
-            found.last;
-      }
 
 module _ {K : Type 0} {order : KeyOrder K} (lawful : IsLawful order) {V : Type 0}
     {same : V → V → Bool} (equal : IsEquivalence same) {P : Type 0} {is_good : P → Type 0}

@@ -1,9 +1,6 @@
 use Rattle.range_change.proofs.Common.{sym, ◌∙◌, get_or_read}
 use Rattle.range_change.proofs.append.is_clear_after.Goals as goal
 
-pub get-requires : goal.get-requires
-get-requires g c = c.requires c.in-Some.p c.in-Some.is
-
 pub returns-in-Some : goal.returns-in-Some
 returns-in-Some g c =
     let storage = g.C.Storage in
@@ -15,6 +12,3 @@ returns-in-Some g c =
     rw (is
     ∙ sym (get_or_read (storage.items stored) (storage.rank stored p) y within c.get.ensures x))
     c.lies_apart.ensures)
-
-pub returns-in-None : goal.returns-in-None
-returns-in-None g c = rw c.in-None.is

@@ -1,4 +1,4 @@
-use Rattle.range_change.proofs.Common.{refl, bound_of}
+use Rattle.range_change.proofs.Common.{arith, common_steps, refl, bound_of}
 use Rattle.range_change.proofs.CutParts.{seam_stands}
 use Rattle.range_change.proofs.borders.seam_at.Goals as goal
 
@@ -14,10 +14,4 @@ returns-in-None-None-clause-seam g c =
     (rw (c.in-None-None.is-0, c.in-None-None.is-1) refl)
 
 pub returns-in_ok-cut-in-None-Some-clause-seam : goal.returns-in_ok-cut-in-None-Some-clause-seam
-returns-in_ok-cut-in-None-Some-clause-seam g c =
-    record {
-      cut = c.in_ok-cut-in-None-Some.cut;
-      at = rw (c.in-None-Some.is-0, c.in-None-Some.is-1) refl;
-      known = c.in_ok-cut-in-None-Some.ensures.known;
-      flipped = c.in_ok-cut-in-None-Some.ensures.flipped;
-    }
+returns-in_ok-cut-in-None-Some-clause-seam g c = grind (arith, common_steps)

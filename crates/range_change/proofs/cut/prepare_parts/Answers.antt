@@ -1,9 +1,6 @@
 use Rattle.range_change.proofs.Common.{◌≡◌, get_or, get_or_read}
 use Rattle.range_change.proofs.cut.prepare_parts.Goals as goal
 
-pub get-requires : goal.get-requires
-get-requires g c = (c.reserve.ensures.positions c.args.p c.requires.good).0
-
 pub returns-clause-value : goal.returns-clause-value
 returns-clause-value g c = λ d.
     let storage = g.C.Storage in

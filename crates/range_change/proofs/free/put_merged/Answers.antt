@@ -1,11 +1,6 @@
 use Rattle.range_change.proofs.Common.{common_steps, arith, refl}
 use Rattle.range_change.proofs.Planned.{plan_run, planned_fits, planned_insert, planned_size}
-use Rattle.range_change.proofs.Surrounded.{run_can_start}
 use Rattle.range_change.proofs.free.put_merged.Goals as goal
-
-pub run_start-requires : goal.run_start-requires
-run_start-requires g c = let can =
-    run_can_start c.requires.reach in record { from = can.0; first = can.1 }
 
 pub run_length-requires-clause-fits : goal.run_length-requires-clause-fits
 run_length-requires-clause-fits g c =

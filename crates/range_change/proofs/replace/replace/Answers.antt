@@ -1,9 +1,8 @@
-use Rattle.range_change.proofs.Common.{false≢true, common_steps, ◌-◌, length, refl, ap, ◌∙◌, arith, slice_get, option_copied, place_before, joined_count}
+use Rattle.range_change.proofs.Common.{common_steps, ◌-◌, length, refl, ap, ◌∙◌, arith, slice_get, option_copied, place_before, joined_count}
 use Rattle.range_change.proofs.InsertionFrames.{all_meet}
 use Rattle.range_change.proofs.Replaced.{IsReplacement, plans_replacement, replacement_fits, replacement_is_made}
 use Rattle.range_change.proofs.JoinedMiddle.{seam_count}
 use Rattle.range_change.proofs.SpelledChanges.{replaced_keeps_spelling}
-use Rattle.range_change.proofs.Surrounded.{run_can_start}
 use Rattle.range_change.proofs.replace.replace.Given.{Over}
 use Rattle.range_change.proofs.replace.replace.Goals.{After-run_start}
 use Rattle.range_change.proofs.replace.replace.Goals as goal
@@ -45,10 +44,6 @@ plan_is_replacement g c =
     c.requires.within c.requires.reach.window.known c.requires.reach.window.nonempty
     c.requires.reach.window.in_range c.requires.apart is_first is_last c.run_start.ensures
     (c.joined_left-before.ensures lawful equal) (c.joined_right-after.ensures lawful equal)
-
-pub run_start-requires : goal.run_start-requires
-run_start-requires g c = let can =
-    run_can_start c.requires.reach in record { from = can.0; first = can.1 }
 
 pub run_length-requires-clause-fits : goal.run_length-requires-clause-fits
 run_length-requires-clause-fits g c =
@@ -109,9 +104,11 @@ returns g c =
       none_put = λ none. refl;
     }
 
+pub run_start-requires : goal.run_start-requires
+run_start-requires g c = grind (arith, common_steps)
+
 pub returns-in_err-reserve-clause-none_put : goal.returns-in_err-reserve-clause-none_put
-returns-in_err-reserve-clause-none_put g c = λ none.
-    absurd (false≢true (c.in_err-reserve.ensures.succeeds (grind (arith, common_steps))))
+returns-in_err-reserve-clause-none_put g c = grind (arith, common_steps)
 
 pub joined_left-before-requires-clause-within : goal.joined_left-before-requires-clause-within
 joined_left-before-requires-clause-within g c = grind (arith, common_steps)

@@ -1,27 +1,6 @@
-use Rattle.range_change.proofs.Common.{[], ◌≡◌, ◌+◌, ◌≤◌, ◌∷◌, ◌++◌, length, take, drop, ap, ◌∙◌, arith, unwrap_or, AnyRange, Item, place_before, option_items}
+use Rattle.range_change.proofs.Common.{common_steps, ◌≡◌, ◌+◌, ◌∷◌, ◌++◌, length, take, drop, ap, ◌∙◌, arith, unwrap_or, AnyRange, Item, place_before, option_items}
 use Rattle.range_change.proofs.BoundEdits.{kept_place, opening_regroups, regrouped_out}
-use Rattle.range_change.proofs.Lengths.{replaced_length}
-use Rattle.range_change.proofs.splice.change.Given.{Over}
-use Rattle.range_change.proofs.splice.change.Goals.{After-open_sides-start}
 use Rattle.range_change.proofs.splice.change.Goals as goal
-
--- the run is within the list that the borders leave
-run_within : (g : Over) (c : After-open_sides-start g)
-    → place_before (g.C.Storage.rank c.open_sides-start.new.stored)
-    (length (g.C.Storage.items c.open_sides-start.new.stored)) c.args.sides.run.at
-    + c.args.sides.run.left ≤ length (g.C.Storage.items c.open_sides-start.new.stored)
-run_within g c =
-    let kept = c.open_sides-start.ensures in
-    let here = kept_place kept.positions kept.size c.args.sides.run.at c.requires.good in
-    rw (here, kept.size) c.requires.in_range
-
-pub replace_run-requires-clause-in_range : goal.replace_run-requires-clause-in_range
-replace_run-requires-clause-in_range g c =
-    run_within g (goal.at.replace_run-requires-clause-in_range g c).After-open_sides-start
-
-pub remove_rest-requires-clause-in_range : goal.remove_rest-requires-clause-in_range
-remove_rest-requires-clause-in_range g c =
-    run_within g (goal.at.remove_rest-requires-clause-in_range g c).After-open_sides-start
 
 pub returns-in-Some-clause-list : goal.returns-in-Some-clause-list
 returns-in-Some-clause-list g c = λ at end before behind start finish left_shape right_shape le.
@@ -80,30 +59,14 @@ returns-in-None-clause-list g c = λ at end before behind start finish left_shap
     ∙ regrouped_out (take at items) (option_items before) (option_items behind)
     (drop end items))))
 
+pub replace_run-requires-clause-in_range : goal.replace_run-requires-clause-in_range
+replace_run-requires-clause-in_range g c = grind (arith, common_steps)
+
+pub remove_rest-requires-clause-in_range : goal.remove_rest-requires-clause-in_range
+remove_rest-requires-clause-in_range g c = grind (arith, common_steps)
+
 pub returns-in-Some-clause-space : goal.returns-in-Some-clause-space
-returns-in-Some-clause-space g c =
-    let kept = c.open_sides-start.ensures in
-    omega (
-      arith,
-      kept.size,
-      kept.space,
-      c.replace_run.ensures.space,
-      replaced_length (g.C.Storage.items c.open_sides-start.new.stored)
-          (g.C.Storage.items c.replace_run.new.stored) (_ ∷ []) _ c.args.sides.run.left
-          (run_within g (goal.at.returns-in-Some-clause-space g c).After-open_sides-start)
-          c.replace_run.ensures.list,
-    )
+returns-in-Some-clause-space g c = grind (arith, common_steps)
 
 pub returns-in-None-clause-space : goal.returns-in-None-clause-space
-returns-in-None-clause-space g c =
-    let kept = c.open_sides-start.ensures in
-    omega (
-      arith,
-      kept.size,
-      kept.space,
-      c.remove_rest.ensures.space,
-      replaced_length (g.C.Storage.items c.open_sides-start.new.stored)
-          (g.C.Storage.items c.remove_rest.new.stored) [] _ c.args.sides.run.left
-          (run_within g (goal.at.returns-in-None-clause-space g c).After-open_sides-start)
-          c.remove_rest.ensures.list,
-    )
+returns-in-None-clause-space g c = grind (arith, common_steps)

@@ -28,9 +28,3 @@ returns-clause-opened g c = λ at from upto end before behind start finish left_
       front = both.front from (omega (arith, le)) ∙ opened.front;
       behind = both.behind;
     }
-
-pub returns-clause-positions : goal.returns-clause-positions
-returns-clause-positions g c = λ p h.
-    let k = c.open_left-start.ensures.positions p h in
-    let l = c.open_right-end.ensures.positions p k.0 in
-    (l.0, rw l.1 k.1)

@@ -1,4 +1,4 @@
-use Rattle.range_change.proofs.Common.{◌≡◌, ◌+◌, ◌-◌, ◌∷◌, ◌++◌, [], length, take, ap, sym, ◌∙◌, arith, length-append, append_assoc, append-nil, list_is_take_and_drop, place_before, place_at, at_place, good_at}
+use Rattle.range_change.proofs.Common.{common_steps, ◌≡◌, ◌+◌, ◌-◌, ◌∷◌, ◌++◌, [], length, take, ap, sym, ◌∙◌, arith, length-append, append_assoc, append-nil, list_is_take_and_drop, place_before, place_at, at_place}
 use Rattle.range_change.proofs.OuterBounds.{put_next, put_all, prefix_is_all}
 use Rattle.range_change.proofs.splice.replace_run_by.Goals as goal
 
@@ -70,19 +70,7 @@ returns g c =
     was.changed was.fewer c.requires.in_range (rw here at c.remove_rest.ensures.list))
 
 pub put-cursor-requires-clause-good : goal.put-cursor-requires-clause-good
-put-cursor-requires-clause-good g c =
-    let storage = g.C.Storage in
-    let now = c.loop-item.stored in
-    let before = storage.items c.args.stored.now in
-    let place = place_before (storage.rank c.args.stored.now) (length before) c.args.run.at in
-    good_at (storage.is_good now) (storage.rank now) (length (storage.items now))
-    c.loop-item.cursor.at (place + length c.loop-item.yielded) c.loop-item.invariant.position
+put-cursor-requires-clause-good g c = grind (arith, common_steps)
 
 pub remove_rest-requires-clause-good : goal.remove_rest-requires-clause-good
-remove_rest-requires-clause-good g c =
-    let storage = g.C.Storage in
-    let now = c.loop-item.stored in
-    let before = storage.items c.args.stored.now in
-    let place = place_before (storage.rank c.args.stored.now) (length before) c.args.run.at in
-    good_at (storage.is_good now) (storage.rank now) (length (storage.items now))
-    c.loop-item.cursor.at (place + length c.loop-item.yielded) c.loop-item.invariant.position
+remove_rest-requires-clause-good g c = grind (arith, common_steps)

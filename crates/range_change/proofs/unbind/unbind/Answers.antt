@@ -17,6 +17,3 @@ pub returns-clause-unmet_unchanged : goal.returns-clause-unmet_unchanged
 returns-clause-unmet_unchanged g c = λ none.
     absurd (some_meets g.met.K.PartialEnum.lawful g.met.V.Eq.laws
     c.find_window-window.ensures.window (omega (arith, c.if-window-eq0.false)) none)
-
-pub unbind_met-requires-clause-some : goal.unbind_met-requires-clause-some
-unbind_met-requires-clause-some g c = omega (arith, c.if-window-eq0.false)

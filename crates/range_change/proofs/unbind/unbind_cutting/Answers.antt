@@ -1,34 +1,6 @@
-use Rattle.range_change.proofs.Common.{arith, refl, None, place_before, length, ◌+◌}
+use Rattle.range_change.proofs.Common.{refl, None, place_before, length, ◌+◌}
 use Rattle.range_change.proofs.Planned.{cut_run, cut_fits, cut_removes, cut_size}
-use Rattle.range_change.proofs.Surrounded.{run_can_start}
 use Rattle.range_change.proofs.unbind.unbind_cutting.Goals as goal
-
-pub run_start-requires : goal.run_start-requires
-run_start-requires g c = let can =
-    run_can_start c.requires.reach in record { from = can.0; first = can.1 }
-
-pub run_length-requires-clause-fits : goal.run_length-requires-clause-fits
-run_length-requires-clause-fits g c =
-    omega (
-      arith,
-      c.requires.reach.window.in_range,
-      g.met.C.Storage.length_fits c.args.stored.now,
-    )
-
-pub change-requires : goal.change-requires
-change-requires g c =
-    let plan =
-    cut_run g.met.K.PartialEnum.lawful g.met.V.Eq.laws c.requires.reach c.requires.apart
-    (rw c.start.ensures at c.in_ok-left.ensures.seam) (rw c.end.ensures at
-    c.in_ok-right.ensures.seam) c.run_start.ensures c.run_length.ensures in
-    let fit = cut_fits c.requires.reach plan in
-    record {
-      left = fit.left_good;
-      right = fit.right_good;
-      good = fit.good;
-      in_range = fit.in_range;
-      space = omega arith;
-    }
 
 pub returns : goal.returns
 returns g c =
