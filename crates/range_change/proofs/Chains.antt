@@ -52,8 +52,7 @@ module _ {L V X : Type 0} (line : Line L V X) where
   follows_from low x (y ∷ ys) h f =
       let first = le_trans _ _ _ h f.0.0 in (
         first,
-        follows_from low y ys (le_trans _ _ _ first
-            (lt_le _ _ f.1.0)) f.1.1,
+        follows_from low y ys (le_trans _ _ _ first (lt_le _ _ f.1.0)) f.1.1,
       )
 
   -- what follows an item starts at its end at least
@@ -65,8 +64,7 @@ module _ {L V X : Type 0} (line : Line L V X) where
       → Le line.cmp low (line.lo x) → Every (λ y. Le line.cmp low (line.lo y)) (x ∷ xs)
   chain_above low x xs h le = (
     le,
-    follows_from low x xs (le_trans _ _ _ le
-        (lt_le _ _ h.0)) h.1,
+    follows_from low x xs (le_trans _ _ _ le (lt_le _ _ h.0)) h.1,
   )
 
   pub strictly_leads : (x : X) (p : L) (v : V) → Lt line.cmp (line.hi x) p → Leads line x p v
@@ -88,9 +86,7 @@ module _ {L V X : Type 0} (line : Line L V X) where
   chain_before (x ∷ []) y ys h = (h.1.0, tt)
   chain_before (x ∷ x' ∷ xs) y ys h =
       let rest = chain_before (x' ∷ xs) y ys h.1.1 in
-      let strict =
-      le_lt_trans _ _ _ h.1.0.0
-      (lt_le_trans _ _ _ h.1.1.0 rest.0.0) in
+      let strict = le_lt_trans _ _ _ h.1.0.0 (lt_le_trans _ _ _ h.1.1.0 rest.0.0) in
       (strictly_leads x (line.lo y) (line.value y) strict, rest)
 
   pub chains_join : (xs : List X) (y : X) (ys : List X) → IsChain line xs → IsChain line (y ∷ ys)
@@ -103,8 +99,7 @@ module _ {L V X : Type 0} (line : Line L V X) where
       → IsChain line ys → Every (λ y. Le line.cmp d (line.lo y)) ys → Follows line x ys
   strict_follows x [] c d h l k e = tt
   strict_follows x (y ∷ ys) c d h l k e = (
-    strictly_leads x (line.lo y) (line.value y) (le_lt_trans _ _ _ h
-        (lt_le_trans _ _ _ l e.0)),
+    strictly_leads x (line.lo y) (line.value y) (le_lt_trans _ _ _ h (lt_le_trans _ _ _ l e.0)),
     k,
   )
 
@@ -123,10 +118,8 @@ module _ {L V X : Type 0} (line : Line L V X) where
   follows_like x y (z ∷ zs) e s f = (
     (
       le_trans _ _ _ (eq_le _ _ e) f.0.0,
-      λ k t.
-          f.0.1 (le_trans _ _ _ k (eq_le _ _ e))
-          (line.equal.congr (line.value x) (line.value y) (line.value z)
-          (same_is_symmetric (line.value y) (line.value x) s) ∙ t),
+      λ k t. f.0.1 (le_trans _ _ _ k (eq_le _ _ e)) (line.equal.congr (line.value x) (line.value y)
+          (line.value z) (same_is_symmetric (line.value y) (line.value x) s) ∙ t),
     ),
     f.1,
   )

@@ -38,23 +38,20 @@ module _ {K : Type 0} (order : KeyOrder K) (lawful : IsLawful order) where
   overlapping_ranges_share_place r s known others good good_s h =
       let met = (overlap_is r s known others).0 h in
       elim (cases lawful (lower order r) (lower order s)) [
-        | inl l ↦
-            record {
-              place = lower order s;
-              from = lt_le lawful _ _ l;
-              upto = met.1;
-              other_from =
-                  le_refl lawful (lower order s);
-              other_upto = good_s;
-            }
-        | inr g ↦
-            record {
-              place = lower order r;
-              from = le_refl lawful (lower order r);
-              upto = good;
-              other_from = g;
-              other_upto = met.0;
-            }
+        | inl l ↦ record {
+          place = lower order s;
+          from = lt_le lawful _ _ l;
+          upto = met.1;
+          other_from = le_refl lawful (lower order s);
+          other_upto = good_s;
+        }
+        | inr g ↦ record {
+          place = lower order r;
+          from = le_refl lawful (lower order r);
+          upto = good;
+          other_from = g;
+          other_upto = met.0;
+        }
       ]
 
   pub shared_place_is_overlap : (r s : AnyRange K) (p : Position K) → IsKnownRange order r
@@ -121,30 +118,24 @@ module _ {K : Type 0} (order : KeyOrder K) (lawful : IsLawful order) where
         let any = respects_any order lawful same equal in
         let good_s = (nonempty_good order lawful s known_s).0 full in (
           λ h.
-              let at =
-              met_range_is_covered s new known_s good_s all_new
+              let at = met_range_is_covered s new known_s good_s all_new
               (chained_items_have_places new changed.chain) h in
               elim (cases lawful at.place (lower order r)) [
-                | inl below ↦
-                    inr (held_place_is_met s items at.place known_s all at.from at.upto
+                | inl below ↦ inr (held_place_is_met s items at.place known_s all at.from at.upto
                     ((changed.outside at.place (λ u. true) any (inl below)).0 at.held))
                 | inr from ↦ elim (cases lawful at.place (upper order r)) [
-                  | inl upto ↦
-                      inl (shared_place_is_overlap r s at.place known known_s from upto at.from
-                      at.upto)
-                  | inr above ↦
-                      inr (held_place_is_met s items at.place known_s all at.from at.upto
+                  | inl upto ↦ inl (shared_place_is_overlap r s at.place known known_s from upto
+                      at.from at.upto)
+                  | inr above ↦ inr (held_place_is_met s items at.place known_s all at.from at.upto
                       ((changed.outside at.place (λ u. true) any (inr above)).0 at.held))
                 ]
               ],
           λ h. elim h [
-            | inl met ↦ let at =
-                overlapping_ranges_share_place r s known known_s good good_s
-                met in held_place_is_met s new at.place known_s all_new at.other_from
-                at.other_upto ((changed.inside at.place (λ u. true) any at.from at.upto).1 refl)
+            | inl met ↦ let at = overlapping_ranges_share_place r s known known_s good good_s met in
+                held_place_is_met s new at.place known_s all_new at.other_from at.other_upto
+                ((changed.inside at.place (λ u. true) any at.from at.upto).1 refl)
             | inr met ↦
-                let at =
-                met_range_is_covered s items known_s good_s all
+                let at = met_range_is_covered s items known_s good_s all
                 (chained_items_have_places items chain) met in
                 held_place_is_met s new at.place known_s all_new at.from at.upto
                 (elim (cases lawful at.place (lower order r)) [

@@ -15,13 +15,11 @@ module _ {K : Type 0} (order : KeyOrder K) (lawful : IsLawful order) where
       let other = flipped_bound_is_past order lawful (Excluded b) (Included b) refl in
       let starts = same_start order lawful (Included a) (Included b) h in
       total.congr (past order (end_position order (Excluded a))) (start_position order (Included a))
-      (past order (end_position order (Excluded b))) at
-      ∙ (total.congr (start_position order (Included a)) (start_position order (Included b))
-      (past order (end_position order (Excluded b))) starts
-      ∙ tied_back total (past order (end_position order (Excluded b)))
-      (start_position order (Included b)) other)
-  same_past Unbounded Unbounded h =
-      tied_itself (position_total order.cmp lawful.total)
+      (past order (end_position order (Excluded b))) at ∙ (total.congr
+      (start_position order (Included a)) (start_position order (Included b))
+      (past order (end_position order (Excluded b))) starts ∙ tied_back total
+      (past order (end_position order (Excluded b))) (start_position order (Included b)) other)
+  same_past Unbounded Unbounded h = tied_itself (position_total order.cmp lawful.total)
       (past order (end_position order Unbounded))
   same_past (Included a) (Excluded b) h = absurd h
   same_past (Included a) Unbounded h = absurd h
@@ -48,11 +46,9 @@ module _ {K : Type 0} (order : KeyOrder K) (lawful : IsLawful order) where
       → PLt lawful (start_position order a) (start_position order s)
       → SameBound order (flipped_bound s) b
       → places order lawful (past order (end_position order b)) (start_position order s) ≡ Equal
-  cut_end a (Included k) b known l h =
-      end_by (Included k) (Excluded k) b
+  cut_end a (Included k) b known l h = end_by (Included k) (Excluded k) b
       (flipped_bound_is_past order lawful (Excluded k) (Included k) refl) h
-  cut_end a (Excluded k) b known l h =
-      end_by (Excluded k) (Included k) b
+  cut_end a (Excluded k) b known l h = end_by (Excluded k) (Included k) b
       (flipped_bound_is_past order lawful (Included k) (Excluded k) refl) h
   cut_end a Unbounded b known l h =
       absurd (lt_not_le lawful _ _ l (unbounded_start order lawful a known))
@@ -72,11 +68,9 @@ module _ {K : Type 0} (order : KeyOrder K) (lawful : IsLawful order) where
       → PLt lawful (past order (end_position order e))
       (past order (end_position order a)) → SameBound order (flipped_bound e) b
       → places order lawful (start_position order b) (past order (end_position order e)) ≡ Equal
-  cut_start a (Included k) b known l h =
-      start_by (Included k) (Excluded k) b
+  cut_start a (Included k) b known l h = start_by (Included k) (Excluded k) b
       (flipped_bound_is_past order lawful (Included k) (Excluded k) refl) h
-  cut_start a (Excluded k) b known l h =
-      start_by (Excluded k) (Included k) b
+  cut_start a (Excluded k) b known l h = start_by (Excluded k) (Included k) b
       (flipped_bound_is_past order lawful (Excluded k) (Included k) refl) h
   cut_start a Unbounded b known l h =
       absurd (lt_not_le lawful _ _ l (unbounded_end order lawful a known))
@@ -121,11 +115,9 @@ module _ {K : Type 0} (order : KeyOrder K) (lawful : IsLawful order) where
   ends_after_is r i s known others turns =
       let cmp = places order lawful in
       let at = flipped_bound_is_past order lawful r.end s (sym turns) in
-      let reach =
-      reaching_is_before_past order lawful s i.end
-      (flipped_known order lawful r.end s (sym turns) known.1) others.1 in
+      let reach = reaching_is_before_past order lawful s i.end (flipped_known order lawful r.end s
+      (sym turns) known.1) others.1 in
       let test = le_is (cmp (start_position order s) (end_position order i.end)) in (
         λ h. le_lt_trans lawful _ _ _ (eq_le lawful _ _ at) (reach.0 (test.0 h)),
-        λ l.
-            test.1 (reach.1 (le_lt_trans lawful _ _ _ (eq_ge lawful _ _ at) l)),
+        λ l. test.1 (reach.1 (le_lt_trans lawful _ _ _ (eq_ge lawful _ _ at) l)),
       )

@@ -1,5 +1,5 @@
 -- Which items give way to a range, and what stands in their place.
-use Rattle.range_change.proofs.Common.{◌≡◌, ℕ, zero, suc, ◌+◌, ◌-◌, ◌<◌, ◌≤◌, List, [], ◌∷◌, ◌++◌, length, take, drop, get_or, refl, ap, sym, ◌∙◌, arith, subst, Option, Some, None, Bool, true, IsTrue, ◌⊎◌, inl, inr, length-append, length-drop, append_assoc, append-nil, get_or-drop, get_or-take, drop-take, drop-drop, length-take-le, IsEquivalence, Every, unwrap_or, Bound, KeyOrder, IsLawful, AnyRange, Any, lt_trans, le_lt_trans, PLt, line_of, upper, list_is_take_and_drop, every_at, any_left, any_right, any_none, every_weaker, every_append, every_left, every_right, Item, item_lower, MeetsSome, Overlap, IsWindow, option_items, Window, IsEndOf, HasValue, IsNewItem, IsSpliceFrame, IsInsertionFrame, IsPart, IsRemovalFrame, joined_item, IsLeftFrame, IsRightFrame}
+use Rattle.range_change.proofs.Common.{common_steps, ◌≡◌, ℕ, zero, suc, ◌+◌, ◌-◌, ◌<◌, ◌≤◌, List, [], ◌∷◌, ◌++◌, length, take, drop, get_or, refl, ap, sym, ◌∙◌, arith, subst, Option, Some, None, Bool, true, IsTrue, ◌⊎◌, inl, inr, length-append, append_assoc, append-nil, get_or-drop, get_or-take, drop-take, drop-drop, IsEquivalence, Every, unwrap_or, Bound, KeyOrder, IsLawful, AnyRange, Any, lt_trans, le_lt_trans, PLt, line_of, upper, list_is_take_and_drop, every_at, any_left, any_right, any_none, every_weaker, every_append, every_left, every_right, Item, item_lower, MeetsSome, Overlap, IsWindow, option_items, Window, IsEndOf, HasValue, IsNewItem, IsSpliceFrame, IsInsertionFrame, IsPart, IsRemovalFrame, joined_item, IsLeftFrame, IsRightFrame}
 use Rattle.range_change.proofs.Chains.{chain_before, chain_left}
 use Rattle.range_change.proofs.CoveredPlaces.{chained_items_have_places, overlap_is}
 use Rattle.range_change.proofs.ItemPlaces.{element_at, element_at_is_read, listed_at, upto_item}
@@ -11,8 +11,7 @@ use Rattle.range_change.proofs.Windows.{every_both}
 
 pub run_size : {X : Type 0} (xs : List X) (place count : ℕ) → place + count ≤ length xs
     → length (take count (drop place xs)) ≡ count
-run_size xs place count within =
-    length-take-le count (drop place xs) (omega (arith, length-drop place xs))
+run_size xs place count within = grind (arith, common_steps)
 
 -- an item of a run
 pub any_of_run : {X : Type 0} (P : X → Type 0) (xs : List X) (place count k : ℕ) (x : X)
@@ -35,16 +34,12 @@ none_right (x ∷ xs) ys e = absurd (cc)
 -- a run of some items is not empty
 pub run_some : {X : Type 0} (xs : List X) (place count : ℕ) → place + count ≤ length xs → 0 < count
     → take count (drop place xs) ≡ [] → ⊥
-run_some xs place count within some e =
-    let size = run_size xs place count within in
-    let none : length (take count (drop place xs)) ≡ 0 = ap length e in
-    omega (arith, size, none)
+run_some xs place count within some e = grind (arith, common_steps)
 
 pub parts_of : {X : Type 0} (xs : List X) (place count : ℕ)
     → drop place xs ≡ take count (drop place xs) ++ drop (place + count) xs
-parts_of xs place count =
-    list_is_take_and_drop (drop place xs) count
-    ∙ ap (λ ys. take count (drop place xs) ++ ys) (drop-drop count place xs)
+parts_of xs place count = list_is_take_and_drop (drop place xs) count ∙ ap
+    (λ ys. take count (drop place xs) ++ ys) (drop-drop count place xs)
 
 append_reassociates : {X : Type 0} (a b c d e : List X)
     → (a ++ b) ++ (c ++ (d ++ e)) ≡ a ++ (b ++ c ++ d) ++ e
@@ -69,11 +64,9 @@ widened_frame items new Way place count front extra rest body beyond more tail b
       run = extra ++ met ++ more;
       others = rest ++ body ++ beyond;
       behind = tail;
-      before =
-          list_is_take_and_drop items place
-          ∙ (ap (λ ys. ys ++ drop place items) before
-          ∙ (ap (λ ys. (front ++ extra) ++ ys) (parts_of items place count
-          ∙ ap (λ ys. met ++ ys) after) ∙ append_reassociates front extra met more tail));
+      before = list_is_take_and_drop items place ∙ (ap (λ ys. ys ++ drop place items) before ∙
+          (ap (λ ys. (front ++ extra) ++ ys) (parts_of items place count ∙ ap (λ ys. met ++ ys)
+          after) ∙ append_reassociates front extra met more tail));
       after = changed ∙ reassociate_pieces front rest body beyond tail;
       such = such;
     }
@@ -94,17 +87,14 @@ module _ {K : Type 0} {order : KeyOrder K} (lawful : IsLawful order) {V : Type 0
   made_within : (run wider made : List (Item (AnyRange K) V))
       → ((Q : Item (AnyRange K) V → Type 0) → Any Q run → Any Q wider) → (r : AnyRange K) (v : V)
       → Every (IsNewItem order same run r v) made → Every (IsNewItem order same wider r v) made
-  made_within run wider made inside r v all =
-      every_weaker _ _ made (λ j h.
-      record {
-        start = within_wider (inside (λ i. j.key.start ≡ i.key.start)) h.start;
-        end = within_wider (inside (λ i. j.key.end ≡ i.key.end)) h.end;
-        value = elim h.value [
-          | inl e ↦ inl e
-          | inr k ↦ inr (inside (λ i. IsTrue (same j.value i.value)) k)
-        ];
-      })
-      all
+  made_within run wider made inside r v all = every_weaker _ _ made (λ j h. record {
+    start = within_wider (inside (λ i. j.key.start ≡ i.key.start)) h.start;
+    end = within_wider (inside (λ i. j.key.end ≡ i.key.end)) h.end;
+    value = elim h.value [
+      | inl e ↦ inl e
+      | inr k ↦ inr (inside (λ i. IsTrue (same j.value i.value)) k)
+    ];
+  }) all
 
   -- a value that a run has equals v where all values of the run do
   has_equal : (run : List Stored) (u v : V) → IsTrue (same u v) ⊎ HasValue order same run u
@@ -135,20 +125,17 @@ module _ {K : Type 0} {order : KeyOrder K} (lawful : IsLawful order) {V : Type 0
         let within : k < length items = omega (arith, some, window.in_range) in
         let x = element_at items k within in
         let read = element_at_is_read items k within x in
-        let whole =
-        rw (listed_at items k x within read) at (stored_chain order lawful same equal items
-        window.stored) in
+        let whole = rw (listed_at items k x within read) at (stored_chain order lawful same equal
+        items window.stored) in
         let line = line_of order lawful same equal in
         let rest = drop (k + 1) items in
-        let front =
-        every_both _ _ (take k items) (chain_before line (take k items) x rest whole)
+        let front = every_both _ _ (take k items) (chain_before line (take k items) x rest whole)
         (chained_items_have_places order lawful same equal (take k items)
         (chain_left line (take k items) (x ∷ rest) whole)) in
         let own = rw (← read) at (window.meets x some) in
         rw (upto_item items k end x (omega (arith, some)) within read)
-        (every_append _ (take k items) (x ∷ [])
-        (every_weaker _ _ (take k items) (λ i h. lt_trans lawful _ _ _ h.1
-        (le_lt_trans lawful _ _ _ h.0.0 own)) front) (own, tt))
+        (every_append _ (take k items) (x ∷ []) (every_weaker _ _ (take k items)
+        (λ i h. lt_trans lawful _ _ _ h.1 (le_lt_trans lawful _ _ _ h.0.0 own)) front) (own, tt))
 
     -- each item of the window meets the range
     meets_by : (n : ℕ) → w.count ≡ n
@@ -158,10 +145,9 @@ module _ {K : Type 0} {order : KeyOrder K} (lawful : IsLawful order) {V : Type 0
         let rest = drop place items in
         let under =
         every_back _ place (take (place + w.count) items) (starts_under (omega (arith, e))) in
-        every_with _ _ _ (take w.count rest)
-        (every_front _ w.count rest (every_back _ place items window.stored.known))
-        (every_both _ _ (take w.count rest) (rw (drop-take place w.count items) at under)
-        (every_front _ w.count rest window.above))
+        every_with _ _ _ (take w.count rest) (every_front _ w.count rest
+        (every_back _ place items window.stored.known)) (every_both _ _ (take w.count rest)
+        (rw (drop-take place w.count items) at under) (every_front _ w.count rest window.above))
         (λ i k h. (overlap_is order lawful i.key r k window.known).1 h)
 
     pub all_meet : Every (λ i. Overlap order i.key r) (take w.count (drop place items))
@@ -174,9 +160,8 @@ module _ {K : Type 0} {order : KeyOrder K} (lawful : IsLawful order) {V : Type 0
         let x = element_at items place within in
         let read = element_at_is_read items place within x in
         let size = run_size items place w.count window.in_range in
-        let met =
-        every_at (λ i. Overlap order i.key r) (take w.count (drop place items)) 0 x all_meet
-        (omega (arith, size)) in
+        let met = every_at (λ i. Overlap order i.key r) (take w.count (drop place items)) 0 x
+        all_meet (omega (arith, size)) in
         let plus : place + 0 ≡ place = omega arith in
         let there : get_or (take w.count (drop place items)) 0 x ≡ get_or items place x =
         get_or-take w.count (drop place items) 0 x some
@@ -185,9 +170,8 @@ module _ {K : Type 0} {order : KeyOrder K} (lawful : IsLawful order) {V : Type 0
         (subst (λ (y : Item (AnyRange K) V). Overlap order y.key r) (there ∙ sym read) met)
 
     pub some_meets : 0 < w.count → Every (λ i. Overlap order i.key r → ⊥) items → ⊥
-    some_meets some none =
-        any_none (λ i. Overlap order i.key r) (λ i. Overlap order i.key r → ⊥) items none
-        (λ i no met. no met) (meets_some some)
+    some_meets some none = any_none (λ i. Overlap order i.key r) (λ i. Overlap order i.key r → ⊥)
+        items none (λ i no met. no met) (meets_some some)
 
     -- nothing gives way to nothing
     pub not_cut : IsRemovalFrame order same items items r
@@ -206,8 +190,7 @@ module _ {K : Type 0} {order : KeyOrder K} (lawful : IsLawful order) {V : Type 0
         Every (IsPart order same (take w.count (drop place items)) r) (option_items left)
         → Every (IsPart order same (take w.count (drop place items)) r) (option_items right) →
         new ≡ take place items ++ option_items left ++ [] ++ option_items right
-        ++ drop (place + w.count) items →
-        IsRemovalFrame order same items new r
+        ++ drop (place + w.count) items → IsRemovalFrame order same items new r
     cut_way new left right some made_left made_right list =
         let met = take w.count (drop place items) in
         let size = run_size items place w.count window.in_range in
@@ -216,26 +199,22 @@ module _ {K : Type 0} {order : KeyOrder K} (lawful : IsLawful order) {V : Type 0
           run = met;
           others = option_items left ++ option_items right;
           behind = drop (place + w.count) items;
-          before =
-              list_is_take_and_drop items place
-              ∙ (ap (λ ys. take place items ++ ys) (parts_of items place w.count)
-              ∙ sym (append_assoc (take place items) met (drop (place + w.count) items)));
-          after =
-              list
-              ∙ rw (append-nil (take place items ++ option_items left))
+          before = list_is_take_and_drop items place ∙ (ap (λ ys. take place items ++ ys)
+              (parts_of items place w.count) ∙ sym (append_assoc (take place items) met
+              (drop (place + w.count) items)));
+          after = list ∙ rw (append-nil (take place items ++ option_items left))
               (ap (λ ys. ys ++ drop (place + w.count) items)
               (append_assoc (take place items) (option_items left) (option_items right)));
           such = record {
             concerned = all_meet;
-            few =
-                omega (
-                  arith,
-                  some,
-                  size,
-                  one_item left,
-                  one_item right,
-                  length-append (option_items left) (option_items right),
-                );
+            few = omega (
+              arith,
+              some,
+              size,
+              one_item left,
+              one_item right,
+              length-append (option_items left) (option_items right),
+            );
             whole = λ e. absurd (run_some items place w.count window.in_range some e);
             made = every_append _ (option_items left) (option_items right) made_left made_right;
           };
@@ -246,11 +225,9 @@ module _ {K : Type 0} {order : KeyOrder K} (lawful : IsLawful order) {V : Type 0
         IsLeftFrame order same items r v place w.count at left start
         → IsRightFrame order same items r v place w.count end right finish →
         length (option_items left) + length (option_items right) ≤ w.count + 1 →
-        same u v ≡ true → (w.count ≡ 0 → u ≡ v) →
-        new ≡ take at items ++ option_items left
+        same u v ≡ true → (w.count ≡ 0 → u ≡ v) → new ≡ take at items ++ option_items left
         ++ option_items (Some (joined_item (record { key = r; value = u }) start finish))
-        ++ option_items right ++ drop end items →
-        IsInsertionFrame order same items new r v
+        ++ option_items right ++ drop end items → IsInsertionFrame order same items new r v
     insertion_frame new v u {at} {end} {left} {right} {start} {finish} on_left on_right few values
         own_value list =
         let m : Item (AnyRange K) V = joined_item (record { key = r; value = u }) start finish in
@@ -279,38 +256,33 @@ module _ {K : Type 0} {order : KeyOrder K} (lawful : IsLawful order) {V : Type 0
         widened_frame items new _ place w.count (take at items) on_left.extra (option_items left)
         (option_items (Some m)) (option_items right) on_right.extra (drop end items) on_left.split
         on_right.split list (record {
-          concerned =
-              every_append _ (on_left.extra ++ met) on_right.extra
-              (every_append _ on_left.extra met
-              (every_weaker _ _ on_left.extra (λ i h. inr (inl h.0, h.1)) on_left.touched)
-              (every_weaker _ _ met (λ i h. inl h) all_meet))
-              (every_weaker _ _ on_right.extra (λ i h. inr (inr h.0, h.1)) on_right.touched);
-          few =
-              omega (
-                arith,
-                few,
-                size,
-                length-append (on_left.extra ++ met) on_right.extra,
-                length-append on_left.extra met,
-                length-append (option_items left ++ option_items (Some m)) (option_items right),
-                length-append (option_items left) (option_items (Some m)),
-              );
-          whole = λ e. let l =
-              on_left.whole (none_left (on_left.extra ++ met) on_right.extra e) in let k =
-              on_right.whole (none_right on_left.extra (met ++ on_right.extra)
-              (sym regroup ∙ e)) in let none : w.count ≡ 0 = sym size
-              ∙ ap length (none_right on_left.extra met
-              (none_left (on_left.extra ++ met) on_right.extra e)) in rw (l.0, k.0, l.1, k.1)
-              (ap (λ (y : V). record { key = r; value = y } ∷ []) (own_value none));
+          concerned = every_append _ (on_left.extra ++ met) on_right.extra
+              (every_append _ on_left.extra met (every_weaker _ _ on_left.extra
+              (λ i h. inr (inl h.0, h.1)) on_left.touched) (every_weaker _ _ met (λ i h. inl h)
+              all_meet)) (every_weaker _ _ on_right.extra (λ i h. inr (inr h.0, h.1))
+              on_right.touched);
+          few = omega (
+            arith,
+            few,
+            size,
+            length-append (on_left.extra ++ met) on_right.extra,
+            length-append on_left.extra met,
+            length-append (option_items left ++ option_items (Some m)) (option_items right),
+            length-append (option_items left) (option_items (Some m)),
+          );
+          whole = λ e. let l = on_left.whole (none_left (on_left.extra ++ met) on_right.extra e) in
+              let k = on_right.whole (none_right on_left.extra (met ++ on_right.extra)
+              (sym regroup ∙ e)) in let none : w.count ≡ 0 = sym size ∙ ap length
+              (none_right on_left.extra met (none_left (on_left.extra ++ met) on_right.extra e)) in
+              rw (l.0, k.0, l.1, k.1) (ap (λ (y : V). record { key = r; value = y } ∷ [])
+              (own_value none));
           one = λ all.
-              let on_left_none =
-              no_rest (on_left.extra ++ met) r v left
-              (every_left (λ i. IsTrue (same i.value v))
-              (on_left.extra ++ met) on_right.extra all) on_left.made on_left.apart in
-              let on_right_none =
-              no_rest (met ++ on_right.extra) r v right
-              (every_right (λ i. IsTrue (same i.value v)) on_left.extra
-              (met ++ on_right.extra) (rw regroup at all)) on_right.made on_right.apart in
+              let on_left_none = no_rest (on_left.extra ++ met) r v left
+              (every_left (λ i. IsTrue (same i.value v)) (on_left.extra ++ met) on_right.extra all)
+              on_left.made on_left.apart in
+              let on_right_none = no_rest (met ++ on_right.extra) r v right
+              (every_right (λ i. IsTrue (same i.value v)) on_left.extra (met ++ on_right.extra)
+              (rw regroup at all)) on_right.made on_right.apart in
               omega (
                 arith,
                 on_left_none,
@@ -318,8 +290,7 @@ module _ {K : Type 0} {order : KeyOrder K} (lawful : IsLawful order) {V : Type 0
                 length-append (option_items left ++ option_items (Some m)) (option_items right),
                 length-append (option_items left) (option_items (Some m)),
               );
-          made =
-              every_append _ (option_items left ++ option_items (Some m)) (option_items right)
+          made = every_append _ (option_items left ++ option_items (Some m)) (option_items right)
               (every_append _ (option_items left) (option_items (Some m)) made_left (own, tt))
               made_right;
         })

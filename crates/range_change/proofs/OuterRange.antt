@@ -25,9 +25,8 @@ module _ {K : Type 0} (order : KeyOrder K) (lawful : IsLawful order) {V : Type 0
           run = [];
           others = x ∷ [];
           behind = drop place items;
-          before =
-              list_is_take_and_drop items place
-              ∙ ap (λ xs. xs ++ drop place items) (sym (append-nil front));
+          before = list_is_take_and_drop items place ∙ ap (λ xs. xs ++ drop place items)
+              (sym (append-nil front));
           after = done ∙ sym (append_assoc front (x ∷ []) (drop place items));
           such = record {
             concerned = tt;

@@ -25,9 +25,8 @@ pub record IsFit {K V P : Type 0} (is_good : P → Type 0) (rank : P → ℕ)
       (place_before rank (length items) from + count) end after finish
 
 module _ {K V P : Type 0} {is_good is_good' : P → Type 0} {rank rank' : P → ℕ}
-    {items items' : List (Item (AnyRange K) V)}
-    (kept : (p : P) → is_good p → is_good' p × (rank' p ≡ rank p))
-    (same_list : items' ≡ items) where
+    {items items' : List (Item (AnyRange K) V)} (kept : (p : P) → is_good p → is_good' p ×
+    (rank' p ≡ rank p)) (same_list : items' ≡ items) where
   -- so they are where positions and items are kept since they were planned
   pub plan_fits : (left right : Border K P) (from : Option P) (count at begin upto end : ℕ)
       (before after : Option (Item (AnyRange K) V)) (start finish : Option (Bound K)) →
@@ -45,23 +44,15 @@ module _ {K V P : Type 0} {is_good is_good' : P → Type 0} {rank rank' : P → 
       let least =
       border_length is_good rank items right_side right upto end after finish on_right in
       record {
-        left_good =
-            border_good kept same_list left_side left at
-            begin before start on_left;
-        right_good =
-            border_good kept same_list right_side right
-            upto end after finish on_right;
+        left_good = border_good kept same_list left_side left at begin before start on_left;
+        right_good = border_good kept same_list right_side right upto end after finish on_right;
         good = good_at is_good' rank' (length items) from begin moved;
         in_range = rw (here, size, sum) (omega (arith, least, within));
-        on_left =
-            subst (λ n. IsLeftShape is_good' rank' items' left at n before start) (sym here)
-            (shape_kept kept same_list left_side left at
-            begin before start on_left);
-        on_right =
-            subst (λ n. IsRightShape is_good' rank' items' right n end after finish)
-            (sym (ap (λ n. n + count) here ∙ sum))
-            (shape_kept kept same_list right_side right
-            upto end after finish on_right);
+        on_left = subst (λ n. IsLeftShape is_good' rank' items' left at n before start) (sym here)
+            (shape_kept kept same_list left_side left at begin before start on_left);
+        on_right = subst (λ n. IsRightShape is_good' rank' items' right n end after finish)
+            (sym (ap (λ n. n + count) here ∙ sum)) (shape_kept kept same_list right_side right upto
+            end after finish on_right);
       }
 
 module _ {K : Type 0} (order : KeyOrder K) {V : Type 0} (same : V → V → Bool)
@@ -92,8 +83,7 @@ module _ {K : Type 0} {order : KeyOrder K} (lawful : IsLawful order) {V : Type 0
     {rank : P → ℕ} {items : List (Item (AnyRange K) V)} {r : AnyRange K} {reach : Reach P}
     {place : ℕ} (found : IsReach order same is_good rank items r reach place)
     {border behind : Border K P} {from : Option P} {count : ℕ} (apart : AreApart reach) where
-  pub plan_run : {joins : Joins P} {v : V}
-      → IsSeamAt order joins.before reach.first r.start border
+  pub plan_run : {joins : Joins P} {v : V} → IsSeamAt order joins.before reach.first r.start border
       → IsSeamAt order joins.after reach.last r.end behind
       → ((b : Bound K) (at : Option P) → IsKnownBound order b
       → SameBound order (flipped_bound r.start) b
@@ -112,8 +102,7 @@ module _ {K : Type 0} {order : KeyOrder K} (lawful : IsLawful order) {V : Type 0
       let right = rw (← on_right.at) at (rights on_right.cut on_right.known on_right.flipped) in
       let joined = ap joined_count on_left.at ∙ seam_count joins.before reach.first on_left.cut in
       let other = ap joined_count on_right.at ∙ seam_count joins.after reach.last on_right.cut in
-      let least =
-      border_length is_good rank items right_side behind right.upto right.end right.rest
+      let least = border_length is_good rank items right_side behind right.upto right.end right.rest
       right.finish right.shape in
       let ends : left.begin + count ≡ right.upto =
       omega (arith, left.begins, right.ends, apart, size, joined, other) in
@@ -131,12 +120,10 @@ module _ {K : Type 0} {order : KeyOrder K} (lawful : IsLawful order) {V : Type 0
       → count ≡ run_length reach (record { before = None; after = None })
       → IsCutRun order same lawful equal is_good rank items r place reach border behind from count
   cut_run on_left on_right start size =
-      let left =
-      rw (← on_left.at) at (left_cut_out lawful equal found.window reach.first on_left.cut from
-      found.first on_left.known on_left.flipped start) in
-      let right =
-      rw (← on_right.at) at (right_cut_out lawful equal found.window reach.last on_right.cut
-      found.last on_right.known on_right.flipped) in
+      let left = rw (← on_left.at) at (left_cut_out lawful equal found.window reach.first
+      on_left.cut from found.first on_left.known on_left.flipped start) in
+      let right = rw (← on_right.at) at (right_cut_out lawful equal found.window reach.last
+      on_right.cut found.last on_right.known on_right.flipped) in
       let joined = ap joined_count on_left.at ∙ seam_count None reach.first on_left.cut in
       let other = ap joined_count on_right.at ∙ seam_count None reach.last on_right.cut in
       record {
@@ -164,16 +151,13 @@ module _ {K : Type 0} {order : KeyOrder K} {lawful : IsLawful order} {V : Type 0
 
   -- a list that is changed as planned for a range that is bound
   module _ (found : IsReach order same is_good rank items r reach place) (apart : AreApart reach)
-      {v : V}
-      (plan : IsPlannedRun order same lawful equal is_good rank items r place reach border behind
-      from count v) (new : List (Item (AnyRange K) V))
-      (made : new ≡ take plan.left.at items ++ option_items plan.left.rest
-      ++ option_items
-      (Some (joined_item (record { key = r; value = v }) plan.left.start plan.right.finish))
-      ++ option_items plan.right.rest ++ drop plan.right.end items) where
+      {v : V} (plan : IsPlannedRun order same lawful equal is_good rank items r place reach border
+      behind from count v) (new : List (Item (AnyRange K) V)) (made : new ≡ take plan.left.at items
+      ++ option_items plan.left.rest ++ option_items (Some (joined_item
+      (record { key = r; value = v }) plan.left.start plan.right.finish)) ++ option_items
+      plan.right.rest ++ drop plan.right.end items) where
     pub planned_insert : IsInserted order same items new r v
-    planned_insert =
-        borders_insert lawful equal found.window new v v plan.left.side plan.right.side
+    planned_insert = borders_insert lawful equal found.window new v v plan.left.side plan.right.side
         plan.left.frame plan.right.frame (omega (arith, plan.left.few, plan.right.few, apart))
         (equal.refl v) (λ e. refl) made
 
@@ -181,16 +165,18 @@ module _ {K : Type 0} {order : KeyOrder K} {lawful : IsLawful order} {V : Type 0
     planned_size =
         let left = plan.left in
         let right = plan.right in
-        let left_is =
-        border_length is_good rank items left_side border left.at left.begin left.rest left.start
-        left.shape in
-        let right_is =
-        border_length is_good rank items right_side behind right.upto right.end right.rest
-        right.finish right.shape in
-        let size =
-        changed_length items new (option_items left.rest) (option_items (Some _))
-        (option_items right.rest) left.at right.end
-        (omega (arith, left_is, left.begins, apart, found.window.in_range)) right.side.in_range made
+        let left_is = border_length is_good rank items left_side border left.at left.begin left.rest
+        left.start left.shape in
+        let right_is = border_length is_good rank items right_side behind right.upto right.end
+        right.rest right.finish right.shape in
+        let size = changed_length items new (option_items left.rest) (option_items (Some _))
+        (option_items right.rest) left.at right.end (omega (
+          arith,
+          left_is,
+          left.begins,
+          apart,
+          found.window.in_range,
+        )) right.side.in_range made
         in
         omega (
           arith,
@@ -208,28 +194,24 @@ module _ {K : Type 0} {order : KeyOrder K} {lawful : IsLawful order} {V : Type 0
       → (plan : IsCutRun order same lawful equal is_good rank items r place reach border behind from
       count) → IsFit is_good rank items border behind from count place
       (place + reach.window.count) plan.left.rest plan.right.rest None None
-  cut_fits found plan =
-      plan_fits {is_good' = is_good} {rank' = rank} (λ p h. (h, refl)) refl border behind from count
-      place (place + length (option_items reach.first)) plan.right.upto
+  cut_fits found plan = plan_fits {is_good' = is_good} {rank' = rank} (λ p h. (h, refl)) refl border
+      behind from count place (place + length (option_items reach.first)) plan.right.upto
       (place + reach.window.count) plan.left.rest plan.right.rest None None plan.left.shape
       plan.right.shape plan.left.run plan.ends found.window.in_range
 
   -- and of one that is cut out
   module _ (found : IsReach order same is_good rank items r reach place)
-      (some : 0 < reach.window.count)
-      (plan : IsCutRun order same lawful equal is_good rank items r place reach border behind from
-      count) (new : List (Item (AnyRange K) V))
-      (made : new ≡ take place items ++ option_items plan.left.rest ++ []
-      ++ option_items plan.right.rest ++ drop (place + reach.window.count) items) where
+      (some : 0 < reach.window.count) (plan : IsCutRun order same lawful equal is_good rank items r
+      place reach border behind from count) (new : List (Item (AnyRange K) V))
+      (made : new ≡ take place items ++ option_items plan.left.rest ++ [] ++ option_items
+      plan.right.rest ++ drop (place + reach.window.count) items) where
     pub cut_removes : IsRemoved order same items new r
-    cut_removes =
-        borders_remove lawful equal found.window new plan.left.rest plan.right.rest some
+    cut_removes = borders_remove lawful equal found.window new plan.left.rest plan.right.rest some
         plan.left.side plan.right.side plan.left.made plan.right.made made
 
     pub cut_size : 2 * length new + reach.window.count ≤ 2 * length items + 3
     cut_size =
-        let size =
-        changed_length items new (option_items plan.left.rest) [] (option_items plan.right.rest)
-        place (place + reach.window.count) (omega (arith, found.window.in_range))
-        found.window.in_range made in
+        let size = changed_length items new (option_items plan.left.rest) []
+        (option_items plan.right.rest) place (place + reach.window.count)
+        (omega (arith, found.window.in_range)) found.window.in_range made in
         omega (arith, size, one_item plan.left.rest, one_item plan.right.rest, some)

@@ -25,11 +25,14 @@ module _ {K : Type 0} {order : KeyOrder K} (lawful : IsLawful order) {V : Type 0
       → Any (λ j. B j × Crosses lawful r same j × IsTrue (same i.value j.value)) body
       → Any (λ j. B j × Overlap order j.key r × IsTrue (same i.value j.value))
       (rest ++ body ++ beyond)
-  within_pieces rest body beyond B i known all h =
-      any_left _ (rest ++ body) beyond
-      (any_right _ rest body (any_with _ _
-      (λ j. B j × Overlap order j.key r × IsTrue (same i.value j.value)) body h all
-      (λ j g own. (g.0, (overlap_is order lawful j.key r own known).1 g.1, g.2))))
+  within_pieces rest body beyond B i known all h = any_left _ (rest ++ body) beyond
+      (any_right _ rest body (any_with _ _ (λ j. B j × Overlap order j.key r × IsTrue
+      (same i.value j.value)) body h all (λ j g own. (
+        g.0,
+        (overlap_is order lawful j.key r own
+            known).1 g.1,
+        g.2,
+      ))))
 
 module _ {K : Type 0} (order : KeyOrder K) (lawful : IsLawful order) {V : Type 0}
     (same : V → V → Bool) (equal : IsEquivalence same) {P : Type 0} (is_good : P → Type 0)
@@ -61,43 +64,37 @@ module _ {K : Type 0} (order : KeyOrder K) (lawful : IsLawful order) {V : Type 0
       (seam_border joined first b) at) →
       ((b : Bound K) → IsKnownBound order b → SameBound order (flipped_bound r.end) b
       → IsRightSeam order same lawful equal is_good rank items r place count previous last
-      (seam_border other last b)) →
-      IsReplacement middle first last joined other from
+      (seam_border other last b)) → IsReplacement middle first last joined other from
   plans_replacement middle first last joined other from next previous stored others within known
       full in_range apart is_first is_last begins on_left on_right =
       let before = flipped_bound r.start in
       let behind = flipped_bound r.end in
       let good = (nonempty_good order lawful r known).0 full in
-      let left =
-      left_fill order lawful same equal is_good rank items r place count middle first
-      (seam_border joined first before) from good stored others
-      (subst (λ o. IsLeftSeam order same lawful equal is_good rank items r place count o first
-      (seam_border joined first before) from) is_first
-      (on_left before from (known_turned order lawful r.start known.0)
-      (same_turned order lawful r.start) begins)) in
-      let right =
-      right_fill order lawful same equal is_good rank items r place count middle
-      (take left.at items ++ option_items left.rest) left.start last
-      (seam_border other last behind) stored others within good in_range left.filled left.known
-      (subst (λ o. IsRightSeam order same lawful equal is_good rank items r place count o last
-      (seam_border other last behind)) is_last
-      (on_right behind (known_turned order lawful r.end known.1)
-      (same_turned order lawful r.end))) in
+      let left = left_fill order lawful same equal is_good rank items r place count middle first
+      (seam_border joined first before) from good stored others (subst
+      (λ o. IsLeftSeam order same lawful equal is_good rank items r place count o first
+      (seam_border joined first before) from) is_first (on_left before from
+      (known_turned order lawful r.start known.0) (same_turned order lawful r.start) begins)) in
+      let right = right_fill order lawful same equal is_good rank items r place count middle
+      (take left.at items ++ option_items left.rest) left.start last (seam_border other last behind)
+      stored others within good in_range left.filled left.known (subst
+      (λ o. IsRightSeam order same lawful equal is_good rank items r place count o last
+      (seam_border other last behind)) is_last (on_right behind
+      (known_turned order lawful r.end known.1) (same_turned order lawful r.end))) in
       let least =
       border_length is_good rank items right_side (seam_border other last behind) right.upto right.end right.rest right.finish right.shape
       in
       record {
         left = left;
         right = right;
-        upto =
-            omega (
-              arith,
-              left.begins,
-              right.ends,
-              apart,
-              seam_count joined first before,
-              seam_count other last behind,
-            );
+        upto = omega (
+          arith,
+          left.begins,
+          right.ends,
+          apart,
+          seam_count joined first before,
+          seam_count other last behind,
+        );
         within = omega (arith, least, right.in_range);
       }
 
@@ -117,12 +114,11 @@ module _ {K : Type 0} {order : KeyOrder K} {lawful : IsLawful order} {V : Type 0
       (seam_border joined first (flipped_bound r.start)) (seam_border other last
       (flipped_bound r.end)) from left plan.left.at plan.right.end plan.left.rest plan.right.rest
       plan.left.start plan.right.finish
-  replacement_fits kept same_list {left} size =
-      plan_fits kept same_list (seam_border joined first (flipped_bound r.start))
-      (seam_border other last (flipped_bound r.end)) from left plan.left.at plan.left.begin
-      plan.right.upto plan.right.end plan.left.rest plan.right.rest plan.left.start
-      plan.right.finish plan.left.shape plan.right.shape plan.left.run
-      (omega (arith, plan.upto, size)) plan.right.in_range
+  replacement_fits kept same_list {left} size = plan_fits kept same_list
+      (seam_border joined first (flipped_bound r.start)) (seam_border other last
+      (flipped_bound r.end)) from left plan.left.at plan.left.begin plan.right.upto plan.right.end
+      plan.left.rest plan.right.rest plan.left.start plan.right.finish plan.left.shape
+      plan.right.shape plan.left.run (omega (arith, plan.upto, size)) plan.right.in_range
 
   pub replacement_is_made : (new : List (Item (AnyRange K) V)) → IsStored order same items
       → IsStored order same middle → IsKnownRange order r
@@ -147,64 +143,47 @@ module _ {K : Type 0} {order : KeyOrder K} {lawful : IsLawful order} {V : Type 0
       let known_middle = others.known in
       let regroup : run ≡ left.extra ++ (met ++ right.extra) =
       append_assoc left.extra met right.extra in
-      let own =
-      every_ended (λ j. HasValue order same run j.value ⊎ HasValue order same middle j.value)
-      right.finish (with_first_start left.start middle) (λ i b is h. h)
+      let own = every_ended (λ j. HasValue order same run j.value ⊎ HasValue order same middle
+      j.value) right.finish (with_first_start left.start middle) (λ i b is h. h)
       (every_started (λ j. HasValue order same run j.value ⊎ HasValue order same middle j.value)
-      left.start middle (λ i b is h. h)
-      (every_weaker _ _ middle (λ j h. inr h) (own_values order same equal middle))) in
-      let on_left =
-      value_within order same (left.extra ++ met) run middle rest
+      left.start middle (λ i b is h. h) (every_weaker _ _ middle (λ j h. inr h)
+      (own_values order same equal middle))) in
+      let on_left = value_within order same (left.extra ++ met) run middle rest
       (λ Q h. any_left Q (left.extra ++ met) right.extra h) left.valued in
       let on_right : Every (λ j.
       HasValue order same run j.value ⊎ HasValue order same middle j.value) beyond =
       rw regroup (value_within order same (met ++ right.extra) (left.extra ++ (met ++ right.extra)) middle
       beyond (λ Q h. any_right Q left.extra (met ++ right.extra) h) right.valued) in
-      let known_body =
-      every_right _ (front ++ rest) body
-      (every_left _ (front ++ rest ++ body) (beyond ++ tail) right.known) in
+      let known_body = every_right _ (front ++ rest) body (every_left _ (front ++ rest ++ body)
+      (beyond ++ tail) right.known) in
       let took_start =
-      λ (i : Item (AnyRange K) V)
-      (h : TakesStartOf lawful r same i (with_first_start left.start middle)). any_ended
-      (λ j. (j.key.start ≡ i.key.start) × Crosses lawful r same j
-      × IsTrue (same i.value j.value)) right.finish (with_first_start left.start middle)
+      λ (i : Item (AnyRange K) V) (h : TakesStartOf lawful r same i (with_first_start left.start
+      middle)). any_ended (λ j. (j.key.start ≡ i.key.start) × Crosses lawful r same j × IsTrue
+      (same i.value j.value)) right.finish (with_first_start left.start middle)
       (λ j b is g. (g.0, (g.1.0, right.reaches b is), g.2)) h in
       record {
         stored =
             rw list (chain_stored order lawful same equal whole right.known right.spliced.chain);
-        held = λ k key h b. let within =
-            (held_between order lawful r k known key).0 h in rw list
+        held = λ k key h b. let within = (held_between order lawful r k known key).0 h in rw list
             (same_binds order lawful same equal middle whole k known_middle right.known key
             (λ W alike. right.spliced.inside (Beside k At) W alike within.0 within.1) b);
-        others =
-            λ k key h b.
-            rw list (same_binds order lawful same equal items whole k all right.known key
-            (λ W alike. right.spliced.outside (Beside k At) W alike
+        others = λ k key h b. rw list (same_binds order lawful same equal items whole k all
+            right.known key (λ W alike. right.spliced.outside (Beside k At) W alike
             (unheld_lies_outside order lawful same equal r k known key h)) b);
-        frame =
-            widened_frame items new _ place count front left.extra rest body beyond right.extra tail
-            left.split right.split changed (record {
-              concerned =
-                  every_append _ (left.extra ++ met) right.extra
-                  (every_append _ left.extra met
-                  (every_weaker _ _ left.extra
-                  (λ i h.
-                  inr
-                  (inl (
+        frame = widened_frame items new _ place count front left.extra rest body beyond right.extra
+            tail left.split right.split changed (record {
+              concerned = every_append _ (left.extra ++ met) right.extra
+                  (every_append _ left.extra met (every_weaker _ _ left.extra (λ i h. inr (inl (
                     h.0,
                     within_pieces lawful same r rest body beyond (λ j. j.key.start ≡ i.key.start) i known known_body
                         (took_start i h.1),
                   ))) left.touched) (every_weaker _ _ met (λ i h. inl h) meets))
-                  (every_weaker _ _ right.extra
-                  (λ i h.
-                  inr
-                  (inr (
+                  (every_weaker _ _ right.extra (λ i h. inr (inr (
                     h.0,
                     within_pieces lawful same r rest body beyond
                         (λ j. j.key.end ≡ i.key.end) i known known_body h.1,
                   ))) right.touched);
-              valued =
-                  every_append _ (rest ++ body) beyond
-                  (every_append _ rest body on_left own) on_right;
+              valued = every_append _ (rest ++ body) beyond (every_append _ rest body on_left own)
+                  on_right;
             });
       }

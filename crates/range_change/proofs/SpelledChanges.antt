@@ -36,10 +36,8 @@ module _ {K : Type 0} {order : KeyOrder K} (lawful : IsLawful order) {V : Type 0
     left_is_spelled : (joined first : Option P) (at begin : ℕ)
         (rest : Option (Item (AnyRange K) V)) (start : Option (Bound K))
         → IsLeftShape is_good rank items (seam_border joined first (flipped_bound r.start)) at begin
-        rest start
-        → begin + joined_count (seam_border joined first (flipped_bound r.start))
-        ≡ place + length (option_items first)
-        → length (option_items first) ≤ reach.window.count
+        rest start → begin + joined_count (seam_border joined first (flipped_bound r.start))
+        ≡ place + length (option_items first) → length (option_items first) ≤ reach.window.count
         → ReachesBefore order is_good rank items r place reach.window.count first
         → KeepsSpelling order items (option_items rest)
         × ((b : Bound K) → start ≡ Some b → IsStartAsIn order items b)
@@ -90,8 +88,7 @@ module _ {K : Type 0} {order : KeyOrder K} (lawful : IsLawful order) {V : Type 0
         let within : upto < length items = omega (arith, in_range, next) in
         let x_is : x ≡ get_or items (place + count - 1) x =
         read ∙ ap (λ n. get_or items n x) at_is in
-        let starts =
-        subst (λ y. PLt lawful (item_lower order y) (upper order r)) (sym x_is)
+        let starts = subst (λ y. PLt lawful (item_lower order y) (upper order r)) (sym x_is)
         (found.window.meets x after.2) in
         let spelled = one_is_spelled upto x within read in (
           rw is (
@@ -128,28 +125,23 @@ module _ {K : Type 0} {order : KeyOrder K} (lawful : IsLawful order) {V : Type 0
         let start = plan.left.start in
         let beyond = plan.right.rest in
         let finish = plan.right.finish in
-        let left =
-        left_is_spelled joined reach.first at plan.left.begin rest start plan.left.shape
+        let left = left_is_spelled joined reach.first at plan.left.begin rest start plan.left.shape
         plan.left.begins (reach_is_met found).0 found.first in
-        let right =
-        right_is_spelled other reach.last plan.right.upto end beyond finish plan.right.shape
-        plan.right.in_range found.last in
+        let right = right_is_spelled other reach.last plan.right.upto end beyond finish
+        plan.right.shape plan.right.in_range found.last in
         let front = take at items in
         let body = with_last_end finish (with_first_start start middle) in
         let tail = drop end items in
-        let before =
-        every_left IsSpelled front (drop at items)
-        (subst (KeepsSpelling order items) (list_is_take_and_drop items at) list_keeps_spelling) in
-        let behind =
-        every_right IsSpelled (take end items) tail
-        (subst (KeepsSpelling order items) (list_is_take_and_drop items end) list_keeps_spelling) in
+        let before = every_left IsSpelled front (drop at items) (subst (KeepsSpelling order items)
+        (list_is_take_and_drop items at) list_keeps_spelling) in
+        let behind = every_right IsSpelled (take end items) tail (subst (KeepsSpelling order items)
+        (list_is_take_and_drop items end) list_keeps_spelling) in
         let inside =
         every_ended IsSpelled finish (with_first_start start middle) (λ i b is h. (h.0, right.1 b is))
         (every_started IsSpelled start middle (λ i b is h. (left.1 b is, h.1)) kept) in
-        rw changed (every_append IsSpelled
-        (front ++ option_items rest ++ body ++ option_items beyond) tail
-        (every_append IsSpelled (front ++ option_items rest ++ body) (option_items beyond)
-        (every_append IsSpelled (front ++ option_items rest) body
+        rw changed (every_append IsSpelled (front ++ option_items rest ++ body ++ option_items
+        beyond) tail (every_append IsSpelled (front ++ option_items rest ++ body)
+        (option_items beyond) (every_append IsSpelled (front ++ option_items rest) body
         (every_append IsSpelled front (option_items rest) before left.0) inside) right.0) behind)
 
   -- a range that one item surrounds
@@ -178,19 +170,16 @@ module _ {K : Type 0} {order : KeyOrder K} (lawful : IsLawful order) {V : Type 0
     ends = within.ends x here
 
     starts_before_end : PLt lawful (lower order x.key) (upper order r)
-    starts_before_end =
-        lt_trans lawful _ _ _ starts some
+    starts_before_end = lt_trans lawful _ _ _ starts some
 
     ends_after_start : PLt lawful (lower order r) (upper order x.key)
-    ends_after_start =
-        lt_trans lawful _ _ _ some ends
+    ends_after_start = lt_trans lawful _ _ _ some ends
 
     start_within : IsStartAsIn order items r.start
     start_within =
         let known_r = within.window.known in
-        within_is_kept lawful equal items known chain (take place items)
-        (drop (place + 1) items) x list StartSide r.start r.start
-        (same_itself order lawful r.start) (
+        within_is_kept lawful equal items known chain (take place items) (drop (place + 1) items) x
+        list StartSide r.start r.start (same_itself order lawful r.start) (
           lt_le lawful _ _ starts,
           (reaching_is_before_past order lawful r.start x.key.end known_r.0 known_x.1).1
               ends_after_start,
@@ -211,8 +200,7 @@ module _ {K : Type 0} {order : KeyOrder K} (lawful : IsLawful order) {V : Type 0
         (b : Bound K) where
       start_of : IsStartOf order run r b → IsStartAsIn order items b
       start_of (inl is) = subst (IsStartAsIn order items) (sym is) start_within
-      start_of (inr (inl one)) =
-          any_use (λ i. b ≡ i.key.start) IsSpelled run one all
+      start_of (inr (inl one)) = any_use (λ i. b ≡ i.key.start) IsSpelled run one all
           (λ i is s. subst (IsStartAsIn order items) (sym is) s.0)
       start_of (inr (inr turned)) =
           cut_start_is_kept lawful equal items known chain (take place items)
@@ -220,11 +208,9 @@ module _ {K : Type 0} {order : KeyOrder K} (lawful : IsLawful order) {V : Type 0
 
       end_of : IsEndOf order run r b → IsEndAsIn order items b
       end_of (inl is) = subst (IsEndAsIn order items) (sym is) end_within
-      end_of (inr (inl one)) =
-          any_use (λ i. b ≡ i.key.end) IsSpelled run one all
+      end_of (inr (inl one)) = any_use (λ i. b ≡ i.key.end) IsSpelled run one all
           (λ i is s. subst (IsEndAsIn order items) (sym is) s.1)
-      end_of (inr (inr turned)) =
-          cut_end_is_kept lawful equal items known chain (take place items)
+      end_of (inr (inr turned)) = cut_end_is_kept lawful equal items known chain (take place items)
           (drop (place + 1) items) x list r within.window.known starts ends_after_start b turned
 
     run_keeps_spelling : (new front run others behind : List (Item (AnyRange K) V))
@@ -238,22 +224,18 @@ module _ {K : Type 0} {order : KeyOrder K} (lawful : IsLawful order) {V : Type 0
         rw after (every_append IsSpelled (front ++ others) behind
         (every_append IsSpelled front others (every_left IsSpelled front run left)
         (every_weaker (λ j. IsStartOf order run r j.key.start × IsEndOf order run r j.key.end)
-        IsSpelled others
-        (λ j t. (start_of run met j.key.start t.0, end_of run met j.key.end t.1)) made))
-        (every_right IsSpelled (front ++ run) behind all))
+        IsSpelled others (λ j t. (start_of run met j.key.start t.0, end_of run met j.key.end t.1))
+        made)) (every_right IsSpelled (front ++ run) behind all))
 
     pub inserted_keeps_spelling : {new : List (Item (AnyRange K) V)} {v : V}
         → IsInserted order same items new r v → KeepsSpelling order items new
-    inserted_keeps_spelling {new} {v} h =
-        run_keeps_spelling new h.frame.front h.frame.run h.frame.others h.frame.behind
-        h.frame.before h.frame.after
+    inserted_keeps_spelling {new} {v} h = run_keeps_spelling new h.frame.front h.frame.run
+        h.frame.others h.frame.behind h.frame.before h.frame.after
         (every_weaker (IsNewItem order same h.frame.run r v) _ h.frame.others
         (λ j t. (t.start, t.end)) h.frame.such.made)
 
     pub removed_keeps_spelling : {new : List (Item (AnyRange K) V)}
         → IsRemoved order same items new r → KeepsSpelling order items new
-    removed_keeps_spelling {new} h =
-        run_keeps_spelling new h.frame.front h.frame.run h.frame.others h.frame.behind
-        h.frame.before h.frame.after
-        (every_weaker (IsPart order same h.frame.run r) _ h.frame.others
-        (λ j t. (t.start, t.end)) h.frame.such.made)
+    removed_keeps_spelling {new} h = run_keeps_spelling new h.frame.front h.frame.run h.frame.others
+        h.frame.behind h.frame.before h.frame.after (every_weaker (IsPart order same h.frame.run r)
+        _ h.frame.others (λ j t. (t.start, t.end)) h.frame.such.made)

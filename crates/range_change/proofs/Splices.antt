@@ -22,10 +22,8 @@ module _ {L V X : Type 0} (line : Line L V X) where
       → Every (λ x. Le line.cmp (line.hi x) c) front → IsChain line middle
       → Every (λ x. Lt line.cmp c (line.lo x)) middle → IsChain line (front ++ middle)
   chain_apart front [] c chain ends other starts = rw (append-nil front) chain
-  chain_apart front (m ∷ ms) c chain ends other starts =
-      chains_join line front m ms chain other
-      (every_weaker _ _ front (λ z h.
-      strictly_leads line z (line.lo m) (line.value m)
+  chain_apart front (m ∷ ms) c chain ends other starts = chains_join line front m ms chain other
+      (every_weaker _ _ front (λ z h. strictly_leads line z (line.lo m) (line.value m)
       (le_lt_trans line _ _ _ h starts.0)) ends)
 
   -- a middle that starts later than the place
@@ -56,10 +54,8 @@ module _ {L V X : Type 0} (line : Line L V X) where
       let hi_low = eq_le line _ _ at_hi in
       let hi_high = eq_ge line _ _ at_hi in
       let low = le_trans line _ _ _ s_low left.below in
-      let reaches : Lt line.cmp c (line.hi other) =
-      lt_le_trans line _ _ _
-      (le_lt_trans line _ _ _ (eq_ge line _ _ at_c) chain.0)
-      hi_high in
+      let reaches : Lt line.cmp c (line.hi other) = lt_le_trans line _ _ _
+      (le_lt_trans line _ _ _ (eq_ge line _ _ at_c) chain.0) hi_high in
       let good = le_lt_trans line _ _ _ low reaches in
       let wide : IsChain line (other ∷ ms) =
       (good, follows_like line m other ms at_hi alike_value chain.1) in
@@ -67,12 +63,10 @@ module _ {L V X : Type 0} (line : Line L V X) where
         start = s;
         left = left.left;
         below = left.below;
-        chain =
-            chains_join line front other ms left.left.chain wide
+        chain = chains_join line front other ms left.left.chain wide
             (leading_like line front other s (line.value m) left.leads at_s alike_value);
         above = chain_above line s other ms wide (eq_ge line _ _ at_s);
-        ends =
-            λ u all. (le_trans line _ _ _ hi_low all.0, all.1);
+        ends = λ u all. (le_trans line _ _ _ hi_low all.0, all.1);
         hulled = λ new d l made. hull line items new c d s d (λ p W. Has line W p (other ∷ ms))
             (λ p W. Has line W p (m ∷ ms)) left.below l (le_refl line d) made
             (λ p W alike from upto. (
@@ -84,10 +78,8 @@ module _ {L V X : Type 0} (line : Line L V X) where
                 le_trans line _ _ _ low from,
                 lt_le_trans line _ _ _ h.1 hi_high,
               )) (λ k. k) (λ k. k),
-            ))
-            (λ p W alike where_. elim where_ [
-              | inl k ↦
-                  both_ways (left.joined p W alike k.0 k.1)
+            )) (λ p W alike where_. elim where_ [
+              | inl k ↦ both_ways (left.joined p W alike k.0 k.1)
                   (held_alone line [] other ms p W (line.value m) wide (
                     le_trans line _ _ _ s_low k.0,
                     lt_le_trans line _ _ _ k.1 (lt_le line _ _ reaches),
@@ -105,20 +97,16 @@ module _ {L V X : Type 0} (line : Line L V X) where
       let below = fill.ends u all in
       let under = le_trans line _ _ _ fill.below le in
       let l : Lt line.cmp c d = le_lt_trans line _ _ _ le lt in
-      let ends =
-      every_append _ front wide
-      (every_weaker _ _ front (λ z h. le_trans line _ _ _ h under) fill.left.ends)
-      below in
+      let ends = every_append _ front wide (every_weaker _ _ front
+      (λ z h. le_trans line _ _ _ h under) fill.left.ends) below in
       let chain = join_apart line (front ++ wide) behind u d lt fill.chain right.chain ends
       right.starts in
       let grouped = append_assoc front wide behind in
-      fill.hulled ((front ++ wide) ++ behind) d l
-      (subst (λ ys. IsSpliced line items wide ys fill.start d) (sym grouped)
-      (places_between_hold line items front wide behind fill.start d fill.left right
-      (le_lt_trans line _ _ _ fill.below l)
-      (subst (λ ys. IsChain line ys) grouped chain) fill.above
-      (every_weaker _ _ wide (λ z h.
-      le_trans line _ _ _ h (lt_le line _ _ lt)) below)))
+      fill.hulled ((front ++ wide) ++ behind) d l (subst (λ ys. IsSpliced line items wide ys
+      fill.start d) (sym grouped) (places_between_hold line items front wide behind fill.start d
+      fill.left right (le_lt_trans line _ _ _ fill.below l) (subst (λ ys. IsChain line ys) grouped
+      chain) fill.above (every_weaker _ _ wide (λ z h. le_trans line _ _ _ h (lt_le line _ _ lt))
+      below)))
 
   regrouped : (front init behind : List X) (z : X)
       → (front ++ init) ++ z ∷ behind ≡ front ++ ((init ++ z ∷ []) ++ behind)
@@ -145,11 +133,9 @@ module _ {L V X : Type 0} (line : Line L V X) where
       let full = (chain_right line init (z ∷ []) wide).0 in
       let before = chain_before line init z [] wide in
       let starts = every_right (λ x. Le line.cmp fill.start (line.lo x)) init (z ∷ []) fill.above in
-      let low : Lt line.cmp (line.lo other) d =
-      le_lt_trans line _ _ _ lo_low
+      let low : Lt line.cmp (line.lo other) d = le_lt_trans line _ _ _ lo_low
       (lt_le_trans line _ _ _ full d_low) in
-      let good : Lt line.cmp (line.lo other) (line.hi other) =
-      lt_le_trans line _ _ _ low
+      let good : Lt line.cmp (line.lo other) (line.hi other) = lt_le_trans line _ _ _ low
       (le_trans line _ _ _ right.above e_high) in
       let begun : Lt line.cmp fill.start d = le_lt_trans line _ _ _ fill.below lt in
       let grouped = append_assoc front init (z ∷ []) in
@@ -160,45 +146,35 @@ module _ {L V X : Type 0} (line : Line L V X) where
         good,
         trailing_follows line other behind e (line.value z) e_low e_high alike_value
             right.right.chain right.trails,
-      )
-      (leading_like line (front ++ init) other (line.lo z) (line.value z)
+      ) (leading_like line (front ++ init) other (line.lo z) (line.value z)
       (chain_before line (front ++ init) z [] list) at_lo alike_value) in
       let joined : IsChain line (init ++ other ∷ []) =
       chains_join line init other [] (chain_left line init (z ∷ []) wide) (good, tt)
       (leading_like line init other (line.lo z) (line.value z) before at_lo alike_value) in
       let new = front ++ ((init ++ other ∷ []) ++ behind) in
-      let made =
-      places_between_hold line items front (init ++ other ∷ []) behind fill.start e fill.left
-      right.right (lt_le_trans line _ _ _ begun right.above)
+      let made = places_between_hold line items front (init ++ other ∷ []) behind fill.start e
+      fill.left right.right (lt_le_trans line _ _ _ begun right.above)
       (subst (λ ys. IsChain line ys) (regrouped front init behind other) chain)
-      (every_append _ init (other ∷ [])
-      (every_left (λ x. Le line.cmp fill.start (line.lo x)) init (z ∷ []) fill.above)
-      (le_trans line _ _ _ starts.0 lo_high, tt))
-      (every_append _ init (other ∷ [])
-      (every_weaker _ _ init (λ x h.
-      le_trans line _ _ _ h.0 (le_trans line _ _ _ lo_high
-      (le_trans line _ _ _ (lt_le line _ _ good) e_low))) before)
-      (e_low, tt)) in
-      fill.hulled new d lt
-      (hull line items new fill.start d fill.start e (λ p W. Has line W p (init ++ other ∷ []))
-      (λ p W. Has line W p (init ++ z ∷ [])) (le_refl line fill.start) begun
-      right.above made
-      (λ p W alike from upto. (
+      (every_append _ init (other ∷ []) (every_left (λ x. Le line.cmp fill.start (line.lo x)) init
+      (z ∷ []) fill.above) (le_trans line _ _ _ starts.0 lo_high, tt))
+      (every_append _ init (other ∷ []) (every_weaker _ _ init
+      (λ x h. le_trans line _ _ _ h.0 (le_trans line _ _ _ lo_high
+      (le_trans line _ _ _ (lt_le line _ _ good) e_low))) before) (e_low, tt)) in
+      fill.hulled new d lt (hull line items new fill.start d fill.start e
+      (λ p W. Has line W p (init ++ other ∷ [])) (λ p W. Has line W p (init ++ z ∷ []))
+      (le_refl line fill.start) begun right.above made (λ p W alike from upto. (
         like_item line init init [] [] other z p W alike alike_value (λ h. (
           le_trans line _ _ _ lo_high h.0,
           lt_le_trans line _ _ _ upto d_high,
         )) (λ k. k) (λ k. k),
         like_item line init init [] [] z other p W alike value_back (λ h. (
           le_trans line _ _ _ lo_low h.0,
-          lt_le_trans line _ _ _ upto
-              (le_trans line _ _ _ right.above e_high),
+          lt_le_trans line _ _ _ upto (le_trans line _ _ _ right.above e_high),
         )) (λ k. k) (λ k. k),
-      ))
-      (λ p W alike where_. elim where_ [
+      )) (λ p W alike where_. elim where_ [
         | inl k ↦ absurd (lt_not_le line _ _ k.1 k.0)
-        | inr k ↦
-            both_ways (right.joined p W alike k.0 k.1)
-            (held_alone line init other [] p W (line.value z) joined (
+        | inr k ↦ both_ways (right.joined p W alike k.0 k.1) (held_alone line init other [] p W
+            (line.value z) joined (
               le_trans line _ _ _ (lt_le line _ _ low) k.0,
               lt_le_trans line _ _ _ k.1 e_high,
             ) alike alike_value)

@@ -3,11 +3,10 @@ use Rattle.range_change.proofs.PieceAnswers.{started, next_is_askable, next_answ
 use Rattle.range_change.proofs.answers.gather.Goals as goal
 
 pub loop-part-init : goal.loop-part-init
-loop-part-init g c =
-    rw (c.new-middle.ensures.items, c.pieces_within-pieces.ensures) (record {
-      spelled = tt;
-      underway = λ lawful equal. started lawful equal c.requires.window;
-    })
+loop-part-init g c = rw (c.new-middle.ensures.items, c.pieces_within-pieces.ensures) (record {
+  spelled = tt;
+  underway = λ lawful equal. started lawful equal c.requires.window;
+})
 
 pub ask-requires : goal.ask-requires
 ask-requires g c =
@@ -35,9 +34,8 @@ returns-in_err-ask-clause-memory g c = λ failed.
 pub loop-part-preserved : goal.loop-part-preserved
 loop-part-preserved g c =
     let order = g.K.MaybeBounded.order in
-    let tied = λ (a : g.row.K.Denot) (b : g.row.K.Denot) (h : g.K.Clone.is_clone a b).
-    sym (g.met.K.MaybeBounded.order_is_cmp a b)
-    ∙ (Equal-is (g.K.Ord.cmp a b)).0
+    let tied = λ (a : g.row.K.Denot) (b : g.row.K.Denot) (h : g.K.Clone.is_clone a b). sym
+    (g.met.K.MaybeBounded.order_is_cmp a b) ∙ (Equal-is (g.K.Ord.cmp a b)).0
     (sym (g.met.K.Ord.matches_eq a b) ∙ c.requires.keys a b h) in
     let done = c.in_ok-ask.ensures.ok in
     let clones = λ (lawful : IsLawful order). bound_clone order lawful g.K.Clone.is_clone tied in

@@ -10,11 +10,10 @@ returns-clause-ok g c =
     let stored = c.args.stored.now in
     let items = storage.items stored in
     let item = c.args.item in
-    on_ok _ _ c.put.result
-    (inserted_apart g.K.MaybeBounded.order g.met.K.PartialEnum.lawful g.V.PartialEq.eq
-    g.met.V.Eq.laws items item.key c.requires.stored c.known.ensures c.requires.nonempty
-    (place_before (storage.rank stored) (length items) c.args.from) c.requires.apart
-    (storage.items c.put.new.stored) item.value) c.put.ensures.put
+    on_ok _ _ c.put.result (inserted_apart g.K.MaybeBounded.order g.met.K.PartialEnum.lawful
+    g.V.PartialEq.eq g.met.V.Eq.laws items item.key c.requires.stored c.known.ensures
+    c.requires.nonempty (place_before (storage.rank stored) (length items) c.args.from)
+    c.requires.apart (storage.items c.put.new.stored) item.value) c.put.ensures.put
 
 pub returns-clause-unconnected : goal.returns-clause-unconnected
 returns-clause-unconnected g c =

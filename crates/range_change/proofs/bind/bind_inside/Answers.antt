@@ -3,9 +3,8 @@ use Rattle.range_change.proofs.Surrounded.{stands, divided_around}
 use Rattle.range_change.proofs.bind.bind_inside.Goals as goal
 
 pub returns-then-joins-clause-ok : goal.returns-then-joins-clause-ok
-returns-then-joins-clause-ok g c =
-    stands g.met.K.PartialEnum.lawful g.met.V.Eq.laws c.requires.within c.get.result.now
-    c.get.ensures c.args.value (sym c.if-joins.ensures)
+returns-then-joins-clause-ok g c = stands g.met.K.PartialEnum.lawful g.met.V.Eq.laws
+    c.requires.within c.get.result.now c.get.ensures c.args.value (sym c.if-joins.ensures)
 
 pub returns-clause-ok : goal.returns-clause-ok
 returns-clause-ok g c =

@@ -8,9 +8,8 @@ returns-in-Some-default-clause-seam g c =
     (bound_of c.args.bound) c.known_bound.ensures (rw c.in-Some-default.is-0 refl)
 
 pub returns-in-None-None-clause-seam : goal.returns-in-None-None-clause-seam
-returns-in-None-None-clause-seam g c =
-    seam_stands g.K.MaybeBounded.order g.met.K.PartialEnum.lawful c.args.joined c.args.reaching
-    (bound_of c.args.bound) c.known_bound.ensures
+returns-in-None-None-clause-seam g c = seam_stands g.K.MaybeBounded.order g.met.K.PartialEnum.lawful
+    c.args.joined c.args.reaching (bound_of c.args.bound) c.known_bound.ensures
     (rw (c.in-None-None.is-0, c.in-None-None.is-1) refl)
 
 pub returns-in_ok-cut-in-None-Some-clause-seam : goal.returns-in_ok-cut-in-None-Some-clause-seam

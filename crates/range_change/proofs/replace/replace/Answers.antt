@@ -34,16 +34,14 @@ plan_is_replacement g c =
     let other = c.joined_right-after.result in
     let from = c.run_start.result in
     let is_first = c.first.ensures.value ∙ ap (λ xs. slice_get xs 0) c.deref.ensures.value in
-    let is_last =
-    c.last.ensures.value
-    ∙ ap (λ xs. slice_get xs (length xs - 1)) c.deref-2.ensures.value in
-    plans_replacement order lawful equal_values equal (storage.is_good stored)
-    (storage.rank stored) items r place w.count middle first last joined other
-    from (option_copied c.first.result)
-    (option_copied c.last.result) c.requires.reach.window.stored c.requires.middle
-    c.requires.within c.requires.reach.window.known c.requires.reach.window.nonempty
-    c.requires.reach.window.in_range c.requires.apart is_first is_last c.run_start.ensures
-    (c.joined_left-before.ensures lawful equal) (c.joined_right-after.ensures lawful equal)
+    let is_last = c.last.ensures.value ∙ ap (λ xs. slice_get xs (length xs - 1))
+    c.deref-2.ensures.value in
+    plans_replacement order lawful equal_values equal (storage.is_good stored) (storage.rank stored)
+    items r place w.count middle first last joined other from (option_copied c.first.result)
+    (option_copied c.last.result) c.requires.reach.window.stored c.requires.middle c.requires.within
+    c.requires.reach.window.known c.requires.reach.window.nonempty c.requires.reach.window.in_range
+    c.requires.apart is_first is_last c.run_start.ensures (c.joined_left-before.ensures lawful
+    equal) (c.joined_right-after.ensures lawful equal)
 
 pub run_length-requires-clause-fits : goal.run_length-requires-clause-fits
 run_length-requires-clause-fits g c =
@@ -57,11 +55,9 @@ change_to-requires g c =
     let fit =
     replacement_fits plan c.reserve.ensures.positions c.reserve.ensures.list c.run_length.ensures in
     record {
-      left =
-          rw (c.seam-left.ensures, c.flip_bound.ensures, c.into_bounds-start.ensures.start)
+      left = rw (c.seam-left.ensures, c.flip_bound.ensures, c.into_bounds-start.ensures.start)
           fit.left_good;
-      right =
-          rw (c.seam-right.ensures, c.flip_bound-2.ensures, c.into_bounds-start.ensures.end)
+      right = rw (c.seam-right.ensures, c.flip_bound-2.ensures, c.into_bounds-start.ensures.end)
           fit.right_good;
       good = fit.good;
       in_range = fit.in_range;
@@ -76,17 +72,13 @@ returns g c =
     let fit =
     replacement_fits plan c.reserve.ensures.positions c.reserve.ensures.list c.run_length.ensures in
     let reach = c.args.reach.now in
-    let done =
-    c.change_to.ensures left.at right.end left.rest right.rest left.start right.finish
+    let done = c.change_to.ensures left.at right.end left.rest right.rest left.start right.finish
     (rw (c.seam-left.ensures, c.flip_bound.ensures, c.into_bounds-start.ensures.start) fit.on_left)
     (rw (c.seam-right.ensures, c.flip_bound-2.ensures, c.into_bounds-start.ensures.end)
-    fit.on_right)
-    (omega (
+    fit.on_right) (omega (
       arith,
-      ap joined_count c.seam-left.ensures
-          ∙ seam_count c.joined_left-before.result reach.first _,
-      ap joined_count c.seam-right.ensures
-          ∙ seam_count c.joined_right-after.result reach.last _,
+      ap joined_count c.seam-left.ensures ∙ seam_count c.joined_left-before.result reach.first _,
+      ap joined_count c.seam-right.ensures ∙ seam_count c.joined_right-after.result reach.last _,
       c.run_length.ensures,
     )) in
     let new = g.C.Storage.items c.change_to.new.stored in
@@ -95,11 +87,9 @@ returns g c =
     let lawful = g.met.K.PartialEnum.lawful in
     let equal = g.met.V.Eq.laws in
     record {
-      ok =
-          replacement_is_made plan new window.stored c.requires.middle window.known
+      ok = replacement_is_made plan new window.stored c.requires.middle window.known
           (all_meet lawful equal window) made;
-      spelled =
-          replaced_keeps_spelling lawful equal window.stored c.requires.reach plan new made;
+      spelled = replaced_keeps_spelling lawful equal window.stored c.requires.reach plan new made;
       refused = tt;
       none_put = λ none. refl;
     }

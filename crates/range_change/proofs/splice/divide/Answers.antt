@@ -20,23 +20,18 @@ returns-in-None-clause-list g c = λ d.
     let one = c.insert_at-at.new.self in
     let parts = c.args.parts in
     let within = g.met.C.Storage.good_is_in_range old p c.requires.good in
-    let after =
-    kept_at (storage.is_good old) (storage.is_good ready) (storage.rank old)
-    (storage.rank ready) (length items) c.args.after
-    (place + 1) edit.positions c.requires.after in
-    let here : place_before (storage.rank ready) (length (storage.items ready)) c.args.after
-    ≡ place + 1 =
-    ap (λ n. place_before (storage.rank ready) n c.args.after) edit.size
-    ∙ place_at (storage.is_good ready) (storage.rank ready) (length items) c.args.after
-    (place + 1) after in
-    let behind : Item (AnyRange g.row.K.Denot) g.row.V.Denot =
-    record {
+    let after = kept_at (storage.is_good old) (storage.is_good ready) (storage.rank old)
+    (storage.rank ready) (length items) c.args.after (place + 1) edit.positions c.requires.after in
+    let
+    here : place_before (storage.rank ready) (length (storage.items ready)) c.args.after ≡ place + 1
+    = ap (λ n. place_before (storage.rank ready) n c.args.after) edit.size ∙ place_at
+    (storage.is_good ready) (storage.rank ready) (length items) c.args.after (place + 1) after in
+    let behind : Item (AnyRange g.row.K.Denot) g.row.V.Denot = record {
       key = record { start = parts.start; end = c.replace_end-old_end.result };
       value = parts.value;
     } in
-    rw (c.in-None.is, ← edit.end d)
-    (parted_alone items (storage.items ready) (storage.items one) place
-    (with_end (get_or items place d) parts.end) behind within (edit.list d)
+    rw (c.in-None.is, ← edit.end d) (parted_alone items (storage.items ready) (storage.items one)
+    place (with_end (get_or items place d) parts.end) behind within (edit.list d)
     (rw here at c.insert_at-at.ensures.list))
 
 pub returns-in-Some-clause-list : goal.returns-in-Some-clause-list

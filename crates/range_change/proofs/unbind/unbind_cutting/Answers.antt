@@ -4,16 +4,13 @@ use Rattle.range_change.proofs.unbind.unbind_cutting.Goals as goal
 
 pub returns : goal.returns
 returns g c =
-    let plan =
-    cut_run g.met.K.PartialEnum.lawful g.met.V.Eq.laws c.requires.reach c.requires.apart
-    (rw c.start.ensures at c.in_ok-left.ensures.seam) (rw c.end.ensures at
-    c.in_ok-right.ensures.seam) c.run_start.ensures c.run_length.ensures in
+    let plan = cut_run g.met.K.PartialEnum.lawful g.met.V.Eq.laws c.requires.reach c.requires.apart
+    (rw c.start.ensures at c.in_ok-left.ensures.seam)
+    (rw c.end.ensures at c.in_ok-right.ensures.seam) c.run_start.ensures c.run_length.ensures in
     let fit = cut_fits c.requires.reach plan in
-    let place =
-    place_before (g.C.Storage.rank c.args.stored.now)
+    let place = place_before (g.C.Storage.rank c.args.stored.now)
     (length (g.C.Storage.items c.args.stored.now)) c.args.reach.now.window.from in
-    let done =
-    c.change.ensures.list place (place + c.args.reach.now.window.count) plan.left.rest
+    let done = c.change.ensures.list place (place + c.args.reach.now.window.count) plan.left.rest
     plan.right.rest None None fit.on_left fit.on_right plan.joined in
     let new = g.C.Storage.items c.change.new.stored in
     record {

@@ -10,12 +10,10 @@ returns-clause-removed g c =
     let items = storage.items c.args.stored.now in
     let new = storage.items c.remove_rest.new.stored in
     let window = c.requires.reach.window in
-    let place =
-    place_before (storage.rank c.args.stored.now)
-    (length items) c.args.reach.now.window.from in
+    let place = place_before (storage.rank c.args.stored.now) (length items)
+    c.args.reach.now.window.from in
     let end = place + c.args.reach.now.window.count in
-    let done : new ≡ take place items ++ [] ++ [] ++ [] ++ drop end items =
-    rw (
+    let done : new ≡ take place items ++ [] ++ [] ++ [] ++ drop end items = rw (
       append-nil (take place items),
       append-nil (take place items),
       append-nil (take place items),

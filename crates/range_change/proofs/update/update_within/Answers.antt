@@ -19,10 +19,9 @@ returns-in_ok-bind_inside-in-Ok-Some-clause-ok g c =
 
 pub returns-in_ok-bind_inside-in-Ok-Some-clause-spelled :
     goal.returns-in_ok-bind_inside-in-Ok-Some-clause-spelled
-returns-in_ok-bind_inside-in-Ok-Some-clause-spelled g c =
-    inserted_keeps_spelling g.met.K.PartialEnum.lawful g.met.V.Eq.laws
-    c.requires.within.window.stored c.requires.within c.get.result.now c.get.ensures
-    c.in_ok-bind_inside-in-Ok-Some.ensures.ok
+returns-in_ok-bind_inside-in-Ok-Some-clause-spelled g c = inserted_keeps_spelling
+    g.met.K.PartialEnum.lawful g.met.V.Eq.laws c.requires.within.window.stored c.requires.within
+    c.get.result.now c.get.ensures c.in_ok-bind_inside-in-Ok-Some.ensures.ok
 
 pub returns-in_ok-unbind_inside-in-Ok-None-clause-ok :
     goal.returns-in_ok-unbind_inside-in-Ok-None-clause-ok
@@ -36,10 +35,9 @@ returns-in_ok-unbind_inside-in-Ok-None-clause-ok g c =
 
 pub returns-in_ok-unbind_inside-in-Ok-None-clause-spelled :
     goal.returns-in_ok-unbind_inside-in-Ok-None-clause-spelled
-returns-in_ok-unbind_inside-in-Ok-None-clause-spelled g c =
-    removed_keeps_spelling g.met.K.PartialEnum.lawful g.met.V.Eq.laws
-    c.requires.within.window.stored c.requires.within c.get.result.now c.get.ensures
-    c.in_ok-unbind_inside-in-Ok-None.ensures.ok
+returns-in_ok-unbind_inside-in-Ok-None-clause-spelled g c = removed_keeps_spelling
+    g.met.K.PartialEnum.lawful g.met.V.Eq.laws c.requires.within.window.stored c.requires.within
+    c.get.result.now c.get.ensures c.in_ok-unbind_inside-in-Ok-None.ensures.ok
 
 pub returns-in-Err-clause-closure : goal.returns-in-Err-clause-closure
 returns-in-Err-clause-closure g c = λ e failed.

@@ -3,9 +3,8 @@ use Rattle.range_change.proofs.Found.{found_partitions, found_at}
 use Rattle.range_change.proofs.window.find.Goals as goal
 
 pub search-found-requires : goal.search-found-requires
-search-found-requires g c =
-    found_partitions g.K.MaybeBounded.order g.met.K.PartialEnum.lawful g.V.PartialEq.eq
-    (g.C.Storage.items c.args.stored.now)
+search-found-requires g c = found_partitions g.K.MaybeBounded.order g.met.K.PartialEnum.lawful
+    g.V.PartialEq.eq (g.C.Storage.items c.args.stored.now)
     (reference_position g.K.MaybeBounded.order c.args.bound.now) c.requires
 
 pub returns-in-None-clause-found : goal.returns-in-None-clause-found

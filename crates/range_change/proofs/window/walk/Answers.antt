@@ -18,13 +18,11 @@ loop-at-preserved g c =
       position = rw next at c.next-at.ensures;
       in_range = omega (arith, here.1, within);
       last_is = (here.0, next, omega arith);
-      meets =
-          λ d some.
-          rw (
-            index,
-            ← get_or_read items (storage.rank stored c.in-Some.p) c.get.result.now within
-                c.get.ensures d,
-          ) (sym c.if-starts_past.ensures.past);
+      meets = λ d some. rw (
+        index,
+        ← get_or_read items (storage.rank stored c.in-Some.p) c.get.result.now within
+            c.get.ensures d,
+      ) (sym c.if-starts_past.ensures.past);
       counted = record { at_most = omega arith; at_least = omega arith };
     }
 
@@ -44,8 +42,7 @@ returns-then-starts_past g c =
     g.met.C.Storage.good_is_in_range stored c.in-Some.p here.0 in
     let index : place + c.loop-at.count ≡ storage.rank stored c.in-Some.p = sym here.1 in
     let x = c.get.result.now in
-    let past =
-    not_le g.met.K.PartialEnum.lawful (reference_position order c.args.end.now)
+    let past = not_le g.met.K.PartialEnum.lawful (reference_position order c.args.end.now)
     (start_position order x.key.start) (λ h. true≢false (c.if-starts_past.ensures.past ∙ h)) in
     record {
       walked = record {
@@ -53,12 +50,10 @@ returns-then-starts_past g c =
         last_is = was.last_is;
         after_is = here;
         meets = was.meets;
-        stops =
-            λ d some.
-            rw (
-              index,
-              ← get_or_read items (storage.rank stored c.in-Some.p) x within c.get.ensures d,
-            ) past;
+        stops = λ d some. rw (
+          index,
+          ← get_or_read items (storage.rank stored c.in-Some.p) x within c.get.ensures d,
+        ) past;
       };
       counted = record { at_most = omega arith; at_least = omega arith };
     }
