@@ -325,6 +325,6 @@ module _ {K : Type 0} (order : KeyOrder K) (lawful : IsLawful order) where
             (every_front _ place items all) (known, every_back _ place items all) in (
               chain_stored order lawful same equal new new_known changed.chain,
               bound_after order lawful same equal items new r v known all new_known changed,
-              meets_bound order lawful same equal items new r v all new_known in_order known range_good
-                  changed,
+              meets_bound order lawful same equal items new r v all new_known in_order known
+                  range_good changed,
             )

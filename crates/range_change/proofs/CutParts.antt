@@ -79,8 +79,8 @@ module _ {K : Type 0} (order : KeyOrder K) (lawful : IsLawful order) where
   same_turned b = same_itself order lawful (flipped_bound b)
 
   -- where nothing is cut, any bound just outside serves
-  pub seam_stands : {P : Type 0} (joined reaching : Option P) (bound : Bound K) {border : Border K P}
-      → IsKnownBound order bound → border ≡ seam_border joined reaching (flipped_bound bound)
+  pub seam_stands : {P : Type 0} (joined reaching : Option P) (bound : Bound K)
+      {border : Border K P} → IsKnownBound order bound → border ≡ seam_border joined reaching (flipped_bound bound)
       → IsSeamAt order joined reaching bound border
   seam_stands joined reaching bound known at = record {
     cut = flipped_bound bound;

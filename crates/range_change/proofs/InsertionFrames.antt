@@ -117,8 +117,8 @@ module _ {K : Type 0} {order : KeyOrder K} (lawful : IsLawful order) {V : Type 0
       {r : AnyRange K} {w : Window P} {place : ℕ}
       (window : IsWindow order same is_good rank items r w place) where
     -- the items up to the last of the window start before the range ends
-    starts_under : 0 < w.count
-        → Every (λ i. PLt lawful (item_lower order i) (upper order r)) (take (place + w.count) items)
+    starts_under : 0 < w.count → Every (λ i. PLt lawful (item_lower order i) (upper order r))
+        (take (place + w.count) items)
     starts_under some =
         let end = place + w.count in
         let k = end - 1 in

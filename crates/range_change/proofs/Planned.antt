@@ -88,14 +88,15 @@ module _ {K : Type 0} {order : KeyOrder K} (lawful : IsLawful order) {V : Type 0
       → ((b : Bound K) (at : Option P) → IsKnownBound order b
       → SameBound order (flipped_bound r.start) b
       → IsRunStart is_good rank (length items) place reach.first joins.before at
-      → IsLeftPlan order same lawful equal is_good rank items r v place reach.window.count reach.first
-      (seam_border joins.before reach.first b) at)
+      → IsLeftPlan order same lawful equal is_good rank items r v place reach.window.count
+      reach.first (seam_border joins.before reach.first b) at)
       → ((b : Bound K) → IsKnownBound order b → SameBound order (flipped_bound r.end) b
-      → IsRightPlan order same lawful equal is_good rank items r v place reach.window.count reach.last
-      (seam_border joins.after reach.last b))
+      → IsRightPlan order same lawful equal is_good rank items r v place reach.window.count
+      reach.last (seam_border joins.after reach.last b))
       → IsRunStart is_good rank (length items) place reach.first joins.before from
       → count ≡ run_length reach joins
-      → IsPlannedRun order same lawful equal is_good rank items r place reach border behind from count v
+      → IsPlannedRun order same lawful equal is_good rank items r place reach border behind from
+      count v
   plan_run {joins} on_left on_right lefts rights start size =
       let left =
       rw (← on_left.at) at (lefts on_left.cut from on_left.known on_left.flipped start) in

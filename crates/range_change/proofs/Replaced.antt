@@ -81,9 +81,8 @@ module _ {K : Type 0} (order : KeyOrder K) (lawful : IsLawful order) {V : Type 0
       (λ o. IsRightSeam order same lawful equal is_good rank items r place count o last
       (seam_border other last behind)) is_last (on_right behind
       (known_turned order lawful r.end known.1) (same_turned order lawful r.end))) in
-      let least =
-      border_length is_good rank items right_side (seam_border other last behind) right.upto right.end right.rest right.finish right.shape
-      in
+      let least = border_length is_good rank items right_side (seam_border other last behind)
+      right.upto right.end right.rest right.finish right.shape in
       record {
         left = left;
         right = right;
@@ -152,7 +151,8 @@ module _ {K : Type 0} {order : KeyOrder K} {lawful : IsLawful order} {V : Type 0
       (λ Q h. any_left Q (left.extra ++ met) right.extra h) left.valued in
       let on_right : Every (λ j.
       HasValue order same run j.value ⊎ HasValue order same middle j.value) beyond =
-      rw regroup (value_within order same (met ++ right.extra) (left.extra ++ (met ++ right.extra)) middle
+      rw regroup (value_within order same (met ++ right.extra)
+      (left.extra ++ (met ++ right.extra)) middle
       beyond (λ Q h. any_right Q left.extra (met ++ right.extra) h) right.valued) in
       let known_body = every_right _ (front ++ rest) body (every_left _ (front ++ rest ++ body)
       (beyond ++ tail) right.known) in
@@ -175,8 +175,8 @@ module _ {K : Type 0} {order : KeyOrder K} {lawful : IsLawful order} {V : Type 0
               concerned = every_append _ (left.extra ++ met) right.extra
                   (every_append _ left.extra met (every_weaker _ _ left.extra (λ i h. inr (inl (
                     h.0,
-                    within_pieces lawful same r rest body beyond (λ j. j.key.start ≡ i.key.start) i known known_body
-                        (took_start i h.1),
+                    within_pieces lawful same r rest body beyond
+                        (λ j. j.key.start ≡ i.key.start) i known known_body (took_start i h.1),
                   ))) left.touched) (every_weaker _ _ met (λ i h. inl h) meets))
                   (every_weaker _ _ right.extra (λ i h. inr (inr (
                     h.0,

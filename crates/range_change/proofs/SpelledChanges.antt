@@ -111,8 +111,8 @@ module _ {K : Type 0} {order : KeyOrder K} (lawful : IsLawful order) {V : Type 0
           λ b e. subst (IsEndAsIn order items) (same_Some x.key.end b (sym is ∙ e)) spelled.1,
         )
 
-    pub replaced_keeps_spelling : {middle : List (Item (AnyRange K) V)} {joined other from : Option P}
-        (plan : IsReplacement order lawful same equal is_good rank items r place reach.window.count
+    pub replaced_keeps_spelling : {middle : List (Item (AnyRange K) V)}
+        {joined other from : Option P} (plan : IsReplacement order lawful same equal is_good rank items r place reach.window.count
         middle reach.first reach.last joined other from) (new : List (Item (AnyRange K) V))
         → new ≡ take plan.left.at items ++ option_items plan.left.rest
         ++ with_last_end plan.right.finish (with_first_start plan.left.start middle)
@@ -137,8 +137,8 @@ module _ {K : Type 0} {order : KeyOrder K} (lawful : IsLawful order) {V : Type 0
         let behind = every_right IsSpelled (take end items) tail (subst (KeepsSpelling order items)
         (list_is_take_and_drop items end) list_keeps_spelling) in
         let inside =
-        every_ended IsSpelled finish (with_first_start start middle) (λ i b is h. (h.0, right.1 b is))
-        (every_started IsSpelled start middle (λ i b is h. (left.1 b is, h.1)) kept) in
+        every_ended IsSpelled finish (with_first_start start middle)
+        (λ i b is h. (h.0, right.1 b is)) (every_started IsSpelled start middle (λ i b is h. (left.1 b is, h.1)) kept) in
         rw changed (every_append IsSpelled (front ++ option_items rest ++ body ++ option_items
         beyond) tail (every_append IsSpelled (front ++ option_items rest ++ body)
         (option_items beyond) (every_append IsSpelled (front ++ option_items rest) body
