@@ -1,5 +1,5 @@
 -- What a change makes of a list where both sides of a range are planned.
-use Rattle.range_change.proofs.Common.{◌≡◌, ℕ, ◌+◌, ◌*◌, ◌<◌, ◌≤◌, List, [], ◌++◌, length, take, drop, refl, ap, sym, ◌∙◌, arith, subst, Option, Some, None, Bool, IsEquivalence, ForSome, Bound, KeyOrder, IsLawful, AnyRange, place_before, IsAt, Item, place_at, kept_at, good_at, IsInserted, joined_item, joined_count, IsGoodBorder, IsLeftShape, IsRightShape, left_side, right_side, IsLeftPlan, IsRightPlan, IsLeftCutting, IsRightCutting, IsRunStart, IsReach, IsRemoved, IsKnownBound, SameBound, flipped_bound, seam_border, option_items, Border}
+use Rattle.range_change.proofs.Common.{◌∷◌, append_assoc, append-nil, insert, IsWindow, Plain, Window, ◌≡◌, ℕ, ◌+◌, ◌*◌, ◌<◌, ◌≤◌, List, [], ◌++◌, length, take, drop, refl, ap, sym, ◌∙◌, arith, subst, Option, Some, None, Bool, IsEquivalence, ForSome, Bound, KeyOrder, IsLawful, AnyRange, place_before, IsAt, Item, place_at, kept_at, good_at, IsInserted, joined_item, joined_count, IsGoodBorder, IsLeftShape, IsRightShape, left_side, right_side, IsLeftPlan, IsRightPlan, IsLeftCutting, IsRightCutting, IsRunStart, IsReach, IsRemoved, IsKnownBound, SameBound, flipped_bound, seam_border, option_items, Border}
 use Rattle.range_change.specs.declared.borders.Joins.{Joins}
 use Rattle.range_change.specs.declared.reach.Reach.{Reach}
 use Rattle.range_change.specs.Borders.{IsSeamAt, run_length}
@@ -216,3 +216,29 @@ module _ {K : Type 0} {order : KeyOrder K} {lawful : IsLawful order} {V : Type 0
         (option_items plan.right.rest) place (place + reach.window.count)
         (omega (arith, found.window.in_range)) found.window.in_range made in
         omega (arith, size, one_item plan.left.rest, one_item plan.right.rest, some)
+
+-- a range that is put between two items and joins neither
+pub put_between : {K : Type 0} {order : KeyOrder K} (lawful : IsLawful order) {V : Type 0}
+    {same : V → V → Bool} (equal : IsEquivalence same) {P : Type 0} {is_good : P → Type 0}
+    {rank : P → ℕ} {items : List (Item (AnyRange K) V)} {r : AnyRange K} {w : Window P} {place : ℕ}
+    (window : IsWindow order same is_good rank items r w place) (v : V) → w.count ≡ 0
+    → IsLeftPlan order same lawful equal is_good rank items r v place w.count None Plain w.from
+    → IsRightPlan order same lawful equal is_good rank items r v place w.count None Plain
+    → (new : List (Item (AnyRange K) V)) → new ≡ insert items place (record { key = r; value = v })
+    → IsInserted order same items new r v
+put_between {K = K} lawful {V = V} equal {items = items} {r = r} {place = place} window v none left
+    right new done =
+    let at : left.at ≡ place = omega (arith, left.shape.0, left.begins) in
+    let end : right.end ≡ place = omega (arith, right.shape.0, right.ends, none) in
+    let own : Item (AnyRange K) V = record { key = r; value = v } in
+    borders_insert lawful equal window new v v left.side right.side left.frame right.frame
+    (omega (arith, left.few, right.few)) (equal.refl v) (λ e. refl) (rw (
+      left.shape.1,
+      left.shape.2,
+      right.shape.1,
+      right.shape.2,
+      at,
+      end,
+      append-nil (take place items),
+      append-nil (take place items ++ own ∷ []),
+    ) (done ∙ sym (append_assoc (take place items) (own ∷ []) (drop place items))))

@@ -1,5 +1,5 @@
-//! Storing an item, with the item handed back where there is no memory: at a position, or in place
-//! of others.
+//! Storing an item, with the item handed back where there is no memory: at a position, between its
+//! neighbours, or in place of others.
 ghost use Rattle.std.specs.Prelude.{◌≡◌, ◌+◌, ◌-◌, ◌*◌, ◌≤◌, length, insert, None, OnOk, OnErr, IfErr, IsOk};
 ghost use Rattle.std.specs.Option.{ForSome};
 ghost use Rattle.range_store.specs.Counting.{AddsSteps};
@@ -42,6 +42,29 @@ pub fn put<T, C: Storage<T>>(
         }
         Err(_) => Err(AllocFailed { value: item }),
     }
+}
+
+/// Stores an item between those beside its range, which meets no stored range and joins none. Hands
+/// it back where there is no memory.
+fn put_between<K: PartialEnum, V: Eq + Drop, C: Storage<Item<AnyRange<K>, V>>>(
+    stored: &mut C,
+    reach: &Reach<C::Position>,
+    item: Item<AnyRange<K>, V>,
+) -> Result<(), AllocFailed<Item<AnyRange<K>, V>>>
+    requires reach { IsReachOf K.order V.eq C.is_good C.rank C.items stored.old item.key reach.now }
+    requires none { reach.now.window.count ≡ 0 }
+    requires before { JoinsBefore K.order V.eq C.is_good C.rank C.items stored.old item.key
+        item.value reach.now None }
+    requires after { JoinsAfter K.order V.eq C.is_good C.rank C.items stored.old item.key item.value
+        reach.now None }
+    ensures ok { OnOk result
+        (IsInserted K.order V.eq (C.items stored.old) (C.items stored.new) item.key item.value) }
+    ensures few { OnOk result (length (C.items stored.new) ≤ length (C.items stored.old) + 2) }
+    ensures given { IfErr result (λ e. e.value ≡ item) }
+    ensures refused { OnErr result (C.items stored.new ≡ C.items stored.old) }
+    ensures succeeds { 1 ≤ C.room stored.old → IsOk result }
+{
+    put::<Item<AnyRange<K>, V>, C>(stored, reach.window.from, item)
 }
 
 /// How much capacity to spare one item needs that replaces a run.
@@ -111,6 +134,9 @@ pub fn bind_free<K: PartialEnum, V: Eq + Drop, C: Storage<Item<AnyRange<K>, V>>>
 {
     let before = joins_before::<K, V, C>(stored, reach, &item.key, &item.value, steps);
     let after = joins_after::<K, V, C>(stored, reach, &item.key, &item.value, steps);
+    if before.is_none() && after.is_none() {
+        return put_between::<K, V, C>(stored, reach, item);
+    }
     let left = seam(before, None, Bound::Unbounded);
     let right = seam(after, None, Bound::Unbounded);
     put_merged::<K, V, C>(stored, reach, &Joins { before, after }, left, right, item)
