@@ -1,5 +1,5 @@
 -- A range that lies apart from all stored ones, and the list with it.
-use Rattle.range_change.proofs.Common.{◌≡◌, ℕ, ◌+◌, ◌<◌, List, [], ◌∷◌, ◌++◌, length, take, drop, get_or, refl, ap, sym, subst, ◌∙◌, arith, Option, Some, None, Bool, true, false, ◌&&◌, IsTrue, ◌⊎◌, ◌↔◌, inl, inr, Every, insert, IfSome, MatchOption, ForSome, IsEquivalence, Bound, KeyOrder, IsLawful, end_position, position_cmp, start_position, Position, less_or_not, line_of, IsBoundTo, flipped, starts_at_end, lower, upper, Le, Lt, eq_ge, eq_le, le_lt_trans, le_refl, le_trans, lt_le, lt_le_trans, lt_not_le, lt_trans, not_le, IsEmptyRange, IsKnownRange, AnyRange, drop_all, list_is_take_and_drop, any_none, any_split, every_append, every_right, every_weaker, flipped_bound_is_past, IsAt, place_before, Item, IsBoundAfter, item_lower, item_upper, IsStored, IsConnectedTo, IsConnectedToSome, Overlap, LiesBefore, Touches, IsFound, IsJustBefore}
+use Rattle.range_change.proofs.Common.{◌≡◌, ℕ, ◌+◌, ◌<◌, List, [], ◌∷◌, ◌++◌, length, take, drop, get_or, refl, ap, sym, subst, ◌∙◌, arith, Option, Some, None, Bool, true, false, ◌&&◌, IsTrue, ◌⊎◌, ◌↔◌, inl, inr, Every, IfSome, MatchOption, IsEquivalence, Bound, KeyOrder, IsLawful, end_position, position_cmp, start_position, Position, less_or_not, line_of, IsBoundTo, flipped, starts_at_end, lower, upper, Le, Lt, eq_ge, eq_le, le_lt_trans, le_refl, le_trans, lt_le, lt_le_trans, lt_not_le, lt_trans, not_le, IsEmptyRange, IsKnownRange, AnyRange, drop_all, list_is_take_and_drop, any_none, any_split, every_append, every_right, every_weaker, flipped_bound_is_past, IsAt, place_before, Item, IsBoundAfter, item_lower, item_upper, IsStored, IsConnectedTo, IsConnectedToSome, MeetAlso, Overlap, LiesBefore, Touches, IsFound, IsJustBefore}
 use Rattle.std.proofs.lemmas.Bool.{and_parts, true_from_ne_false}
 use Rattle.range_change.proofs.Tests.{not_both}
 use Rattle.range_change.proofs.Chains.{chain_above, chain_before, chain_right, strictly_leads, strictly_trails}
@@ -9,23 +9,10 @@ use Rattle.range_change.specs.Apart.{LiesApartAt, IsAnswerAt, IsGap, LiesApart}
 use Rattle.range_change.proofs.Forms.{Chained, Known, before_is, bound_after, chain_stored, nonempty_good, stored_chain, touches_by, touches_is, every_front, every_back}
 use Rattle.range_change.proofs.Overlaps.{any_at}
 use Rattle.range_change.proofs.Comparisons.{touching_same}
-use Rattle.range_change.proofs.CoveredPlaces.{chained_items_have_places}
+use Rattle.range_change.proofs.CoveredPlaces.{chained_items_have_places, meets_bound}
 use Rattle.range_change.proofs.ItemPlaces.{element_at, element_at_is_read, listed_at, upto_item, from_item}
 use Rattle.range_change.proofs.RangePieces.{item_at}
 use Rattle.range_change.proofs.Windows.{every_both}
-
--- where an item was put once capacity was reserved, by the list from before
-pub put_at : {T P : Type 0} (is_good good_after : P → Type 0) (rank rank_after : P → ℕ)
-    (items ready new : List T) (from : Option P) (x : T) → ForSome from is_good → ready ≡ items
-    → ((p : P) → is_good p → good_after p × (rank_after p ≡ rank p))
-    → new ≡ insert ready (place_before rank_after (length ready) from) x
-    → new ≡ insert items (place_before rank (length items) from) x
-put_at is_good good_after rank rank_after items ready new None x good same kept done =
-    done ∙ ap (λ xs. insert xs (length xs) x) same
-put_at is_good good_after rank rank_after items ready new (Some p) x good same kept done =
-    done
-    ∙ (ap (λ n. insert ready n x) (kept p (good p refl)).1
-    ∙ ap (λ xs. insert xs (rank p) x) same)
 
 last_place : {X P : Type 0} (is_good : P → Type 0) (rank : P → ℕ) (items : List X) (last : Option P)
     → MatchOption last (items ≡ []) (λ p. is_good p × (rank p + 1 ≡ length items))
@@ -118,31 +105,25 @@ module _ {K : Type 0} (order : KeyOrder K) (lawful : IsLawful order) where
           → LiesApart order x.key r → Every (Before r) (take (n + 1) items)
       clear_front n x within read apart =
           let whole = rw (listed_at items n x within read) at in_order in
-          let good =
-          chain_right (line_of order lawful same equal) (take n items)
+          let good = chain_right (line_of order lawful same equal) (take n items)
           (x ∷ drop (n + 1) items) whole in
-          let before =
-          chain_before (line_of order lawful same equal) (take n items) x
+          let before = chain_before (line_of order lawful same equal) (take n items) x
           (drop (n + 1) items) whole in
           let own = apart_is x.key r (known_at n x within read) known full apart in
-          rw (upto_item items n (n + 1) x refl within read)
-          (every_append (Before r) (take n items) (x ∷ [])
-          (every_weaker _ _ (take n items)
-          (λ y h. le_lt_trans lawful _ _ _ h.0 (lt_trans lawful _ _ _ good.0 own)) before) (own, tt))
+          rw (upto_item items n (n + 1) x refl within read) (every_append (Before r) (take n items)
+          (x ∷ []) (every_weaker _ _ (take n items) (λ y h. le_lt_trans lawful _ _ _ h.0
+          (lt_trans lawful _ _ _ good.0 own)) before) (own, tt))
 
       clear_back : (n : ℕ) (x : Item (AnyRange K) V) → n < length items → x ≡ get_or items n x
           → LiesApart order r x.key → Every (Behind r) (drop n items)
       clear_back n x within read apart =
-          let chain =
-          chain_right (line_of order lawful same equal) (take n items)
+          let chain = chain_right (line_of order lawful same equal) (take n items)
           (x ∷ drop (n + 1) items) (rw (listed_at items n x within read) at in_order) in
-          let above =
-          chain_above (line_of order lawful same equal) (item_lower order x) x
+          let above = chain_above (line_of order lawful same equal) (item_lower order x) x
           (drop (n + 1) items) chain (le_refl lawful (item_lower order x)) in
           let known_x = known_at n x within read in
-          let own =
-          apart_is r x.key known known_x
-          ((nonempty_good order lawful x.key known_x).1 chain.0) apart in
+          let own = apart_is r x.key known known_x ((nonempty_good order lawful x.key known_x).1
+          chain.0) apart in
           rw (from_item items n x within read) (every_weaker _ _ (x ∷ drop (n + 1) items)
           (λ y h. lt_le_trans lawful _ _ _ own h) above)
 
@@ -208,10 +189,9 @@ module _ {K : Type 0} (order : KeyOrder K) (lawful : IsLawful order) where
             let within = good_in_range q at.0 in
             let x = element_at items (rank q) within in
             let read = element_at_is_read items (rank q) within x in
-            let last =
-            every_right (λ i. PLt (end_position order i.key.end) (lower order r))
-            (take (rank q) items) (x ∷ [])
-            (rw (upto_item items (rank q) place x at.1 within read) at below) in
+            let last = every_right (λ i. PLt (end_position order i.key.end) (lower order r))
+            (take (rank q) items) (x ∷ []) (rw (upto_item items (rank q) place x at.1 within read)
+            at below) in
             let refused : LiesApart order x.key r → ⊥ = λ h. let t =
             (answer x read).1 h in let clash : false ≡ true = sym f ∙ t in cc in
             any_at (λ i. IsConnectedTo order i.key r) items (rank q) x within read
@@ -238,8 +218,7 @@ module _ {K : Type 0} (order : KeyOrder K) (lawful : IsLawful order) where
             any_at (λ i. IsConnectedTo order i.key r) items (rank q) x within read
             (elim (less_or_not (position_cmp order.cmp (end_position order r.end)
             (lower order x.key))) [
-              | inl l ↦
-                  inr (inr (must_touch (LiesBefore order r x.key)
+              | inl l ↦ inr (inr (must_touch (LiesBefore order r x.key)
                   (starts_at_end order r.end (lower order x.key)) l refused))
               | inr l ↦ inl (λ k. lt_not_le lawful _ _ k ends.0, l)
             ])
@@ -261,15 +240,12 @@ module _ {K : Type 0} (order : KeyOrder K) (lawful : IsLawful order) where
                     before = clear_before before place a found.previous first both_are.0;
                     behind = clear_after from place b found.position second both_are.1;
                   };
-              taken = λ f.
-                  elim (one_fails free a b both f) [
-                    | inl e ↦
-                        refused_previous_is_connected before place a found.previous first
-                        (rw start at found.below) e
-                    | inr e ↦
-                        refused_next_is_connected from place b found.position second
-                        (rw start at found.above) e
-                  ];
+              taken = λ f. elim (one_fails free a b both f) [
+                | inl e ↦ refused_previous_is_connected before place a found.previous first
+                    (rw start at found.below) e
+                | inr e ↦ refused_next_is_connected from place b found.position second
+                    (rw start at found.above) e
+              ];
             }
 
       module _ (place : ℕ) (front : Every (Before r) (take place items))
@@ -299,21 +275,16 @@ module _ {K : Type 0} (order : KeyOrder K) (lawful : IsLawful order) where
         pub free_not : IsConnectedToSome order items r → ⊥
         free_not h =
             let split = list_is_take_and_drop items place in
-            let all =
-            every_both _ Good items stored.known
-            (chained_items_have_places order lawful same equal items in_order) in
+            let all = every_both _ Good items stored.known (chained_items_have_places order lawful
+            same equal items in_order) in
             let some : IsConnectedToSome order (take place items ++ drop place items) r =
             rw split at h in
             elim (any_split (λ i. IsConnectedTo order i.key r) (take place items)
             (drop place items) some) [
-              | inl k ↦
-                  any_none _ _ (take place items)
-                  (every_both _ (Before r) _ (every_front _ place items all) front)
-                  item_before_is_unconnected k
-              | inr k ↦
-                  any_none _ _ (drop place items)
-                  (every_both _ (Behind r) _ (every_back _ place items all) back)
-                  item_after_is_unconnected k
+              | inl k ↦ any_none _ _ (take place items) (every_both _ (Before r) _
+                  (every_front _ place items all) front) item_before_is_unconnected k
+              | inr k ↦ any_none _ _ (drop place items) (every_both _ (Behind r) _
+                  (every_back _ place items all) back) item_after_is_unconnected k
             ]
 
         -- and can be put in there
@@ -321,6 +292,7 @@ module _ {K : Type 0} (order : KeyOrder K) (lawful : IsLawful order) where
             record { key = r; value = v } in IsStored order same
             (take place items ++ x ∷ drop place items)
             × IsBoundAfter order same items (take place items ++ x ∷ drop place items) r v
+            × MeetAlso order items (take place items ++ x ∷ drop place items) r
         put_in v =
             let line = line_of order lawful same equal in
             let x : Item (AnyRange K) V = record { key = r; value = v } in
@@ -331,13 +303,11 @@ module _ {K : Type 0} (order : KeyOrder K) (lawful : IsLawful order) where
             let all = stored.known in
             let whole : Chained order lawful same equal (take place items ++ drop place items) =
             rw parts at in_order in
-            let left =
-            left_whole line (take place items) (drop place items) c whole
+            let left = left_whole line (take place items) (drop place items) c whole
             (every_weaker _ _ (take place items) (λ i h. lt_le lawful _ _ h) front)
             (every_weaker _ _ (drop place items) (λ i h. lt_le lawful _ _
             (lt_trans lawful _ _ _ range_good h)) back) in
-            let right =
-            right_whole line (take place items) (drop place items) d whole
+            let right = right_whole line (take place items) (drop place items) d whole
             (every_weaker _ _ (take place items) (λ i h. lt_le lawful _ _
             (lt_trans lawful _ _ _ h range_good)) front) (every_weaker _ _ (drop place items)
             (λ i h. lt_le lawful _ _ h) back) in
@@ -347,15 +317,14 @@ module _ {K : Type 0} (order : KeyOrder K) (lawful : IsLawful order) where
             let on_right =
             right_apart line (take place items ++ drop place items) (drop place items) d v right
             (every_weaker _ _ (drop place items) (λ i h. strictly_trails line i d v h) back) in
-            let changed =
-            subst (λ ys. IsBoundTo line ys new c d v) (sym parts)
-            (places_between_are_bound line (take place items ++ drop place items)
-            (take place items) (drop place items) x c d v on_left on_right range_good
-            (equal.refl v)) in
-            let new_known : Known order lawful same equal new =
-            every_append (λ i. IsKnownRange order i.key) (take place items)
-            (x ∷ drop place items) (every_front _ place items all)
-            (known, every_back _ place items all) in (
+            let changed = subst (λ ys. IsBoundTo line ys new c d v) (sym parts)
+            (places_between_are_bound line (take place items ++ drop place items) (take place items)
+            (drop place items) x c d v on_left on_right range_good (equal.refl v)) in
+            let new_known : Known order lawful same equal new = every_append
+            (λ i. IsKnownRange order i.key) (take place items) (x ∷ drop place items)
+            (every_front _ place items all) (known, every_back _ place items all) in (
               chain_stored order lawful same equal new new_known changed.chain,
               bound_after order lawful same equal items new r v known all new_known changed,
+              meets_bound order lawful same equal items new r v all new_known in_order known
+                  range_good changed,
             )

@@ -1,24 +1,17 @@
 -- How edits of one bound on each side of a run change a list.
-use Rattle.range_change.proofs.Common.{◌≡◌, ℕ, ◌+◌, ◌<◌, ◌≤◌, List, [], ◌∷◌, ◌++◌, length, take, drop, get_or, refl, ap, sym, ◌∙◌, arith, Option, Some, None, append_assoc, set, length-set, append-nil, get_or-drop, take-set, take-set-le, take_more_set, drop-set, drop-set-lt, Bound, Unbounded, AnyRange, Item, ForSome, place_before, with_start, with_end, option_items, BorderSide, IsBorderShape, joined_count, border_at, IsGoodBorder, IsLeftShape, IsRightShape, IsLeftEdited, IsRightEdited, Border, Plain, Cut, Joined}
-use Rattle.range_change.proofs.ItemPlaces.{listed_at}
+use Rattle.range_change.proofs.Common.{common_steps, ◌≡◌, ℕ, ◌+◌, ◌<◌, ◌≤◌, List, [], ◌∷◌, ◌++◌, length, take, drop, get_or, refl, ap, sym, ◌∙◌, arith, Option, Some, None, append_assoc, set, length-set, append-nil, get_or-drop, take-set, take-set-le, take_more_set, drop-set, drop-set-lt, Bound, Unbounded, AnyRange, Item, ForSome, place_before, with_start, with_end, option_items, BorderSide, IsBorderShape, joined_count, border_at, IsGoodBorder, IsLeftShape, IsRightShape, IsLeftEdited, IsRightEdited, Border, Plain, Cut, Joined}
 
 pub opening_regroups : {X : Type 0} (a b c e : List X) (m : X)
     → (a ++ b) ++ m ∷ (c ++ e) ≡ a ++ b ++ (m ∷ []) ++ c ++ e
-opening_regroups a b c e m =
-    sym (append_assoc (a ++ b ++ (m ∷ [])) c e ∙ append_assoc (a ++ b) (m ∷ []) (c ++ e))
+opening_regroups a b c e m = simp append_assoc
 
 pub regrouped_out : {X : Type 0} (a b c e : List X) → (a ++ b) ++ (c ++ e) ≡ a ++ b ++ [] ++ c ++ e
-regrouped_out a b c e = sym (rw (append-nil (a ++ b)) (append_assoc (a ++ b) c e))
+regrouped_out a b c e = simp (append_assoc, append-nil)
 
 -- an item that stands where it stood
 pub standing_item_splits_list : {X : Type 0} (xs : List X) (n m : ℕ) (x : X) → n < length xs
     → x ≡ get_or xs n x → m ≡ n + 1 → xs ≡ take n xs ++ [] ++ (x ∷ []) ++ [] ++ drop m xs
-standing_item_splits_list xs n m x within read next =
-    let split : xs ≡ take n xs ++ x ∷ drop m xs =
-    listed_at xs n x within read ∙ ap (λ k. take n xs ++ x ∷ drop k xs) (sym next) in
-    split
-    ∙ (ap (λ ys. ys ++ x ∷ drop m xs) (sym (append-nil (take n xs)))
-    ∙ opening_regroups (take n xs) [] [] (drop m xs) x)
+standing_item_splits_list xs n m x within read next = grind (arith, common_steps)
 
 pub cut_joins_none : {K P : Type 0} (item : Option P) (b : Bound K)
     → joined_count (border_at item b) ≡ 0
@@ -36,9 +29,8 @@ same_at : {X : Type 0} (xs ys : List X) (n : ℕ) (d : X) → drop n xs ≡ drop
     → get_or xs n d ≡ get_or ys n d
 same_at xs ys n d e =
     let plus : n + 0 ≡ n = omega arith in
-    ap (λ m. get_or xs m d) (sym plus)
-    ∙ (sym (get_or-drop n xs 0 d)
-    ∙ (ap (λ zs. get_or zs 0 d) e ∙ (get_or-drop n ys 0 d ∙ ap (λ m. get_or ys m d) plus)))
+    ap (λ m. get_or xs m d) (sym plus) ∙ (sym (get_or-drop n xs 0 d) ∙
+    (ap (λ zs. get_or zs 0 d) e ∙ (get_or-drop n ys 0 d ∙ ap (λ m. get_or ys m d) plus)))
 
 module _ {K V P : Type 0} (is_good : P → Type 0) (rank : P → ℕ) (items : List (Item (AnyRange K) V))
     (in_range : (p : P) → is_good p → rank p < length items) where
@@ -77,11 +69,9 @@ module _ {K V P : Type 0} (is_good : P → Type 0) (rank : P → ℕ) (items : L
       let new_is : new ≡ set items at (with_start x Unbounded) =
       rw (sym shape.4.1, shape.1) at (edited x).0 in
       record {
-        front =
-            rw (shape.2, shape.3, new_is)
-            (take-set items at (with_start x Unbounded) ∙ sym (append-nil (take at items)));
-        behind = λ n le. let lt : at < n =
-            omega (arith, shape.2, le) in rw new_is
+        front = rw (shape.2, shape.3, new_is) (take-set items at (with_start x Unbounded) ∙ sym
+            (append-nil (take at items)));
+        behind = λ n le. let lt : at < n = omega (arith, shape.2, le) in rw new_is
             (drop-set-lt n items at (with_start x Unbounded) lt);
         same_start = rw (sym shape.4.1) at (edited x).1 ∙ sym shape.4.2;
         size = rw new_is (length-set items at (with_start x Unbounded));
@@ -121,10 +111,9 @@ module _ {K V P : Type 0} (is_good : P → Type 0) (rank : P → ℕ) (items : L
       record {
         front = λ n l. let below : n ≤ upto =
             omega arith in rw new_is (take-set-le n base upto (with_start x b) below);
-        behind =
-            rw (new_is, shape.4.2) (drop-set base upto (with_start x b) within
-            ∙ ap (λ ys. with_start x b ∷ ys)
-            (kept (upto + 1) (omega arith) ∙ ap (λ n. drop n items) (sym shape.2)));
+        behind = rw (new_is, shape.4.2) (drop-set base upto (with_start x b) within ∙ ap
+            (λ ys. with_start x b ∷ ys) (kept (upto + 1) (omega arith) ∙ ap (λ n. drop n items)
+            (sym shape.2)));
         same_end = edited.1 ∙ sym shape.3;
         size = rw new_is (length-set base upto (with_start x b));
       }
@@ -140,9 +129,8 @@ module _ {K V P : Type 0} (is_good : P → Type 0) (rank : P → ℕ) (items : L
       record {
         front = λ n l. let below : n ≤ i =
             omega (arith, shape.1) in rw new_is (take-set-le n base i (with_end x Unbounded) below);
-        behind =
-            rw (new_is, shape.3) (drop-set-lt upto base i (with_end x Unbounded) lt
-            ∙ (kept upto (omega arith) ∙ ap (λ n. drop n items) (sym shape.2)));
+        behind = rw (new_is, shape.3) (drop-set-lt upto base i (with_end x Unbounded) lt ∙
+            (kept upto (omega arith) ∙ ap (λ n. drop n items) (sym shape.2)));
         same_end = rw (index, item) at (edited x).1 ∙ sym shape.4.2;
         size = rw new_is (length-set base i (with_end x Unbounded));
       }
@@ -156,28 +144,25 @@ module _ {K V P : Type 0} {is_good is_good' : P → Type 0} {rank rank' : P → 
       → IsBorderShape side is_good rank items border low high rest given
       → IsBorderShape side is_good' rank' items' border low high rest given
   shape_kept side Plain low high rest given h = h
-  shape_kept side (Cut p b) low high rest given h = let k =
-      kept p h.0 in (
-        k.0,
-        k.1 ∙ h.1,
-        h.2,
-        h.3,
-        (h.4.0, h.4.1 ∙ ap (λ ys. get_or ys low h.4.0) (sym same), h.4.2),
-      )
-  shape_kept side (Joined p) low high rest given h = let k =
-      kept p h.0 in (
-        k.0,
-        ap side.place k.1 ∙ h.1,
-        h.2,
-        h.3,
-        (
-          h.4.0,
-          h.4.1
-              ∙ (ap (λ ys. get_or ys (rank p) h.4.0) (sym same)
-              ∙ ap (λ n. get_or items' n h.4.0) (sym k.1)),
-          h.4.2,
-        ),
-      )
+  shape_kept side (Cut p b) low high rest given h = let k = kept p h.0 in (
+    k.0,
+    k.1 ∙ h.1,
+    h.2,
+    h.3,
+    (h.4.0, h.4.1 ∙ ap (λ ys. get_or ys low h.4.0) (sym same), h.4.2),
+  )
+  shape_kept side (Joined p) low high rest given h = let k = kept p h.0 in (
+    k.0,
+    ap side.place k.1 ∙ h.1,
+    h.2,
+    h.3,
+    (
+      h.4.0,
+      h.4.1 ∙ (ap (λ ys. get_or ys (rank p) h.4.0) (sym same) ∙ ap (λ n. get_or items' n h.4.0)
+          (sym k.1)),
+      h.4.2,
+    ),
+  )
 
   pub border_good : (side : BorderSide K V) (border : Border K P) (low high : ℕ)
       (rest : Option (Item (AnyRange K) V)) (given : Option (Bound K))

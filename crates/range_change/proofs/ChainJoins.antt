@@ -1,7 +1,6 @@
 -- What a range joins beside it, and the chain in which it is bound or unbound.
 use Rattle.range_change.proofs.Common.{◌≡◌, sym, ◌∙◌, Bool, true, List, [], ◌∷◌, ◌++◌, ◌↔◌, ◌⊎◌, inl, inr, tied_itself, Every, Le, Lt, any_left, any_right, any_split, every_weaker, every_append, Line, Leads, Trails, Follows, IsChain, Has, Held, Respects, Leading, Trailing, IsLeft, IsRight, IsLeftOf, IsRightOf, IsMade, IsBoundTo, IsUnbound, IsSpliced}
-use Rattle.range_algebra.specs.Orders.{cases, le_refl, lt_le, le_trans, lt_not_le, lt_le_trans, le_lt_trans}
-use Rattle.range_change.proofs.Chains.{same_is_symmetric, chain_right, chain_tail, chain_above, follows_above, strictly_leads, strictly_trails, chain_before, chains_join, join_apart}
+use Rattle.range_change.proofs.Chains.{same_is_symmetric, chain_right, chain_tail, chain_above, follows_above, strictly_leads, strictly_trails, chain_before, chains_join, join_apart, cases, le_refl, lt_le, le_trans, lt_not_le, lt_le_trans, le_lt_trans}
 use Rattle.range_change.proofs.ChainSides.{none_below, none_above, only_first, only_second, held_alone, leading_like, left_whole}
 
 pub both_ways : {A B C : Type 0} → A ↔ B → C ↔ B → A ↔ C
@@ -13,19 +12,17 @@ module _ {L V X : Type 0} (line : Line L V X) where
   leading_last front y c v chain leads =
       let before = chain_before line front y [] chain in
       let good = chain_right line front (y ∷ []) chain in
-      every_append _ front (y ∷ [])
-      (every_weaker _ _ front (λ z h.
-      strictly_leads line z c v (le_lt_trans line.cmp line.total _ _ _ h.0
-      (lt_le_trans line.cmp line.total _ _ _ good.0 leads.0))) before) (leads, tt)
+      every_append _ front (y ∷ []) (every_weaker _ _ front
+      (λ z h. strictly_leads line z c v (le_lt_trans line _ _ _ h.0
+      (lt_le_trans line _ _ _ good.0 leads.0))) before) (leads, tt)
 
   pub trailing_first : (y : X) (ys : List X) (d : L) (v : V) → IsChain line (y ∷ ys)
       → Trails line d v y → Trailing line d v (y ∷ ys)
   trailing_first y ys d v chain trails =
       let above = follows_above line y ys chain.1 in (
         trails,
-        every_weaker _ _ ys (λ z h.
-            strictly_trails line z d v (le_lt_trans line.cmp line.total _ _ _ trails.0
-            (lt_le_trans line.cmp line.total _ _ _ chain.0 h))) above,
+        every_weaker _ _ ys (λ z h. strictly_trails line z d v
+            (le_lt_trans line _ _ _ trails.0 (lt_le_trans line _ _ _ chain.0 h))) above,
       )
 
   -- nothing beside the range joins it
@@ -34,8 +31,8 @@ module _ {L V X : Type 0} (line : Line L V X) where
   left_apart items kept c v left leads = record {
     left = left;
     leads = leads;
-    below = le_refl line.cmp line.total c;
-    joined = λ p W alike from l. absurd (lt_not_le line.cmp line.total _ _ l from);
+    below = le_refl line c;
+    joined = λ p W alike from l. absurd (lt_not_le line _ _ l from);
   }
 
   pub right_apart : (items kept : List X) (d : L) (v : V) → IsRight line items kept d
@@ -43,34 +40,29 @@ module _ {L V X : Type 0} (line : Line L V X) where
   right_apart items kept d v right trails = record {
     right = right;
     trails = trails;
-    above = le_refl line.cmp line.total d;
-    joined = λ p W alike from l. absurd (lt_not_le line.cmp line.total _ _ l from);
+    above = le_refl line d;
+    joined = λ p W alike from l. absurd (lt_not_le line _ _ l from);
   }
 
   -- an item with the value reaches or touches the range
   pub left_joined : (front : List X) (x : X) (rest : List X) (c : L) (v : V)
       → IsChain line (front ++ x ∷ rest) → Le line.cmp (line.lo x) c → Le line.cmp c (line.hi x)
-      → line.same (line.value x) v ≡ true
-      → IsLeftOf line (front ++ x ∷ rest) front c (line.lo x) v
+      → line.same (line.value x) v ≡ true → IsLeftOf line (front ++ x ∷ rest) front c (line.lo x) v
   left_joined front x rest c v chain starts reaches alike_value =
       let before = chain_before line front x rest chain in
       let whole = chain_right line front (x ∷ rest) chain in
       record {
-        left =
-            left_whole line front (x ∷ rest) (line.lo x) chain
-            (every_weaker _ _ front (λ z h. h.0) before)
-            (chain_above line (line.lo x) x rest whole (le_refl line.cmp line.total (line.lo x)));
-        leads =
-            every_weaker _ _ front (λ z h. (
-              h.0,
-              λ k s.
-                  h.1 k (line.equal.congr (line.value z) v (line.value x) s
-                  ∙ same_is_symmetric line (line.value x) v alike_value),
-            )) before;
+        left = left_whole line front (x ∷ rest) (line.lo x) chain
+            (every_weaker _ _ front (λ z h. h.0) before) (chain_above line (line.lo x) x rest whole
+            (le_refl line (line.lo x)));
+        leads = every_weaker _ _ front (λ z h. (
+          h.0,
+          λ k s. h.1 k (line.equal.congr (line.value z) v (line.value x) s ∙ same_is_symmetric
+              line (line.value x) v alike_value),
+        )) before;
         below = starts;
-        joined =
-            λ p W alike from l. held_alone line front x rest p W v chain
-            (from, lt_le_trans line.cmp line.total _ _ _ l reaches) alike alike_value;
+        joined = λ p W alike from l. held_alone line front x rest p W v chain
+            (from, lt_le_trans line _ _ _ l reaches) alike alike_value;
       }
 
   follows_trails : (y : X) (ys : List X) → Follows line y ys
@@ -80,72 +72,61 @@ module _ {L V X : Type 0} (line : Line L V X) where
 
   pub right_joined : (front : List X) (x : X) (rest : List X) (d : L) (v : V)
       → IsChain line (front ++ x ∷ rest) → Le line.cmp (line.lo x) d → Le line.cmp d (line.hi x)
-      → line.same (line.value x) v ≡ true
-      → IsRightOf line (front ++ x ∷ rest) rest d (line.hi x) v
+      → line.same (line.value x) v ≡ true → IsRightOf line (front ++ x ∷ rest) rest d (line.hi x) v
   right_joined front x rest d v chain reaches ends alike_value =
       let whole = chain_right line front (x ∷ rest) chain in
-      let low = lt_le line.cmp line.total _ _ whole.0 in
-      let before : Every (λ z. Le line.cmp (line.hi z) (line.hi x)) front =
-      every_weaker _ _ front (λ z h. le_trans line.cmp line.total _ _ _ h.0 low)
-      (chain_before line front x rest chain) in
+      let low = lt_le line _ _ whole.0 in
+      let before : Every (λ z. Le line.cmp (line.hi z) (line.hi x)) front = every_weaker _ _ front
+      (λ z h. le_trans line _ _ _ h.0 low) (chain_before line front x rest chain) in
       record {
         right = record {
           chain = chain_tail line x rest whole.1;
           starts = follows_above line x rest whole.1;
           holds = λ p W alike l. (
             λ h. any_right _ front (x ∷ rest) (inr h),
-            λ h.
-                only_second (λ k. lt_not_le line.cmp line.total _ _ k.0.1 l)
+            λ h. only_second (λ k. lt_not_le line _ _ k.0.1 l)
                 (only_second (none_above line p (line.hi x) W front l before)
                 (any_split _ front (x ∷ rest) h)),
           );
         };
-        trails =
-            every_weaker _ _ rest (λ z h. (
-              h.0,
-              λ k s. h.1 k (line.equal.congr (line.value x) v (line.value z) alike_value ∙ s),
-            )) (follows_trails x rest whole.1);
+        trails = every_weaker _ _ rest (λ z h. (
+          h.0,
+          λ k s. h.1 k (line.equal.congr (line.value x) v (line.value z) alike_value ∙ s),
+        )) (follows_trails x rest whole.1);
         above = ends;
-        joined =
-            λ p W alike from l. held_alone line front x rest p W v chain
-            (le_trans line.cmp line.total _ _ _ reaches from, l) alike alike_value;
+        joined = λ p W alike from l. held_alone line front x rest p W v chain
+            (le_trans line _ _ _ reaches from, l) alike alike_value;
       }
 
   -- a middle that stands between what is left on each side
   pub places_between_hold : (items front middle behind : List X) (c d : L)
       → IsLeft line items front c → IsRight line items behind d → Lt line.cmp c d
-      → IsChain line (front ++ (middle ++ behind))
-      → Every (λ x. Le line.cmp c (line.lo x)) middle
+      → IsChain line (front ++ (middle ++ behind)) → Every (λ x. Le line.cmp c (line.lo x)) middle
       → Every (λ x. Le line.cmp (line.hi x) d) middle
       → IsSpliced line items middle (front ++ (middle ++ behind)) c d
   places_between_hold items front middle behind c d left right l chain above below =
-      let low = lt_le line.cmp line.total _ _ l in
+      let low = lt_le line _ _ l in
       record {
         chain = chain;
         inside = λ p W alike from upto. (
-          λ h.
-              only_first (none_below line p d W behind upto right.starts)
-              (any_split _ middle behind
-              (only_second (none_above line p c W front from left.ends)
+          λ h. only_first (none_below line p d W behind upto right.starts)
+              (any_split _ middle behind (only_second (none_above line p c W front from left.ends)
               (any_split _ front (middle ++ behind) h))),
           λ h. any_right _ front (middle ++ behind) (any_left _ middle behind h),
         );
         outside = λ p W alike where_. elim where_ [
           | inl under ↦ (
-            λ h. (left.holds p W alike under).0
-                (only_first (none_below line p c W (middle ++ behind) under
+            λ h. (left.holds p W alike under).0 (only_first
+                (none_below line p c W (middle ++ behind) under
                 (every_append (λ x. Le line.cmp c (line.lo x)) middle behind above
-                (every_weaker _ _ behind (λ x h. le_trans line.cmp line.total _ _ _ low h)
-                right.starts)))
+                (every_weaker _ _ behind (λ x h. le_trans line _ _ _ low h) right.starts)))
                 (any_split _ front (middle ++ behind) h)),
             λ h. any_left _ front (middle ++ behind) ((left.holds p W alike under).1 h),
           )
           | inr over ↦ (
-            λ h. (right.holds p W alike over).0
-                (only_second (none_above line p d W middle over below)
-                (any_split _ middle behind
-                (only_second (none_above line p c W front
-                (le_trans line.cmp line.total _ _ _ low over) left.ends)
+            λ h. (right.holds p W alike over).0 (only_second (none_above line p d W middle over
+                below) (any_split _ middle behind (only_second
+                (none_above line p c W front (le_trans line _ _ _ low over) left.ends)
                 (any_split _ front (middle ++ behind) h)))),
             λ h. any_right _ front (middle ++ behind)
                 (any_right _ middle behind ((right.holds p W alike over).1 h)),
@@ -158,31 +139,23 @@ module _ {L V X : Type 0} (line : Line L V X) where
   pub hull : (items new : List X) (c d s e : L) (Wide Own : L → (V → Bool) → Type 0)
       → Le line.cmp s c → Lt line.cmp c d → Le line.cmp d e → IsMade line items new s e Wide
       → ((p : L) (W : V → Bool) → Respects line W → Le line.cmp c p → Lt line.cmp p d
-      → Wide p W ↔ Own p W)
-      → ((p : L) (W : V → Bool) → Respects line W
+      → Wide p W ↔ Own p W) → ((p : L) (W : V → Bool) → Respects line W
       → (Le line.cmp s p × Lt line.cmp p c) ⊎ (Le line.cmp d p × Lt line.cmp p e)
-      → Has line W p items ↔ Wide p W)
-      → IsMade line items new c d Own
+      → Has line W p items ↔ Wide p W) → IsMade line items new c d Own
   hull items new c d s e Wide Own low l high made own beside = record {
     chain = made.chain;
-    inside = λ p W alike from upto. let wide =
-        made.inside p W alike (le_trans line.cmp line.total _ _ _ low from)
-        (lt_le_trans line.cmp line.total _ _ _ upto high) in let narrow =
-        own p W alike from upto in (λ h. narrow.0 (wide.0 h), λ h. wide.1 (narrow.1 h));
+    inside = λ p W alike from upto. let wide = made.inside p W alike (le_trans line _ _ _ low from)
+        (lt_le_trans line _ _ _ upto high) in let narrow = own p W alike from upto in
+        (λ h. narrow.0 (wide.0 h), λ h. wide.1 (narrow.1 h));
     outside = λ p W alike where_. elim where_ [
-      | inl under ↦ elim (cases line.cmp line.total p s) [
+      | inl under ↦ elim (cases line p s) [
         | inl below ↦ made.outside p W alike (inl below)
-        | inr from ↦
-            both_ways
-            (made.inside p W alike from (lt_le_trans line.cmp line.total _ _ _ under
-            (le_trans line.cmp line.total _ _ _ (lt_le line.cmp line.total _ _ l) high)))
-            (beside p W alike (inl (from, under)))
+        | inr from ↦ both_ways (made.inside p W alike from (lt_le_trans line _ _ _ under
+            (le_trans line _ _ _ (lt_le line _ _ l) high))) (beside p W alike (inl (from, under)))
       ]
-      | inr over ↦ elim (cases line.cmp line.total p e) [
-        | inl upto ↦
-            both_ways
-            (made.inside p W alike (le_trans line.cmp line.total _ _ _ low
-            (le_trans line.cmp line.total _ _ _ (lt_le line.cmp line.total _ _ l) over)) upto)
+      | inr over ↦ elim (cases line p e) [
+        | inl upto ↦ both_ways (made.inside p W alike (le_trans line _ _ _ low
+            (le_trans line _ _ _ (lt_le line _ _ l) over)) upto)
             (beside p W alike (inr (over, upto)))
         | inr above ↦ made.outside p W alike (inr above)
       ]
@@ -202,8 +175,8 @@ module _ {L V X : Type 0} (line : Line L V X) where
   trailing_follows m [] e v h k s chain trails = tt
   trailing_follows m (y ∷ ys) e v h k s chain trails = (
     (
-      le_trans line.cmp line.total _ _ _ h trails.0.0,
-      λ q t. trails.0.1 (le_trans line.cmp line.total _ _ _ q h)
+      le_trans line _ _ _ h trails.0.0,
+      λ q t. trails.0.1 (le_trans line _ _ _ q h)
           (sym (line.equal.congr (line.value m) v (line.value y) s) ∙ t),
     ),
     chain,
@@ -215,40 +188,29 @@ module _ {L V X : Type 0} (line : Line L V X) where
       → Lt line.cmp c d → line.same (line.value m) v ≡ true
       → IsBoundTo line items (front ++ m ∷ behind) c d v
   places_between_are_bound items front behind m c d v left right l alike_value =
-      let high = le_trans line.cmp line.total _ _ _ (lt_le line.cmp line.total _ _ l) right.above in
-      let good : Lt line.cmp (line.lo m) (line.hi m) =
-      le_lt_trans line.cmp line.total _ _ _ left.below
-      (lt_le_trans line.cmp line.total _ _ _ l right.above) in
-      let chain =
-      chains_join line front m behind left.left.chain (
+      let high = le_trans line _ _ _ (lt_le line _ _ l) right.above in
+      let good : Lt line.cmp (line.lo m) (line.hi m) = le_lt_trans line _ _ _ left.below
+      (lt_le_trans line _ _ _ l right.above) in
+      let chain = chains_join line front m behind left.left.chain (
         good,
-        trailing_follows m behind (line.hi m) v (le_refl line.cmp line.total (line.hi m))
-            (le_refl line.cmp line.total (line.hi m)) alike_value right.right.chain right.trails,
-      )
-      (leading_like line front m (line.lo m) v left.leads
-      (tied_itself line.total (line.lo m)) alike_value) in
-      let made =
-      places_between_hold items front (m ∷ []) behind (line.lo m) (line.hi m) left.left right.right
-      good chain (le_refl line.cmp line.total (line.lo m), tt)
-      (le_refl line.cmp line.total (line.hi m), tt) in
+        trailing_follows m behind (line.hi m) v (le_refl line (line.hi m))
+            (le_refl line (line.hi m)) alike_value right.right.chain right.trails,
+      ) (leading_like line front m (line.lo m) v left.leads (tied_itself line.total (line.lo m))
+      alike_value) in
+      let made = places_between_hold items front (m ∷ []) behind (line.lo m) (line.hi m) left.left
+      right.right good chain (le_refl line (line.lo m), tt) (le_refl line (line.hi m), tt) in
       let own : (p : L) (W : V → Bool) → Respects line W → Held line p m
       → Has line W p (m ∷ []) ↔ (W v ≡ true) =
       λ p W alike held. held_alone line [] m [] p W v (good, tt) held alike alike_value in
-      hull items (front ++ m ∷ behind) c d (line.lo m) (line.hi m)
-      (λ p W. Has line W p (m ∷ [])) (λ p W. W v ≡ true) left.below l right.above made
-      (λ p W alike from upto. own p W alike (
-        le_trans line.cmp line.total _ _ _ left.below from,
-        lt_le_trans line.cmp line.total _ _ _ upto right.above,
-      ))
-      (λ p W alike where_. elim where_ [
-        | inl k ↦
-            both_ways (left.joined p W alike k.0 k.1)
-            (own p W alike (k.0, lt_le_trans line.cmp line.total _ _ _ k.1 high))
-        | inr k ↦
-            both_ways (right.joined p W alike k.0 k.1)
-            (own p W alike (
-              le_trans line.cmp line.total _ _ _ left.below
-                  (le_trans line.cmp line.total _ _ _ (lt_le line.cmp line.total _ _ l) k.0),
-              k.1,
-            ))
+      hull items (front ++ m ∷ behind) c d (line.lo m) (line.hi m) (λ p W. Has line W p (m ∷ []))
+      (λ p W. W v ≡ true) left.below l right.above made (λ p W alike from upto. own p W alike (
+        le_trans line _ _ _ left.below from,
+        lt_le_trans line _ _ _ upto right.above,
+      )) (λ p W alike where_. elim where_ [
+        | inl k ↦ both_ways (left.joined p W alike k.0 k.1) (own p W alike
+            (k.0, lt_le_trans line _ _ _ k.1 high))
+        | inr k ↦ both_ways (right.joined p W alike k.0 k.1) (own p W alike (
+          le_trans line _ _ _ left.below (le_trans line _ _ _ (lt_le line _ _ l) k.0),
+          k.1,
+        ))
       ])

@@ -1,7 +1,6 @@
 -- What stands on each side of a range that is cut out of a chain.
 use Rattle.range_change.proofs.Common.{◌≡◌, ◌∙◌, Bool, true, List, [], ◌∷◌, ◌++◌, ◌⊎◌, ◌↔◌, inl, inr, Every, Equal, Le, Lt, any_left, any_right, any_split, any_none, every_weaker, every_append, Line, IsChain, Has, Held, Respects, Leading, IsLeft, IsRight}
-use Rattle.range_algebra.specs.Orders.{lt_le, eq_le, eq_ge, le_trans, lt_not_le, lt_le_trans, le_lt_trans}
-use Rattle.range_change.proofs.Chains.{same_is_symmetric, chain_left, chain_right, follows_above, chain_before, chains_join, follows_like}
+use Rattle.range_change.proofs.Chains.{same_is_symmetric, chain_left, chain_right, follows_above, chain_before, chains_join, follows_like, lt_le, eq_le, eq_ge, le_trans, lt_not_le, lt_le_trans, le_lt_trans}
 
 pub only_first : {A B : Type 0} → (B → ⊥) → A ⊎ B → A
 only_first f (inl a) = a
@@ -15,17 +14,13 @@ module _ {L V X : Type 0} (line : Line L V X) where
   -- nothing holds a place below where all start
   pub none_below : (p c : L) (W : V → Bool) (xs : List X) → Lt line.cmp p c
       → Every (λ x. Le line.cmp c (line.lo x)) xs → Has line W p xs → ⊥
-  none_below p c W xs l all h =
-      any_none _ (λ x. Le line.cmp c (line.lo x)) xs all
-      (λ x le held. lt_not_le line.cmp line.total _ _ l
-      (le_trans line.cmp line.total _ _ _ le held.0.0)) h
+  none_below p c W xs l all h = any_none _ (λ x. Le line.cmp c (line.lo x)) xs all
+      (λ x le held. lt_not_le line _ _ l (le_trans line _ _ _ le held.0.0)) h
 
   pub none_above : (p d : L) (W : V → Bool) (xs : List X) → Le line.cmp d p
       → Every (λ x. Le line.cmp (line.hi x) d) xs → Has line W p xs → ⊥
-  none_above p d W xs l all h =
-      any_none _ (λ x. Le line.cmp (line.hi x) d) xs all
-      (λ x le held. lt_not_le line.cmp line.total _ _ held.0.1
-      (le_trans line.cmp line.total _ _ _ le l)) h
+  none_above p d W xs l all h = any_none _ (λ x. Le line.cmp (line.hi x) d) xs all
+      (λ x le held. lt_not_le line _ _ held.0.1 (le_trans line _ _ _ le l)) h
 
   -- a place that an item of a chain holds has that item's value and no other
   pub held_alone : (front : List X) (x : X) (rest : List X) (p : L) (W : V → Bool) (v : V)
@@ -36,17 +31,15 @@ module _ {L V X : Type 0} (line : Line L V X) where
       let above = follows_above line x rest whole.1 in
       let ends : Every (λ z. Le line.cmp (line.hi z) (line.lo x)) front =
       every_weaker _ _ front (λ z h. h.0) (chain_before line front x rest chain) in (
-        λ h.
-            elim (only_second (none_above p (line.lo x) W front held.0 ends)
+        λ h. elim (only_second (none_above p (line.lo x) W front held.0 ends)
             (any_split _ front (x ∷ rest) h)) [
               | inl k ↦ alike (line.value x) v alike_value k.1
               | inr k ↦ absurd (none_below p (line.hi x) W rest held.1 above k)
             ],
-        λ w. any_right _ front (x ∷ rest)
-            (inl (
-              held,
-              alike v (line.value x) (same_is_symmetric line (line.value x) v alike_value) w,
-            )),
+        λ w. any_right _ front (x ∷ rest) (inl (
+          held,
+          alike v (line.value x) (same_is_symmetric line (line.value x) v alike_value) w,
+        )),
       )
 
   -- an item in the place of another with an equal value, at a place that it holds too
@@ -69,10 +62,10 @@ module _ {L V X : Type 0} (line : Line L V X) where
       → line.cmp (line.lo m) s ≡ Equal → line.same (line.value m) v ≡ true
       → Leading line (line.lo m) (line.value m) front
   leading_like front m s v leads at alike_value =
-      let high = eq_ge line.cmp line.total _ _ at in
+      let high = eq_ge line _ _ at in
       every_weaker _ _ front (λ z h. (
-        le_trans line.cmp line.total _ _ _ h.0 high,
-        λ k t. h.1 (le_trans line.cmp line.total _ _ _ high k)
+        le_trans line _ _ _ h.0 high,
+        λ k t. h.1 (le_trans line _ _ _ high k)
             (line.equal.congr (line.value z) (line.value m) v t ∙ alike_value),
       )) leads
 
@@ -83,12 +76,10 @@ module _ {L V X : Type 0} (line : Line L V X) where
   left_whole front rest c chain ends starts = record {
     chain = chain_left line front rest chain;
     ends = ends;
-    holds =
-        λ p W alike l. (
-          any_left _ front rest,
-          λ h.
-              only_first (none_below p c W rest l starts) (any_split _ front rest h),
-        );
+    holds = λ p W alike l. (
+      any_left _ front rest,
+      λ h. only_first (none_below p c W rest l starts) (any_split _ front rest h),
+    );
   }
 
   -- the front with the lower part of the item that the place cuts
@@ -100,37 +91,27 @@ module _ {L V X : Type 0} (line : Line L V X) where
   left_cut front x rest y c chain starts reaches at_lo at_hi alike_value =
       let whole = chain_right line front (x ∷ rest) chain in
       let above = follows_above line x rest whole.1 in
-      let good : Lt line.cmp (line.lo y) (line.hi y) =
-      le_lt_trans line.cmp line.total _ _ _ (eq_le line.cmp line.total _ _ at_lo)
-      (lt_le_trans line.cmp line.total _ _ _ starts (eq_ge line.cmp line.total _ _ at_hi)) in
+      let good : Lt line.cmp (line.lo y) (line.hi y) = le_lt_trans line _ _ _ (eq_le line _ _ at_lo)
+      (lt_le_trans line _ _ _ starts (eq_ge line _ _ at_hi)) in
       let value_back = same_is_symmetric line (line.value y) (line.value x) alike_value in
-      let leads =
-      leading_like front y (line.lo x) (line.value x) (chain_before line front x rest chain) at_lo
-      alike_value in
+      let leads = leading_like front y (line.lo x) (line.value x)
+      (chain_before line front x rest chain) at_lo alike_value in
       record {
         chain =
             chains_join line front y [] (chain_left line front (x ∷ rest) chain) (good, tt) leads;
-        ends =
-            every_append _ front (y ∷ [])
-            (every_weaker _ _ front (λ z h.
-            le_trans line.cmp line.total _ _ _ h.0 (le_trans line.cmp line.total _ _ _
-            (eq_le line.cmp line.total _ _ at_lo) (lt_le line.cmp line.total _ _ starts))) leads)
-            (eq_le line.cmp line.total _ _ at_hi, tt);
-        holds = λ p W alike l. let inside =
-            lt_le_trans line.cmp line.total _ _ _ l reaches in (
-              like_item front front [] rest y x p W alike alike_value
-                  (λ h. (
-                    le_trans line.cmp line.total _ _ _ (eq_ge line.cmp line.total _ _ at_lo) h.0,
-                    inside,
-                  ))
-                  (λ k. k) (λ k. absurd k),
-              like_item front front rest [] x y p W alike value_back
-                  (λ h. (
-                    le_trans line.cmp line.total _ _ _ (eq_le line.cmp line.total _ _ at_lo) h.0,
-                    lt_le_trans line.cmp line.total _ _ _ l (eq_ge line.cmp line.total _ _ at_hi),
-                  ))
-                  (λ k. k) (none_below p (line.hi x) W rest inside above),
-            );
+        ends = every_append _ front (y ∷ []) (every_weaker _ _ front
+            (λ z h. le_trans line _ _ _ h.0 (le_trans line _ _ _ (eq_le line _ _ at_lo)
+            (lt_le line _ _ starts))) leads) (eq_le line _ _ at_hi, tt);
+        holds = λ p W alike l. let inside = lt_le_trans line _ _ _ l reaches in (
+          like_item front front [] rest y x p W alike alike_value (λ h. (
+            le_trans line _ _ _ (eq_ge line _ _ at_lo) h.0,
+            inside,
+          )) (λ k. k) (λ k. absurd k),
+          like_item front front rest [] x y p W alike value_back (λ h. (
+            le_trans line _ _ _ (eq_le line _ _ at_lo) h.0,
+            lt_le_trans line _ _ _ l (eq_ge line _ _ at_hi),
+          )) (λ k. k) (none_below p (line.hi x) W rest inside above),
+        );
       }
 
   -- a back that starts at the place at least, after what ends there at most
@@ -140,12 +121,10 @@ module _ {L V X : Type 0} (line : Line L V X) where
   right_whole rest back d chain ends starts = record {
     chain = chain_right line rest back chain;
     starts = starts;
-    holds =
-        λ p W alike l. (
-          any_right _ rest back,
-          λ h.
-              only_second (none_above p d W rest l ends) (any_split _ rest back h),
-        );
+    holds = λ p W alike l. (
+      any_right _ rest back,
+      λ h. only_second (none_above p d W rest l ends) (any_split _ rest back h),
+    );
   }
 
   -- the upper part of the item that the place cuts, with the back
@@ -157,36 +136,27 @@ module _ {L V X : Type 0} (line : Line L V X) where
   right_cut rest x behind y d chain reaches ends at_lo at_hi alike_value =
       let whole = chain_right line rest (x ∷ behind) chain in
       let before = chain_before line rest x behind chain in
-      let good : Lt line.cmp (line.lo y) (line.hi y) =
-      le_lt_trans line.cmp line.total _ _ _ (eq_le line.cmp line.total _ _ at_lo)
-      (lt_le_trans line.cmp line.total _ _ _ ends (eq_ge line.cmp line.total _ _ at_hi)) in
+      let good : Lt line.cmp (line.lo y) (line.hi y) = le_lt_trans line _ _ _ (eq_le line _ _ at_lo)
+      (lt_le_trans line _ _ _ ends (eq_ge line _ _ at_hi)) in
       let follows = follows_like line x y behind at_hi alike_value whole.1 in
       let above = follows_above line x behind whole.1 in
-      let d_low = lt_le line.cmp line.total _ _ ends in
+      let d_low = lt_le line _ _ ends in
       record {
         chain = (good, follows);
         starts = (
-          eq_ge line.cmp line.total _ _ at_lo,
-          every_weaker _ _ behind (λ z h.
-              le_trans line.cmp line.total _ _ _ d_low h) above,
+          eq_ge line _ _ at_lo,
+          every_weaker _ _ behind (λ z h. le_trans line _ _ _ d_low h) above,
         );
-        holds = λ p W alike l. let inside =
-            le_trans line.cmp line.total _ _ _ reaches l in (
-              like_item [] rest behind behind y x p W alike alike_value
-                  (λ h. (
-                    inside,
-                    lt_le_trans line.cmp line.total _ _ _ h.1 (eq_le line.cmp line.total _ _ at_hi),
-                  ))
-                  (λ k. absurd k) (λ k. k),
-              like_item rest [] behind behind x y p W alike
-                  (same_is_symmetric line (line.value y) (line.value x) alike_value)
-                  (λ h. (
-                    le_trans line.cmp line.total _ _ _ (eq_le line.cmp line.total _ _ at_lo) l,
-                    lt_le_trans line.cmp line.total _ _ _ h.1 (eq_ge line.cmp line.total _ _ at_hi),
-                  ))
-                  (none_above p d W rest l
-                  (every_weaker _ _ rest (λ z e.
-                  le_trans line.cmp line.total _ _ _ e.0 reaches) before))
-                  (λ k. k),
-            );
+        holds = λ p W alike l. let inside = le_trans line _ _ _ reaches l in (
+          like_item [] rest behind behind y x p W alike alike_value (λ h. (
+            inside,
+            lt_le_trans line _ _ _ h.1 (eq_le line _ _ at_hi),
+          )) (λ k. absurd k) (λ k. k),
+          like_item rest [] behind behind x y p W alike (same_is_symmetric line (line.value y)
+              (line.value x) alike_value) (λ h. (
+                le_trans line _ _ _ (eq_le line _ _ at_lo) l,
+                lt_le_trans line _ _ _ h.1 (eq_ge line _ _ at_hi),
+              )) (none_above p d W rest l (every_weaker _ _ rest
+              (λ z e. le_trans line _ _ _ e.0 reaches) before)) (λ k. k),
+        );
       }

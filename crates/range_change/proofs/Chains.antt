@@ -1,8 +1,35 @@
 -- Chains in parts, and chains that are joined.
-use Rattle.range_change.proofs.Common.{◌≡◌, ◌∙◌, true, List, [], ◌∷◌, ◌++◌, Every, Equal, Le, Lt, Line, Leads, Trails, Follows, IsChain}
-use Rattle.range_algebra.specs.Orders.{le_refl, lt_le, eq_le, le_trans, lt_not_le, lt_le_trans, le_lt_trans}
+use Rattle.range_change.proofs.Common.{◌≡◌, ◌∙◌, ◌⊎◌, true, List, [], ◌∷◌, ◌++◌, Every, Equal, Le, Lt, Line, Leads, Trails, Follows, IsChain}
+use Rattle.range_algebra.specs.Orders
 
 module _ {L V X : Type 0} (line : Line L V X) where
+  pub le_refl : (p : L) → Le line.cmp p p
+  le_refl = Orders.le_refl line.cmp line.total
+
+  pub lt_le : (p q : L) → Lt line.cmp p q → Le line.cmp p q
+  lt_le = Orders.lt_le line.cmp line.total
+
+  pub eq_le : (p q : L) → line.cmp p q ≡ Equal → Le line.cmp p q
+  eq_le = Orders.eq_le line.cmp line.total
+
+  pub eq_ge : (p q : L) → line.cmp p q ≡ Equal → Le line.cmp q p
+  eq_ge = Orders.eq_ge line.cmp line.total
+
+  pub le_trans : (p q r : L) → Le line.cmp p q → Le line.cmp q r → Le line.cmp p r
+  le_trans = Orders.le_trans line.cmp line.total
+
+  pub lt_le_trans : (p q r : L) → Lt line.cmp p q → Le line.cmp q r → Lt line.cmp p r
+  lt_le_trans = Orders.lt_le_trans line.cmp line.total
+
+  pub le_lt_trans : (p q r : L) → Le line.cmp p q → Lt line.cmp q r → Lt line.cmp p r
+  le_lt_trans = Orders.le_lt_trans line.cmp line.total
+
+  pub lt_not_le : (p q : L) → Lt line.cmp p q → Le line.cmp q p → ⊥
+  lt_not_le = Orders.lt_not_le line.cmp line.total
+
+  pub cases : (p q : L) → Lt line.cmp p q ⊎ Le line.cmp q p
+  cases = Orders.cases line.cmp line.total
+
   pub same_is_symmetric : (a b : V) → line.same a b ≡ true → line.same b a ≡ true
   same_is_symmetric a b h = line.equal.symm b a ∙ h
 
@@ -23,35 +50,33 @@ module _ {L V X : Type 0} (line : Line L V X) where
       → Every (λ y. Le line.cmp low (line.lo y)) xs
   follows_from low x [] h f = tt
   follows_from low x (y ∷ ys) h f =
-      let first = le_trans line.cmp line.total _ _ _ h f.0.0 in (
+      let first = le_trans _ _ _ h f.0.0 in (
         first,
-        follows_from low y ys (le_trans line.cmp line.total _ _ _ first
-            (lt_le line.cmp line.total _ _ f.1.0)) f.1.1,
+        follows_from low y ys (le_trans _ _ _ first (lt_le _ _ f.1.0)) f.1.1,
       )
 
   -- what follows an item starts at its end at least
   pub follows_above : (x : X) (xs : List X) → Follows line x xs
       → Every (λ y. Le line.cmp (line.hi x) (line.lo y)) xs
-  follows_above x xs f = follows_from (line.hi x) x xs (le_refl line.cmp line.total (line.hi x)) f
+  follows_above x xs f = follows_from (line.hi x) x xs (le_refl (line.hi x)) f
 
   pub chain_above : (low : L) (x : X) (xs : List X) → IsChain line (x ∷ xs)
       → Le line.cmp low (line.lo x) → Every (λ y. Le line.cmp low (line.lo y)) (x ∷ xs)
   chain_above low x xs h le = (
     le,
-    follows_from low x xs (le_trans line.cmp line.total _ _ _ le
-        (lt_le line.cmp line.total _ _ h.0)) h.1,
+    follows_from low x xs (le_trans _ _ _ le (lt_le _ _ h.0)) h.1,
   )
 
   pub strictly_leads : (x : X) (p : L) (v : V) → Lt line.cmp (line.hi x) p → Leads line x p v
   strictly_leads x p v h = (
-    lt_le line.cmp line.total _ _ h,
-    λ k _. absurd (lt_not_le line.cmp line.total _ _ h k),
+    lt_le _ _ h,
+    λ k _. absurd (lt_not_le _ _ h k),
   )
 
   pub strictly_trails : (x : X) (p : L) (v : V) → Lt line.cmp p (line.lo x) → Trails line p v x
   strictly_trails x p v h = (
-    lt_le line.cmp line.total _ _ h,
-    λ k _. absurd (lt_not_le line.cmp line.total _ _ h k),
+    lt_le _ _ h,
+    λ k _. absurd (lt_not_le _ _ h k),
   )
 
   -- all that stand before an item lead to it
@@ -61,9 +86,7 @@ module _ {L V X : Type 0} (line : Line L V X) where
   chain_before (x ∷ []) y ys h = (h.1.0, tt)
   chain_before (x ∷ x' ∷ xs) y ys h =
       let rest = chain_before (x' ∷ xs) y ys h.1.1 in
-      let strict =
-      le_lt_trans line.cmp line.total _ _ _ h.1.0.0
-      (lt_le_trans line.cmp line.total _ _ _ h.1.1.0 rest.0.0) in
+      let strict = le_lt_trans _ _ _ h.1.0.0 (lt_le_trans _ _ _ h.1.1.0 rest.0.0) in
       (strictly_leads x (line.lo y) (line.value y) strict, rest)
 
   pub chains_join : (xs : List X) (y : X) (ys : List X) → IsChain line xs → IsChain line (y ∷ ys)
@@ -76,8 +99,7 @@ module _ {L V X : Type 0} (line : Line L V X) where
       → IsChain line ys → Every (λ y. Le line.cmp d (line.lo y)) ys → Follows line x ys
   strict_follows x [] c d h l k e = tt
   strict_follows x (y ∷ ys) c d h l k e = (
-    strictly_leads x (line.lo y) (line.value y) (le_lt_trans line.cmp line.total _ _ _ h
-        (lt_le_trans line.cmp line.total _ _ _ l e.0)),
+    strictly_leads x (line.lo y) (line.value y) (le_lt_trans _ _ _ h (lt_le_trans _ _ _ l e.0)),
     k,
   )
 
@@ -95,11 +117,9 @@ module _ {L V X : Type 0} (line : Line L V X) where
   follows_like x y [] e s f = tt
   follows_like x y (z ∷ zs) e s f = (
     (
-      le_trans line.cmp line.total _ _ _ (eq_le line.cmp line.total _ _ e) f.0.0,
-      λ k t.
-          f.0.1 (le_trans line.cmp line.total _ _ _ k (eq_le line.cmp line.total _ _ e))
-          (line.equal.congr (line.value x) (line.value y) (line.value z)
-          (same_is_symmetric (line.value y) (line.value x) s) ∙ t),
+      le_trans _ _ _ (eq_le _ _ e) f.0.0,
+      λ k t. f.0.1 (le_trans _ _ _ k (eq_le _ _ e)) (line.equal.congr (line.value x) (line.value y)
+          (line.value z) (same_is_symmetric (line.value y) (line.value x) s) ∙ t),
     ),
     f.1,
   )

@@ -24,17 +24,15 @@ module _ {K : Type 0} (order : KeyOrder K) (lawful : IsLawful order) where
   touching_same (Included a) p h =
       let cmp = position_cmp order.cmp in
       let start = start_position order (Excluded a) in
-      (position_total order.cmp lawful.total).congr
-      (past order (end_position order (Included a))) start p
-      (flipped_bound_is_past order lawful (Included a) (Excluded a) refl)
-      ∙ (eq_is_equal (cmp start p)).0 h
+      (position_total order.cmp lawful.total).congr (past order (end_position order (Included a)))
+      start p (flipped_bound_is_past order lawful (Included a) (Excluded a) refl) ∙
+      (eq_is_equal (cmp start p)).0 h
   touching_same (Excluded a) p h =
       let cmp = position_cmp order.cmp in
       let start = start_position order (Included a) in
-      (position_total order.cmp lawful.total).congr
-      (past order (end_position order (Excluded a))) start p
-      (flipped_bound_is_past order lawful (Excluded a) (Included a) refl)
-      ∙ (eq_is_equal (cmp start p)).0 h
+      (position_total order.cmp lawful.total).congr (past order (end_position order (Excluded a)))
+      start p (flipped_bound_is_past order lawful (Excluded a) (Included a) refl) ∙
+      (eq_is_equal (cmp start p)).0 h
   touching_same Unbounded p h = absurd (cc)
 
   -- an element that is before a range is before what starts past its start
@@ -44,18 +42,15 @@ module _ {K : Type 0} (order : KeyOrder K) (lawful : IsLawful order) where
   before_later e r s connected known others rise h =
       let cmp = position_cmp order.cmp in
       let touch = starts_at_end order e.end (Start r) in
-      let old =
-      (before_by_parts (is_lt (cmp (Start e) (Start r)))
-      (is_lt (cmp (End e) (Start r))) touch (is_eq (cmp (End e) (End r)))
-      (is_gt (cmp (Start e) (End r))) (starts_at_end order r.end (Start e))
-      (is_eq (cmp (Start e) (Start r))) (is_eq (cmp (End e) (End r))) connected).0 h in
-      let starts =
-      lt_trans lawful _ _ _ ((lt_is_less (cmp (Start e) (Start r))).0 old.0) rise in
+      let old = (before_by_parts (is_lt (cmp (Start e) (Start r))) (is_lt (cmp (End e) (Start r)))
+      touch (is_eq (cmp (End e) (End r))) (is_gt (cmp (Start e) (End r)))
+      (starts_at_end order r.end (Start e)) (is_eq (cmp (Start e) (Start r)))
+      (is_eq (cmp (End e) (End r))) connected).0 h in
+      let starts = lt_trans lawful _ _ _ ((lt_is_less (cmp (Start e) (Start r))).0 old.0) rise in
       let below = (lt_is_less (cmp (End e) (Start r))).0 old.1 in
       let ends = lt_trans lawful _ _ _ below rise in
-      let apart =
-      le_lt_trans lawful _ _ _
-      ((before_is order lawful e.end r.start known.1 others.0).0 below) rise in
+      let apart = le_lt_trans lawful _ _ _ ((before_is order lawful e.end r.start known.1
+      others.0).0 below) rise in
       let touch' = starts_at_end order e.end (Start s) in
       (before_by_parts (is_lt (cmp (Start e) (Start s))) (is_lt (cmp (End e) (Start s))) touch'
       (is_eq (cmp (End e) (End s))) (is_gt (cmp (Start e) (End s)))
@@ -101,7 +96,6 @@ module _ {K : Type 0} (order : KeyOrder K) (lawful : IsLawful order) where
         (every_at (λ k. PLt (Start x.key) (Start k.key)) ys j d rise (omega arith)) h
     before_from (y ∷ ys) e connected (suc m) x known others full rising read h zero d from within =
         absurd (omega arith)
-    before_from (y ∷ ys) e connected (suc m) x known others full rising read h
-        (suc j) d from within =
-        before_from ys e connected m x known others full.1 rising.1 read h j d (omega arith)
+    before_from (y ∷ ys) e connected (suc m) x known others full rising read h (suc j) d from within
+        = before_from ys e connected m x known others full.1 rising.1 read h j d (omega arith)
         (omega arith)

@@ -1,5 +1,5 @@
 -- Which ranges meet a list in which a range was bound, by the places that the list covers.
-use Rattle.range_change.proofs.Common.{ℕ, refl, true, Bool, Result, Ok, Err, OnOk, List, [], ◌∷◌, ◌++◌, take, drop, ◌⊎◌, inl, inr, ◌↔◌, Every, insert, IsEquivalence, KeyOrder, IsLawful, Position, AnyRange, IsKnownRange, lower, upper, line_of, IsBoundTo, Any, list_is_take_and_drop, any_left, any_right, any_split, le_refl, lt_le, le_lt_trans, lt_not_le, cases, not_le, PLe, PLt, Item, item_lower, item_upper, MeetsSome, MeetAlso, Overlap}
+use Rattle.range_change.proofs.Common.{refl, true, Bool, Result, Ok, Err, OnOk, List, [], ◌∷◌, inl, inr, ◌↔◌, Every, IsEquivalence, KeyOrder, IsLawful, Position, AnyRange, IsKnownRange, lower, upper, line_of, IsBoundTo, le_refl, lt_le, le_lt_trans, lt_not_le, cases, not_le, PLe, PLt, Item, item_lower, item_upper, MeetsSome, MeetAlso, Overlap}
 use Rattle.range_change.proofs.Forms.{nonempty_good, before_is, Known, Chained, Hold, respects_any}
 
 pub on_ok : {A E : Type 0} (P Q : Type 0) (r : Result A E) → (P → Q) → OnOk r P → OnOk r Q
@@ -38,23 +38,20 @@ module _ {K : Type 0} (order : KeyOrder K) (lawful : IsLawful order) where
   overlapping_ranges_share_place r s known others good good_s h =
       let met = (overlap_is r s known others).0 h in
       elim (cases lawful (lower order r) (lower order s)) [
-        | inl l ↦
-            record {
-              place = lower order s;
-              from = lt_le lawful _ _ l;
-              upto = met.1;
-              other_from =
-                  le_refl lawful (lower order s);
-              other_upto = good_s;
-            }
-        | inr g ↦
-            record {
-              place = lower order r;
-              from = le_refl lawful (lower order r);
-              upto = good;
-              other_from = g;
-              other_upto = met.0;
-            }
+        | inl l ↦ record {
+          place = lower order s;
+          from = lt_le lawful _ _ l;
+          upto = met.1;
+          other_from = le_refl lawful (lower order s);
+          other_upto = good_s;
+        }
+        | inr g ↦ record {
+          place = lower order r;
+          from = le_refl lawful (lower order r);
+          upto = good;
+          other_from = g;
+          other_upto = met.0;
+        }
       ]
 
   pub shared_place_is_overlap : (r s : AnyRange K) (p : Position K) → IsKnownRange order r
@@ -121,30 +118,24 @@ module _ {K : Type 0} (order : KeyOrder K) (lawful : IsLawful order) where
         let any = respects_any order lawful same equal in
         let good_s = (nonempty_good order lawful s known_s).0 full in (
           λ h.
-              let at =
-              met_range_is_covered s new known_s good_s all_new
+              let at = met_range_is_covered s new known_s good_s all_new
               (chained_items_have_places new changed.chain) h in
               elim (cases lawful at.place (lower order r)) [
-                | inl below ↦
-                    inr (held_place_is_met s items at.place known_s all at.from at.upto
+                | inl below ↦ inr (held_place_is_met s items at.place known_s all at.from at.upto
                     ((changed.outside at.place (λ u. true) any (inl below)).0 at.held))
                 | inr from ↦ elim (cases lawful at.place (upper order r)) [
-                  | inl upto ↦
-                      inl (shared_place_is_overlap r s at.place known known_s from upto at.from
-                      at.upto)
-                  | inr above ↦
-                      inr (held_place_is_met s items at.place known_s all at.from at.upto
+                  | inl upto ↦ inl (shared_place_is_overlap r s at.place known known_s from upto
+                      at.from at.upto)
+                  | inr above ↦ inr (held_place_is_met s items at.place known_s all at.from at.upto
                       ((changed.outside at.place (λ u. true) any (inr above)).0 at.held))
                 ]
               ],
           λ h. elim h [
-            | inl met ↦ let at =
-                overlapping_ranges_share_place r s known known_s good good_s
-                met in held_place_is_met s new at.place known_s all_new at.other_from
-                at.other_upto ((changed.inside at.place (λ u. true) any at.from at.upto).1 refl)
+            | inl met ↦ let at = overlapping_ranges_share_place r s known known_s good good_s met in
+                held_place_is_met s new at.place known_s all_new at.other_from at.other_upto
+                ((changed.inside at.place (λ u. true) any at.from at.upto).1 refl)
             | inr met ↦
-                let at =
-                met_range_is_covered s items known_s good_s all
+                let at = met_range_is_covered s items known_s good_s all
                 (chained_items_have_places items chain) met in
                 held_place_is_met s new at.place known_s all_new at.from at.upto
                 (elim (cases lawful at.place (lower order r)) [
@@ -156,30 +147,3 @@ module _ {K : Type 0} (order : KeyOrder K) (lawful : IsLawful order) where
                 ])
           ],
         )
-
-  -- an item that is put into a list is such, or one that stood there
-  put_any : {X : Type 0} (P : X → Type 0) (xs : List X) (n : ℕ) (x : X)
-      → Any P (take n xs ++ x ∷ drop n xs) ↔ (P x ⊎ Any P xs)
-  put_any P xs n x = (
-    λ h. elim (any_split P (take n xs) (x ∷ drop n xs) h) [
-      | inl k ↦ inr (rw (list_is_take_and_drop xs n) (any_left P (take n xs) (drop n xs) k))
-      | inr k ↦
-          elim k [
-            | inl e ↦ inl e
-            | inr e ↦
-                inr (rw (list_is_take_and_drop xs n) (any_right P (take n xs) (drop n xs) e))
-          ]
-    ],
-    λ h. elim h [
-      | inl e ↦ any_right P (take n xs) (x ∷ drop n xs) (inl e)
-      | inr e ↦ elim (any_split P (take n xs) (drop n xs) (rw (list_is_take_and_drop xs n) at e)) [
-        | inl k ↦ any_left P (take n xs) (x ∷ drop n xs) k
-        | inr k ↦ any_right P (take n xs) (x ∷ drop n xs) (inr k)
-      ]
-    ],
-  )
-
-  -- what meets an item that is put into a list, or one that stood there, meets one of the new list
-  pub meets_put : {V : Type 0} (items : List (Item (AnyRange K) V)) (n : ℕ)
-      (i : Item (AnyRange K) V) → MeetAlso order items (insert items n i) i.key
-  meets_put items n i = λ s known full. put_any (λ j. Overlap order j.key s) items n i

@@ -1,5 +1,6 @@
 -- What is left of an item that a range cuts, by places.
-use Rattle.range_change.proofs.Common.{same_itself, ◌≡◌, refl, sym, ◌∙◌, ◌↔◌, Some, None, false, IsTrue, Bound, Included, Excluded, Unbounded, Ordering, Less, Equal, Greater, is_gt, is_le, tied_back, tied_itself, KeyOrder, IsLawful, start_position, end_position, position_total, AnyRange, IsKnownBound, IsKnownRange, flipped, SameBound, same_start, eq_le, eq_ge, le_lt_trans, lt_not_le, PLt, past, upper, flipped_bound, reaching_is_before_past, flipped_bound_is_past, flipped_known, unbounded_start, unbounded_end}
+use Rattle.range_change.proofs.Common.{same_itself, ◌≡◌, refl, sym, ◌∙◌, ◌↔◌, Some, None, false, IsTrue, Bound, Included, Excluded, Unbounded, Ordering, Less, Equal, Greater, is_gt, is_le, tied_back, tied_itself, KeyOrder, IsLawful, start_position, end_position, position_total, AnyRange, IsKnownBound, IsKnownRange, flipped, SameBound, same_start, eq_le, eq_ge, le_lt_trans, lt_not_le, PLt, past, upper, flipped_bound, reaching_is_before_past, flipped_bound_is_past, flipped_known, unbounded_start, unbounded_end, Option, Border, seam_border}
+use Rattle.range_change.specs.Borders.{IsSeamAt}
 use Rattle.range_change.proofs.Forms.{places}
 
 module _ {K : Type 0} (order : KeyOrder K) (lawful : IsLawful order) where
@@ -14,13 +15,11 @@ module _ {K : Type 0} (order : KeyOrder K) (lawful : IsLawful order) where
       let other = flipped_bound_is_past order lawful (Excluded b) (Included b) refl in
       let starts = same_start order lawful (Included a) (Included b) h in
       total.congr (past order (end_position order (Excluded a))) (start_position order (Included a))
-      (past order (end_position order (Excluded b))) at
-      ∙ (total.congr (start_position order (Included a)) (start_position order (Included b))
-      (past order (end_position order (Excluded b))) starts
-      ∙ tied_back total (past order (end_position order (Excluded b)))
-      (start_position order (Included b)) other)
-  same_past Unbounded Unbounded h =
-      tied_itself (position_total order.cmp lawful.total)
+      (past order (end_position order (Excluded b))) at ∙ (total.congr
+      (start_position order (Included a)) (start_position order (Included b))
+      (past order (end_position order (Excluded b))) starts ∙ tied_back total
+      (past order (end_position order (Excluded b))) (start_position order (Included b)) other)
+  same_past Unbounded Unbounded h = tied_itself (position_total order.cmp lawful.total)
       (past order (end_position order Unbounded))
   same_past (Included a) (Excluded b) h = absurd h
   same_past (Included a) Unbounded h = absurd h
@@ -47,11 +46,9 @@ module _ {K : Type 0} (order : KeyOrder K) (lawful : IsLawful order) where
       → PLt lawful (start_position order a) (start_position order s)
       → SameBound order (flipped_bound s) b
       → places order lawful (past order (end_position order b)) (start_position order s) ≡ Equal
-  cut_end a (Included k) b known l h =
-      end_by (Included k) (Excluded k) b
+  cut_end a (Included k) b known l h = end_by (Included k) (Excluded k) b
       (flipped_bound_is_past order lawful (Excluded k) (Included k) refl) h
-  cut_end a (Excluded k) b known l h =
-      end_by (Excluded k) (Included k) b
+  cut_end a (Excluded k) b known l h = end_by (Excluded k) (Included k) b
       (flipped_bound_is_past order lawful (Included k) (Excluded k) refl) h
   cut_end a Unbounded b known l h =
       absurd (lt_not_le lawful _ _ l (unbounded_start order lawful a known))
@@ -71,17 +68,26 @@ module _ {K : Type 0} (order : KeyOrder K) (lawful : IsLawful order) where
       → PLt lawful (past order (end_position order e))
       (past order (end_position order a)) → SameBound order (flipped_bound e) b
       → places order lawful (start_position order b) (past order (end_position order e)) ≡ Equal
-  cut_start a (Included k) b known l h =
-      start_by (Included k) (Excluded k) b
+  cut_start a (Included k) b known l h = start_by (Included k) (Excluded k) b
       (flipped_bound_is_past order lawful (Included k) (Excluded k) refl) h
-  cut_start a (Excluded k) b known l h =
-      start_by (Excluded k) (Included k) b
+  cut_start a (Excluded k) b known l h = start_by (Excluded k) (Included k) b
       (flipped_bound_is_past order lawful (Excluded k) (Included k) refl) h
   cut_start a Unbounded b known l h =
       absurd (lt_not_le lawful _ _ l (unbounded_end order lawful a known))
 
   pub same_turned : (b : Bound K) → SameBound order (flipped_bound b) (flipped_bound b)
   same_turned b = same_itself order lawful (flipped_bound b)
+
+  -- where nothing is cut, any bound just outside serves
+  pub seam_stands : {P : Type 0} (joined reaching : Option P) (bound : Bound K)
+      {border : Border K P} → IsKnownBound order bound → border ≡ seam_border joined reaching (flipped_bound bound)
+      → IsSeamAt order joined reaching bound border
+  seam_stands joined reaching bound known at = record {
+    cut = flipped_bound bound;
+    at = at;
+    known = known_turned bound known;
+    flipped = same_turned bound;
+  }
 
   not_past_all : (e a : Bound K) → None ≡ flipped e → IsKnownBound order a
       → PLt lawful (past order (end_position order e)) (past order (end_position order a)) → ⊥
@@ -109,11 +115,9 @@ module _ {K : Type 0} (order : KeyOrder K) (lawful : IsLawful order) where
   ends_after_is r i s known others turns =
       let cmp = places order lawful in
       let at = flipped_bound_is_past order lawful r.end s (sym turns) in
-      let reach =
-      reaching_is_before_past order lawful s i.end
-      (flipped_known order lawful r.end s (sym turns) known.1) others.1 in
+      let reach = reaching_is_before_past order lawful s i.end (flipped_known order lawful r.end s
+      (sym turns) known.1) others.1 in
       let test = le_is (cmp (start_position order s) (end_position order i.end)) in (
         λ h. le_lt_trans lawful _ _ _ (eq_le lawful _ _ at) (reach.0 (test.0 h)),
-        λ l.
-            test.1 (reach.1 (le_lt_trans lawful _ _ _ (eq_ge lawful _ _ at) l)),
+        λ l. test.1 (reach.1 (le_lt_trans lawful _ _ _ (eq_ge lawful _ _ at) l)),
       )

@@ -23,8 +23,7 @@ module _ {K : Type 0} (order : KeyOrder K) (lawful : IsLawful order) where
       not_lt lawful pe pf (λ l.
       let under = le_lt_trans lawful _ _ _ (eq_ge lawful _ _ at) l in
       let reached = (reaching_is_before_past order lawful i e start known).1 under in
-      let over =
-      (reaching_is_before_past order lawful i f start known').0
+      let over = (reaching_is_before_past order lawful i f start known').0
       (le_trans lawful _ _ _ reached le) in
       lt_not_le lawful _ _ over (eq_le lawful _ _ at))
 
@@ -61,21 +60,18 @@ module _ {K : Type 0} (order : KeyOrder K) (lawful : IsLawful order) where
       → order.is_key b → order.cmp a b ≡ Less
       → PLt (at_told o (Beside a After)) (at_told p (Beside b After))
   at_at a b None None next next' key key' l = less_then_any (order.cmp a b) Equal l
-  at_at a b None (Some e) next next' key key' l =
-      less_then_any (order.cmp a e) Greater
+  at_at a b None (Some e) next next' key key' l = less_then_any (order.cmp a e) Greater
       (Orders.lt_trans order.cmp lawful.total a b e l (lawful.succ_above b e next'))
   at_at a b (Some d) None next next' key key' l =
       (less_unless_less (order.cmp d b)).1 (lawful.none_between a d b next key' l)
-  at_at a b (Some d) (Some e) next next' key key' l =
-      less_then_any (order.cmp d e) Equal
+  at_at a b (Some d) (Some e) next next' key key' l = less_then_any (order.cmp d e) Equal
       (Orders.le_lt_trans order.cmp lawful.total d b e (lawful.none_between a d b next key' l)
       (lawful.succ_above b e next'))
 
   before_at : (a b : K) (p : Option K) → order.succ b ≡ p → is_gt (order.cmp a b) ≡ false
       → PLt (Beside a At) (at_told p (Beside b After))
   before_at a b None next le = (less_unless_less (order.cmp a b)).1 le
-  before_at a b (Some e) next le =
-      less_then_any (order.cmp a e) Equal
+  before_at a b (Some e) next le = less_then_any (order.cmp a e) Equal
       (Orders.le_lt_trans order.cmp lawful.total a b e le (lawful.succ_above b e next))
 
   at_infinity : (a : K) (o : Option K) → PLt (at_told o (Beside a After)) PlusInfinity
@@ -111,7 +107,6 @@ module _ {K : Type 0} (order : KeyOrder K) (lawful : IsLawful order) where
   pub end_le : (e f : Bound K) → IsKnownBound order e → IsKnownBound order f
       → PLe (past order (end_position order e)) (past order (end_position order f))
       → PLe (end_position order e) (end_position order f)
-  end_le e f known known' le =
-      not_lt lawful (end_position order e) (end_position order f) (λ l. lt_not_le lawful _ _
-      (past_lt (end_position order f) (end_position order e)
+  end_le e f known known' le = not_lt lawful (end_position order e) (end_position order f)
+      (λ l. lt_not_le lawful _ _ (past_lt (end_position order f) (end_position order e)
       (ends_lie_at_ends order lawful f known') (ends_lie_at_ends order lawful e known) l) le)

@@ -19,8 +19,7 @@ module _ {K : Type 0} (order : KeyOrder K) (lawful : IsLawful order) where
       ↔ Lt places (lower order r) (upper order r)
   nonempty_good r known =
       let reach = reaching_is_before_past order lawful r.start r.end known.0 known.1 in (
-        λ h.
-            reach.0 (not_greater (places (start_position order r.start) (end_position order r.end))
+        λ h. reach.0 (not_greater (places (start_position order r.start) (end_position order r.end))
             h),
         λ h. not_both_greater_and_not
             (places (start_position order r.start) (end_position order r.end)) (reach.1 h),
@@ -45,11 +44,9 @@ module _ {K : Type 0} (order : KeyOrder K) (lawful : IsLawful order) where
       let at = flipped_bound_is_past order lawful e i turns in
       let other = eq_is_equal (places (start_position order i) (lower order s)) in (
         λ h. le_trans lawful _ _ _ (eq_ge lawful _ _ (other.0 h)) (eq_ge lawful _ _ at),
-        λ h.
-            other.1
-            (sym ((position_total order.cmp lawful.total).congr (past order (end_position order e)) (start_position order i)
-            (lower order s) at)
-            ∙ both lawful _ _ le h),
+        λ h. other.1 (sym ((position_total order.cmp lawful.total).congr
+            (past order (end_position order e)) (start_position order i) (lower order s) at) ∙ both
+            lawful _ _ le h),
       )
 
   -- a range touches another where the place past it is that of the other
@@ -62,9 +59,8 @@ module _ {K : Type 0} (order : KeyOrder K) (lawful : IsLawful order) where
   touches_is (Excluded a) s known good le = touches_by (Excluded a) (Included a) s refl le
   touches_is Unbounded s known good le = (
     λ h. absurd (cc),
-    λ h.
-        absurd (lt_not_le lawful _ _ good
-        (le_trans lawful _ _ _ (unbounded_end order lawful s.end known.1) le)),
+    λ h. absurd (lt_not_le lawful _ _ good (le_trans lawful _ _ _
+        (unbounded_end order lawful s.end known.1) le)),
   )
 
   module _ {V : Type 0} (same : V → V → Bool) (equal : IsEquivalence same) where
@@ -144,13 +140,11 @@ module _ {K : Type 0} (order : KeyOrder K) (lawful : IsLawful order) where
     pub unheld_lies_outside : (r : AnyRange K) (k : K) → IsKnownRange order r → order.is_key k
         → (Holds order r k → ⊥)
         → Lt places (Beside k At) (lower order r) ⊎ Le places (upper order r) (Beside k At)
-    unheld_lies_outside r k known key h =
-        elim (cases lawful (Beside k At) (lower order r)) [
-          | inl l ↦ inl l
-          | inr from ↦
-              inr (not_lt lawful (upper order r) (Beside k At)
-              (λ upto. h ((held_between order lawful r k known key).1 (from, upto))))
-        ]
+    unheld_lies_outside r k known key h = elim (cases lawful (Beside k At) (lower order r)) [
+      | inl l ↦ inl l
+      | inr from ↦ inr (not_lt lawful (upper order r) (Beside k At)
+          (λ upto. h ((held_between order lawful r k known key).1 (from, upto))))
+    ]
 
     pub same_binds : (before after : List (Item (AnyRange K) V)) (k : K) → Known before
         → Known after → order.is_key k
@@ -178,9 +172,8 @@ module _ {K : Type 0} (order : KeyOrder K) (lawful : IsLawful order) where
         let new = binds_hold after k w known key in
         (λ h. own.0 (new.0 h), λ h. new.1 (own.1 h))
     inside_bound before after r v k known key changed from upto None = (
-      λ h.
-          h ((bound_hold after k known key).1
-          ((changed.inside (Beside k At) (λ u. true) respects_any from upto).1 refl)),
+      λ h. h ((bound_hold after k known key).1 ((changed.inside (Beside k At) (λ u. true)
+          respects_any from upto).1 refl)),
       λ h. absurd h,
     )
 
@@ -189,13 +182,11 @@ module _ {K : Type 0} (order : KeyOrder K) (lawful : IsLawful order) where
         → IsBoundTo (line_of order lawful same equal) before after (lower order r) (upper order r) v
         → IsBoundAfter order same before after r v
     bound_after before after r v known_range known known' changed = record {
-      held = λ k key h. let within =
-          (held_between order lawful r k known_range key).0 h in inside_bound before after r v k
-          known' key changed within.0 within.1;
-      others =
-          λ k key h. same_binds before after k known known' key
-          (λ W alike. changed.outside (Beside k At) W alike
-          (unheld_lies_outside r k known_range key h));
+      held = λ k key h. let within = (held_between order lawful r k known_range key).0 h in
+          inside_bound before after r v k known' key changed within.0 within.1;
+      others = λ k key h. same_binds before after k known known' key
+          (λ W alike. changed.outside (Beside k At) W alike (unheld_lies_outside r k known_range key
+          h));
     }
 
     inside_unbound : (before after : List (Item (AnyRange K) V)) (r : AnyRange K) (k : K)
@@ -204,8 +195,7 @@ module _ {K : Type 0} (order : KeyOrder K) (lawful : IsLawful order) where
         → Le places (lower order r) (Beside k At) → Lt places (Beside k At) (upper order r)
         → (b : Option V) → Binds order same after k b ↔ (b ≡ None)
     inside_unbound before after r k known key changed from upto (Some w) = (
-      λ h.
-          absurd ((changed.inside (Beside k At) (λ u. same u w) (respects_same w) from upto).0
+      λ h. absurd ((changed.inside (Beside k At) (λ u. same u w) (respects_same w) from upto).0
           ((binds_hold after k w known key).0 h)),
       λ h. absurd (cc),
     )
@@ -220,11 +210,9 @@ module _ {K : Type 0} (order : KeyOrder K) (lawful : IsLawful order) where
         → IsUnbound (line_of order lawful same equal) before after (lower order r) (upper order r)
         → IsUnboundAfter order same before after r
     unbound_after before after r known_range known known' changed = record {
-      held = λ k key h. let within =
-          (held_between order lawful r k known_range key).0 h in inside_unbound before after r k
-          known' key changed within.0 within.1;
-      others =
-          λ k key h. same_binds before after k known known' key
-          (λ W alike. changed.outside (Beside k At) W alike
-          (unheld_lies_outside r k known_range key h));
+      held = λ k key h. let within = (held_between order lawful r k known_range key).0 h in
+          inside_unbound before after r k known' key changed within.0 within.1;
+      others = λ k key h. same_binds before after k known known' key
+          (λ W alike. changed.outside (Beside k At) W alike (unheld_lies_outside r k known_range key
+          h));
     }

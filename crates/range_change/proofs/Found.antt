@@ -84,11 +84,9 @@ module _ {K : Type 0} (order : KeyOrder K) (lawful : IsLawful order) {V : Type 0
       → IsPartitionedBy (λ i. is_lt (places order lawful (End i) p)) items
   found_partitions items p h =
       let cmp = places order lawful in
-      listed_partitioned (λ i. is_lt (cmp (End i) p))
-      (λ x y own rise others passes.
+      listed_partitioned (λ i. is_lt (cmp (End i) p)) (λ x y own rise others passes.
       (lt_is_less (cmp (End x) p)).1 (lt_trans lawful _ _ _ (lt_le_trans lawful _ _ _ rise others)
-      (lt_of (cmp (End y) p) passes)))
-      items (stored_list_is_listed order lawful same items h)
+      (lt_of (cmp (End y) p) passes))) items (stored_list_is_listed order lawful same items h)
 
   pub started_partitions : (items : List (Item (AnyRange K) V)) (p : Position K)
       → IsStored order same items
@@ -113,11 +111,9 @@ module _ {K : Type 0} (order : KeyOrder K) (lawful : IsLawful order) {V : Type 0
         position = rw same_place at;
         in_range = rw same_place front.0;
         previous = rw same_place previous;
-        below =
-            rw same_place (every_weaker _ _ (take place items) (λ i e. lt_of (cmp (End i) p) e)
+        below = rw same_place (every_weaker _ _ (take place items) (λ i e. lt_of (cmp (End i) p) e)
             (every_take (λ i. is_lt (cmp (End i) p) ≡ true) items place front.0 front.1.0));
-        above =
-            rw same_place (every_weaker _ _ (drop place items)
+        above = rw same_place (every_weaker _ _ (drop place items)
             (λ i e. not_lt lawful _ _ (not_less (cmp (End i) p) e))
             (every_drop (λ i. is_lt (cmp (End i) p) ≡ false) items place front.0 front.1.1));
       }
@@ -131,13 +127,11 @@ module _ {K : Type 0} (order : KeyOrder K) (lawful : IsLawful order) {V : Type 0
         let cmp = places order lawful in
         record {
           position = at;
-          upto =
-              every_weaker _ _ (take place items) (λ i e. (le_is_at_most (cmp (Start i) p)).1 e)
+          upto = every_weaker _ _ (take place items) (λ i e. (le_is_at_most (cmp (Start i) p)).1 e)
               (every_take (λ i. is_le (cmp (Start i) p) ≡ true) items place front.0 front.1.0);
-          past =
-              every_weaker _ _ (drop place items)
-              (λ i e. not_le lawful _ _ (not_at_most (cmp (Start i) p) e))
-              (every_drop (λ i. is_le (cmp (Start i) p) ≡ false) items place front.0 front.1.1);
+          past = every_weaker _ _ (drop place items) (λ i e. not_le lawful _ _
+              (not_at_most (cmp (Start i) p) e)) (every_drop (λ i. is_le (cmp (Start i) p) ≡ false)
+              items place front.0 front.1.1);
         }
 
     pub last_started : (last : Option P)
@@ -170,12 +164,10 @@ module _ {K : Type 0} (order : KeyOrder K) (lawful : IsLawful order) {V : Type 0
       → Every (λ i. PLt lawful (Beside k At) (Start i)) (drop place items) → IsBound order items k
       → ⊥
   apart_bound items k place key below above =
-      let none =
-      every_append (λ i. Holds order i.key k → ⊥) (take place items) (drop place items)
+      let none = every_append (λ i. Holds order i.key k → ⊥) (take place items) (drop place items)
       (every_weaker _ _ (take place items) (λ i l. below_not i k key l) below)
       (every_weaker _ _ (drop place items) (λ i l. above_not i k key l) above) in
-      λ h.
-      not_bound (take place items ++ drop place items) k none
+      λ h. not_bound (take place items ++ drop place items) k none
       (rw (list_is_take_and_drop items place) at h)
 
   ends_upto_listed : (items : List (Item (AnyRange K) V)) (p : Position K) (place : ℕ)
@@ -187,11 +179,9 @@ module _ {K : Type 0} (order : KeyOrder K) (lawful : IsLawful order) {V : Type 0
   ends_upto_listed (i ∷ rest) p (suc place) d h within ends =
       let cmp = places order lawful in
       let y = get_or rest place d in
-      let rise =
-      every_at (λ j. Lt cmp (End i) (Start j)) rest place d (starts_rise i rest h)
+      let rise = every_at (λ j. Lt cmp (End i) (Start j)) rest place d (starts_rise i rest h)
       (omega (arith, within)) in
-      let own =
-      every_at (λ j. Le cmp (Start j) (End j)) rest place d
+      let own = every_at (λ j. Le cmp (Start j) (End j)) rest place d
       (every_nonempty rest (stored_tail i rest h)) (omega (arith, within)) in (
         lt_trans lawful _ _ _ (lt_le_trans lawful _ _ _ rise own) ends,
         ends_upto_listed rest p place d (stored_tail i rest h) (omega (arith, within)) ends,
@@ -212,10 +202,9 @@ module _ {K : Type 0} (order : KeyOrder K) (lawful : IsLawful order) {V : Type 0
   pub starts_here : (items : List (Item (AnyRange K) V)) (p : Position K) (place : ℕ)
       (x : Item (AnyRange K) V) → place < length items → x ≡ get_or items place x
       → Every (λ i. PLe lawful (Start i) p) (take (place + 1) items) → PLe lawful (Start x) p
-  starts_here items p place x within read upto =
-      subst (λ y. PLe lawful (Start y) p) (sym read)
-      (every_right (λ i. PLe lawful (Start i) p) (take place items)
-      (get_or items place x ∷ []) (rw (take_more items place x within) at upto)).0
+  starts_here items p place x within read upto = subst (λ y. PLe lawful (Start y) p) (sym read)
+      (every_right (λ i. PLe lawful (Start i) p) (take place items) (get_or items place x ∷ [])
+      (rw (take_more items place x within) at upto)).0
 
   -- an item that starts at the key at most and does not end before it holds it
   pub holds_at : (items : List (Item (AnyRange K) V)) (k : K) (place : ℕ) (x : Item (AnyRange K) V)
@@ -230,22 +219,19 @@ module _ {K : Type 0} (order : KeyOrder K) (lawful : IsLawful order) {V : Type 0
       )
 
   pub item_at : (items : List (Item (AnyRange K) V)) (place : ℕ) (x : Item (AnyRange K) V)
-      → place < length items
-      → x ≡ get_or items place x → Any (λ j. j ≡ x) items
+      → place < length items → x ≡ get_or items place x → Any (λ j. j ≡ x) items
   item_at [] place x within read = absurd (omega arith)
   item_at (i ∷ rest) zero x within read = inl (sym read)
   item_at (i ∷ rest) (suc place) x within read = inr (item_at rest place x (omega arith) read)
 
   -- the value of an item that is stored for the key
   pub stored_value : (items : List (Item (AnyRange K) V)) (k : K) (x : Item (AnyRange K) V)
-      → IsItemFor order items k x
-      → IsStoredFor order items k x.value
+      → IsItemFor order items k x → IsStoredFor order items k x.value
   stored_value [] k x at = absurd at.1
-  stored_value (i ∷ rest) k x at =
-      elim at.1 [
-        | inl here ↦ inl (rw here at.0, ap (λ j. j.value) here)
-        | inr later ↦ inr (stored_value rest k x (at.0, later))
-      ]
+  stored_value (i ∷ rest) k x at = elim at.1 [
+    | inl here ↦ inl (rw here at.0, ap (λ j. j.value) here)
+    | inr later ↦ inr (stored_value rest k x (at.0, later))
+  ]
 
   pub bound_at : (items : List (Item (AnyRange K) V)) (k : K) (place : ℕ) (x : Item (AnyRange K) V)
       → IsEquivalence same → place < length items → x ≡ get_or items place x → Holds order x.key k

@@ -1,17 +1,17 @@
 -- Which items give way to a range, and what stands in their place.
-use Rattle.range_change.proofs.Common.{◌≡◌, ℕ, zero, suc, ◌+◌, ◌-◌, ◌<◌, ◌≤◌, List, [], ◌∷◌, ◌++◌, length, take, drop, get_or, refl, ap, sym, ◌∙◌, arith, subst, Option, Some, None, Bool, true, IsTrue, ◌⊎◌, inl, inr, length-append, length-drop, append_assoc, append-nil, get_or-drop, get_or-take, drop-take, drop-drop, length-take-le, IsEquivalence, Every, unwrap_or, Bound, KeyOrder, IsLawful, AnyRange, IsKnownRange, Any, lt_trans, lt_not_le, le_lt_trans, PLt, line_of, upper, list_is_take_and_drop, every_at, any_left, any_right, any_none, every_weaker, every_append, every_left, every_right, Item, item_lower, LiesBefore, MeetsSome, Overlap, IsWindow, option_items, Window, IsEndOf, HasValue, IsNewItem, IsInsertionFrame, IsPart, IsRemovalFrame, joined_item, IsLeftFrame, IsRightFrame}
+use Rattle.range_change.proofs.Common.{common_steps, ◌≡◌, ℕ, zero, suc, ◌+◌, ◌-◌, ◌<◌, ◌≤◌, List, [], ◌∷◌, ◌++◌, length, take, drop, get_or, refl, ap, sym, ◌∙◌, arith, subst, Option, Some, None, Bool, true, IsTrue, ◌⊎◌, inl, inr, length-append, append_assoc, append-nil, get_or-drop, get_or-take, drop-take, drop-drop, IsEquivalence, Every, unwrap_or, Bound, KeyOrder, IsLawful, AnyRange, Any, lt_trans, le_lt_trans, PLt, line_of, upper, list_is_take_and_drop, every_at, any_left, any_right, any_none, every_weaker, every_append, every_left, every_right, Item, item_lower, MeetsSome, Overlap, IsWindow, option_items, Window, IsEndOf, HasValue, IsNewItem, IsSpliceFrame, IsInsertionFrame, IsPart, IsRemovalFrame, joined_item, IsLeftFrame, IsRightFrame}
 use Rattle.range_change.proofs.Chains.{chain_before, chain_left}
-use Rattle.range_change.proofs.CoveredPlaces.{chained_items_have_places}
+use Rattle.range_change.proofs.CoveredPlaces.{chained_items_have_places, overlap_is}
 use Rattle.range_change.proofs.ItemPlaces.{element_at, element_at_is_read, listed_at, upto_item}
-use Rattle.range_change.proofs.Forms.{before_is, stored_chain, every_front, every_back}
+use Rattle.range_change.proofs.Forms.{stored_chain, every_front, every_back}
 use Rattle.range_change.proofs.Lengths.{one_item}
 use Rattle.range_change.proofs.Overlaps.{any_at}
+use Rattle.range_change.proofs.RangePieces.{every_with}
 use Rattle.range_change.proofs.Windows.{every_both}
 
 pub run_size : {X : Type 0} (xs : List X) (place count : ℕ) → place + count ≤ length xs
     → length (take count (drop place xs)) ≡ count
-run_size xs place count within =
-    length-take-le count (drop place xs) (omega (arith, length-drop place xs))
+run_size xs place count within = grind (arith, common_steps)
 
 -- an item of a run
 pub any_of_run : {X : Type 0} (P : X → Type 0) (xs : List X) (place count k : ℕ) (x : X)
@@ -34,24 +34,42 @@ none_right (x ∷ xs) ys e = absurd (cc)
 -- a run of some items is not empty
 pub run_some : {X : Type 0} (xs : List X) (place count : ℕ) → place + count ≤ length xs → 0 < count
     → take count (drop place xs) ≡ [] → ⊥
-run_some xs place count within some e =
-    let size = run_size xs place count within in
-    let none : length (take count (drop place xs)) ≡ 0 = ap length e in
-    omega (arith, size, none)
+run_some xs place count within some e = grind (arith, common_steps)
 
 pub parts_of : {X : Type 0} (xs : List X) (place count : ℕ)
     → drop place xs ≡ take count (drop place xs) ++ drop (place + count) xs
-parts_of xs place count =
-    list_is_take_and_drop (drop place xs) count
-    ∙ ap (λ ys. take count (drop place xs) ++ ys) (drop-drop count place xs)
+parts_of xs place count = list_is_take_and_drop (drop place xs) count ∙ ap
+    (λ ys. take count (drop place xs) ++ ys) (drop-drop count place xs)
 
-pub append_reassociates : {X : Type 0} (a b c d e : List X)
+append_reassociates : {X : Type 0} (a b c d e : List X)
     → (a ++ b) ++ (c ++ (d ++ e)) ≡ a ++ (b ++ c ++ d) ++ e
 append_reassociates a b c d e = simp append_assoc
 
-pub reassociate_pieces : {X : Type 0} (a b c d e : List X)
+reassociate_pieces : {X : Type 0} (a b c d e : List X)
     → a ++ b ++ c ++ d ++ e ≡ a ++ (b ++ c ++ d) ++ e
 reassociate_pieces a b c d e = simp append_assoc
+
+-- items beside a window give way with it, and others come to stand for all of them
+pub widened_frame : {T : Type 0} (items new : List T) (Way : List T → List T → Type 0)
+    (place count : ℕ) (front extra rest body beyond more tail : List T)
+    → take place items ≡ front ++ extra → drop (place + count) items ≡ more ++ tail
+    → new ≡ front ++ rest ++ body ++ beyond ++ tail
+    → Way (extra ++ take count (drop place items) ++ more) (rest ++ body ++ beyond)
+    → IsSpliceFrame items new Way
+widened_frame items new Way place count front extra rest body beyond more tail before after changed
+    such =
+    let met = take count (drop place items) in
+    record {
+      front = front;
+      run = extra ++ met ++ more;
+      others = rest ++ body ++ beyond;
+      behind = tail;
+      before = list_is_take_and_drop items place ∙ (ap (λ ys. ys ++ drop place items) before ∙
+          (ap (λ ys. (front ++ extra) ++ ys) (parts_of items place count ∙ ap (λ ys. met ++ ys)
+          after) ∙ append_reassociates front extra met more tail));
+      after = changed ∙ reassociate_pieces front rest body beyond tail;
+      such = such;
+    }
 
 module _ {K : Type 0} {order : KeyOrder K} (lawful : IsLawful order) {V : Type 0}
     {same : V → V → Bool} (equal : IsEquivalence same) where
@@ -69,17 +87,14 @@ module _ {K : Type 0} {order : KeyOrder K} (lawful : IsLawful order) {V : Type 0
   made_within : (run wider made : List (Item (AnyRange K) V))
       → ((Q : Item (AnyRange K) V → Type 0) → Any Q run → Any Q wider) → (r : AnyRange K) (v : V)
       → Every (IsNewItem order same run r v) made → Every (IsNewItem order same wider r v) made
-  made_within run wider made inside r v all =
-      every_weaker _ _ made (λ j h.
-      record {
-        start = within_wider (inside (λ i. j.key.start ≡ i.key.start)) h.start;
-        end = within_wider (inside (λ i. j.key.end ≡ i.key.end)) h.end;
-        value = elim h.value [
-          | inl e ↦ inl e
-          | inr k ↦ inr (inside (λ i. IsTrue (same j.value i.value)) k)
-        ];
-      })
-      all
+  made_within run wider made inside r v all = every_weaker _ _ made (λ j h. record {
+    start = within_wider (inside (λ i. j.key.start ≡ i.key.start)) h.start;
+    end = within_wider (inside (λ i. j.key.end ≡ i.key.end)) h.end;
+    value = elim h.value [
+      | inl e ↦ inl e
+      | inr k ↦ inr (inside (λ i. IsTrue (same j.value i.value)) k)
+    ];
+  }) all
 
   -- a value that a run has equals v where all values of the run do
   has_equal : (run : List Stored) (u v : V) → IsTrue (same u v) ⊎ HasValue order same run u
@@ -101,58 +116,39 @@ module _ {K : Type 0} {order : KeyOrder K} (lawful : IsLawful order) {V : Type 0
   module _ {P : Type 0} {is_good : P → Type 0} {rank : P → ℕ} {items : List (Item (AnyRange K) V)}
       {r : AnyRange K} {w : Window P} {place : ℕ}
       (window : IsWindow order same is_good rank items r w place) where
-    not_before : Every (λ i. LiesBefore order i.key r → ⊥) (drop place items)
-    not_before =
-        every_weaker _ _ (drop place items) (λ i h k. lt_not_le lawful _ _ h.1
-        ((before_is order lawful i.key.end r.start h.0.1 window.known.0).0 k))
-        (every_both (λ i. IsKnownRange order i.key) _ (drop place items)
-        (every_back _ place items window.stored.known) window.above)
-
-    window_items_reach_range : 0 < w.count
-        → Every (λ i. LiesBefore order r i.key → ⊥) (take (place + w.count) items)
-    window_items_reach_range some =
-        let all = window.stored.known in
+    -- the items up to the last of the window start before the range ends
+    starts_under : 0 < w.count → Every (λ i. PLt lawful (item_lower order i) (upper order r))
+        (take (place + w.count) items)
+    starts_under some =
         let end = place + w.count in
         let k = end - 1 in
         let within : k < length items = omega (arith, some, window.in_range) in
         let x = element_at items k within in
         let read = element_at_is_read items k within x in
-        let whole =
-        rw (listed_at items k x within read) at (stored_chain order lawful same equal items
-        window.stored) in
-        let front =
-        every_both _ _ (take k items)
-        (chain_before (line_of order lawful same equal) (take k items) x (drop (k + 1) items) whole)
+        let whole = rw (listed_at items k x within read) at (stored_chain order lawful same equal
+        items window.stored) in
+        let line = line_of order lawful same equal in
+        let rest = drop (k + 1) items in
+        let front = every_both _ _ (take k items) (chain_before line (take k items) x rest whole)
         (chained_items_have_places order lawful same equal (take k items)
-        (chain_left (line_of order lawful same equal) (take k items) (x ∷ drop (k + 1) items)
-        whole)) in
-        let starts : Every (λ i. PLt lawful (item_lower order i) (upper order r)) (take end items) =
+        (chain_left line (take k items) (x ∷ rest) whole)) in
+        let own = rw (← read) at (window.meets x some) in
         rw (upto_item items k end x (omega (arith, some)) within read)
-        (every_append _ (take k items) (x ∷ [])
-        (every_weaker _ _ (take k items) (λ i h. lt_trans lawful _ _ _ h.1
-        (le_lt_trans lawful _ _ _ h.0.0 (rw (← read) at (window.meets x some)))) front)
-        (rw (← read) at (window.meets x some), tt)) in
-        every_weaker _ _ (take end items) (λ i h k. lt_not_le lawful _ _ h.1
-        ((before_is order lawful r.end i.key.start window.known.1 h.0.0).0 k))
-        (every_both (λ i. IsKnownRange order i.key) _ (take end items)
-        (every_front _ end items all) starts)
+        (every_append _ (take k items) (x ∷ []) (every_weaker _ _ (take k items)
+        (λ i h. lt_trans lawful _ _ _ h.1 (le_lt_trans lawful _ _ _ h.0.0 own)) front) (own, tt))
 
     -- each item of the window meets the range
     meets_by : (n : ℕ) → w.count ≡ n
         → Every (λ i. Overlap order i.key r) (take w.count (drop place items))
     meets_by zero e = rw e tt
     meets_by (suc n) e =
-        let before =
-        every_left (λ i. LiesBefore order i.key r → ⊥) (take w.count (drop place items))
-        (drop w.count (drop place items))
-        (rw (list_is_take_and_drop (drop place items) w.count) at not_before) in
-        let front = take (place + w.count) items in
-        let behind =
-        every_right (λ i. LiesBefore order r i.key → ⊥) (take place front)
-        (drop place front) (rw (list_is_take_and_drop front place) at
-        (window_items_reach_range (omega (arith, e)))) in
-        every_both (λ i. LiesBefore order i.key r → ⊥) (λ i. LiesBefore order r i.key → ⊥)
-        (take w.count (drop place items)) before (rw (drop-take place w.count items) at behind)
+        let rest = drop place items in
+        let under =
+        every_back _ place (take (place + w.count) items) (starts_under (omega (arith, e))) in
+        every_with _ _ _ (take w.count rest) (every_front _ w.count rest
+        (every_back _ place items window.stored.known)) (every_both _ _ (take w.count rest)
+        (rw (drop-take place w.count items) at under) (every_front _ w.count rest window.above))
+        (λ i k h. (overlap_is order lawful i.key r k window.known).1 h)
 
     pub all_meet : Every (λ i. Overlap order i.key r) (take w.count (drop place items))
     all_meet = meets_by w.count refl
@@ -164,9 +160,8 @@ module _ {K : Type 0} {order : KeyOrder K} (lawful : IsLawful order) {V : Type 0
         let x = element_at items place within in
         let read = element_at_is_read items place within x in
         let size = run_size items place w.count window.in_range in
-        let met =
-        every_at (λ i. Overlap order i.key r) (take w.count (drop place items)) 0 x all_meet
-        (omega (arith, size)) in
+        let met = every_at (λ i. Overlap order i.key r) (take w.count (drop place items)) 0 x
+        all_meet (omega (arith, size)) in
         let plus : place + 0 ≡ place = omega arith in
         let there : get_or (take w.count (drop place items)) 0 x ≡ get_or items place x =
         get_or-take w.count (drop place items) 0 x some
@@ -175,9 +170,8 @@ module _ {K : Type 0} {order : KeyOrder K} (lawful : IsLawful order) {V : Type 0
         (subst (λ (y : Item (AnyRange K) V). Overlap order y.key r) (there ∙ sym read) met)
 
     pub some_meets : 0 < w.count → Every (λ i. Overlap order i.key r → ⊥) items → ⊥
-    some_meets some none =
-        any_none (λ i. Overlap order i.key r) (λ i. Overlap order i.key r → ⊥) items none
-        (λ i no met. no met) (meets_some some)
+    some_meets some none = any_none (λ i. Overlap order i.key r) (λ i. Overlap order i.key r → ⊥)
+        items none (λ i no met. no met) (meets_some some)
 
     -- nothing gives way to nothing
     pub not_cut : IsRemovalFrame order same items items r
@@ -196,8 +190,7 @@ module _ {K : Type 0} {order : KeyOrder K} (lawful : IsLawful order) {V : Type 0
         Every (IsPart order same (take w.count (drop place items)) r) (option_items left)
         → Every (IsPart order same (take w.count (drop place items)) r) (option_items right) →
         new ≡ take place items ++ option_items left ++ [] ++ option_items right
-        ++ drop (place + w.count) items →
-        IsRemovalFrame order same items new r
+        ++ drop (place + w.count) items → IsRemovalFrame order same items new r
     cut_way new left right some made_left made_right list =
         let met = take w.count (drop place items) in
         let size = run_size items place w.count window.in_range in
@@ -206,52 +199,43 @@ module _ {K : Type 0} {order : KeyOrder K} (lawful : IsLawful order) {V : Type 0
           run = met;
           others = option_items left ++ option_items right;
           behind = drop (place + w.count) items;
-          before =
-              list_is_take_and_drop items place
-              ∙ (ap (λ ys. take place items ++ ys) (parts_of items place w.count)
-              ∙ sym (append_assoc (take place items) met (drop (place + w.count) items)));
-          after =
-              list
-              ∙ rw (append-nil (take place items ++ option_items left))
+          before = list_is_take_and_drop items place ∙ (ap (λ ys. take place items ++ ys)
+              (parts_of items place w.count) ∙ sym (append_assoc (take place items) met
+              (drop (place + w.count) items)));
+          after = list ∙ rw (append-nil (take place items ++ option_items left))
               (ap (λ ys. ys ++ drop (place + w.count) items)
               (append_assoc (take place items) (option_items left) (option_items right)));
           such = record {
             concerned = all_meet;
-            few =
-                omega (
-                  arith,
-                  some,
-                  size,
-                  one_item left,
-                  one_item right,
-                  length-append (option_items left) (option_items right),
-                );
+            few = omega (
+              arith,
+              some,
+              size,
+              one_item left,
+              one_item right,
+              length-append (option_items left) (option_items right),
+            );
             whole = λ e. absurd (run_some items place w.count window.in_range some e);
             made = every_append _ (option_items left) (option_items right) made_left made_right;
           };
         }
 
-    pub insertion_frame : (new : List (Item (AnyRange K) V)) (v u : V) (at end : ℕ)
-        (left right : Option (Item (AnyRange K) V)) (start finish : Option (Bound K)) →
+    pub insertion_frame : (new : List (Item (AnyRange K) V)) (v u : V) {at end : ℕ}
+        {left right : Option (Item (AnyRange K) V)} {start finish : Option (Bound K)} →
         IsLeftFrame order same items r v place w.count at left start
         → IsRightFrame order same items r v place w.count end right finish →
         length (option_items left) + length (option_items right) ≤ w.count + 1 →
-        same u v ≡ true → (w.count ≡ 0 → u ≡ v) →
-        new ≡ take at items ++ option_items left
+        same u v ≡ true → (w.count ≡ 0 → u ≡ v) → new ≡ take at items ++ option_items left
         ++ option_items (Some (joined_item (record { key = r; value = u }) start finish))
-        ++ option_items right ++ drop end items →
-        IsInsertionFrame order same items new r v
-    insertion_frame new v u at end left right start finish on_left on_right few values own_value
-        list =
+        ++ option_items right ++ drop end items → IsInsertionFrame order same items new r v
+    insertion_frame new v u {at} {end} {left} {right} {start} {finish} on_left on_right few values
+        own_value list =
         let m : Item (AnyRange K) V = joined_item (record { key = r; value = u }) start finish in
         let met = take w.count (drop place items) in
         let run = on_left.extra ++ met ++ on_right.extra in
-        let pieces = option_items left ++ option_items (Some m) ++ option_items right in
         let size = run_size items place w.count window.in_range in
         let regroup : run ≡ on_left.extra ++ (met ++ on_right.extra) =
         append_assoc on_left.extra met on_right.extra in
-        let middle : drop place items ≡ met ++ drop (place + w.count) items =
-        parts_of items place w.count in
         let on_start = λ (Q : Item (AnyRange K) V → Type 0) (h : Any Q (on_left.extra ++ met)).
         any_left Q (on_left.extra ++ met) on_right.extra h in
         let made_left =
@@ -269,65 +253,44 @@ module _ {K : Type 0} {order : KeyOrder K} (lawful : IsLawful order) {V : Type 0
           end = own_end;
           value = inl values;
         } in
-        record {
-          front = take at items;
-          run = run;
-          others = pieces;
-          behind = drop end items;
-          before =
-              list_is_take_and_drop items place
-              ∙ (ap (λ ys. ys ++ drop place items) on_left.split
-              ∙ (ap (λ ys. (take at items ++ on_left.extra) ++ ys)
-              (middle ∙ ap (λ ys. met ++ ys) on_right.split)
-              ∙ append_reassociates (take at items) on_left.extra met on_right.extra
-              (drop end items)));
-          after =
-              list
-              ∙ reassociate_pieces (take at items) (option_items left) (option_items (Some m))
-              (option_items right) (drop end items);
-          such = record {
-            concerned =
-                every_append _ (on_left.extra ++ met) on_right.extra
-                (every_append _ on_left.extra met
-                (every_weaker _ _ on_left.extra (λ i h. inr (inl h.0, h.1)) on_left.touched)
-                (every_weaker _ _ met (λ i h. inl h) all_meet))
-                (every_weaker _ _ on_right.extra (λ i h. inr (inr h.0, h.1)) on_right.touched);
-            few =
-                omega (
-                  arith,
-                  few,
-                  size,
-                  length-append (on_left.extra ++ met) on_right.extra,
-                  length-append on_left.extra met,
-                  length-append (option_items left ++ option_items (Some m)) (option_items right),
-                  length-append (option_items left) (option_items (Some m)),
-                );
-            whole = λ e. let l =
-                on_left.whole (none_left (on_left.extra ++ met) on_right.extra e) in let k =
-                on_right.whole (none_right on_left.extra (met ++ on_right.extra)
-                (sym regroup ∙ e)) in let none : w.count ≡ 0 = sym size
-                ∙ ap length (none_right on_left.extra met
-                (none_left (on_left.extra ++ met) on_right.extra e)) in rw (l.0, k.0, l.1, k.1)
-                (ap (λ (y : V). record { key = r; value = y } ∷ []) (own_value none));
-            one = λ all.
-                let on_left_none =
-                no_rest (on_left.extra ++ met) r v left
-                (every_left (λ i. IsTrue (same i.value v))
-                (on_left.extra ++ met) on_right.extra all) on_left.made on_left.apart in
-                let on_right_none =
-                no_rest (met ++ on_right.extra) r v right
-                (every_right (λ i. IsTrue (same i.value v)) on_left.extra
-                (met ++ on_right.extra) (rw regroup at all)) on_right.made on_right.apart in
-                omega (
-                  arith,
-                  on_left_none,
-                  on_right_none,
-                  length-append (option_items left ++ option_items (Some m)) (option_items right),
-                  length-append (option_items left) (option_items (Some m)),
-                );
-            made =
-                every_append _ (option_items left ++ option_items (Some m)) (option_items right)
-                (every_append _ (option_items left) (option_items (Some m)) made_left (own, tt))
-                made_right;
-          };
-        }
+        widened_frame items new _ place w.count (take at items) on_left.extra (option_items left)
+        (option_items (Some m)) (option_items right) on_right.extra (drop end items) on_left.split
+        on_right.split list (record {
+          concerned = every_append _ (on_left.extra ++ met) on_right.extra
+              (every_append _ on_left.extra met (every_weaker _ _ on_left.extra
+              (λ i h. inr (inl h.0, h.1)) on_left.touched) (every_weaker _ _ met (λ i h. inl h)
+              all_meet)) (every_weaker _ _ on_right.extra (λ i h. inr (inr h.0, h.1))
+              on_right.touched);
+          few = omega (
+            arith,
+            few,
+            size,
+            length-append (on_left.extra ++ met) on_right.extra,
+            length-append on_left.extra met,
+            length-append (option_items left ++ option_items (Some m)) (option_items right),
+            length-append (option_items left) (option_items (Some m)),
+          );
+          whole = λ e. let l = on_left.whole (none_left (on_left.extra ++ met) on_right.extra e) in
+              let k = on_right.whole (none_right on_left.extra (met ++ on_right.extra)
+              (sym regroup ∙ e)) in let none : w.count ≡ 0 = sym size ∙ ap length
+              (none_right on_left.extra met (none_left (on_left.extra ++ met) on_right.extra e)) in
+              rw (l.0, k.0, l.1, k.1) (ap (λ (y : V). record { key = r; value = y } ∷ [])
+              (own_value none));
+          one = λ all.
+              let on_left_none = no_rest (on_left.extra ++ met) r v left
+              (every_left (λ i. IsTrue (same i.value v)) (on_left.extra ++ met) on_right.extra all)
+              on_left.made on_left.apart in
+              let on_right_none = no_rest (met ++ on_right.extra) r v right
+              (every_right (λ i. IsTrue (same i.value v)) on_left.extra (met ++ on_right.extra)
+              (rw regroup at all)) on_right.made on_right.apart in
+              omega (
+                arith,
+                on_left_none,
+                on_right_none,
+                length-append (option_items left ++ option_items (Some m)) (option_items right),
+                length-append (option_items left) (option_items (Some m)),
+              );
+          made = every_append _ (option_items left ++ option_items (Some m)) (option_items right)
+              (every_append _ (option_items left) (option_items (Some m)) made_left (own, tt))
+              made_right;
+        })

@@ -39,8 +39,7 @@ module _ {K : Type 0} {order : KeyOrder K} (lawful : IsLawful order) {V : Type 0
 
   pub right_part : (x : Item (AnyRange K) V) → x ≡ get_or items (place + w.count - 1) x
       → 0 < w.count → (b : Bound K) (u : V) → SameBound order (flipped_bound r.end) b
-      → same u x.value ≡ true
-      → IsPart order same (take w.count (drop place items)) r
+      → same u x.value ≡ true → IsPart order same (take w.count (drop place items)) r
       (record { key = record { start = b; end = x.key.end }; value = u })
   right_part x here some b u same_b values = record {
     start = inr (inr same_b);
@@ -58,9 +57,8 @@ module _ {K : Type 0} {order : KeyOrder K} (lawful : IsLawful order) {V : Type 0
     extra = [];
     split = sym (append-nil (take place items));
     touched = tt;
-    start_of =
-        inr
-        (inl (first_met lawful equal window x here some (λ i. x.key.start ≡ i.key.start) refl));
+    start_of = inr (inl (first_met lawful equal window x here some (λ i. x.key.start ≡ i.key.start)
+        refl));
     made = tt;
     apart = tt;
     whole = λ e. absurd (run_some items place w.count window.in_range some e);
@@ -90,15 +88,11 @@ module _ {K : Type 0} {order : KeyOrder K} (lawful : IsLawful order) {V : Type 0
     extra = [];
     split = refl;
     touched = tt;
-    end_of =
-        inr
-        (inl (any_left (λ i. x.key.end ≡ i.key.end) (take w.count (drop place items)) []
+    end_of = inr (inl (any_left (λ i. x.key.end ≡ i.key.end) (take w.count (drop place items)) []
         (last_met lawful equal window x here some (λ i. x.key.end ≡ i.key.end) refl)));
     made = tt;
     apart = tt;
-    whole =
-        λ e.
-        absurd (run_some items place w.count window.in_range some
+    whole = λ e. absurd (run_some items place w.count window.in_range some
         (sym (append-nil (take w.count (drop place items))) ∙ e));
   }
 
@@ -112,13 +106,13 @@ module _ {K : Type 0} {order : KeyOrder K} (lawful : IsLawful order) {V : Type 0
     split = refl;
     touched = tt;
     end_of = inl refl;
-    made =
-        rw (append-nil (take w.count (drop place items)))
-        ((new_part (right_part lawful equal window x here some b u same_b values), tt));
+    made = rw (append-nil (take w.count (drop place items))) ((
+      new_part
+          (right_part lawful equal window x here some b u same_b values),
+      tt,
+    ));
     apart = (λ equal_values. cc, tt);
-    whole =
-        λ e.
-        absurd (run_some items place w.count window.in_range some
+    whole = λ e. absurd (run_some items place w.count window.in_range some
         (sym (append-nil (take w.count (drop place items))) ∙ e));
   }
 
@@ -133,8 +127,7 @@ module _ {K : Type 0} {order : KeyOrder K} (lawful : IsLawful order) {V : Type 0
       → TouchesAfter order same items (place + w.count) r v
       → Touches order r x.key × (same x.value v ≡ true)
   touched_after x read touching =
-      let t =
-      subst (λ (y : Item (AnyRange K) V). Touches order r y.key × (same v y.value ≡ true))
+      let t = subst (λ (y : Item (AnyRange K) V). Touches order r y.key × (same v y.value ≡ true))
       (sym read) (touching x) in
       (t.0, equal.symm x.value v ∙ t.1)
 
@@ -151,8 +144,7 @@ module _ {K : Type 0} {order : KeyOrder K} (lawful : IsLawful order) {V : Type 0
         rest = None;
         start = Some x.key.start;
         shape = (reach.0, reach.1, refl, refl, (x, read, refl));
-        side =
-            left_border_at lawful equal window v place x
+        side = left_border_at lawful equal window v place x
             (omega (arith, reach.2, window.in_range)) here (lt_le lawful _ _ (reach.3 x here))
             (first_reaches lawful equal window x here reach.2) values;
         run = (reach.0, reach.1);
@@ -176,8 +168,7 @@ module _ {K : Type 0} {order : KeyOrder K} (lawful : IsLawful order) {V : Type 0
         rest = Some (with_end x b);
         start = None;
         shape = (reach.0, reach.1, refl, refl, (x, here, refl));
-        side =
-            left_border_rest lawful equal window v (with_end x b)
+        side = left_border_rest lawful equal window v (with_end x b)
             (left_rest_cut lawful equal window x here reach.2 (reach.3 x here) b known_b same_b)
             values;
         run = next;
@@ -201,13 +192,11 @@ module _ {K : Type 0} {order : KeyOrder K} (lawful : IsLawful order) {V : Type 0
         rest = None;
         start = Some x.key.start;
         shape = (is, refl, refl, refl, (x, read, refl));
-        side =
-            left_border_at lawful equal window v (rank q) x within read up.0 up.1 touch.1;
+        side = left_border_at lawful equal window v (rank q) x within read up.0 up.1 touch.1;
         run = (is, refl);
         frame = record {
           extra = x ∷ [];
-          split =
-              upto_item items (rank q) place x at within read;
+          split = upto_item items (rank q) place x at within read;
           touched = ((touch.0, touch.1, refl), tt);
           start_of = inr (inl (inl refl));
           made = tt;
@@ -228,9 +217,7 @@ module _ {K : Type 0} {order : KeyOrder K} (lawful : IsLawful order) {V : Type 0
     rest = None;
     start = None;
     shape = (refl, refl, refl);
-    side =
-        left_border_none lawful equal window v
-        (left_rest_whole lawful equal window reach) none;
+    side = left_border_none lawful equal window v (left_rest_whole lawful equal window reach) none;
     run = run;
     frame = record {
       extra = [];
@@ -262,11 +249,10 @@ module _ {K : Type 0} {order : KeyOrder K} (lawful : IsLawful order) {V : Type 0
         rest = None;
         finish = Some x.key.end;
         shape = (reach.0, reach.1, refl, refl, (x, read, refl));
-        side =
-            right_border_at lawful equal window (place + w.count) (place + w.count - 1) v x
+        side = right_border_at lawful equal window (place + w.count) (place + w.count - 1) v x
             (omega (arith, reach.2)) (omega (arith, reach.2, window.in_range)) here
-            (last_starts lawful equal window x here reach.2)
-            (lt_le lawful _ _ (reach.3 x here)) values;
+            (last_starts lawful equal window x here reach.2) (lt_le lawful _ _ (reach.3 x here))
+            values;
         frame = right_frame_inside x here reach.2;
         few = omega arith;
         ends = omega arith;
@@ -284,11 +270,9 @@ module _ {K : Type 0} {order : KeyOrder K} (lawful : IsLawful order) {V : Type 0
         rest = Some (with_start x b);
         finish = None;
         shape = (reach.0, omega (arith, reach.1), omega (arith, reach.2), refl, (x, here, refl));
-        side =
-            right_border_rest lawful equal window (place + w.count) v (with_start x b)
-            window.in_range
-            (right_rest_cut lawful equal window x here reach.2
-            (reach.3 x here) b known_b same_b x.value (equal.refl x.value)) values;
+        side = right_border_rest lawful equal window (place + w.count) v (with_start x b)
+            window.in_range (right_rest_cut lawful equal window x here reach.2 (reach.3 x here) b
+            known_b same_b x.value (equal.refl x.value)) values;
         frame = right_frame_cut x here reach.2 b x.value same_b (equal.refl x.value) values;
         few = omega arith;
         ends = omega (arith, reach.2);
@@ -311,18 +295,14 @@ module _ {K : Type 0} {order : KeyOrder K} (lawful : IsLawful order) {V : Type 0
         rest = None;
         finish = Some x.key.end;
         shape = (is, omega (arith, at), refl, refl, (x, read, refl));
-        side =
-            right_border_at lawful equal window (place + w.count + 1) (place + w.count) v x refl
+        side = right_border_at lawful equal window (place + w.count + 1) (place + w.count) v x refl
             within' here up.0 up.1 touch.1;
         frame = record {
           extra = x ∷ [];
-          split =
-              from_item items (place + w.count) x within' here;
+          split = from_item items (place + w.count) x within' here;
           touched = ((touch.0, touch.1, refl), tt);
-          end_of =
-              inr
-              (inl (any_right (λ i. x.key.end ≡ i.key.end) (take w.count (drop place items))
-              (x ∷ []) (inl refl)));
+          end_of = inr (inl (any_right (λ i. x.key.end ≡ i.key.end)
+              (take w.count (drop place items)) (x ∷ []) (inl refl)));
           made = tt;
           apart = tt;
           whole = λ e. absurd (none_last (take w.count (drop place items)) x e);
@@ -340,8 +320,7 @@ module _ {K : Type 0} {order : KeyOrder K} (lawful : IsLawful order) {V : Type 0
     rest = None;
     finish = None;
     shape = (refl, refl, refl);
-    side =
-        right_border_none lawful equal window (place + w.count) v window.in_range
+    side = right_border_none lawful equal window (place + w.count) v window.in_range
         (right_rest_whole lawful equal window reach) none;
     frame = record {
       extra = [];
@@ -414,9 +393,8 @@ module _ {K : Type 0} {order : KeyOrder K} (lawful : IsLawful order) {V : Type 0
           refl,
           (x, here, refl),
         );
-        side =
-            right_rest_cut lawful equal window x here reach.2
-            (reach.3 x here) b known_b same_b x.value (equal.refl x.value);
+        side = right_rest_cut lawful equal window x here reach.2 (reach.3 x here) b known_b same_b
+            x.value (equal.refl x.value);
         made =
             (right_part lawful equal window x here reach.2 b x.value same_b (equal.refl x.value), tt);
         ends = omega (arith, reach.2);

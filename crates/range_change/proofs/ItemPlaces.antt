@@ -1,5 +1,5 @@
 -- An item at a place of a list, and what stands on each side of it.
-use Rattle.range_change.proofs.Common.{◌≡◌, ℕ, zero, suc, ◌+◌, ◌<◌, List, [], ◌∷◌, ◌++◌, length, take, drop, get_or, refl, ap, sym, ◌∙◌, arith, drop_more, take_more, parts_at}
+use Rattle.range_change.proofs.Common.{common_steps, ◌≡◌, ℕ, zero, suc, ◌+◌, ◌<◌, List, [], ◌∷◌, ◌++◌, length, take, drop, get_or, refl, arith}
 
 pub element_at : {X : Type 0} (xs : List X) (n : ℕ) → n < length xs → X
 element_at [] n within = absurd (omega arith)
@@ -16,17 +16,13 @@ element_at_is_read (x ∷ xs) (suc n) within d = element_at_is_read xs n (omega 
 -- the items up to one, that one, and those after it
 pub listed_at : {X : Type 0} (items : List X) (n : ℕ) (x : X) → n < length items
     → x ≡ get_or items n x → items ≡ take n items ++ x ∷ drop (n + 1) items
-listed_at items n x within read =
-    parts_at items n x within ∙ ap (λ y. take n items ++ y ∷ drop (n + 1) items) (sym read)
+listed_at items n x within read = grind (arith, common_steps)
 
 -- those up to it, and those from it on
 pub upto_item : {X : Type 0} (items : List X) (n end : ℕ) (x : X) → n + 1 ≡ end
     → n < length items → x ≡ get_or items n x → take end items ≡ take n items ++ x ∷ []
-upto_item items n end x at within read =
-    ap (λ m. take m items) (sym at)
-    ∙ (take_more items n x within ∙ ap (λ y. take n items ++ y ∷ []) (sym read))
+upto_item items n end x at within read = grind (arith, common_steps)
 
 pub from_item : {X : Type 0} (items : List X) (n : ℕ) (x : X) → n < length items
     → x ≡ get_or items n x → drop n items ≡ x ∷ drop (n + 1) items
-from_item items n x within read =
-    drop_more items n x within ∙ ap (λ y. y ∷ drop (n + 1) items) (sym read)
+from_item items n x within read = grind (arith, common_steps)

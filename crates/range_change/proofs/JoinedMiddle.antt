@@ -2,7 +2,7 @@
 use Rattle.range_change.proofs.Common.{Line, ◌≡◌, ℕ, ◌+◌, ◌-◌, ◌<◌, ◌≤◌, List, [], ◌∷◌, ◌++◌, length, take, drop, refl, ap, sym, ◌∙◌, arith, subst, Option, Some, None, Bool, true, false, IsTrue, Bor, ◌⊎◌, inl, inr, append_assoc, append-nil, Every, slice_get, option_copied, MatchOption, IsEquivalence, tied_itself, unwrap_or, Equal, Bound, KeyOrder, IsLawful, start_position, end_position, position_total, Position, any_left, any_right, every_weaker, every_append, every_left, every_right, line_of, IsLeftOf, IsRightOf, IsSpliced, flipped, past, lower, upper, Le, Lt, Any, eq_ge, le_lt_trans, le_refl, lt_le, eq_le, le_trans, lt_trans, lt_le_trans, lt_not_le, not_lt, PLe, PLt, IsKnownBound, IsKnownRange, Touches, AnyRange, reaching_is_before_past, flipped_bound_is_past, flipped_known, Item, IsAt, Border, Window, IsLeftShape, IsRightShape, IsRunStart, left_side, right_side, joined_count, seam_border, TouchesBefore, TouchesNoneBefore, TouchesAfter, TouchesNoneAfter, with_start, HasValue, item_lower, item_upper, IsStored, LiesIn, IsLeftPlan, IsRightPlan, ReachesBefore, ReachesAfter, AreWithin, with_first_start, with_last_end, IsLeftCutting, IsRightCutting, IsLeftSeam, IsRightSeam, IsWindow, option_items}
 use Rattle.range_change.proofs.Chains.{chain_before, chain_right, follows_above}
 use Rattle.range_change.proofs.CutParts.{ends_never}
-use Rattle.range_change.proofs.OuterBounds.{last_of, item_with_end, with_last, started_last}
+use Rattle.range_change.proofs.OuterBounds.{every_started, last_of, item_with_end, with_last, started_last}
 use Rattle.range_change.proofs.Forms.{places, Known, Chained, stored_chain, every_front, every_back}
 use Rattle.range_change.proofs.BoundEdits.{cut_joins_none}
 use Rattle.range_change.proofs.Lengths.{border_joins_none}
@@ -28,20 +28,17 @@ module _ {K : Type 0} (order : KeyOrder K) (lawful : IsLawful order) where
   within_by part r (Some s) turns known others within over =
       let at = flipped_bound_is_past order lawful r.end s (sym turns) in
       let known_s = flipped_known order lawful r.end s (sym turns) others.1 in
-      let reach =
-      (reaching_is_before_past order lawful s part.end known_s known.1).1 (le_lt_trans lawful _ _ _
-      (eq_ge lawful _ _ at) over) in
-      let back =
-      (reaching_is_before_past order lawful s r.end known_s others.1).0
+      let reach = (reaching_is_before_past order lawful s part.end known_s known.1).1
+      (le_lt_trans lawful _ _ _ (eq_ge lawful _ _ at) over) in
+      let back = (reaching_is_before_past order lawful s r.end known_s others.1).0
       (le_trans lawful _ _ _ reach within) in
       lt_not_le lawful _ _ back (eq_le lawful _ _ at)
 
   -- a range that ends by another's end ends by its place
   pub within_end : (part r : AnyRange K) → IsKnownRange order part → IsKnownRange order r
       → LiesIn order part r → PLe lawful (upper order part) (upper order r)
-  within_end part r known others within =
-      not_lt lawful (upper order part) (upper order r) (λ over.
-      within_by part r (flipped r.end) refl known others within.ends over)
+  within_end part r known others within = not_lt lawful (upper order part) (upper order r)
+      (λ over. within_by part r (flipped r.end) refl known others within.ends over)
 
 -- only an item that joins gives way beyond the window
 pub seam_count : {K P : Type 0} (joined reaching : Option P) (b : Bound K)
@@ -53,9 +50,8 @@ module _ {K : Type 0} {order : KeyOrder K} (lawful : IsLawful order) {V : Type 0
     (same : V → V → Bool) where
   -- the item starts before the range ends, and ends after the range starts
   abbrev pub Crosses : Item (AnyRange K) V → Type 0
-  Crosses i =
-      PLt lawful (item_lower order i) (upper order r)
-      × PLt lawful (lower order r) (item_upper order i)
+  Crosses i = PLt lawful (item_lower order i) (upper order r) × PLt lawful (lower order r)
+      (item_upper order i)
 
   -- one that crosses the range has the start of an item, and an equal value
   abbrev pub TakesStartOf : Item (AnyRange K) V → List (Item (AnyRange K) V) → Type 0
@@ -73,20 +69,17 @@ module _ {K : Type 0} (order : KeyOrder K) (lawful : IsLawful order) {V : Type 0
 
   abbrev pub Filled : List (Item (AnyRange K) V) → List (Item (AnyRange K) V)
       → List (Item (AnyRange K) V) → List (Item (AnyRange K) V) → Position K → Type 0
-  Filled items front wide middle c =
-      IsFilled line items front wide middle c
+  Filled items front wide middle c = IsFilled line items front wide middle c
 
   abbrev pub Spliced : List (Item (AnyRange K) V) → List (Item (AnyRange K) V)
       → List (Item (AnyRange K) V) → AnyRange K → Type 0
-  Spliced items middle new r =
-      IsSpliced line items middle new (lower order r) (upper order r)
+  Spliced items middle new r = IsSpliced line items middle new (lower order r) (upper order r)
 
   module _ {P : Type 0} (is_good : P → Type 0) (rank : P → ℕ) (items : List (Item (AnyRange K) V))
       (r : AnyRange K) (place count : ℕ) where
     -- the items up to the range, and the middle with the start that it joins
     pub record IsLeftFill (middle : List (Item (AnyRange K) V)) (first : Option P)
-        (border : Border K P)
-        (from : Option P) : Type 0 where
+        (border : Border K P) (from : Option P) : Type 0 where
       pub at : ℕ
       pub begin : ℕ
       pub rest : Option (Item (AnyRange K) V)
@@ -133,29 +126,19 @@ module _ {K : Type 0} (order : KeyOrder K) (lawful : IsLawful order) {V : Type 0
           middle j.value) (option_items rest)
 
     start_filled : (start : Option (Bound K)) (front ms : List (Item (AnyRange K) V))
-        (m : Item (AnyRange K) V)
-        → IsLeftOf line items front (lower order r)
+        (m : Item (AnyRange K) V) → IsLeftOf line items front (lower order r)
         (start_position order (unwrap_or start r.start)) m.value
         → Chained order lawful same equal (m ∷ ms)
         → places order lawful (item_lower order m) (lower order r) ≡ Equal
         → Filled items front (with_first_start start (m ∷ ms)) (m ∷ ms) (lower order r)
-    start_filled None front ms m left chain at =
-        filled_joined line items front m m ms (lower order r) (lower order r) left chain at at
-        (tied_itself (position_total order.cmp lawful.total) (item_upper order m))
-        (equal.refl m.value)
+    start_filled None front ms m left chain at = filled_joined line items front m m ms
+        (lower order r) (lower order r) left chain at at (tied_itself
+        (position_total order.cmp lawful.total) (item_upper order m)) (equal.refl m.value)
     start_filled (Some b) front ms m left chain at =
         let total = position_total order.cmp lawful.total in
-        filled_joined line items front m (with_start m b) ms
-        (lower order r) (start_position order b) left chain at
-        (tied_itself total (start_position order b)) (tied_itself total (item_upper order m))
-        (equal.refl m.value)
-
-    start_known : (start : Option (Bound K)) (m : Item (AnyRange K) V)
-        (ms : List (Item (AnyRange K) V)) → IsKnownBound order (unwrap_or start r.start)
-        → Known order lawful same equal (m ∷ ms)
-        → Known order lawful same equal (with_first_start start (m ∷ ms))
-    start_known None m ms known all = all
-    start_known (Some b) m ms known all = ((known, all.0.1), all.1)
+        filled_joined line items front m (with_start m b) ms (lower order r)
+        (start_position order b) left chain at (tied_itself total (start_position order b))
+        (tied_itself total (item_upper order m)) (equal.refl m.value)
 
     takes_start : (start : Option (Bound K)) (m : Item (AnyRange K) V)
         (ms : List (Item (AnyRange K) V)) (i : Item (AnyRange K) V) → start ≡ Some i.key.start
@@ -177,8 +160,7 @@ module _ {K : Type 0} (order : KeyOrder K) (lawful : IsLawful order) {V : Type 0
 
     left_joining : (m : Item (AnyRange K) V) (ms : List (Item (AnyRange K) V)) (first : Option P)
         (border : Border K P) (from : Option P) → PLt lawful (lower order r) (upper order r)
-        → IsStored order same items
-        → IsStored order same (m ∷ ms)
+        → IsStored order same items → IsStored order same (m ∷ ms)
         → places order lawful (item_lower order m) (lower order r) ≡ Equal
         → IsLeftPlan order same lawful equal is_good rank items r m.value place count first border
         from → IsLeftFill (m ∷ ms) first border from
@@ -194,23 +176,22 @@ module _ {K : Type 0} (order : KeyOrder K) (lawful : IsLawful order) {V : Type 0
           shape = plan.shape;
           run = plan.run;
           begins = plan.begins;
-          filled =
-              start_filled plan.start (take plan.at items ++ option_items plan.rest) ms m
+          filled = start_filled plan.start (take plan.at items ++ option_items plan.rest) ms m
               plan.side.left chain at;
-          known =
-              every_append _ (take plan.at items ++ option_items plan.rest)
-              (with_first_start plan.start (m ∷ ms))
-              (every_append _ (take plan.at items) (option_items plan.rest)
-              (every_front _ plan.at items stored.known) plan.side.known)
-              (start_known plan.start m ms plan.side.known_start middle.known);
+          known = every_append _ (take plan.at items ++ option_items plan.rest)
+              (with_first_start plan.start (m ∷ ms)) (every_append _ (take plan.at items)
+              (option_items plan.rest) (every_front _ plan.at items stored.known) plan.side.known)
+              (every_started (λ j. IsKnownRange order j.key) plan.start (m ∷ ms)
+              (λ j b is h. (rw is at plan.side.known_start, h.1)) middle.known);
           extra = plan.frame.extra;
           split = plan.frame.split;
-          touched =
-              every_weaker _ _ plan.frame.extra
-              (λ i h. (h.0, takes_start plan.start m ms i h.2 le good over h.1)) plan.frame.touched;
-          valued =
-              every_weaker _ _ (option_items plan.rest)
-              (λ j h. elim h.value [ inl e ↦ inr (inl e) | inr k ↦ inl k ]) plan.frame.made;
+          touched = every_weaker _ _ plan.frame.extra (λ i h. (
+            h.0,
+            takes_start plan.start m ms i
+                h.2 le good over h.1,
+          )) plan.frame.touched;
+          valued = every_weaker _ _ (option_items plan.rest) (λ j h. elim h.value
+              [ inl e ↦ inr (inl e) | inr k ↦ inl k ]) plan.frame.made;
         }
 
     left_cutting : (middle : List (Item (AnyRange K) V)) (first : Option P) (border : Border K P)
@@ -219,8 +200,7 @@ module _ {K : Type 0} (order : KeyOrder K) (lawful : IsLawful order) {V : Type 0
         → IsLeftCutting order same lawful equal is_good rank items r place count first border from →
         IsLeftFill middle first border from
     left_cutting middle first border from stored others starts cut =
-        let none =
-        border_joins_none is_good rank items left_side border place
+        let none = border_joins_none is_good rank items left_side border place
         (place + length (option_items first)) cut.rest cut.shape in
         record {
           at = place;
@@ -230,12 +210,10 @@ module _ {K : Type 0} (order : KeyOrder K) (lawful : IsLawful order) {V : Type 0
           shape = cut.shape;
           run = cut.run;
           begins = omega (arith, none);
-          filled =
-              filled_apart line items
-              (take place items ++ option_items cut.rest) middle (lower order r) cut.side.left
-              (stored_chain order lawful same equal middle others) starts;
-          known =
-              every_append _ (take place items ++ option_items cut.rest) middle
+          filled = filled_apart line items (take place items ++ option_items cut.rest) middle
+              (lower order r) cut.side.left (stored_chain order lawful same equal middle others)
+              starts;
+          known = every_append _ (take place items ++ option_items cut.rest) middle
               (every_append _ (take place items) (option_items cut.rest)
               (every_front _ place items stored.known) cut.side.known) others.known;
           extra = [];
@@ -264,11 +242,10 @@ module _ {K : Type 0} (order : KeyOrder K) (lawful : IsLawful order) {V : Type 0
         left_cutting [] first border from stored others tt h.1
     left_fill (m ∷ ms) first border from good stored others (inl h) =
         let item : h.0 ≡ m = let e = h.1 in cc in
-        left_joining m ms first border from good stored others
-        (subst (λ (i : Item (AnyRange K) V). places order lawful (item_lower order i)
-        (lower order r) ≡ Equal) item h.2)
-        (subst (λ (i : Item (AnyRange K) V). IsLeftPlan order same lawful equal is_good rank
-        items r i.value place count first border from) item h.3)
+        left_joining m ms first border from good stored others (subst
+        (λ (i : Item (AnyRange K) V). places order lawful (item_lower order i) (lower order r) ≡
+        Equal) item h.2) (subst (λ (i : Item (AnyRange K) V). IsLeftPlan order same lawful equal
+        is_good rank items r i.value place count first border from) item h.3)
     left_fill (m ∷ ms) first border from good stored others (inr h) =
         left_cutting (m ∷ ms) first border from stored others
         (all_later m ms (stored_chain order lawful same equal (m ∷ ms) others) (h.0 m refl)) h.1
@@ -302,8 +279,7 @@ module _ {K : Type 0} (order : KeyOrder K) (lawful : IsLawful order) {V : Type 0
         → IsRightPlan order same lawful equal is_good rank items r m.value place count last border
         → IsRightFill middle front start last border
     right_joining middle front init m start last border stored good split fill known at plan =
-        let own =
-        subst (λ ys. HasValue order same ys m.value) (sym split)
+        let own = subst (λ ys. HasValue order same ys m.value) (sym split)
         (any_right _ init (m ∷ []) (inl (equal.refl m.value))) in
         let s = started_last start init m in
         let z = s.1 in
@@ -321,9 +297,8 @@ module _ {K : Type 0} (order : KeyOrder K) (lawful : IsLawful order) {V : Type 0
         subst (λ (b : Bound K). places order lawful (past order (end_position order b))
         (upper order r) ≡ Equal) (sym s.3) at in
         let e = past order (end_position order (unwrap_or plan.finish r.end)) in
-        let right =
-        subst (λ (v : V). IsRightOf line items behind
-        (upper order r) e v) (sym s.4) plan.side.right in
+        let right = subst (λ (v : V). IsRightOf line items behind (upper order r) e v) (sym s.4)
+        plan.side.right in
         let filled = subst (λ ys. Filled items front ys middle (lower order r)) body fill in
         let all : Known order lawful same equal (front ++ (s.0 ++ z ∷ [])) = rw body at known in
         let own_all = every_right _ front (s.0 ++ z ∷ []) all in
@@ -335,14 +310,12 @@ module _ {K : Type 0} (order : KeyOrder K) (lawful : IsLawful order) {V : Type 0
         let above = lt_le_trans lawful _ _ _ good plan.side.right.above in
         let over =
         lt_le_trans lawful _ _ _ above (eq_ge lawful _ _ (ended_upper plan.finish z z_ends)) in
-        let done =
-        spliced_joined line items front s.0 middle behind z other
-        (lower order r) (upper order r) e filled good z_ends right
-        (tied_itself (position_total order.cmp lawful.total) (item_lower order z))
+        let done = spliced_joined line items front s.0 middle behind z other (lower order r)
+        (upper order r) e filled good z_ends right (tied_itself
+        (position_total order.cmp lawful.total) (item_lower order z))
         (ended_upper plan.finish z z_ends) (equal.refl z.value) in
-        let known_new =
-        every_append _ front ((s.0 ++ other ∷ []) ++ behind) (every_left _ front _ all)
-        (every_append _ (s.0 ++ other ∷ []) behind
+        let known_new = every_append _ front ((s.0 ++ other ∷ []) ++ behind)
+        (every_left _ front _ all) (every_append _ (s.0 ++ other ∷ []) behind
         (every_append _ s.0 (other ∷ []) (every_left _ s.0 (z ∷ []) own_all)
         (ended_known plan.finish z known_z.0 plan.side.known_end, tt))
         (every_append _ (option_items plan.rest) (drop plan.end items) plan.side.known
@@ -359,27 +332,21 @@ module _ {K : Type 0} (order : KeyOrder K) (lawful : IsLawful order) {V : Type 0
           known = subst (λ ys. Known order lawful same equal ys) (sym list) known_new;
           extra = plan.frame.extra;
           split = plan.frame.split;
-          touched =
-              every_weaker _ _ plan.frame.extra
-              (λ i h. (
-                h.0,
-                subst (λ ys. TakesEndOf lawful r same i ys) (sym body_end)
-                    (any_right _ s.0 (other ∷ [])
-                    (inl (
-                      ap (λ o. unwrap_or o z.key.end) h.2,
-                      (under, over),
-                      subst (λ v. IsTrue (same i.value v)) (sym s.4) h.1,
-                    ))),
-              )) plan.frame.touched;
+          touched = every_weaker _ _ plan.frame.extra (λ i h. (
+            h.0,
+            subst (λ ys. TakesEndOf lawful r same i ys) (sym body_end)
+                (any_right _ s.0 (other ∷ []) (inl (
+                  ap (λ o. unwrap_or o z.key.end) h.2,
+                  (under, over),
+                  subst (λ v. IsTrue (same i.value v)) (sym s.4) h.1,
+                ))),
+          )) plan.frame.touched;
           reaches = λ b is. subst (λ o. Lt cmp (lower order r)
               (past order (end_position order (unwrap_or o r.end)))) is above;
-          valued =
-              every_weaker _ _ (option_items plan.rest)
-              (λ j h.
-              elim h.value [
-                | inl e ↦ inr (alike_value middle m.value j.value e own)
-                | inr k ↦ inl k
-              ]) plan.frame.made;
+          valued = every_weaker _ _ (option_items plan.rest) (λ j h. elim h.value [
+            | inl e ↦ inr (alike_value middle m.value j.value e own)
+            | inr k ↦ inl k
+          ]) plan.frame.made;
         }
 
     right_cutting : (middle front : List (Item (AnyRange K) V)) (start : Option (Bound K))
@@ -391,9 +358,8 @@ module _ {K : Type 0} (order : KeyOrder K) (lawful : IsLawful order) {V : Type 0
         → IsRightCutting order same lawful equal is_good rank items r place count last border
         → IsRightFill middle front start last border
     right_cutting middle front start last border u stored within le lt all fill known cut =
-        let none =
-        border_joins_none is_good rank items right_side border cut.upto
-        (place + count) cut.rest cut.shape in
+        let none = border_joins_none is_good rank items right_side border cut.upto (place + count)
+        cut.rest cut.shape in
         let behind = option_items cut.rest ++ drop (place + count) items in
         record {
           upto = cut.upto;
@@ -403,21 +369,17 @@ module _ {K : Type 0} (order : KeyOrder K) (lawful : IsLawful order) {V : Type 0
           shape = cut.shape;
           ends = omega (arith, none, cut.ends);
           in_range = within;
-          spliced =
-              spliced_apart line items front
-              (with_first_start start middle) middle behind (lower order r) u
-              (upper order r) fill le lt all cut.side.right;
-          known =
-              every_append _ (front ++ with_first_start start middle) behind known
+          spliced = spliced_apart line items front (with_first_start start middle) middle behind
+              (lower order r) u (upper order r) fill le lt all cut.side.right;
+          known = every_append _ (front ++ with_first_start start middle) behind known
               (every_append _ (option_items cut.rest) (drop (place + count) items) cut.side.known
               (every_back _ (place + count) items stored.known));
           extra = [];
           split = refl;
           touched = tt;
           reaches = λ b is. absurd (cc);
-          valued =
-              every_weaker _ _ (option_items cut.rest)
-              (λ j h. inl (any_left _ (take count (drop place items)) [] h.value)) cut.made;
+          valued = every_weaker _ _ (option_items cut.rest) (λ j h. inl
+              (any_left _ (take count (drop place items)) [] h.value)) cut.made;
         }
 
     pub right_fill : (middle front : List (Item (AnyRange K) V)) (start : Option (Bound K))
@@ -440,27 +402,22 @@ module _ {K : Type 0} (order : KeyOrder K) (lawful : IsLawful order) {V : Type 0
         let item : h.0 ≡ end.1 = let e = sym end.3 ∙ h.1 in cc in
         right_joining (x ∷ xs) front end.0 end.1 start last border stored good end.2 fill known
         (subst (λ (i : Item (AnyRange K) V). places order lawful (item_upper order i)
-        (upper order r) ≡ Equal) item h.2)
-        (subst (λ (i : Item (AnyRange K) V). IsRightPlan order same lawful equal is_good rank
-        items r i.value place count last border) item h.3)
+        (upper order r) ≡ Equal) item h.2) (subst (λ (i : Item (AnyRange K) V). IsRightPlan order
+        same lawful equal is_good rank items r i.value place count last border) item h.3)
     right_fill (x ∷ xs) front start last border stored others within good in_range fill known
         (inr h) =
         let cmp = places order lawful in
         let end = last_of x xs in
         let m = end.1 in
-        let chain =
-        subst (λ ys. Chained order lawful same equal ys) end.2
+        let chain = subst (λ ys. Chained order lawful same equal ys) end.2
         (stored_chain order lawful same equal (x ∷ xs) others) in
         let full = (chain_right line end.0 (m ∷ []) chain).0 in
         let before = chain_before line end.0 m [] chain in
-        let below =
-        every_append (λ i. Le cmp (item_upper order i) (item_upper order m)) end.0 (m ∷ [])
-        (every_weaker _ _ end.0 (λ i k. le_trans lawful _ _ _ k.0 (lt_le lawful _ _ full)) before)
-        (le_refl lawful (item_upper order m), tt) in
-        let inside =
-        every_right (λ i. LiesIn order i.key r) end.0 (m ∷ [])
-        (subst (λ ys. Every (λ (i : Item (AnyRange K) V). LiesIn order i.key r) ys) end.2
-        within) in
+        let below = every_append (λ i. Le cmp (item_upper order i) (item_upper order m)) end.0
+        (m ∷ []) (every_weaker _ _ end.0 (λ i k. le_trans lawful _ _ _ k.0 (lt_le lawful _ _ full))
+        before) (le_refl lawful (item_upper order m), tt) in
+        let inside = every_right (λ i. LiesIn order i.key r) end.0 (m ∷ [])
+        (subst (λ ys. Every (λ (i : Item (AnyRange K) V). LiesIn order i.key r) ys) end.2 within) in
         right_cutting (x ∷ xs) front start last border (item_upper order m) stored in_range
         (le_trans lawful _ _ _ inside.0.starts (lt_le lawful _ _ full)) (h.0 m end.3) (subst (λ ys.
         Every (λ (i : Item (AnyRange K) V). Le cmp (item_upper order i) (item_upper order m))
@@ -483,9 +440,8 @@ module _ {K : Type 0} {order : KeyOrder K} (lawful : IsLawful order) {V : Type 0
       let plus : place + 0 ≡ place = omega arith in
       left_plan_free lawful equal window v at
       (subst (λ n. IsAt is_good rank (length items) at n) plus start) reach none
-  left_touched v (Some q) b at in_range reach found start =
-      rw start (left_plan_joined lawful equal window v q reach found.0 found.1
-      (in_range q found.0) found.2)
+  left_touched v (Some q) b at in_range reach found start = rw start
+      (left_plan_joined lawful equal window v q reach found.0 found.1 (in_range q found.0) found.2)
 
   pub right_touched : (v : V) (joined : Option P) (b : Bound K)
       → ((p : P) → is_good p → rank p < length items)

@@ -1,5 +1,5 @@
 -- How long a list is once it was changed.
-use Rattle.range_change.proofs.Common.{◌≡◌, ℕ, ◌+◌, ◌≤◌, List, ◌++◌, length, take, drop, refl, ap, arith, length-append, length-drop, Option, Some, None, Bound, length-take-le, AnyRange, Item, Border, Plain, Cut, Joined, BorderSide, IsBorderShape, joined_count, option_items}
+use Rattle.range_change.proofs.Common.{common_steps, ◌≡◌, ℕ, ◌+◌, ◌≤◌, List, ◌++◌, length, take, drop, refl, ap, arith, Option, Some, None, Bound, AnyRange, Item, Border, Plain, Cut, Joined, BorderSide, IsBorderShape, joined_count, option_items}
 
 -- an option names at most one item
 pub one_item : {T : Type 0} (o : Option T) → length (option_items o) ≤ 1
@@ -10,32 +10,7 @@ one_item (Some x) = omega arith
 pub changed_length : {T : Type 0} (items new a b d : List T) (at end : ℕ) → at ≤ length items
     → end ≤ length items → new ≡ take at items ++ a ++ b ++ d ++ drop end items
     → length new + end ≡ at + length a + length b + length d + length items
-changed_length items new a b d at end within within_end made =
-    omega (
-      arith,
-      ap length made,
-      length-append (take at items ++ a ++ b ++ d) (drop end items),
-      length-append (take at items ++ a ++ b) d,
-      length-append (take at items ++ a) b,
-      length-append (take at items) a,
-      length-take-le at items within,
-      length-drop end items,
-    )
-
--- where some items stand for a run
-pub replaced_length : {T : Type 0} (items new put : List T) (at left : ℕ)
-    → at + left ≤ length items → new ≡ take at items ++ (put ++ drop (at + left) items)
-    → length new + left ≡ length items + length put
-replaced_length items new put at left within made =
-    omega (
-      arith,
-      ap length made,
-      within,
-      length-append (take at items) (put ++ drop (at + left) items),
-      length-append put (drop (at + left) items),
-      length-take-le at items (omega (arith, within)),
-      length-drop (at + left) items,
-    )
+changed_length items new a b d at end within within_end made = grind (arith, common_steps)
 
 pub le_sum : (a b : ℕ) → a ≤ a + b
 le_sum a b = omega arith

@@ -1,6 +1,5 @@
 pub mod AnswerLists
 pub mod ApartRanges
-pub mod Between
 pub mod BoundEdits
 pub mod ChainJoins
 pub mod ChainSides
@@ -41,5 +40,4 @@ pub mod Succeeding
 pub mod Surrounded
 pub mod Tests
 pub mod UpdatedLists
-pub mod WalkStarts
 pub mod Windows

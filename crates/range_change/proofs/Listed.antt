@@ -7,8 +7,7 @@ one_false_is_not_both true true = (λ h _ _. cc, λ h. absurd (h refl refl))
 one_false_is_not_both true false = (λ h _ k. cc, λ h. refl)
 one_false_is_not_both false c = (λ h k _. cc, λ h. refl)
 
-pub before_by_parts : (a b t x d u v w c : Bool)
-    → IsTrue
+pub before_by_parts : (a b t x d u v w c : Bool) → IsTrue
     (is_before (if a then (if b then Before t else Intersecting false x)
     else (if d then After u else Intersecting v w)) c)
     ↔ (IsTrue a × IsTrue b × IsTrue (not t || not c))
@@ -28,8 +27,7 @@ module _ {K : Type 0} (order : KeyOrder K) (lawful : IsLawful order) {V : Type 0
       × (Touches order i.key j.key → IsTrue (same i.value j.value) → ⊥) × IsListed (j ∷ rest)
 
   followed_is_before_and_apart : (i j : Item (AnyRange K) V) → (IsEmptyRange order i.key → ⊥)
-      → IsFollowedBy order same i j
-      ↔ (LiesBefore order i.key j.key
+      → IsFollowedBy order same i j ↔ (LiesBefore order i.key j.key
       × (Touches order i.key j.key → IsTrue (same i.value j.value) → ⊥))
   followed_is_before_and_apart i j full =
       let cmp = position_cmp order.cmp in
@@ -38,24 +36,21 @@ module _ {K : Type 0} (order : KeyOrder K) (lawful : IsLawful order) {V : Type 0
       let other = start_position order j.key.start in
       let other_end = end_position order j.key.end in
       let touch = starts_at_end order i.key.end other in
-      let parts =
-      before_by_parts (is_lt (cmp start other)) (is_lt (cmp end other)) touch
+      let parts = before_by_parts (is_lt (cmp start other)) (is_lt (cmp end other)) touch
       (is_eq (cmp end other_end)) (is_gt (cmp start other_end))
-      (starts_at_end order j.key.end start) (is_eq (cmp start other))
-      (is_eq (cmp end other_end)) (same i.value j.value) in
+      (starts_at_end order j.key.end start) (is_eq (cmp start other)) (is_eq (cmp end other_end))
+      (same i.value j.value) in
       let test = one_false_is_not_both touch (same i.value j.value) in (
         λ h. let p = parts.0 h in ((lt_is_less (cmp end other)).0 p.1, test.0 p.2),
-        λ h.
-            parts.1 (
-              (lt_is_less (cmp start other)).1 (le_lt_trans lawful _ _ _
-                  (not_greater (cmp start end) full) h.0),
-              (lt_is_less (cmp end other)).1 h.0,
-              test.1 h.1,
-            ),
+        λ h. parts.1 (
+          (lt_is_less (cmp start other)).1 (le_lt_trans lawful _ _ _
+              (not_greater (cmp start end) full) h.0),
+          (lt_is_less (cmp end other)).1 h.0,
+          test.1 h.1,
+        ),
       )
 
-  by_parts : (items : List (Item (AnyRange K) V))
-      → Every (λ i. IsKnownRange order i.key) items
+  by_parts : (items : List (Item (AnyRange K) V)) → Every (λ i. IsKnownRange order i.key) items
       → Every (λ i. IsEmptyRange order i.key → ⊥) items
       → EachNext (IsFollowedBy order same) items → IsListed items
   by_parts [] known full rising = tt

@@ -14,11 +14,10 @@ each_is_one (x ∷ xs) = (inl refl, every_weaker _ _ xs (λ y h. inr h) (each_is
 module _ {K : Type 0} (order : KeyOrder K) (lawful : IsLawful order) where
   module _ {V : Type 0} (same : V → V → Bool) (equal : IsEquivalence same)
       (items : List (Item (AnyRange K) V)) (r : AnyRange K) (known : IsKnownRange order r)
-      (some : PLt lawful (lower order r) (upper order r))
-      (full : Every (IsFull order lawful items r) items)
-      (chain : Chained order lawful same equal items) (done rest : List (Item (AnyRange K) V))
-      (x : Item (AnyRange K) V) (list : items ≡ done ++ x ∷ rest)
-      (starts : PLt lawful (item_lower order x) (lower order r))
+      (some : PLt lawful (lower order r) (upper order r)) (full : Every
+      (IsFull order lawful items r) items) (chain : Chained order lawful same equal items)
+      (done rest : List (Item (AnyRange K) V)) (x : Item (AnyRange K) V)
+      (list : items ≡ done ++ x ∷ rest) (starts : PLt lawful (item_lower order x) (lower order r))
       (ends : PLt lawful (upper order r) (item_upper order x)) where
     abbrev IsAlone : Item (AnyRange K) V → Type 0
     IsAlone i = IsConnectedTo order i.key r → Overlap order i.key r
@@ -44,8 +43,7 @@ module _ {K : Type 0} (order : KeyOrder K) (lawful : IsLawful order) where
         alone_by i apart.2 apart.1
 
     alone_around : IsFull order lawful items r x → IsAlone x
-    alone_around own = λ h.
-        (overlap_is order lawful x.key r own.0 known).1
+    alone_around own = λ h. (overlap_is order lawful x.key r own.0 known).1
         (lt_trans lawful _ _ _ starts some, lt_trans lawful _ _ _ some ends)
 
     -- no other item touches a range that one surrounds
@@ -55,15 +53,12 @@ module _ {K : Type 0} (order : KeyOrder K) (lawful : IsLawful order) where
         let all = rw list at full in
         let own = every_right _ done (x ∷ rest) all in
         let before = chain_before (line_of order lawful same equal) done x rest whole in
-        let after =
-        follows_above (line_of order lawful same equal) x rest
+        let after = follows_above (line_of order lawful same equal) x rest
         (chain_right (line_of order lawful same equal) done (x ∷ rest) whole).1 in
-        let front =
-        every_with _ _ IsAlone done before (every_left _ done (x ∷ rest) all)
+        let front = every_with _ _ IsAlone done before (every_left _ done (x ∷ rest) all)
         (λ i h f. alone_before i f (le_lt_trans lawful _ _ _ h.0 starts)) in
-        let behind =
-        every_with _ _ IsAlone rest after own.1
-        (λ i h f. alone_after i f (lt_le_trans lawful _ _ _ ends h)) in
+        let behind = every_with _ _ IsAlone rest after own.1 (λ i h f. alone_after i f
+        (lt_le_trans lawful _ _ _ ends h)) in
         rw list (every_append IsAlone done (x ∷ rest) front (alone_around own.0, behind))
 
 -- what holds of a run that gave way may be said otherwise
@@ -93,25 +88,18 @@ module _ {K : Type 0} (order : KeyOrder K) {V : Type 0} (same : V → V → Bool
       → Every (λ i. Overlap order i.key r ⊎ IsMergedInto order same others r i) run
       → IsUpdateFrame order same (front ++ run ++ behind) (front ++ others ++ behind) r
   rest_stands front run others behind concerned =
-      let before =
-      every_weaker _ (λ i. (Overlap order i.key r → ⊥)
-      → Any (λ j. j ≡ i) (front ++ others ++ behind) ⊎ IsMergedInto order same
-      (front ++ others ++ behind) r i) front
+      let before = every_weaker _ (λ i. (Overlap order i.key r → ⊥) → Any (λ j. j ≡ i)
+      (front ++ others ++ behind) ⊎ IsMergedInto order same (front ++ others ++ behind) r i) front
       (λ i h out. inl (any_left _ (front ++ others) behind (any_left _ front others h)))
       (each_is_one front) in
-      let inside =
-      every_weaker _ (λ i. (Overlap order i.key r → ⊥)
-      → Any (λ j. j ≡ i) (front ++ others ++ behind) ⊎ IsMergedInto order same
-      (front ++ others ++ behind) r i) run
-      (λ i h out.
-      elim h [
+      let inside = every_weaker _ (λ i. (Overlap order i.key r → ⊥) → Any (λ j. j ≡ i)
+      (front ++ others ++ behind) ⊎ IsMergedInto order same (front ++ others ++ behind) r i) run
+      (λ i h out. elim h [
         | inl meets ↦ absurd (out meets)
         | inr merged ↦ inr (merged_within front others behind i merged)
       ]) concerned in
-      let after =
-      every_weaker _ (λ i. (Overlap order i.key r → ⊥)
-      → Any (λ j. j ≡ i) (front ++ others ++ behind) ⊎ IsMergedInto order same
-      (front ++ others ++ behind) r i) behind
+      let after = every_weaker _ (λ i. (Overlap order i.key r → ⊥) → Any (λ j. j ≡ i)
+      (front ++ others ++ behind) ⊎ IsMergedInto order same (front ++ others ++ behind) r i) behind
       (λ i h out. inl (any_right _ (front ++ others) behind h)) (each_is_one behind) in
       every_append _ (front ++ run) behind (every_append _ front run before inside) after
 

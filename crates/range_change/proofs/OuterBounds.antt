@@ -1,5 +1,5 @@
 -- A list whose first item has another start, and its last another end.
-use Rattle.range_change.proofs.Common.{unwrap_or, ◌≡◌, ◌+◌, ◌-◌, ◌<◌, ◌≤◌, ℕ, suc, List, [], ◌∷◌, ◌++◌, length, take, drop, get_or, refl, ap, sym, ◌∙◌, arith, Option, Some, None, Bool, inl, inr, length-append, append_assoc, append-nil, take_at, drop_at, drop-drop, length-take-le, set, Every, slice_get, IsEquivalence, Bound, KeyOrder, every_weaker, Any, AnyRange, Item, with_start, with_end, HasValue, with_first_start, with_last_end}
+use Rattle.range_change.proofs.Common.{common_steps, unwrap_or, ◌≡◌, ◌+◌, ◌-◌, ◌<◌, ◌≤◌, ℕ, suc, List, [], ◌∷◌, ◌++◌, length, take, drop, get_or, refl, ap, sym, ◌∙◌, arith, Option, Some, None, Bool, inl, inr, length-append, append_assoc, take_at, drop_at, drop-drop, length-take-le, set, Every, slice_get, IsEquivalence, Bound, KeyOrder, every_weaker, Any, AnyRange, Item, with_start, with_end, HasValue, with_first_start, with_last_end}
 
 -- the last of some items
 pub last_of : {X : Type 0} (x : X) (xs : List X)
@@ -27,9 +27,8 @@ put_parts before now done place left less was within =
     let rest = drop (place + (left - less)) before in
     let at = place + length done in (
       ap (take at) was ∙ take_at (take place before ++ done) rest at size,
-      λ n. sym (drop-drop n at now)
-          ∙ (ap (drop n) (ap (drop at) was ∙ drop_at (take place before ++ done) rest at size)
-          ∙ drop-drop n (place + (left - less)) before),
+      λ n. sym (drop-drop n at now) ∙ (ap (drop n) (ap (drop at) was ∙ drop_at
+          (take place before ++ done) rest at size) ∙ drop-drop n (place + (left - less)) before),
     )
 
 -- some of a run gave way to the items before, and one more gives way
@@ -42,11 +41,10 @@ put_next before now new done place left less fewer x was few within one changed 
     let parts = put_parts before now done place left less was within in
     let index : place + (left - less) + (less - fewer) ≡ place + (left - fewer) =
     omega (arith, few, one) in
-    changed
-    ∙ (ap (λ ys. ys ++ x ∷ drop (place + length done + (less - fewer)) now) parts.0
-    ∙ (ap (λ ys. (take place before ++ done) ++ x ∷ ys)
-    (parts.1 (less - fewer) ∙ ap (λ n. drop n before) index)
-    ∙ sym (regrouped_last (take place before) done (drop (place + (left - fewer)) before) x)))
+    changed ∙ (ap (λ ys. ys ++ x ∷ drop (place + length done + (less - fewer)) now) parts.0 ∙
+    (ap (λ ys. (take place before ++ done) ++ x ∷ ys) (parts.1 (less - fewer) ∙ ap
+    (λ n. drop n before) index) ∙ sym (regrouped_last (take place before) done
+    (drop (place + (left - fewer)) before) x)))
 
 -- the rest of the run is removed
 pub put_all : {X : Type 0} (before now new done : List X) (place left less : ℕ)
@@ -57,9 +55,8 @@ pub put_all : {X : Type 0} (before now new done : List X) (place left less : ℕ
 put_all before now new done place left less was few within changed =
     let parts = put_parts before now done place left less was within in
     let index : place + (left - less) + less ≡ place + left = omega (arith, few) in
-    changed
-    ∙ (ap (λ ys. ys ++ drop (place + length done + less) now) parts.0
-    ∙ ap (λ ys. (take place before ++ done) ++ ys) (parts.1 less ∙ ap (λ n. drop n before) index))
+    changed ∙ (ap (λ ys. ys ++ drop (place + length done + less) now) parts.0 ∙ ap
+    (λ ys. (take place before ++ done) ++ ys) (parts.1 less ∙ ap (λ n. drop n before) index))
 
 module _ {K V : Type 0} where
   abbrev pub item_with_end : Option (Bound K) → Item (AnyRange K) V → Item (AnyRange K) V
@@ -75,8 +72,7 @@ module _ {K V : Type 0} where
 
   -- another start at the front leaves the last item its end and its value
   pub started_last : (start : Option (Bound K)) (front : List (Item (AnyRange K) V))
-      (m : Item (AnyRange K) V)
-      → (more : List (Item (AnyRange K) V)) × (z : Item (AnyRange K) V)
+      (m : Item (AnyRange K) V) → (more : List (Item (AnyRange K) V)) × (z : Item (AnyRange K) V)
       × (with_first_start start (front ++ m ∷ []) ≡ more ++ z ∷ []) × (z.key.end ≡ m.key.end)
       × (z.value ≡ m.value)
   started_last None front m = (front, m, refl, refl, refl)
@@ -97,18 +93,23 @@ module _ {K V : Type 0} where
   length_ended (Some b) (i ∷ j ∷ rest) = let more =
       length_ended (Some b) (j ∷ rest) in omega (arith, more)
 
-  pub every_started : (P : V → Type 0) (start : Option (Bound K)) (xs : List (Item (AnyRange K) V))
-      → Every (λ j. P j.value) xs → Every (λ j. P j.value) (with_first_start start xs)
-  every_started P None xs h = h
-  every_started P (Some b) [] h = h
-  every_started P (Some b) (i ∷ rest) h = h
+  -- what holds of each item, and of one with another outer bound, holds of each once it has that
+  pub every_started : (P : Item (AnyRange K) V → Type 0) (start : Option (Bound K))
+      (xs : List (Item (AnyRange K) V))
+      → ((i : Item (AnyRange K) V) (b : Bound K) → start ≡ Some b → P i → P (with_start i b))
+      → Every P xs → Every P (with_first_start start xs)
+  every_started P None xs f h = h
+  every_started P (Some b) [] f h = h
+  every_started P (Some b) (i ∷ rest) f h = (f i b refl h.0, h.1)
 
-  pub every_ended : (P : V → Type 0) (finish : Option (Bound K)) (xs : List (Item (AnyRange K) V))
-      → Every (λ j. P j.value) xs → Every (λ j. P j.value) (with_last_end finish xs)
-  every_ended P None xs h = h
-  every_ended P (Some b) [] h = h
-  every_ended P (Some b) (i ∷ []) h = h
-  every_ended P (Some b) (i ∷ j ∷ rest) h = (h.0, every_ended P (Some b) (j ∷ rest) h.1)
+  pub every_ended : (P : Item (AnyRange K) V → Type 0) (finish : Option (Bound K))
+      (xs : List (Item (AnyRange K) V))
+      → ((i : Item (AnyRange K) V) (b : Bound K) → finish ≡ Some b → P i → P (with_end i b))
+      → Every P xs → Every P (with_last_end finish xs)
+  every_ended P None xs f h = h
+  every_ended P (Some b) [] f h = h
+  every_ended P (Some b) (i ∷ []) f h = (f i b refl h.0, tt)
+  every_ended P (Some b) (i ∷ j ∷ rest) f h = (h.0, every_ended P (Some b) (j ∷ rest) f h.1)
 
   pub any_ended : (P : Item (AnyRange K) V → Type 0) (finish : Option (Bound K))
       (xs : List (Item (AnyRange K) V))
@@ -145,5 +146,4 @@ module _ {K V : Type 0} where
 
 pub prefix_is_all : {X : Type 0} (done rest all : List X) → done ++ rest ≡ all → length rest ≡ 0
     → done ≡ all
-prefix_is_all done [] all e h = sym (append-nil done) ∙ e
-prefix_is_all done (x ∷ rest) all e h = absurd (omega arith)
+prefix_is_all done rest all e h = grind (arith, common_steps)

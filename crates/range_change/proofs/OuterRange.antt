@@ -1,14 +1,7 @@
 -- A range that comes before or after all stored ones.
-use Rattle.range_change.proofs.Common.{◌≡◌, ℕ, ◌≤◌, ◌+◌, ◌++◌, ◌∷◌, ◌∙◌, List, [], length, take, drop, refl, sym, ap, append_assoc, Bool, inl, arith, insert, IsEquivalence, append-nil, KeyOrder, IsLawful, IsEmptyRange, IsKnownRange, AnyRange, list_is_take_and_drop, Item, IsInserted, IsStored}
-use Rattle.std.proofs.lemmas.List.Edits.{length-insert}
+use Rattle.range_change.proofs.Common.{◌≡◌, ℕ, ◌++◌, ◌∷◌, ◌∙◌, List, [], take, drop, refl, sym, ap, append_assoc, Bool, inl, arith, insert, IsEquivalence, append-nil, KeyOrder, IsLawful, IsEmptyRange, IsKnownRange, AnyRange, list_is_take_and_drop, Item, IsInserted, IsStored}
 use Rattle.range_change.specs.Apart.{LiesApartAt}
-use Rattle.range_change.proofs.CoveredPlaces.{meets_put}
 use Rattle.range_change.proofs.ApartRanges.{put_in}
-
-pub one_longer : {X : Type 0} (items new : List X) (place : ℕ) (x : X) → place ≤ length items
-    → new ≡ insert items place x → length new ≤ length items + 1
-one_longer items new place x within done =
-    omega (arith, ap length done, length-insert items place x within)
 
 module _ {K : Type 0} (order : KeyOrder K) (lawful : IsLawful order) {V : Type 0}
     (same : V → V → Bool) (equal : IsEquivalence same) (items : List (Item (AnyRange K) V))
@@ -32,9 +25,8 @@ module _ {K : Type 0} (order : KeyOrder K) (lawful : IsLawful order) {V : Type 0
           run = [];
           others = x ∷ [];
           behind = drop place items;
-          before =
-              list_is_take_and_drop items place
-              ∙ ap (λ xs. xs ++ drop place items) (sym (append-nil front));
+          before = list_is_take_and_drop items place ∙ ap (λ xs. xs ++ drop place items)
+              (sym (append-nil front));
           after = done ∙ sym (append_assoc front (x ∷ []) (drop place items));
           such = record {
             concerned = tt;
@@ -44,5 +36,5 @@ module _ {K : Type 0} (order : KeyOrder K) (lawful : IsLawful order) {V : Type 0
             made = (record { start = inl refl; end = inl refl; value = inl (equal.refl v) }, tt);
           };
         };
-        meets = rw done (meets_put order lawful items place x);
+        meets = rw done put.2;
       }

@@ -51,13 +51,10 @@ module _ {K : Type 0} (order : KeyOrder K) (lawful : IsLawful order) where
       let cmp = position_cmp order.cmp in
       let ends =
       λ (b : Bound K) (h : PLe (start_position order b) (End r))
-      (k : PLe (start_position order b) (End s)).
-      earlier_is order lawful r.end s.end
+      (k : PLe (start_position order b) (End s)). earlier_is order lawful r.end s.end
       (λ e. PLe (start_position order b) (end_position order e)) h k in
-      let found =
-      nonempty_holds order lawful complete (common order r s)
-      (common_known order lawful r s known others)
-      (later_is order lawful r.start s.start
+      let found = nonempty_holds order lawful complete (common order r s)
+      (common_known order lawful r s known others) (later_is order lawful r.start s.start
       (λ b. PLe (start_position order b) (End (common order r s)))
       (ends r.start (not_greater (cmp (Start r) (End r)) full) (not_lt lawful _ _ meets.1))
       (ends s.start (not_lt lawful _ _ meets.0) (not_greater (cmp (Start s) (End s)) full_s))) in
@@ -98,19 +95,15 @@ module _ {K : Type 0} (order : KeyOrder K) (lawful : IsLawful order) where
 
     -- up to the place all end before the range, and from there on all start past it
     pub apart_meets : (items : List (Item (AnyRange K) V)) (r : AnyRange K) (p e : Position K)
-        (place : ℕ) → p ≡ Start r → e ≡ End r
-        → Every (λ i. PLt (End i.key) p) (take place items)
+        (place : ℕ) → p ≡ Start r → e ≡ End r → Every (λ i. PLt (End i.key) p) (take place items)
         → Every (λ i. PLt e (Start i.key)) (drop place items) → MeetsSome order items r → ⊥
     apart_meets items r p e place start end below above h =
         let parted : MeetsSome order (take place items ++ drop place items) r =
         rw (list_is_take_and_drop items place) at h in
-        elim (any_split (λ i. Overlap order i.key r) (take place items) (drop place items)
-        parted) [
-          | inl k ↦
-              any_none (λ i. Overlap order i.key r) (λ i. PLt (End i.key) (Start r))
+        elim (any_split (λ i. Overlap order i.key r) (take place items) (drop place items) parted) [
+          | inl k ↦ any_none (λ i. Overlap order i.key r) (λ i. PLt (End i.key) (Start r))
               (take place items) (rw start at below) (λ i l meets. meets.0 l) k
-          | inr k ↦
-              any_none (λ i. Overlap order i.key r) (λ i. PLt (End r) (Start i.key))
+          | inr k ↦ any_none (λ i. Overlap order i.key r) (λ i. PLt (End r) (Start i.key))
               (drop place items) (rw end at above) (λ i l meets. meets.1 l) k
         ]
 
@@ -126,8 +119,7 @@ module _ {K : Type 0} (order : KeyOrder K) (lawful : IsLawful order) where
     last_started_decides same items r p e place x true start end stored full within read upto above
         ends = (
           λ h. absurd (cc),
-          λ h.
-              absurd (apart_meets items r p e (place + 1) start end
+          λ h. absurd (apart_meets items r p e (place + 1) start end
               (ends_upto order lawful same items p place x stored within read ends) above h.1),
         )
     last_started_decides same items r p e place x false start end stored full within read upto above

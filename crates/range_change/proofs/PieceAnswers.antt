@@ -11,10 +11,9 @@ module _ {K : Type 0} (order : KeyOrder K) (lawful : IsLawful order) {V : Type 0
     (same : V → V → Bool) (equal : IsEquivalence same) (r : AnyRange K) where
   -- what any answer at the place gives, this one gives
   abbrev IsOnly : Position K → Answered K V → List (Answered K V) → Type 0
-  IsOnly p a answers = (W : V → Bool)
-      → Any (λ b. (PLe lawful (lower order b.key) p × PLt lawful p (upper order b.key))
-      × Gives order lawful same equal r W b.answer) answers
-      ↔ Gives order lawful same equal r W a.answer
+  IsOnly p a answers = (W : V → Bool) → Any (λ b. (PLe lawful (lower order b.key) p × PLt lawful p
+      (upper order b.key)) × Gives order lawful same equal r W b.answer) answers ↔ Gives order
+      lawful same equal r W a.answer
 
   -- one answer alone is to a piece that holds the place
   only_one : (p : Position K) (answers : List (Answered K V))
@@ -31,8 +30,7 @@ module _ {K : Type 0} (order : KeyOrder K) (lawful : IsLawful order) {V : Type 0
         λ W. (
           λ g. elim g [
             | inl e ↦ e.1
-            | inr e ↦
-                absurd (any_use _ _ rest e above (λ b t le. lt_not_le lawful _ _ h.1
+            | inr e ↦ absurd (any_use _ _ rest e above (λ b t le. lt_not_le lawful _ _ h.1
                 (le_trans lawful _ _ _ le t.0.0)))
           ],
           λ g. inl (h, g),
@@ -109,15 +107,12 @@ module _ {K : Type 0} {order : KeyOrder K} (lawful : IsLawful order) {V : Type 0
   met = record {
     before = take place items;
     after = drop w.count (drop place items);
-    split =
-        list_is_take_and_drop items place
-        ∙ ap (λ ys. take place items ++ ys) (list_is_take_and_drop (drop place items) w.count);
-    below =
-        every_with _ _ _ (take place items) window.below (every_front _ place items listed)
+    split = list_is_take_and_drop items place ∙ ap (λ ys. take place items ++ ys)
+        (list_is_take_and_drop (drop place items) w.count);
+    below = every_with _ _ _ (take place items) window.below (every_front _ place items listed)
         (λ i le k. (before_is order lawful i.key.end r.start k.1 window.known.0).1 le);
     meet = all_meet lawful equal window;
-    above =
-        rw (drop-drop w.count place items) (every_with _ _ _ _ window.behind
+    above = rw (drop-drop w.count place items) (every_with _ _ _ _ window.behind
         (every_back _ (place + w.count) items listed) (λ i le k.
         (before_is order lawful r.end i.key.start window.known.1 k.0).1 le));
   }
@@ -177,9 +172,8 @@ module _ {K : Type 0} {order : KeyOrder K} (lawful : IsLawful order) {V : Type 0
     list_more : (answer : Option V) → Pieces ≡ map piece_of (more answer) ++ rest
     list_more answer =
         let a : Answered K V = record { key = key; value = value; answer = answer } in
-        was.list
-        ∙ sym (ap (λ ps. ps ++ rest) (map-append piece_of was.answers (a ∷ []))
-        ∙ append_assoc Done (piece_of a ∷ []) rest)
+        was.list ∙ sym (ap (λ ps. ps ++ rest) (map-append piece_of was.answers (a ∷ [])) ∙
+        append_assoc Done (piece_of a ∷ []) rest)
 
     given_more : (answer : Option V) → MayAnswer calls f value (Ok answer)
         → Every (λ a. MayAnswer calls f a.value (Ok a.answer)) (more answer)
@@ -199,8 +193,7 @@ module _ {K : Type 0} {order : KeyOrder K} (lawful : IsLawful order) {V : Type 0
             given = given_more answer says;
             from = upper order key;
             ahead = (rises_right order lawful Done _ (rw was.list at cut.rising)).0;
-            filled =
-                fill_more order lawful same equal r was.from (upper order key) was.answers key
+            filled = fill_more order lawful same equal r was.from (upper order key) was.answers key
                 inside was.ahead.0 (le_refl lawful _) is_clone clones value answer old new
                 was.filled put;
           }
@@ -225,8 +218,7 @@ module _ {K : Type 0} {order : KeyOrder K} (lawful : IsLawful order) {V : Type 0
       pieces_are lawful equal items r window.stored window.known window.nonempty Met met in
       record {
         stored = chain_stored order lawful same equal middle was.filled.known was.filled.chain;
-        within =
-            every_with _ _ _ middle was.filled.known was.filled.inside
+        within = every_with _ _ _ middle was.filled.known was.filled.inside
             (λ i k h. lies_in order lawful i.key r k window.known h.0 h.1);
         answers = was.answers;
         pieces = rw list at are;

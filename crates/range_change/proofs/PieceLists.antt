@@ -8,9 +8,8 @@ use Rattle.range_change.proofs.Tests.{not_both}
 
 -- the range starts no later than another and ends past where that starts
 abbrev pub IsOver : {K : Type 0} → KeyOrder K → AnyRange K → AnyRange K → Type 0
-IsOver order r part =
-    Le (position_cmp order.cmp) (lower order r) (lower order part)
-    × Lt (position_cmp order.cmp) (lower order part) (upper order r)
+IsOver order r part = Le (position_cmp order.cmp) (lower order r) (lower order part) × Lt
+    (position_cmp order.cmp) (lower order part) (upper order r)
 
 module _ {K : Type 0} {order : KeyOrder K} (lawful : IsLawful order) {V : Type 0}
     {same : V → V → Bool} (equal : IsEquivalence same) (items : List (Item (AnyRange K) V))
@@ -29,9 +28,8 @@ module _ {K : Type 0} {order : KeyOrder K} (lawful : IsLawful order) {V : Type 0
   High = upper order
 
   abbrev IsGood : Item (AnyRange K) (Option V) → Type 0
-  IsGood p =
-      IsInside order lawful items r p.key × IsRight order lawful items r p.key p.value
-      × IsKeptIn order items p.key
+  IsGood p = IsInside order lawful items r p.key × IsRight order lawful items r p.key p.value ×
+      IsKeptIn order items p.key
 
   chained : Chained order lawful same equal items
   chained = stored_chain order lawful same equal items stored
@@ -145,14 +143,12 @@ module _ {K : Type 0} {order : KeyOrder K} (lawful : IsLawful order) {V : Type 0
             free = free;
             left = elim ready.edge [
               | inl le ↦ inl (le_trans lawful _ _ _ upto le)
-              | inr some_item ↦
-                  inr (any_over _ _ items (λ j h.
+              | inr some_item ↦ inr (any_over _ _ items (λ j h.
                   (le_trans lawful _ _ _ upto h.0, le_trans lawful _ _ _ h.1 after)) some_item.0)
             ];
             right = elim bounded [
               | inl le ↦ inl (le_trans lawful _ _ _ le over)
-              | inr some_item ↦
-                  inr (any_over _ _ items (λ i h.
+              | inr some_item ↦ inr (any_over _ _ items (λ i h.
                   (le_trans lawful _ _ _ ends h.0, le_trans lawful _ _ _ h.1 over)) some_item)
             ];
           },
@@ -166,13 +162,11 @@ module _ {K : Type 0} {order : KeyOrder K} (lawful : IsLawful order) {V : Type 0
         → Closes (Some b) from to → IsCut from from
         (map free_piece (if t then [] else record { start = a; end = b } ∷ []) ++ rest)
     gap_by a b true e opens closes =
-        let over =
-        not_lt lawful _ _
-        (λ l. not_both ((reaching_is_before_past order lawful a b opens.0 closes.0).1 l) e) in
+        let over = not_lt lawful _ _ (λ l. not_both ((reaching_is_before_past order lawful a b
+        opens.0 closes.0).1 l) e) in
         no_gap (le_trans lawful _ _ _ (eq_ge lawful _ _ closes.1)
         (le_trans lawful _ _ _ over (eq_ge lawful _ _ opens.1)))
-    gap_by a b false e opens closes =
-        add_gap _ (opens.0, closes.0) opens.1 closes.1
+    gap_by a b false e opens closes = add_gap _ (opens.0, closes.0) opens.1 closes.1
         ((reaching_is_before_past order lawful a b opens.0 closes.0).0 e)
 
     with_gap : (start end : Option (Bound K)) → Opens start from → Closes end from to
@@ -195,22 +189,19 @@ module _ {K : Type 0} {order : KeyOrder K} (lawful : IsLawful order) {V : Type 0
     among P h = rw ready.list (any_right P done _ (inl h))
 
     starts : Lt' (Low x.key) (High r)
-    starts =
-        not_le lawful _ _
-        (λ le. meets.1 ((before_is order lawful r.end x.key.start known.1 good.0.0).1 le))
+    starts = not_le lawful _ _ (λ le. meets.1 ((before_is order lawful r.end x.key.start known.1
+        good.0.0).1 le))
 
     ends : Lt' (Low r) (High x.key)
-    ends =
-        not_le lawful _ _
-        (λ le. meets.0 ((before_is order lawful x.key.end r.start good.0.1 known.0).1 le))
+    ends = not_le lawful _ _ (λ le. meets.0 ((before_is order lawful x.key.end r.start good.0.1
+        known.0).1 le))
 
     abbrev Part : AnyRange K
     Part = common order x.key r
 
     part_within : Le' (Low r) (Low Part) × Le' (Low x.key) (Low Part) × Le' (High Part) (High r)
         × Le' (High Part) (High x.key)
-    part_within =
-        common_within order lawful r x.key Part known good.0
+    part_within = common_within order lawful r x.key Part known good.0
         (common_known order lawful x.key r good.0 known) (common_is order lawful r x.key)
 
     -- what lies in both lies in the part
@@ -237,11 +228,10 @@ module _ {K : Type 0} {order : KeyOrder K} (lawful : IsLawful order) {V : Type 0
     )
 
     part_after : Le' from (Low Part)
-    part_after =
-        elim ready.edge [
-          | inl le ↦ le_trans lawful _ _ _ le part_within.0
-          | inr h ↦ le_trans lawful _ _ _ h.1.0 part_within.1
-        ]
+    part_after = elim ready.edge [
+      | inl le ↦ le_trans lawful _ _ _ le part_within.0
+      | inr h ↦ le_trans lawful _ _ _ h.1.0 part_within.1
+    ]
 
     -- the item with the gap before it
     with_item : (start : Option (Bound K)) {more : List (Item (AnyRange K) (Option V))}
@@ -262,20 +252,17 @@ module _ {K : Type 0} {order : KeyOrder K} (lawful : IsLawful order) {V : Type 0
     ready_after : IsReady (done ++ x ∷ []) rest (High x.key)
     ready_after =
         let own = le_refl lawful (High x.key) in
-        let on =
-        le_trans lawful _ _ _ part_after
-        (le_trans lawful _ _ _ (lt_le lawful _ _ part_good.0.2) part_within.3) in
+        let on = le_trans lawful _ _ _ part_after (le_trans lawful _ _ _
+        (lt_le lawful _ _ part_good.0.2) part_within.3) in
         record {
           list = ready.list ∙ sym (append_assoc done (x ∷ []) rest);
           at_least = lt_le lawful _ _ ends;
-          below =
-              every_append _ done (x ∷ [])
-              (every_weaker _ _ done (λ j le. le_trans lawful _ _ _ le on) ready.below) (own, tt);
-          edge =
-              inr (
-                among _ (own, own),
-                follows_above (line_of order lawful same equal) x rest chain_here.1,
-              );
+          below = every_append _ done (x ∷ []) (every_weaker _ _ done
+              (λ j le. le_trans lawful _ _ _ le on) ready.below) (own, tt);
+          edge = inr (
+            among _ (own, own),
+            follows_above (line_of order lawful same equal) x rest chain_here.1,
+          );
         }
 
   module _ (met : List (Item (AnyRange K) V)) (are : AreOverlapping order items r met) where
@@ -309,8 +296,7 @@ module _ {K : Type 0} {order : KeyOrder K} (lawful : IsLawful order) {V : Type 0
         pieces_cut met (Some r.start) are.meet (record {
           list = are.split;
           at_least = own;
-          below =
-              every_with _ _ _ are.before are.below (every_left _ are.before _ parts)
+          below = every_with _ _ _ are.before are.below (every_left _ are.before _ parts)
               (λ i l k. (before_is order lawful i.key.end r.start k.0.1 known.0).0 l);
           edge = inl own;
         }) (known.0, tied_itself (position_total order.cmp lawful.total) (Low r))
@@ -335,11 +321,10 @@ module _ {K : Type 0} {order : KeyOrder K} (lawful : IsLawful order) {V : Type 0
       none_by : (key : AnyRange K) (v : Option V) → IsKnownRange order key → IsOver order key part
           → IsRight order lawful items r key v → v ≡ None
       none_by key None known_key over right = refl
-      none_by key (Some v) known_key over right =
-          absurd (common_place_is_not_clear order lawful items r known full same equal (Low part)
-          key part v known_key right over.0 over.1 (every_weaker _ _ items (λ i b. b.1)
-          (free_apart order lawful items r known full part free)) (le_refl lawful _)
-          (free_inside order lawful items r known full part free).2)
+      none_by key (Some v) known_key over right = absurd (common_place_is_not_clear order lawful
+          items r known full same equal (Low part) key part v known_key right over.0 over.1
+          (every_weaker _ _ items (λ i b. b.1) (free_apart order lawful items r known full part
+          free)) (le_refl lawful _) (free_inside order lawful items r known full part free).2)
 
       -- where a part of the range is free, a free piece is over it
       pub free_shows : Any (λ p. IsOver order p.key part × (p.value ≡ None)) Pieces

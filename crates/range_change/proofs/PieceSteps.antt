@@ -8,23 +8,20 @@ module _ {K : Type 0} {order : KeyOrder K} (lawful : IsLawful order) where
       → starts_past_end order s e ≡ t
       → ◌≡◌ {A = List (AnyRange K)} (if t then [] else record { start = s; end = e } ∷ []) []
   none_past e s turns known true is = refl
-  none_past e s turns known false is =
-      absurd (lt_not_le lawful _ _
+  none_past e s turns known false is = absurd (lt_not_le lawful _ _
       ((before_is order lawful e s known (flipped_known order lawful e s turns known)).1
       (eq_le lawful _ _ (flipped_bound_is_past order lawful e s turns))) is)
 
   none_after_end : (e : Bound K) (s : Option (Bound K)) → flipped e ≡ s → IsKnownBound order e
       → between order s (Some e) ≡ []
   none_after_end e None turns known = refl
-  none_after_end e (Some s) turns known =
-      none_past e s turns known (starts_past_end order s e) refl
+  none_after_end e (Some s) turns known = none_past e s turns known (starts_past_end order s e) refl
 
   none_before_start : (s : Bound K) (e : Option (Bound K)) → flipped s ≡ e → IsKnownBound order s
       → between order (Some s) e ≡ []
   none_before_start s None turns known = refl
-  none_before_start s (Some e) turns known =
-      none_after_end e (Some s) (flipped_back order lawful s e turns)
-      (flipped_known order lawful s e turns known)
+  none_before_start s (Some e) turns known = none_after_end e (Some s)
+      (flipped_back order lawful s e turns) (flipped_known order lawful s e turns known)
 
   module _ {V : Type 0} (r : AnyRange K) where
     -- the piece that comes first
@@ -72,10 +69,9 @@ module _ {K : Type 0} {order : KeyOrder K} (lawful : IsLawful order) where
           → [] ≡ between order (flipped i.key.end) e → t ≡ flipped i.key.start
           → part ≡ common order i.key r → pieces_from order r s e items
           ≡ pieces_from order r s t init ++ record { key = part; value = Some i.value } ∷ []
-      item_last t part none start is =
-          rw (list, start, is) (pieces_end s e init i
-          ∙ ap (λ gs. pieces_from order r s (flipped i.key.start) init
-          ++ bound_piece order r i ∷ map free_piece gs) (sym none))
+      item_last t part none start is = rw (list, start, is) (pieces_end s e init i ∙ ap
+          (λ gs. pieces_from order r s (flipped i.key.start) init ++ bound_piece order r i ∷ map
+          free_piece gs) (sym none))
 
 -- what is left once the last is taken is less
 pub last_is_less : {X : Type 0} (xs ys : List X) (x : X) → xs ≡ ys ++ x ∷ [] → length ys < length xs

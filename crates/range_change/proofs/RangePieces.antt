@@ -83,9 +83,8 @@ module _ {K : Type 0} (order : KeyOrder K) (lawful : IsLawful order) where
   chosen_by : (p q : Position K) (b : Bool) → is_gt (position_cmp order.cmp p q) ≡ b
       → (PLe p (if b then p else q) × PLe q (if b then p else q))
       × (PLe (if b then q else p) p × PLe (if b then q else p) q)
-  chosen_by p q true e = let le =
-      gt_le (position_cmp order.cmp) (position_total order.cmp lawful.total) p q
-      (gt_is_greater (position_cmp order.cmp p q) e) in
+  chosen_by p q true e = let le = gt_le (position_cmp order.cmp)
+      (position_total order.cmp lawful.total) p q (gt_is_greater (position_cmp order.cmp p q) e) in
       ((le_refl lawful p, le), (le, le_refl lawful q))
   chosen_by p q false e = ((e, le_refl lawful q), (le_refl lawful p, e))
 
@@ -116,14 +115,11 @@ module _ {K : Type 0} (order : KeyOrder K) (lawful : IsLawful order) where
       let latest = later_over p q in
       let first = earlier_under u v in
       record {
-        starts =
-            both lawful _ _ (later_is order lawful i.start r.start
+        starts = both lawful _ _ (later_is order lawful i.start r.start
             (λ b. PLe (start_position order b) (later order p q)) latest.1 latest.0)
             (either_choice_holds (λ x. PLe x s) (is_gt (cmp p q)) p q over.1 over.0);
-        ends =
-            both lawful _ _
-            (either_choice_holds (λ x. PLe e x) (is_gt (cmp u v)) v u under.0 under.1)
-            (earlier_is order lawful i.end r.end
+        ends = both lawful _ _ (either_choice_holds (λ x. PLe e x) (is_gt (cmp u v)) v u under.0
+            under.1) (earlier_is order lawful i.end r.end
             (λ b. PLe (earlier order u v) (end_position order b)) first.1 first.0);
       }
 
@@ -168,12 +164,10 @@ module _ {K : Type 0} (order : KeyOrder K) (lawful : IsLawful order) where
         | inr le ↦ inl le
         | inl l ↦ elim (cases lawful (Lo i) (Hi r)) [
           | inr le ↦ inr le
-          | inl m ↦
-              absurd
-              (none (
-                λ b. lt_not_le lawful _ _ l (first.0 b),
-                λ b. lt_not_le lawful _ _ m (other.0 b),
-              ))
+          | inl m ↦ absurd (none (
+            λ b. lt_not_le lawful _ _ l (first.0 b),
+            λ b. lt_not_le lawful _ _ m (other.0 b),
+          ))
         ]
       ]
 
@@ -239,32 +233,26 @@ module _ {K : Type 0} (order : KeyOrder K) (lawful : IsLawful order) where
         starts_after : (key other : AnyRange K) → IsOpenPart key → PLe (Lo r) (Lo other)
             → Every (λ i. IsFull i × (PLe (Hi i.key) (Lo other) ⊎ PLe (Hi other) (Lo i.key))) items
             → PLt (Lo key) (Hi other) → PLe (Lo key) (Lo other)
-        starts_after key other h from apart meets =
-            elim h.left [
-              | inl le ↦ le_trans lawful _ _ _ le from
-              | inr bounded ↦
-                  any_use _ _ items bounded apart (λ i at a. elim a.1 [
-                    | inl le ↦ le_trans lawful _ _ _ at.0 le
-                    | inr le ↦
-                        absurd (lt_not_le lawful _ _ meets (le_trans lawful _ _ _ le
-                        (le_trans lawful _ _ _ (lt_le lawful _ _ a.0.1) at.1)))
-                  ])
-            ]
+        starts_after key other h from apart meets = elim h.left [
+          | inl le ↦ le_trans lawful _ _ _ le from
+          | inr bounded ↦ any_use _ _ items bounded apart (λ i at a. elim a.1 [
+            | inl le ↦ le_trans lawful _ _ _ at.0 le
+            | inr le ↦ absurd (lt_not_le lawful _ _ meets (le_trans lawful _ _ _ le
+                (le_trans lawful _ _ _ (lt_le lawful _ _ a.0.1) at.1)))
+          ])
+        ]
 
         ends_before : (key other : AnyRange K) → IsOpenPart key → PLe (Hi other) (Hi r)
             → Every (λ i. IsFull i × (PLe (Hi i.key) (Lo other) ⊎ PLe (Hi other) (Lo i.key))) items
             → PLt (Lo other) (Hi key) → PLe (Hi other) (Hi key)
-        ends_before key other h upto apart meets =
-            elim h.right [
-              | inl le ↦ le_trans lawful _ _ _ upto le
-              | inr bounded ↦
-                  any_use _ _ items bounded apart (λ i at a. elim a.1 [
-                    | inl le ↦
-                        absurd (lt_not_le lawful _ _ meets (le_trans lawful _ _ _ at.0
-                        (le_trans lawful _ _ _ (lt_le lawful _ _ a.0.1) le)))
-                    | inr le ↦ le_trans lawful _ _ _ le at.1
-                  ])
-            ]
+        ends_before key other h upto apart meets = elim h.right [
+          | inl le ↦ le_trans lawful _ _ _ upto le
+          | inr bounded ↦ any_use _ _ items bounded apart (λ i at a. elim a.1 [
+            | inl le ↦ absurd (lt_not_le lawful _ _ meets (le_trans lawful _ _ _ at.0
+                (le_trans lawful _ _ _ (lt_le lawful _ _ a.0.1) le)))
+            | inr le ↦ le_trans lawful _ _ _ le at.1
+          ])
+        ]
 
         -- what is right by places is a piece
         a_piece : (key : AnyRange K) (value : Option V) → IsInside key → IsRight key value
@@ -298,13 +286,12 @@ module _ {K : Type 0} (order : KeyOrder K) (lawful : IsLawful order) where
             let s = later order (start_position order r.start) (start_position order i.start) in
             let e = earlier order (end_position order r.end) (end_position order i.end) in
             equal_then_equal (cmp (start_position order key.start)
-            (start_position order part.start))
-            (cmp (end_position order key.end) (end_position order part.end))
-            (total.congr (start_position order key.start) s
-            (start_position order part.start) h.starts
-            ∙ tied_back total (start_position order part.start) s k.starts)
-            (total.congr (end_position order key.end) e (end_position order part.end) h.ends
-            ∙ tied_back total (end_position order part.end) e k.ends)
+            (start_position order part.start)) (cmp (end_position order key.end)
+            (end_position order part.end)) (total.congr (start_position order key.start) s
+            (start_position order part.start) h.starts ∙ tied_back total
+            (start_position order part.start) s k.starts) (total.congr (end_position order key.end)
+            e (end_position order part.end) h.ends ∙ tied_back total (end_position order part.end) e
+            k.ends)
 
         -- the item that a place lies in
         module _ (same : V → V → Bool) (equal : IsEquivalence same) where
@@ -317,9 +304,8 @@ module _ {K : Type 0} (order : KeyOrder K) (lawful : IsLawful order) where
               → Any (λ i. P i × Q i) xs
           both_held p P Q [] chain h k = h
           both_held p P Q (x ∷ xs) chain (inl h) (inl k) = inl (h.0, k.0)
-          both_held p P Q (x ∷ xs) chain (inr h) (inr k) =
-              inr (both_held p P Q xs (chain_tail (line_of order lawful same equal) x xs chain.1) h
-              k)
+          both_held p P Q (x ∷ xs) chain (inr h) (inr k) = inr
+              (both_held p P Q xs (chain_tail (line_of order lawful same equal) x xs chain.1) h k)
           both_held p P Q (x ∷ xs) chain (inl h) (inr k) =
               any_use _ _ xs k (follows_above (line_of order lawful same equal) x xs chain.1)
               (λ i g le. absurd (lt_not_le lawful _ _ h.1.1 (le_trans lawful _ _ _ le g.1.0)))
@@ -331,8 +317,7 @@ module _ {K : Type 0} (order : KeyOrder K) (lawful : IsLawful order) where
               → Any (λ i. IsCommonPart order r i.key key × (i.value ≡ v)) items → PLe (Lo key) p
               → PLt p (Hi key)
               → Any (λ i. (IsCommonPart order r i.key key × (i.value ≡ v)) × Holding p i) items
-          common_held p key v known h from upto =
-              any_with _ _ _ items h full (λ i c f.
+          common_held p key v known h from upto = any_with _ _ _ items h full (λ i c f.
               let within = common_within r i.key key known_r f.0 known c.0 in (
                 c,
                 (
@@ -353,13 +338,6 @@ module _ {K : Type 0} (order : KeyOrder K) (lawful : IsLawful order) where
                 | inr le ↦ lt_not_le lawful _ _ upto' (le_trans lawful _ _ _ le g.1.0)
               ])
 
-          any_here : {R : Type 0} (P : Item (AnyRange K) V → Type 0)
-              (xs : List (Item (AnyRange K) V)) → Any P xs → ((x : Item (AnyRange K) V) → P x → R)
-              → R
-          any_here P [] h f = absurd h
-          any_here P (x ∷ xs) (inl h) f = f x h
-          any_here P (x ∷ xs) (inr h) f = any_here P xs h f
-
           -- a piece whose start lies in a part that is right is that part
           same_piece : (key part : AnyRange K) (value binding : Option V)
               → Chained order lawful same equal items → IsInside key → IsRight key value
@@ -371,8 +349,8 @@ module _ {K : Type 0} (order : KeyOrder K) (lawful : IsLawful order) where
               let held = common_held (Lo part) key w inside.0 h from upto in
               let other =
               common_held (Lo part) part v known piece.1 (le_refl lawful (Lo part)) good in
-              any_here _ items (both_held (Lo part) _ _ items chain held other)
-              (λ i g. (same_common i.key key part g.0.0 g.1.0, ap Some (sym g.0.1 ∙ g.1.1)))
+              any_use _ _ items (both_held (Lo part) _ _ items chain held other) full
+              (λ i g f. (same_common i.key key part g.0.0 g.1.0, ap Some (sym g.0.1 ∙ g.1.1)))
           same_piece key part (Some w) None chain inside h known piece from upto =
               let others = free_inside part piece.0 in
               absurd (common_place_is_not_clear (Lo part) key part w inside.0 h from upto
@@ -384,9 +362,8 @@ module _ {K : Type 0} (order : KeyOrder K) (lawful : IsLawful order) where
               (le_refl lawful (Lo part)) good h.free from upto)
           same_piece key part None None chain inside h known piece from upto =
               let others = free_inside part piece.0 in
-              let inward =
-              lies_in part key known inside.0
-              from (ends_before key part h others.3 (free_apart part piece.0) upto) in
+              let inward = lies_in part key known inside.0 from
+              (ends_before key part h others.3 (free_apart part piece.0) upto) in
               (same_extent key part (piece.1 key (free_part key inside h) inward) inward, refl)
 
       piece_inside : (full : Every IsFull items) (part : AnyRange K) (binding : Option V)
@@ -397,8 +374,7 @@ module _ {K : Type 0} (order : KeyOrder K) (lawful : IsLawful order) where
             h.1,
             lt_le_trans lawful _ _ _ h.2 h.3,
           )
-      piece_inside full part (Some v) known piece =
-          any_use _ _ items piece.1 full (λ i c f.
+      piece_inside full part (Some v) known piece = any_use _ _ items piece.1 full (λ i c f.
           let within = common_within r i.key part known_r f.0 known c.0 in (
             within.0,
             lt_le_trans lawful _ _ _ ((nonempty_good order lawful part known).0 piece.0) within.2,
@@ -417,13 +393,11 @@ module _ {K : Type 0} (order : KeyOrder K) (lawful : IsLawful order) where
       -- such parts are the pieces of the range
       pub cut_all : (same : V → V → Bool) (equal : IsEquivalence same) (full : Every IsFull items)
           → Chained order lawful same equal items → (pieces : List (Item (AnyRange K) (Option V)))
-          → AreCut pieces
-          → ArePieces order items r pieces
+          → AreCut pieces → ArePieces order items r pieces
       cut_all same equal full chain pieces was =
           let each = every_both _ _ pieces was.inside was.right in
           record {
-            each =
-                every_weaker _ _ pieces (λ p h. a_piece full p.key p.value h.0 h.1) each;
+            each = every_weaker _ _ pieces (λ p h. a_piece full p.key p.value h.0 h.1) each;
             rising = rising_apart pieces was.inside was.rising;
             all = λ part binding known piece.
                 let at = piece_inside full part binding known piece in

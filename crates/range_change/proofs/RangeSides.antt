@@ -30,8 +30,7 @@ module _ {K : Type 0} {order : KeyOrder K} (lawful : IsLawful order) {V : Type 0
 
     known_at : (n : ℕ) (x : Item (AnyRange K) V) → n < length items → x ≡ get_or items n x
         → IsKnownRange order x.key
-    known_at n x within read = let at =
-        every_at (λ i. IsKnownRange order i.key) items n x
+    known_at n x within read = let at = every_at (λ i. IsKnownRange order i.key) items n x
         window.stored.known within in rw (← read) at at
 
     -- the first item of the window ends after the range starts, and the last starts before it ends
@@ -52,8 +51,7 @@ module _ {K : Type 0} {order : KeyOrder K} (lawful : IsLawful order) {V : Type 0
         → PLe lawful (item_lower order x) (lower order r)
         × PLe lawful (lower order r) (item_upper order x)
     touching_before n x at within read touching =
-        let full =
-        chain_right line (take n items) (x ∷ drop (n + 1) items)
+        let full = chain_right line (take n items) (x ∷ drop (n + 1) items)
         (rw (listed_at items n x within read) at in_order) in
         let ends : Every (λ i. PLe lawful (item_upper order i) (lower order r)) (x ∷ []) =
         every_right _ (take n items) (x ∷ [])
@@ -90,8 +88,7 @@ module _ {K : Type 0} {order : KeyOrder K} (lawful : IsLawful order) {V : Type 0
         let x = element_at items place within in
         let read = element_at_is_read items place within x in
         let rest = drop (place + 1) items in
-        let whole =
-        chain_right line (take place items) (x ∷ rest)
+        let whole = chain_right line (take place items) (x ∷ rest)
         (rw (listed_at items place x within read) at in_order) in
         rw (from_item items place x within read) (chain_above line (lower order r) x rest whole
         (reach x (omega (arith, e)) read))
@@ -109,12 +106,10 @@ module _ {K : Type 0} {order : KeyOrder K} (lawful : IsLawful order) {V : Type 0
         let x = element_at items k within in
         let read = element_at_is_read items k within x in
         let some : 0 < w.count = omega (arith, e) in
-        let before =
-        chain_before line (take k items) x (drop (k + 1) items)
+        let before = chain_before line (take k items) x (drop (k + 1) items)
         (rw (listed_at items k x within read) at in_order) in
         rw (upto_item items k (place + w.count) x (omega (arith, e)) within read)
-        (every_append _ (take k items) (x ∷ [])
-        (every_weaker _ _ (take k items)
+        (every_append _ (take k items) (x ∷ []) (every_weaker _ _ (take k items)
         (λ i h. le_trans lawful _ _ _ h.0 (last_starts x read some)) before)
         (reach x some read, tt))
 
@@ -123,12 +118,9 @@ module _ {K : Type 0} {order : KeyOrder K} (lawful : IsLawful order) {V : Type 0
     left_rest_whole reach =
         let parts = list_is_take_and_drop items place in
         record {
-          left =
-              rw (append-nil (take place items))
-              (subst (λ ys. IsLeft line ys (take place items) (lower order r)) (sym parts)
-              (left_whole line (take place items)
-              (drop place items) (lower order r) (rw parts at in_order) window.below
-              (met_start w.count refl reach)));
+          left = rw (append-nil (take place items)) (subst (λ ys. IsLeft line ys (take place items)
+              (lower order r)) (sym parts) (left_whole line (take place items) (drop place items)
+              (lower order r) (rw parts at in_order) window.below (met_start w.count refl reach)));
           known = tt;
         }
 
@@ -142,15 +134,12 @@ module _ {K : Type 0} {order : KeyOrder K} (lawful : IsLawful order) {V : Type 0
         let known_x = known_at place x within read in
         let split = listed_at items place x within read in
         record {
-          left =
-              subst (λ ys. IsLeft line ys
-              (take place items ++ with_end x b ∷ []) (lower order r)) (sym split)
-              (left_cut line (take place items) x
+          left = subst (λ ys. IsLeft line ys (take place items ++ with_end x b ∷ [])
+              (lower order r)) (sym split) (left_cut line (take place items) x
               (drop (place + 1) items) (with_end x b) (lower order r) (rw split at in_order) starts
-              (first_reaches x read some)
-              (tied_itself (position_total order.cmp lawful.total) (item_lower order x))
-              (cut_end order lawful x.key.start r.start b known_x.0 starts same_b)
-              (equal.refl x.value));
+              (first_reaches x read some) (tied_itself (position_total order.cmp lawful.total)
+              (item_lower order x)) (cut_end order lawful x.key.start r.start b known_x.0 starts
+              same_b) (equal.refl x.value));
           known = ((known_x.0, known_b), tt);
         }
 
@@ -160,11 +149,9 @@ module _ {K : Type 0} {order : KeyOrder K} (lawful : IsLawful order) {V : Type 0
         let end = place + w.count in
         let parts = list_is_take_and_drop items end in
         record {
-          right =
-              subst (λ ys. IsRight line ys (drop end items) (upper order r)) (sym parts)
-              (right_whole line (take end items)
-              (drop end items) (upper order r) (rw parts at in_order)
-              (met_end w.count refl reach) window.behind);
+          right = subst (λ ys. IsRight line ys (drop end items) (upper order r)) (sym parts)
+              (right_whole line (take end items) (drop end items) (upper order r)
+              (rw parts at in_order) (met_end w.count refl reach) window.behind);
           known = tt;
         }
 
@@ -185,10 +172,9 @@ module _ {K : Type 0} {order : KeyOrder K} (lawful : IsLawful order) {V : Type 0
         let split : items ≡ take k items ++ x ∷ drop end items =
         listed_at items k x within read ∙ ap (λ m. take k items ++ x ∷ drop m items) next in
         record {
-          right =
-              subst (λ ys. IsRight line ys (y ∷ drop end items) (upper order r)) (sym split)
-              (right_cut line (take k items) x (drop end items) y
-              (upper order r) (rw split at in_order) (last_starts x read some) ends
+          right = subst (λ ys. IsRight line ys (y ∷ drop end items) (upper order r)) (sym split)
+              (right_cut line (take k items) x (drop end items) y (upper order r)
+              (rw split at in_order) (last_starts x read some) ends
               (cut_start order lawful x.key.end r.end b known_x.1 ends same_b)
               (tied_itself (position_total order.cmp lawful.total) (item_upper order x)) values);
           known = ((known_b, known_x.1), tt);
@@ -202,11 +188,8 @@ module _ {K : Type 0} {order : KeyOrder K} (lawful : IsLawful order) {V : Type 0
     left_border_at v n x within read starts reaches values =
         let split = listed_at items n x within read in
         record {
-          left =
-              rw (append-nil (take n items))
-              (subst (λ ys. IsLeftOf line ys (take n items)
-              (lower order r) (item_lower order x) v) (sym split)
-              (left_joined line (take n items) x
+          left = rw (append-nil (take n items)) (subst (λ ys. IsLeftOf line ys (take n items)
+              (lower order r) (item_lower order x) v) (sym split) (left_joined line (take n items) x
               (drop (n + 1) items) (lower order r) v (rw split at in_order) starts reaches values));
           known = tt;
           known_start = (known_at n x within read).0;
@@ -219,8 +202,7 @@ module _ {K : Type 0} {order : KeyOrder K} (lawful : IsLawful order) {V : Type 0
     left_border_rest v y rest values =
         let ends = every_right _ (take place items) (y ∷ []) rest.left.ends in
         record {
-          left =
-              left_apart line items (take place items ++ y ∷ []) (lower order r) v rest.left
+          left = left_apart line items (take place items ++ y ∷ []) (lower order r) v rest.left
               (leading_last line (take place items) y (lower order r) v rest.left.chain
               (ends.0, λ k t. not_both values t));
           known = rest.known;
@@ -252,14 +234,12 @@ module _ {K : Type 0} {order : KeyOrder K} (lawful : IsLawful order) {V : Type 0
     pub left_border_none : (v : V) → IsLeftRest order same lawful equal items r place None
         → TouchesNoneBefore order same items place r v
         → IsLeftBorder order same lawful equal items r v place None None
-    left_border_none v rest none =
-        record {
-          left =
-              left_apart line items (take place items ++ []) (lower order r) v rest.left
-              (rw (append-nil (take place items)) (all_lead place v refl rest none));
-          known = tt;
-          known_start = window.known.0;
-        }
+    left_border_none v rest none = record {
+      left = left_apart line items (take place items ++ []) (lower order r) v rest.left
+          (rw (append-nil (take place items)) (all_lead place v refl rest none));
+      known = tt;
+      known_start = window.known.0;
+    }
 
     pub right_border_at : (end n : ℕ) (v : V) (x : Item (AnyRange K) V) → n + 1 ≡ end
         → n < length items → x ≡ get_or items n x → PLe lawful (item_lower order x) (upper order r)
@@ -270,10 +250,8 @@ module _ {K : Type 0} {order : KeyOrder K} (lawful : IsLawful order) {V : Type 0
         listed_at items n x within read ∙ ap (λ m. take n items ++ x ∷ drop m items) at in
         record {
           in_range = omega (arith, at, within);
-          right =
-              subst (λ ys. IsRightOf line ys (drop end items)
-              (upper order r) (item_upper order x) v) (sym split)
-              (right_joined line (take n items) x
+          right = subst (λ ys. IsRightOf line ys (drop end items) (upper order r)
+              (item_upper order x) v) (sym split) (right_joined line (take n items) x
               (drop end items) (upper order r) v (rw split at in_order) reaches ends values);
           known = tt;
           known_end = (known_at n x within read).1;
@@ -282,26 +260,21 @@ module _ {K : Type 0} {order : KeyOrder K} (lawful : IsLawful order) {V : Type 0
     pub right_border_rest : (end : ℕ) (v : V) (y : Item (AnyRange K) V) → end ≤ length items
         → IsRightRest order same lawful equal items r end (Some y) → same y.value v ≡ false
         → IsRightBorder order same lawful equal items r v end (Some y) None
-    right_border_rest end v y within rest values =
-        record {
-          in_range = within;
-          right =
-              right_apart line items (y ∷ drop end items) (upper order r) v rest.right
-              (trailing_first line y (drop end items)
-              (upper order r) v rest.right.chain (
-                rest.right.starts.0,
-                λ k t.
-                    not_both values (equal.symm y.value v ∙ t),
-              ));
-          known = rest.known;
-          known_end = window.known.1;
-        }
+    right_border_rest end v y within rest values = record {
+      in_range = within;
+      right = right_apart line items (y ∷ drop end items) (upper order r) v rest.right
+          (trailing_first line y (drop end items) (upper order r) v rest.right.chain (
+            rest.right.starts.0,
+            λ k t. not_both values (equal.symm y.value v ∙ t),
+          ));
+      known = rest.known;
+      known_end = window.known.1;
+    }
 
     all_trail : (end : ℕ) (v : V) (ys : List (Item (AnyRange K) V))
         → Known order lawful same equal ys → IsRight line items ys (upper order r)
         → ((d : Item (AnyRange K) V) → 0 < length ys → Touches order r (get_or ys 0 d).key
-        → same v (get_or ys 0 d).value ≡ true → ⊥)
-        → Every (λ i. Trails line (upper order r) v i) ys
+        → same v (get_or ys 0 d).value ≡ true → ⊥) → Every (λ i. Trails line (upper order r) v i) ys
     all_trail end v [] others right none = tt
     all_trail end v (y ∷ ys) others right none =
         trailing_first line y ys (upper order r) v right.chain (
@@ -319,48 +292,40 @@ module _ {K : Type 0} {order : KeyOrder K} (lawful : IsLawful order) {V : Type 0
         let others = every_back _ end items window.stored.known in
         record {
           in_range = within;
-          right =
-              right_apart line items (drop end items)
-              (upper order r) v rest.right (all_trail end v (drop end items) others rest.right
-              (λ d some. let at : get_or (drop end items) 0 d
-              ≡ get_or items end d =
-              get_or-drop end items 0 d
-              ∙ ap (λ n. get_or items n d) plus in rw at
+          right = right_apart line items (drop end items) (upper order r) v rest.right
+              (all_trail end v (drop end items) others rest.right
+              (λ d some. let at : get_or (drop end items) 0 d ≡ get_or items end d = get_or-drop end
+              items 0 d ∙ ap (λ n. get_or items n d) plus in rw at
               (none d (omega (arith, length-drop end items)))));
           known = tt;
           known_end = window.known.1;
         }
 
     -- the list with the range bound to v
-    pub borders_insert : (new : List (Item (AnyRange K) V)) (v u : V) (at end : ℕ)
-        (left right : Option (Item (AnyRange K) V)) (start finish : Option (Bound K)) →
+    pub borders_insert : (new : List (Item (AnyRange K) V)) (v u : V) {at end : ℕ}
+        {left right : Option (Item (AnyRange K) V)} {start finish : Option (Bound K)} →
         IsLeftBorder order same lawful equal items r v at left start
         → IsRightBorder order same lawful equal items r v end right finish →
         IsLeftFrame order same items r v place w.count at left start
         → IsRightFrame order same items r v place w.count end right finish →
         length (option_items left) + length (option_items right) ≤ w.count + 1 →
-        same u v ≡ true → (w.count ≡ 0 → u ≡ v) →
-        new ≡ take at items ++ option_items left
+        same u v ≡ true → (w.count ≡ 0 → u ≡ v) → new ≡ take at items ++ option_items left
         ++ option_items (Some (joined_item (record { key = r; value = u }) start finish))
-        ++ option_items right ++ drop end items →
-        IsInserted order same items new r v
-    borders_insert new v u at end left right start finish on_left on_right frame_left frame_right
-        few values own_value changed =
+        ++ option_items right ++ drop end items → IsInserted order same items new r v
+    borders_insert new v u {at} {end} {left} {right} {start} {finish} on_left on_right frame_left
+        frame_right few values own_value changed =
         let m : Item (AnyRange K) V = joined_item (record { key = r; value = u }) start finish in
         let all = window.stored.known in
         let front = take at items ++ option_items left in
         let behind = option_items right ++ drop end items in
-        let list : new ≡ front ++ m ∷ behind =
-        changed
-        ∙ sym (opening_regroups (take at items) (option_items left) (option_items right)
-        (drop end items) m) in
-        let result =
-        places_between_are_bound line items front behind m
-        (lower order r) (upper order r) v on_left.left on_right.right range_has_places values in
+        let list : new ≡ front ++ m ∷ behind = changed ∙ sym
+        (opening_regroups (take at items) (option_items left) (option_items right) (drop end items)
+        m) in
+        let result = places_between_are_bound line items front behind m (lower order r)
+        (upper order r) v on_left.left on_right.right range_has_places values in
         let known_m : IsKnownRange order m.key = (on_left.known_start, on_right.known_end) in
-        let others = every_append _ front (m ∷ behind)
-        (every_append _ (take at items) (option_items left)
-        (every_front _ at items all) on_left.known) (
+        let others = every_append _ front (m ∷ behind) (every_append _ (take at items)
+        (option_items left) (every_front _ at items all) on_left.known) (
           known_m,
           every_append _ (option_items right) (drop end items) on_right.known
               (every_back _ end items all),
@@ -368,16 +333,12 @@ module _ {K : Type 0} {order : KeyOrder K} (lawful : IsLawful order) {V : Type 0
         record {
           stored = rw list
               (chain_stored order lawful same equal (front ++ m ∷ behind) others result.chain);
-          bound =
-              rw list (bound_after order lawful same equal items
-              (front ++ m ∷ behind) r v window.known all others result);
-          frame =
-              insertion_frame lawful equal window new v u at end left right start finish frame_left
-              frame_right few values own_value changed;
-          meets =
-              rw list (meets_bound order lawful same equal items
-              (front ++ m ∷ behind) r v all others
-              (stored_chain order lawful same equal items window.stored) window.known
+          bound = rw list (bound_after order lawful same equal items (front ++ m ∷ behind) r v
+              window.known all others result);
+          frame = insertion_frame lawful equal window new v u frame_left frame_right few values
+              own_value changed;
+          meets = rw list (meets_bound order lawful same equal items (front ++ m ∷ behind) r v all
+              others (stored_chain order lawful same equal items window.stored) window.known
               range_has_places result);
         }
 
@@ -393,35 +354,27 @@ module _ {K : Type 0} {order : KeyOrder K} (lawful : IsLawful order) {V : Type 0
         let all = window.stored.known in
         let front = take at items ++ option_items left in
         let behind = option_items right ++ drop end items in
-        let list : new ≡ front ++ behind =
-        changed
-        ∙ sym (regrouped_out (take at items) (option_items left) (option_items right)
-        (drop end items)) in
-        let result =
-        places_between_are_unbound line items front behind
-        (lower order r) (upper order r) on_left.left on_right.right range_has_places in
-        let known_front =
-        every_append _ (take at items) (option_items left)
+        let list : new ≡ front ++ behind = changed ∙ sym
+        (regrouped_out (take at items) (option_items left) (option_items right) (drop end items)) in
+        let result = places_between_are_unbound line items front behind (lower order r)
+        (upper order r) on_left.left on_right.right range_has_places in
+        let known_front = every_append _ (take at items) (option_items left)
         (every_front _ at items all) on_left.known in
-        let known_behind =
-        every_append _ (option_items right) (drop end items) on_right.known
+        let known_behind = every_append _ (option_items right) (drop end items) on_right.known
         (every_back _ end items all) in
         let others = every_append _ front behind known_front known_behind in
-        let before =
-        every_weaker _ _ front (λ i h m.
-        m.0 ((before_is order lawful i.key.end r.start h.0.1 window.known.0).1 h.1))
-        (every_both (λ i. IsKnownRange order i.key) _ front known_front on_left.left.ends)
+        let before = every_weaker _ _ front (λ i h m. m.0 ((before_is order lawful i.key.end r.start
+        h.0.1 window.known.0).1 h.1)) (every_both (λ i. IsKnownRange order i.key) _ front
+        known_front on_left.left.ends)
         in
-        let after =
-        every_weaker _ _ behind (λ i h m.
-        m.1 ((before_is order lawful r.end i.key.start window.known.1 h.0.0).1 h.1))
-        (every_both (λ i. IsKnownRange order i.key) _ behind known_behind on_right.right.starts) in
+        let after = every_weaker _ _ behind (λ i h m. m.1 ((before_is order lawful r.end i.key.start
+        window.known.1 h.0.0).1 h.1)) (every_both (λ i. IsKnownRange order i.key) _ behind
+        known_behind on_right.right.starts) in
         record {
           stored =
               rw list (chain_stored order lawful same equal (front ++ behind) others result.chain);
-          unbound =
-              rw list (unbound_after order lawful same equal items
-              (front ++ behind) r window.known all others result);
+          unbound = rw list (unbound_after order lawful same equal items (front ++ behind) r
+              window.known all others result);
           apart = rw list (every_append (λ i. Overlap order i.key r → ⊥) front behind before after);
           frame = frame;
         }
@@ -433,8 +386,7 @@ module _ {K : Type 0} {order : KeyOrder K} (lawful : IsLawful order) {V : Type 0
         Every (IsPart order same (take w.count (drop place items)) r) (option_items left)
         → Every (IsPart order same (take w.count (drop place items)) r) (option_items right) →
         new ≡ take place items ++ option_items left ++ [] ++ option_items right
-        ++ drop (place + w.count) items →
-        IsRemoved order same items new r
+        ++ drop (place + w.count) items → IsRemoved order same items new r
     borders_remove new left right some on_left on_right made_left made_right changed =
         removed_by new place (place + w.count) left right on_left on_right
         (cut_way lawful equal window new left right some made_left made_right changed) changed
@@ -443,8 +395,7 @@ module _ {K : Type 0} {order : KeyOrder K} (lawful : IsLawful order) {V : Type 0
     pub unmet_is_unbound : w.count ≡ 0 → IsRemoved order same items items r
     unmet_is_unbound none =
         let at : place + w.count ≡ place = omega (arith, none) in
-        let list : items ≡ take place items ++ [] ++ [] ++ [] ++ drop (place + w.count) items =
-        rw (
+        let list : items ≡ take place items ++ [] ++ [] ++ [] ++ drop (place + w.count) items = rw (
           at,
           append-nil (take place items),
           append-nil (take place items),

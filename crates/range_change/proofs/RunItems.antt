@@ -1,12 +1,11 @@
 -- The items that a range meets are one run of a stored list.
-use Rattle.range_change.proofs.Common.{Every, any_none, any_left, any_right, any_split, every_at, list_is_take_and_drop, drop_all, unbounded_end, Le, Lt, IsKnownBound, with_bounds, AnyRange, MeetsSome, IsStored, KeyOrder, IsLawful, start_position, end_position, position_cmp, Position, AreOverlapping, le_refl, lt_le, le_trans, lt_not_le, le_lt_trans, place_before, Item, ◌≡◌, refl, sym, ap, ◌∙◌, ℕ, zero, suc, ◌+◌, ◌-◌, ◌<◌, ◌≤◌, Bool, true, false, List, [], ◌∷◌, ◌++◌, length, take, drop, get_or, arith, Option, Some, None, inl, inr, drop-drop, IsEquivalence, is_gt, MatchOption, Bound, Included, Unbounded, IsFound, IsLastStarting, place_after}
+use Rattle.range_change.proofs.Common.{common_steps, Every, any_none, any_left, any_right, any_split, every_at, list_is_take_and_drop, drop_all, unbounded_end, Le, Lt, IsKnownBound, with_bounds, AnyRange, MeetsSome, IsStored, KeyOrder, IsLawful, start_position, end_position, position_cmp, Position, AreOverlapping, le_refl, lt_le, le_trans, lt_not_le, le_lt_trans, place_before, Item, ◌≡◌, refl, sym, ap, ◌∙◌, ℕ, zero, suc, ◌+◌, ◌-◌, ◌<◌, ◌≤◌, Bool, true, false, List, [], ◌∷◌, ◌++◌, length, take, drop, get_or, arith, Option, Some, None, inl, inr, drop-drop, IsEquivalence, is_gt, MatchOption, Bound, Included, Unbounded, IsFound, IsLastStarting, place_after}
 use Rattle.range_change.proofs.Forms.{every_front, every_back}
 use Rattle.range_change.proofs.Found.{starts_rise, stored_tail, every_nonempty}
 use Rattle.range_change.proofs.Listed.{IsListed, stored_list_is_listed}
 use Rattle.range_change.proofs.RangePieces.{every_with}
 use Rattle.range_change.proofs.Tests.{not_both}
-use Rattle.std.proofs.Math.Seq.{take-append-add, get_or-append_seam}
-use Rattle.std.proofs.lemmas.List.{get_or-drop, get_or-take, length-append}
+use Rattle.std.proofs.Math.Seq.{take-append-add}
 use Rattle.range_change.proofs.Extents.{end_le}
 use Rattle.range_change.proofs.Windows.{first_of_run, last_of_run}
 
@@ -67,9 +66,8 @@ module _ {K : Type 0} {order : KeyOrder K} (lawful : IsLawful order) where
               (first_starts_first i rest m x h (omega (arith, in_m)) read)),
         )
     listed_order (i ∷ rest) (suc m) (suc n) x y h in_m in_n read read' =
-        let next =
-        listed_order rest m n x y (stored_tail order lawful same i rest h) (omega (arith, in_m))
-        (omega (arith, in_n)) read read' in
+        let next = listed_order rest m n x y (stored_tail order lawful same i rest h)
+        (omega (arith, in_m)) (omega (arith, in_n)) read read' in
         (λ l. next.0 (omega (arith, l)), λ l. next.1 (omega (arith, l)))
 
     pub stored_order : {items : List (Item (AnyRange K) V)} {m n : ℕ} {x y : Item (AnyRange K) V}
@@ -78,9 +76,8 @@ module _ {K : Type 0} {order : KeyOrder K} (lawful : IsLawful order) where
         (is_gt (position_cmp order.cmp (Start y) (Start x)) ≡ true → m < n)
         × (is_gt (position_cmp order.cmp (Start y) (Start x)) ≡ false → n ≤ m)
     stored_order {items = items} {m = m} {n = n} {x = x} {y = y} stored in_m in_n read read' =
-        let placed =
-        listed_order items m n x y (stored_list_is_listed order lawful same items stored) in_m in_n
-        read read' in (
+        let placed = listed_order items m n x y (stored_list_is_listed order lawful same items
+        stored) in_m in_n read read' in (
           λ e. let never : n ≤ m → ⊥ = λ l. not_both (placed.1 l) e in omega (arith, never),
           λ e.
               let never : m < n → ⊥ = λ l. lt_not_le lawful _ _ (placed.0 l) e in
@@ -97,20 +94,20 @@ module _ {K : Type 0} {order : KeyOrder K} (lawful : IsLawful order) where
       → AreOverlapping order items r (take (b - a) (drop a items))
   overlapping_are r items a b below above upto past =
       let same_place : a + (b - a) ≡ b + (a - b) = omega arith in
-      let behind : drop (b - a) (drop a items) ≡ drop (a - b) (drop b items) =
-      drop-drop (b - a) a items
-      ∙ (ap (λ n. drop n items) same_place ∙ sym (drop-drop (a - b) b items)) in
+      let behind : drop (b - a) (drop a items) ≡ drop (a - b) (drop b items) = drop-drop (b - a) a
+      items ∙ (ap (λ n. drop n items) same_place ∙ sym (drop-drop (a - b) b items)) in
       record {
         before = take a items;
         after = drop (b - a) (drop a items);
-        split =
-            list_is_take_and_drop items a
-            ∙ ap (λ ys. take a items ++ ys) (list_is_take_and_drop (drop a items) (b - a));
+        split = list_is_take_and_drop items a ∙ ap (λ ys. take a items ++ ys)
+            (list_is_take_and_drop (drop a items) (b - a));
         below = below;
-        meet =
-            every_with _ _ _ _ (every_front _ (b - a) (drop a items) above)
-            (every_between _ a b items upto)
-            (λ i h k. (λ l. lt_not_le lawful _ _ l h, λ l. lt_not_le lawful _ _ l k));
+        meet = every_with _ _ _ _ (every_front _ (b - a) (drop a items) above)
+            (every_between _ a b items upto) (λ i h k. (
+              λ l. lt_not_le lawful _ _ l h,
+              λ l.
+                  lt_not_le lawful _ _ l k,
+            ));
         above = rw behind (every_back _ (a - b) (drop b items) past);
       }
 
@@ -144,10 +141,9 @@ module _ {K : Type 0} {order : KeyOrder K} (lawful : IsLawful order) {V : Type 0
       → AreOverlapping order items r
       (take (place_after rank last - place_before rank (length items) first)
       (drop (place_before rank (length items) first) items))
-  overlapping_found r p e low high before first last found ends =
-      overlapping_are lawful r items (place_before rank (length items) first)
-      (place_after rank last) (rw low at found.below) (rw low at found.above)
-      (rw high at ends.upto) (rw high at ends.past)
+  overlapping_found r p e low high before first last found ends = overlapping_are lawful r items
+      (place_before rank (length items) first) (place_after rank last) (rw low at found.below)
+      (rw low at found.above) (rw high at ends.upto) (rw high at ends.past)
 
   at_end : (last : Option P)
       → MatchOption last (items ≡ []) (λ p. is_good p × (rank p + 1 ≡ length items))
@@ -164,11 +160,10 @@ module _ {K : Type 0} {order : KeyOrder K} (lawful : IsLawful order) {V : Type 0
       (drop (place_before rank (length items) first) items))
   found_from k key before first last found is_last =
       let upper : Position K = end_position order Unbounded in
-      let all : Every (λ i. PLe lawful (Start lawful i) upper) items =
-      every_with _ _ _ items (every_nonempty order lawful same items
-      (stored_list_is_listed order lawful same items stored))
-      stored.known
-      (λ i own known. le_trans lawful _ _ _ own (ends_full lawful i.key.end known.1)) in
+      let all : Every (λ i. PLe lawful (Start lawful i) upper) items = every_with _ _ _ items
+      (every_nonempty order lawful same items (stored_list_is_listed order lawful same items
+      stored)) stored.known (λ i own known. le_trans lawful _ _ _ own
+      (ends_full lawful i.key.end known.1)) in
       let b = place_after rank last in
       overlapping_are lawful (with_bounds (Included k) Unbounded) items
       (place_before rank (length items) first) b found.below found.above (every_front _ b items all)
@@ -178,13 +173,7 @@ module _ {K : Type 0} {order : KeyOrder K} (lawful : IsLawful order) {V : Type 0
 pub near_last : {T : Type 0} (items near front : List T) (k : ℕ) (x : T)
     → near ≡ take (length near) (drop k items) → near ≡ front ++ x ∷ []
     → x ≡ get_or items (k + length front) x
-near_last items near front k x is split =
-    let within : length front < length near =
-    omega (arith, ap length split, length-append front (x ∷ [])) in
-    sym (get_or-append_seam front x [] x)
-    ∙ (ap (λ ys. get_or ys (length front) x) (sym split ∙ is)
-    ∙ (get_or-take (length near) (drop k items) (length front) x within
-    ∙ get_or-drop k items (length front) x))
+near_last items near front k x is split = grind (arith, common_steps)
 
 -- the first of a run and the rest, and the last and those before it
 module _ {T : Type 0} (items : List T) (p q : ℕ) (x : T) (within : q < length items) where
@@ -192,9 +181,8 @@ module _ {T : Type 0} (items : List T) (p q : ℕ) (x : T) (within : q < length 
       → take (q + 1 - p) (drop p items) ≡ x ∷ take (q + 1 - n) (drop n items)
   run_first le read n next =
       let left : q + 1 - p - 1 ≡ q + 1 - (p + 1) = omega arith in
-      rw next (first_of_run items p (q + 1 - p) x (omega (arith, le))
-      (omega (arith, le, within)) read
-      ∙ ap (λ m. x ∷ take m (drop (p + 1) items)) left)
+      rw next (first_of_run items p (q + 1 - p) x (omega (arith, le)) (omega (arith, le, within))
+      read ∙ ap (λ m. x ∷ take m (drop (p + 1) items)) left)
 
   -- the first, those that lie with it, and the rest
   pub run_near : p ≤ q → x ≡ get_or items p x → (near : List T)
@@ -205,29 +193,22 @@ module _ {T : Type 0} (items : List T) (p q : ℕ) (x : T) (within : q < length 
       let left : q + 1 - (p + 1) ≡ length near + (q + 1 - n) = omega (arith, next, upto) in
       let far : drop (length near) behind ≡ drop n items =
       drop-drop (length near) (p + 1) items ∙ ap (λ m. drop m items) (sym next) in
-      let parts : behind ≡ near ++ drop n items =
-      list_is_take_and_drop behind (length near)
-      ∙ (ap (λ ys. ys ++ drop (length near) behind) (sym is) ∙ ap (λ ys. near ++ ys) far) in
-      run_first le read (p + 1) refl
-      ∙ ap (λ ys. x ∷ ys)
-      (ap (λ m. take m behind) left ∙ (ap (take (length near + (q + 1 - n))) parts
-      ∙ take-append-add near (drop n items) (q + 1 - n)))
+      let parts : behind ≡ near ++ drop n items = list_is_take_and_drop behind (length near) ∙
+      (ap (λ ys. ys ++ drop (length near) behind) (sym is) ∙ ap (λ ys. near ++ ys) far) in
+      run_first le read (p + 1) refl ∙ ap (λ ys. x ∷ ys) (ap (λ m. take m behind) left ∙
+      (ap (take (length near + (q + 1 - n))) parts ∙ take-append-add near (drop n items)
+      (q + 1 - n)))
 
   pub run_last : p ≤ q → x ≡ get_or items q x → (n : ℕ) → n + 1 ≡ q
       → take (q + 1 - p) (drop p items) ≡ take (n + 1 - p) (drop p items) ++ x ∷ []
   run_last le read n next =
       let left : q + 1 - p - 1 ≡ n + 1 - p = omega (arith, next) in
       last_of_run items p (q + 1 - p) q x (omega (arith, le)) (omega (arith, le, within))
-      (omega (arith, le)) read
-      ∙ ap (λ m. take m (drop p items) ++ x ∷ []) left
+      (omega (arith, le)) read ∙ ap (λ m. take m (drop p items) ++ x ∷ []) left
 
   pub run_alone_first : p ≤ q → q ≤ p → x ≡ get_or items p x
       → take (q + 1 - p) (drop p items) ≡ x ∷ []
-  run_alone_first le ge read =
-      let none : q + 1 - (p + 1) ≡ 0 = omega (arith, ge) in
-      run_first le read (p + 1) refl ∙ ap (λ m. x ∷ take m (drop (p + 1) items)) none
+  run_alone_first le ge read = grind (arith, common_steps)
 
   pub run_alone : p ≤ q → q ≤ p → x ≡ get_or items q x → take (q + 1 - p) (drop p items) ≡ x ∷ []
-  run_alone le ge read =
-      let at : q ≡ p = omega (arith, le, ge) in
-      run_alone_first le ge (read ∙ ap (λ n. get_or items n x) at)
+  run_alone le ge read = grind (arith, common_steps)

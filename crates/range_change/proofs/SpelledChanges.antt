@@ -1,5 +1,5 @@
 -- That what a change puts in the place of a range is spelled as what it replaces.
-use Rattle.range_change.proofs.Common.{◌≡◌, refl, sym, ap, subst, ◌∙◌, ℕ, ◌+◌, ◌-◌, ◌<◌, ◌≤◌, arith, Option, Some, None, Bool, List, [], ◌∷◌, ◌++◌, inl, inr, length, get_or, take, drop, IsEquivalence, Every, Bound, KeyOrder, IsLawful, AnyRange, same_itself, lower, upper, lt_le, eq_le, eq_ge, lt_not_le, lt_trans, PLt, IsKnownRange, every_weaker, every_append, every_left, every_right, list_is_take_and_drop, reaching_is_before_past, Item, IsInserted, IsRemoved, IsLeftShape, IsRightShape, joined_count, seam_border, flipped_bound, IsStartOf, IsEndOf, IsNewItem, IsPart, ReachesBefore, ReachesAfter, IsReach, IsSurrounded, with_first_start, with_last_end, IsStartAsIn, IsEndAsIn, IsSpelledAsIn, KeepsSpelling, IsStored, item_lower, option_items, Window}
+use Rattle.range_change.proofs.Common.{◌≡◌, sym, ap, subst, ◌∙◌, ℕ, ◌+◌, ◌-◌, ◌<◌, ◌≤◌, arith, Option, Some, None, Bool, List, ◌∷◌, ◌++◌, inl, inr, length, get_or, take, drop, IsEquivalence, Every, Bound, KeyOrder, IsLawful, AnyRange, same_itself, lower, upper, lt_le, eq_le, eq_ge, lt_not_le, lt_trans, PLt, IsKnownRange, every_weaker, every_append, every_left, every_right, list_is_take_and_drop, reaching_is_before_past, Item, IsInserted, IsRemoved, IsLeftShape, IsRightShape, joined_count, seam_border, flipped_bound, IsStartOf, IsEndOf, IsNewItem, IsPart, ReachesBefore, ReachesAfter, IsReach, IsSurrounded, with_first_start, with_last_end, IsStartAsIn, IsEndAsIn, IsSpelledAsIn, KeepsSpelling, IsStored, item_lower, option_items, Window}
 use Rattle.std.proofs.lemmas.Option.{same_Some}
 use Rattle.range_change.specs.declared.reach.Reach.{Reach}
 use Rattle.range_change.proofs.RangePieces.{any_use, item_at}
@@ -7,26 +7,9 @@ use Rattle.range_change.proofs.ItemPlaces.{listed_at, from_item}
 use Rattle.range_change.proofs.Extents.{past_le, end_le}
 use Rattle.range_change.proofs.Forms.{Known, Chained, stored_chain, nonempty_good}
 use Rattle.range_change.proofs.Spelling.{StartSide, EndSide, own_spelling, within_is_kept, cut_end_is_kept, cut_start_is_kept}
+use Rattle.range_change.proofs.OuterBounds.{every_started, every_ended}
+use Rattle.range_change.proofs.Replaced.{IsReplacement}
 use Rattle.range_change.proofs.Surrounded.{reach_is_met}
-
-module _ {K : Type 0} (order : KeyOrder K) {V : Type 0} (items : List (Item (AnyRange K) V)) where
-  started_keeps : (start : Option (Bound K)) (xs : List (Item (AnyRange K) V))
-      → KeepsSpelling order items xs
-      → ((b : Bound K) → start ≡ Some b → IsStartAsIn order items b)
-      → KeepsSpelling order items (with_first_start start xs)
-  started_keeps None xs all on = all
-  started_keeps (Some b) [] all on = tt
-  started_keeps (Some b) (i ∷ rest) all on = ((on b refl, all.0.1), all.1)
-
-  ended_keeps : (finish : Option (Bound K)) (xs : List (Item (AnyRange K) V))
-      → KeepsSpelling order items xs
-      → ((b : Bound K) → finish ≡ Some b → IsEndAsIn order items b)
-      → KeepsSpelling order items (with_last_end finish xs)
-  ended_keeps None xs all on = all
-  ended_keeps (Some b) [] all on = tt
-  ended_keeps (Some b) (i ∷ []) all on = ((all.0.0, on b refl), tt)
-  ended_keeps (Some b) (i ∷ j ∷ rest) all on =
-      (all.0, ended_keeps (Some b) (j ∷ rest) all.1 on)
 
 module _ {K : Type 0} {order : KeyOrder K} (lawful : IsLawful order) {V : Type 0}
     {same : V → V → Bool} (equal : IsEquivalence same) {items : List (Item (AnyRange K) V)}
@@ -53,10 +36,8 @@ module _ {K : Type 0} {order : KeyOrder K} (lawful : IsLawful order) {V : Type 0
     left_is_spelled : (joined first : Option P) (at begin : ℕ)
         (rest : Option (Item (AnyRange K) V)) (start : Option (Bound K))
         → IsLeftShape is_good rank items (seam_border joined first (flipped_bound r.start)) at begin
-        rest start
-        → begin + joined_count (seam_border joined first (flipped_bound r.start))
-        ≡ place + length (option_items first)
-        → length (option_items first) ≤ reach.window.count
+        rest start → begin + joined_count (seam_border joined first (flipped_bound r.start))
+        ≡ place + length (option_items first) → length (option_items first) ≤ reach.window.count
         → ReachesBefore order is_good rank items r place reach.window.count first
         → KeepsSpelling order items (option_items rest)
         × ((b : Bound K) → start ≡ Some b → IsStartAsIn order items b)
@@ -107,8 +88,7 @@ module _ {K : Type 0} {order : KeyOrder K} (lawful : IsLawful order) {V : Type 0
         let within : upto < length items = omega (arith, in_range, next) in
         let x_is : x ≡ get_or items (place + count - 1) x =
         read ∙ ap (λ n. get_or items n x) at_is in
-        let starts =
-        subst (λ y. PLt lawful (item_lower order y) (upper order r)) (sym x_is)
+        let starts = subst (λ y. PLt lawful (item_lower order y) (upper order r)) (sym x_is)
         (found.window.meets x after.2) in
         let spelled = one_is_spelled upto x within read in (
           rw is (
@@ -131,44 +111,37 @@ module _ {K : Type 0} {order : KeyOrder K} (lawful : IsLawful order) {V : Type 0
           λ b e. subst (IsEndAsIn order items) (same_Some x.key.end b (sym is ∙ e)) spelled.1,
         )
 
-    pub replaced_keeps_spelling : (joined other : Option P)
-        (new middle : List (Item (AnyRange K) V)) (at begin upto end : ℕ)
-        (rest beyond : Option (Item (AnyRange K) V))
-        (start finish : Option (Bound K))
-        → IsLeftShape is_good rank items (seam_border joined reach.first (flipped_bound r.start)) at
-        begin rest start
-        → begin + joined_count (seam_border joined reach.first (flipped_bound r.start))
-        ≡ place + length (option_items reach.first)
-        → IsRightShape is_good rank items
-        (seam_border other reach.last (flipped_bound r.end)) upto end
-        beyond finish → end ≤ length items
-        → new ≡ take at items ++ option_items rest
-        ++ with_last_end finish (with_first_start start middle)
-        ++ option_items beyond ++ drop end items
+    pub replaced_keeps_spelling : {middle : List (Item (AnyRange K) V)}
+        {joined other from : Option P} (plan : IsReplacement order lawful same equal is_good rank items r place reach.window.count
+        middle reach.first reach.last joined other from) (new : List (Item (AnyRange K) V))
+        → new ≡ take plan.left.at items ++ option_items plan.left.rest
+        ++ with_last_end plan.right.finish (with_first_start plan.left.start middle)
+        ++ option_items plan.right.rest ++ drop plan.right.end items
         → KeepsSpelling order items middle → KeepsSpelling order items new
-    replaced_keeps_spelling joined other new middle at begin upto end rest beyond start finish
-        on_left size on_right in_range changed kept =
-        let left =
-        left_is_spelled joined reach.first at begin rest start on_left size (reach_is_met found).0
-        found.first in
-        let right =
-        right_is_spelled other reach.last upto end beyond finish on_right in_range found.last in
+    replaced_keeps_spelling {middle} {joined} {other} plan new changed kept =
+        let at = plan.left.at in
+        let end = plan.right.end in
+        let rest = plan.left.rest in
+        let start = plan.left.start in
+        let beyond = plan.right.rest in
+        let finish = plan.right.finish in
+        let left = left_is_spelled joined reach.first at plan.left.begin rest start plan.left.shape
+        plan.left.begins (reach_is_met found).0 found.first in
+        let right = right_is_spelled other reach.last plan.right.upto end beyond finish
+        plan.right.shape plan.right.in_range found.last in
         let front = take at items in
         let body = with_last_end finish (with_first_start start middle) in
         let tail = drop end items in
-        let before =
-        every_left IsSpelled front (drop at items)
-        (subst (KeepsSpelling order items) (list_is_take_and_drop items at) list_keeps_spelling) in
-        let behind =
-        every_right IsSpelled (take end items) tail
-        (subst (KeepsSpelling order items) (list_is_take_and_drop items end) list_keeps_spelling) in
+        let before = every_left IsSpelled front (drop at items) (subst (KeepsSpelling order items)
+        (list_is_take_and_drop items at) list_keeps_spelling) in
+        let behind = every_right IsSpelled (take end items) tail (subst (KeepsSpelling order items)
+        (list_is_take_and_drop items end) list_keeps_spelling) in
         let inside =
-        ended_keeps order items finish (with_first_start start middle)
-        (started_keeps order items start middle kept left.1) right.1 in
-        rw changed (every_append IsSpelled
-        (front ++ option_items rest ++ body ++ option_items beyond) tail
-        (every_append IsSpelled (front ++ option_items rest ++ body) (option_items beyond)
-        (every_append IsSpelled (front ++ option_items rest) body
+        every_ended IsSpelled finish (with_first_start start middle)
+        (λ i b is h. (h.0, right.1 b is)) (every_started IsSpelled start middle (λ i b is h. (left.1 b is, h.1)) kept) in
+        rw changed (every_append IsSpelled (front ++ option_items rest ++ body ++ option_items
+        beyond) tail (every_append IsSpelled (front ++ option_items rest ++ body)
+        (option_items beyond) (every_append IsSpelled (front ++ option_items rest) body
         (every_append IsSpelled front (option_items rest) before left.0) inside) right.0) behind)
 
   -- a range that one item surrounds
@@ -197,19 +170,16 @@ module _ {K : Type 0} {order : KeyOrder K} (lawful : IsLawful order) {V : Type 0
     ends = within.ends x here
 
     starts_before_end : PLt lawful (lower order x.key) (upper order r)
-    starts_before_end =
-        lt_trans lawful _ _ _ starts some
+    starts_before_end = lt_trans lawful _ _ _ starts some
 
     ends_after_start : PLt lawful (lower order r) (upper order x.key)
-    ends_after_start =
-        lt_trans lawful _ _ _ some ends
+    ends_after_start = lt_trans lawful _ _ _ some ends
 
     start_within : IsStartAsIn order items r.start
     start_within =
         let known_r = within.window.known in
-        within_is_kept lawful equal items known chain (take place items)
-        (drop (place + 1) items) x list StartSide r.start r.start
-        (same_itself order lawful r.start) (
+        within_is_kept lawful equal items known chain (take place items) (drop (place + 1) items) x
+        list StartSide r.start r.start (same_itself order lawful r.start) (
           lt_le lawful _ _ starts,
           (reaching_is_before_past order lawful r.start x.key.end known_r.0 known_x.1).1
               ends_after_start,
@@ -230,8 +200,7 @@ module _ {K : Type 0} {order : KeyOrder K} (lawful : IsLawful order) {V : Type 0
         (b : Bound K) where
       start_of : IsStartOf order run r b → IsStartAsIn order items b
       start_of (inl is) = subst (IsStartAsIn order items) (sym is) start_within
-      start_of (inr (inl one)) =
-          any_use (λ i. b ≡ i.key.start) IsSpelled run one all
+      start_of (inr (inl one)) = any_use (λ i. b ≡ i.key.start) IsSpelled run one all
           (λ i is s. subst (IsStartAsIn order items) (sym is) s.0)
       start_of (inr (inr turned)) =
           cut_start_is_kept lawful equal items known chain (take place items)
@@ -239,11 +208,9 @@ module _ {K : Type 0} {order : KeyOrder K} (lawful : IsLawful order) {V : Type 0
 
       end_of : IsEndOf order run r b → IsEndAsIn order items b
       end_of (inl is) = subst (IsEndAsIn order items) (sym is) end_within
-      end_of (inr (inl one)) =
-          any_use (λ i. b ≡ i.key.end) IsSpelled run one all
+      end_of (inr (inl one)) = any_use (λ i. b ≡ i.key.end) IsSpelled run one all
           (λ i is s. subst (IsEndAsIn order items) (sym is) s.1)
-      end_of (inr (inr turned)) =
-          cut_end_is_kept lawful equal items known chain (take place items)
+      end_of (inr (inr turned)) = cut_end_is_kept lawful equal items known chain (take place items)
           (drop (place + 1) items) x list r within.window.known starts ends_after_start b turned
 
     run_keeps_spelling : (new front run others behind : List (Item (AnyRange K) V))
@@ -257,22 +224,18 @@ module _ {K : Type 0} {order : KeyOrder K} (lawful : IsLawful order) {V : Type 0
         rw after (every_append IsSpelled (front ++ others) behind
         (every_append IsSpelled front others (every_left IsSpelled front run left)
         (every_weaker (λ j. IsStartOf order run r j.key.start × IsEndOf order run r j.key.end)
-        IsSpelled others
-        (λ j t. (start_of run met j.key.start t.0, end_of run met j.key.end t.1)) made))
-        (every_right IsSpelled (front ++ run) behind all))
+        IsSpelled others (λ j t. (start_of run met j.key.start t.0, end_of run met j.key.end t.1))
+        made)) (every_right IsSpelled (front ++ run) behind all))
 
     pub inserted_keeps_spelling : {new : List (Item (AnyRange K) V)} {v : V}
         → IsInserted order same items new r v → KeepsSpelling order items new
-    inserted_keeps_spelling {new} {v} h =
-        run_keeps_spelling new h.frame.front h.frame.run h.frame.others h.frame.behind
-        h.frame.before h.frame.after
+    inserted_keeps_spelling {new} {v} h = run_keeps_spelling new h.frame.front h.frame.run
+        h.frame.others h.frame.behind h.frame.before h.frame.after
         (every_weaker (IsNewItem order same h.frame.run r v) _ h.frame.others
         (λ j t. (t.start, t.end)) h.frame.such.made)
 
     pub removed_keeps_spelling : {new : List (Item (AnyRange K) V)}
         → IsRemoved order same items new r → KeepsSpelling order items new
-    removed_keeps_spelling {new} h =
-        run_keeps_spelling new h.frame.front h.frame.run h.frame.others h.frame.behind
-        h.frame.before h.frame.after
-        (every_weaker (IsPart order same h.frame.run r) _ h.frame.others
-        (λ j t. (t.start, t.end)) h.frame.such.made)
+    removed_keeps_spelling {new} h = run_keeps_spelling new h.frame.front h.frame.run h.frame.others
+        h.frame.behind h.frame.before h.frame.after (every_weaker (IsPart order same h.frame.run r)
+        _ h.frame.others (λ j t. (t.start, t.end)) h.frame.such.made)

@@ -26,9 +26,8 @@ module _ {K : Type 0} (order : KeyOrder K) where
   module _ {V : Type 0} (items : List (Item (AnyRange K) V)) where
     -- an item with the place of the bound on the side has the same bound there
     abbrev pub IsAsIn : RangeSide → Bound K → Type 0
-    IsAsIn side b =
-        Every (λ i. position_cmp order.cmp (place_on side (bound_on side i.key)) (place_on side b)
-        ≡ Equal → SameBound order (bound_on side i.key) b) items
+    IsAsIn side b = Every (λ i. position_cmp order.cmp (place_on side (bound_on side i.key))
+        (place_on side b) ≡ Equal → SameBound order (bound_on side i.key) b) items
 
     -- what is written as a bound of the range is written as in the list
     abbrev pub IsKeptIn : AnyRange K → Type 0
@@ -48,8 +47,7 @@ module _ {K : Type 0} {order : KeyOrder K} (lawful : IsLawful order) where
 
   -- the place lies between the start of the range and its end
   abbrev Spans : AnyRange K → Position K → Type 0
-  Spans s p =
-      PLe lawful (start_position order s.start) p × PLe lawful p (end_position order s.end)
+  Spans s p = PLe lawful (start_position order s.start) p × PLe lawful p (end_position order s.end)
 
   spans_own : (side : RangeSide) (s : AnyRange K) → IsOpen s
       → Spans s (place_on order side (bound_on side s))
@@ -129,9 +127,8 @@ module _ {K : Type 0} {order : KeyOrder K} (lawful : IsLawful order) where
             let whole = rw list at chain in
             let before = chain_before line done x rest whole in
             let after = follows_above line x rest (chain_right line done (x ∷ rest) whole).1 in
-            rw list (every_append _ done (x ∷ rest)
-            (off_kept side a b clone done (every_with _ _ _ done before
-            (every_left _ done (x ∷ rest) parts)
+            rw list (every_append _ done (x ∷ rest) (off_kept side a b clone done
+            (every_with _ _ _ done before (every_left _ done (x ∷ rest) parts)
             (λ i h f. off_apart side i.key x.key _ f own.0 (inl h.0) within))) (
               λ e. subst (λ y. SameBound order y b) (is_own (back side _ a b clone e)) clone,
               off_kept side a b clone rest (every_with _ _ _ rest after
@@ -152,29 +149,25 @@ module _ {K : Type 0} {order : KeyOrder K} (lawful : IsLawful order) where
               (start_position order r.start) ≡ o
               → SameBound order (if is_lt o then r.start else x.key.start) b
               → IsStartAsIn order items b
-          common_start_by b Less e h =
-              within_is_kept StartSide r.start b h (
-                lt_le lawful _ _ e,
-                (reaching_is_before_past order lawful r.start x.key.end known_r.0 own.0.1).1 ends,
-              ) (λ eq. absurd (cc))
+          common_start_by b Less e h = within_is_kept StartSide r.start b h (
+            lt_le lawful _ _ e,
+            (reaching_is_before_past order lawful r.start x.key.end known_r.0 own.0.1).1 ends,
+          ) (λ eq. absurd (cc))
           common_start_by b Equal e h = own_is_kept StartSide b h
           common_start_by b Greater e h = own_is_kept StartSide b h
 
           common_end_by : (b : Bound K) (o : Ordering)
               → places order lawful (end_position order x.key.end) (end_position order r.end) ≡ o
-              → SameBound order (if is_gt o then r.end else x.key.end) b
-              → IsEndAsIn order items b
+              → SameBound order (if is_gt o then r.end else x.key.end) b → IsEndAsIn order items b
           common_end_by b Less e h = own_is_kept EndSide b h
           common_end_by b Equal e h = own_is_kept EndSide b h
-          common_end_by b Greater e h =
-              within_is_kept EndSide r.end b h (
-                (reaching_is_before_past order lawful x.key.start r.end own.0.0 known_r.1).1 starts,
-                gt_le (places order lawful) (position_total order.cmp lawful.total) _ _ e,
-              ) (λ eq. absurd (cc))
+          common_end_by b Greater e h = within_is_kept EndSide r.end b h (
+            (reaching_is_before_past order lawful x.key.start r.end own.0.0 known_r.1).1 starts,
+            gt_le (places order lawful) (position_total order.cmp lawful.total) _ _ e,
+          ) (λ eq. absurd (cc))
 
           pub common_is_kept : (side : RangeSide) (b : Bound K)
-              → SameBound order (bound_on side (common order x.key r)) b
-              → IsAsIn order items side b
+              → SameBound order (bound_on side (common order x.key r)) b → IsAsIn order items side b
           common_is_kept StartSide b h = common_start_by b _ refl h
           common_is_kept EndSide b h = common_end_by b _ refl h
 
@@ -186,13 +179,11 @@ module _ {K : Type 0} {order : KeyOrder K} (lawful : IsLawful order) where
         cut_end_is_kept r known_r starts ends b clone =
             let a = flipped_bound r.start in
             let known_a = known_turned order lawful r.start known_r.0 in
-            let at =
-            cut_end order lawful x.key.start r.start a own.0.0 starts
+            let at = cut_end order lawful x.key.start r.start a own.0.0 starts
             (same_turned order lawful r.start) in
-            let high =
-            lt_le_trans lawful _ _ _ ((before_is order lawful a r.start known_a known_r.0).1
-            (eq_le lawful _ _ at))
-            ((reaching_is_before_past order lawful r.start x.key.end known_r.0 own.0.1).1 ends) in
+            let high = lt_le_trans lawful _ _ _ ((before_is order lawful a r.start known_a
+            known_r.0).1 (eq_le lawful _ _ at)) ((reaching_is_before_past order lawful r.start
+            x.key.end known_r.0 own.0.1).1 ends) in
             within_is_kept EndSide a b clone (
               (reaching_is_before_past order lawful x.key.start a own.0.0 known_a).1
                   (lt_le_trans lawful _ _ _ starts (eq_ge lawful _ _ at)),
@@ -207,8 +198,7 @@ module _ {K : Type 0} {order : KeyOrder K} (lawful : IsLawful order) where
         cut_start_is_kept r known_r starts ends b clone =
             let a = flipped_bound r.end in
             let known_a = known_turned order lawful r.end known_r.1 in
-            let at =
-            cut_start order lawful x.key.end r.end a own.0.1 ends
+            let at = cut_start order lawful x.key.end r.end a own.0.1 ends
             (same_turned order lawful r.end) in
             let low = lt_le_trans lawful _ _ _ starts (eq_ge lawful _ _ at) in
             within_is_kept StartSide a b clone (

@@ -1,7 +1,6 @@
 -- A chain that comes to stand between two places of another, and joins what stands beside it.
 use Rattle.range_change.proofs.Common.{◌≡◌, sym, true, List, [], ◌∷◌, ◌++◌, inl, inr, subst, append_assoc, append-nil, Every, Equal, Le, Lt, every_weaker, every_append, every_left, every_right, Line, IsChain, Has, IsLeft, IsRight, IsLeftOf, IsRightOf, IsSpliced}
-use Rattle.range_algebra.specs.Orders.{le_refl, lt_le, eq_le, eq_ge, le_trans, lt_not_le, lt_le_trans, le_lt_trans}
-use Rattle.range_change.proofs.Chains.{same_is_symmetric, chain_left, chain_right, chain_above, strictly_leads, chain_before, chains_join, join_apart, follows_like}
+use Rattle.range_change.proofs.Chains.{same_is_symmetric, chain_left, chain_right, chain_above, strictly_leads, chain_before, chains_join, join_apart, follows_like, le_refl, lt_le, eq_le, eq_ge, le_trans, lt_not_le, lt_le_trans, le_lt_trans}
 use Rattle.range_change.proofs.ChainSides.{held_alone, like_item, leading_like}
 use Rattle.range_change.proofs.ChainJoins.{both_ways, hull, places_between_hold, trailing_follows}
 
@@ -23,11 +22,9 @@ module _ {L V X : Type 0} (line : Line L V X) where
       → Every (λ x. Le line.cmp (line.hi x) c) front → IsChain line middle
       → Every (λ x. Lt line.cmp c (line.lo x)) middle → IsChain line (front ++ middle)
   chain_apart front [] c chain ends other starts = rw (append-nil front) chain
-  chain_apart front (m ∷ ms) c chain ends other starts =
-      chains_join line front m ms chain other
-      (every_weaker _ _ front (λ z h.
-      strictly_leads line z (line.lo m) (line.value m)
-      (le_lt_trans line.cmp line.total _ _ _ h starts.0)) ends)
+  chain_apart front (m ∷ ms) c chain ends other starts = chains_join line front m ms chain other
+      (every_weaker _ _ front (λ z h. strictly_leads line z (line.lo m) (line.value m)
+      (le_lt_trans line _ _ _ h starts.0)) ends)
 
   -- a middle that starts later than the place
   pub filled_apart : (items front middle : List X) (c : L) → IsLeft line items front c
@@ -36,9 +33,9 @@ module _ {L V X : Type 0} (line : Line L V X) where
   filled_apart items front middle c left chain starts = record {
     start = c;
     left = left;
-    below = le_refl line.cmp line.total c;
+    below = le_refl line c;
     chain = chain_apart front middle c left.chain left.ends chain starts;
-    above = every_weaker _ _ middle (λ z h. lt_le line.cmp line.total _ _ h) starts;
+    above = every_weaker _ _ middle (λ z h. lt_le line _ _ h) starts;
     ends = λ u all. all;
     hulled = λ new d l made. made;
   }
@@ -52,48 +49,42 @@ module _ {L V X : Type 0} (line : Line L V X) where
       → IsFilled items front (other ∷ ms) (m ∷ ms) c
   filled_joined items front m other ms c s left chain at_c at_s at_hi alike_value =
       let value_back = same_is_symmetric line (line.value other) (line.value m) alike_value in
-      let c_low = eq_le line.cmp line.total _ _ at_c in
-      let s_low = eq_le line.cmp line.total _ _ at_s in
-      let hi_low = eq_le line.cmp line.total _ _ at_hi in
-      let hi_high = eq_ge line.cmp line.total _ _ at_hi in
-      let low = le_trans line.cmp line.total _ _ _ s_low left.below in
-      let reaches : Lt line.cmp c (line.hi other) =
-      lt_le_trans line.cmp line.total _ _ _
-      (le_lt_trans line.cmp line.total _ _ _ (eq_ge line.cmp line.total _ _ at_c) chain.0)
-      hi_high in
-      let good = le_lt_trans line.cmp line.total _ _ _ low reaches in
+      let c_low = eq_le line _ _ at_c in
+      let s_low = eq_le line _ _ at_s in
+      let hi_low = eq_le line _ _ at_hi in
+      let hi_high = eq_ge line _ _ at_hi in
+      let low = le_trans line _ _ _ s_low left.below in
+      let reaches : Lt line.cmp c (line.hi other) = lt_le_trans line _ _ _
+      (le_lt_trans line _ _ _ (eq_ge line _ _ at_c) chain.0) hi_high in
+      let good = le_lt_trans line _ _ _ low reaches in
       let wide : IsChain line (other ∷ ms) =
       (good, follows_like line m other ms at_hi alike_value chain.1) in
       record {
         start = s;
         left = left.left;
         below = left.below;
-        chain =
-            chains_join line front other ms left.left.chain wide
+        chain = chains_join line front other ms left.left.chain wide
             (leading_like line front other s (line.value m) left.leads at_s alike_value);
-        above = chain_above line s other ms wide (eq_ge line.cmp line.total _ _ at_s);
-        ends =
-            λ u all. (le_trans line.cmp line.total _ _ _ hi_low all.0, all.1);
+        above = chain_above line s other ms wide (eq_ge line _ _ at_s);
+        ends = λ u all. (le_trans line _ _ _ hi_low all.0, all.1);
         hulled = λ new d l made. hull line items new c d s d (λ p W. Has line W p (other ∷ ms))
-            (λ p W. Has line W p (m ∷ ms)) left.below l (le_refl line.cmp line.total d) made
+            (λ p W. Has line W p (m ∷ ms)) left.below l (le_refl line d) made
             (λ p W alike from upto. (
               like_item line [] [] ms ms other m p W alike alike_value (λ h. (
-                le_trans line.cmp line.total _ _ _ c_low from,
-                lt_le_trans line.cmp line.total _ _ _ h.1 hi_low,
+                le_trans line _ _ _ c_low from,
+                lt_le_trans line _ _ _ h.1 hi_low,
               )) (λ k. k) (λ k. k),
               like_item line [] [] ms ms m other p W alike value_back (λ h. (
-                le_trans line.cmp line.total _ _ _ low from,
-                lt_le_trans line.cmp line.total _ _ _ h.1 hi_high,
+                le_trans line _ _ _ low from,
+                lt_le_trans line _ _ _ h.1 hi_high,
               )) (λ k. k) (λ k. k),
-            ))
-            (λ p W alike where_. elim where_ [
-              | inl k ↦
-                  both_ways (left.joined p W alike k.0 k.1)
+            )) (λ p W alike where_. elim where_ [
+              | inl k ↦ both_ways (left.joined p W alike k.0 k.1)
                   (held_alone line [] other ms p W (line.value m) wide (
-                    le_trans line.cmp line.total _ _ _ s_low k.0,
-                    lt_le_trans line.cmp line.total _ _ _ k.1 (lt_le line.cmp line.total _ _ reaches),
+                    le_trans line _ _ _ s_low k.0,
+                    lt_le_trans line _ _ _ k.1 (lt_le line _ _ reaches),
                   ) alike alike_value)
-              | inr k ↦ absurd (lt_not_le line.cmp line.total _ _ k.1 k.0)
+              | inr k ↦ absurd (lt_not_le line _ _ k.1 k.0)
             ]);
       }
 
@@ -104,22 +95,18 @@ module _ {L V X : Type 0} (line : Line L V X) where
       → IsSpliced line items middle ((front ++ wide) ++ behind) c d
   spliced_apart items front wide middle behind c u d fill le lt all right =
       let below = fill.ends u all in
-      let under = le_trans line.cmp line.total _ _ _ fill.below le in
-      let l : Lt line.cmp c d = le_lt_trans line.cmp line.total _ _ _ le lt in
-      let ends =
-      every_append _ front wide
-      (every_weaker _ _ front (λ z h. le_trans line.cmp line.total _ _ _ h under) fill.left.ends)
-      below in
+      let under = le_trans line _ _ _ fill.below le in
+      let l : Lt line.cmp c d = le_lt_trans line _ _ _ le lt in
+      let ends = every_append _ front wide (every_weaker _ _ front
+      (λ z h. le_trans line _ _ _ h under) fill.left.ends) below in
       let chain = join_apart line (front ++ wide) behind u d lt fill.chain right.chain ends
       right.starts in
       let grouped = append_assoc front wide behind in
-      fill.hulled ((front ++ wide) ++ behind) d l
-      (subst (λ ys. IsSpliced line items wide ys fill.start d) (sym grouped)
-      (places_between_hold line items front wide behind fill.start d fill.left right
-      (le_lt_trans line.cmp line.total _ _ _ fill.below l)
-      (subst (λ ys. IsChain line ys) grouped chain) fill.above
-      (every_weaker _ _ wide (λ z h.
-      le_trans line.cmp line.total _ _ _ h (lt_le line.cmp line.total _ _ lt)) below)))
+      fill.hulled ((front ++ wide) ++ behind) d l (subst (λ ys. IsSpliced line items wide ys
+      fill.start d) (sym grouped) (places_between_hold line items front wide behind fill.start d
+      fill.left right (le_lt_trans line _ _ _ fill.below l) (subst (λ ys. IsChain line ys) grouped
+      chain) fill.above (every_weaker _ _ wide (λ z h. le_trans line _ _ _ h (lt_le line _ _ lt))
+      below)))
 
   regrouped : (front init behind : List X) (z : X)
       → (front ++ init) ++ z ∷ behind ≡ front ++ ((init ++ z ∷ []) ++ behind)
@@ -135,24 +122,22 @@ module _ {L V X : Type 0} (line : Line L V X) where
   spliced_joined items front init middle behind z other c d e fill lt at_d right at_lo at_e
       alike_value =
       let value_back = same_is_symmetric line (line.value other) (line.value z) alike_value in
-      let lo_low = eq_le line.cmp line.total _ _ at_lo in
-      let lo_high = eq_ge line.cmp line.total _ _ at_lo in
-      let e_low = eq_le line.cmp line.total _ _ at_e in
-      let e_high = eq_ge line.cmp line.total _ _ at_e in
-      let d_low = eq_le line.cmp line.total _ _ at_d in
-      let d_high = eq_ge line.cmp line.total _ _ at_d in
+      let lo_low = eq_le line _ _ at_lo in
+      let lo_high = eq_ge line _ _ at_lo in
+      let e_low = eq_le line _ _ at_e in
+      let e_high = eq_ge line _ _ at_e in
+      let d_low = eq_le line _ _ at_d in
+      let d_high = eq_ge line _ _ at_d in
       let own = fill.chain in
       let wide = chain_right line front (init ++ z ∷ []) own in
       let full = (chain_right line init (z ∷ []) wide).0 in
       let before = chain_before line init z [] wide in
       let starts = every_right (λ x. Le line.cmp fill.start (line.lo x)) init (z ∷ []) fill.above in
-      let low : Lt line.cmp (line.lo other) d =
-      le_lt_trans line.cmp line.total _ _ _ lo_low
-      (lt_le_trans line.cmp line.total _ _ _ full d_low) in
-      let good : Lt line.cmp (line.lo other) (line.hi other) =
-      lt_le_trans line.cmp line.total _ _ _ low
-      (le_trans line.cmp line.total _ _ _ right.above e_high) in
-      let begun : Lt line.cmp fill.start d = le_lt_trans line.cmp line.total _ _ _ fill.below lt in
+      let low : Lt line.cmp (line.lo other) d = le_lt_trans line _ _ _ lo_low
+      (lt_le_trans line _ _ _ full d_low) in
+      let good : Lt line.cmp (line.lo other) (line.hi other) = lt_le_trans line _ _ _ low
+      (le_trans line _ _ _ right.above e_high) in
+      let begun : Lt line.cmp fill.start d = le_lt_trans line _ _ _ fill.below lt in
       let grouped = append_assoc front init (z ∷ []) in
       let list : IsChain line ((front ++ init) ++ z ∷ []) =
       subst (λ ys. IsChain line ys) (sym grouped) own in
@@ -161,46 +146,36 @@ module _ {L V X : Type 0} (line : Line L V X) where
         good,
         trailing_follows line other behind e (line.value z) e_low e_high alike_value
             right.right.chain right.trails,
-      )
-      (leading_like line (front ++ init) other (line.lo z) (line.value z)
+      ) (leading_like line (front ++ init) other (line.lo z) (line.value z)
       (chain_before line (front ++ init) z [] list) at_lo alike_value) in
       let joined : IsChain line (init ++ other ∷ []) =
       chains_join line init other [] (chain_left line init (z ∷ []) wide) (good, tt)
       (leading_like line init other (line.lo z) (line.value z) before at_lo alike_value) in
       let new = front ++ ((init ++ other ∷ []) ++ behind) in
-      let made =
-      places_between_hold line items front (init ++ other ∷ []) behind fill.start e fill.left
-      right.right (lt_le_trans line.cmp line.total _ _ _ begun right.above)
+      let made = places_between_hold line items front (init ++ other ∷ []) behind fill.start e
+      fill.left right.right (lt_le_trans line _ _ _ begun right.above)
       (subst (λ ys. IsChain line ys) (regrouped front init behind other) chain)
-      (every_append _ init (other ∷ [])
-      (every_left (λ x. Le line.cmp fill.start (line.lo x)) init (z ∷ []) fill.above)
-      (le_trans line.cmp line.total _ _ _ starts.0 lo_high, tt))
-      (every_append _ init (other ∷ [])
-      (every_weaker _ _ init (λ x h.
-      le_trans line.cmp line.total _ _ _ h.0 (le_trans line.cmp line.total _ _ _ lo_high
-      (le_trans line.cmp line.total _ _ _ (lt_le line.cmp line.total _ _ good) e_low))) before)
-      (e_low, tt)) in
-      fill.hulled new d lt
-      (hull line items new fill.start d fill.start e (λ p W. Has line W p (init ++ other ∷ []))
-      (λ p W. Has line W p (init ++ z ∷ [])) (le_refl line.cmp line.total fill.start) begun
-      right.above made
-      (λ p W alike from upto. (
+      (every_append _ init (other ∷ []) (every_left (λ x. Le line.cmp fill.start (line.lo x)) init
+      (z ∷ []) fill.above) (le_trans line _ _ _ starts.0 lo_high, tt))
+      (every_append _ init (other ∷ []) (every_weaker _ _ init
+      (λ x h. le_trans line _ _ _ h.0 (le_trans line _ _ _ lo_high
+      (le_trans line _ _ _ (lt_le line _ _ good) e_low))) before) (e_low, tt)) in
+      fill.hulled new d lt (hull line items new fill.start d fill.start e
+      (λ p W. Has line W p (init ++ other ∷ [])) (λ p W. Has line W p (init ++ z ∷ []))
+      (le_refl line fill.start) begun right.above made (λ p W alike from upto. (
         like_item line init init [] [] other z p W alike alike_value (λ h. (
-          le_trans line.cmp line.total _ _ _ lo_high h.0,
-          lt_le_trans line.cmp line.total _ _ _ upto d_high,
+          le_trans line _ _ _ lo_high h.0,
+          lt_le_trans line _ _ _ upto d_high,
         )) (λ k. k) (λ k. k),
         like_item line init init [] [] z other p W alike value_back (λ h. (
-          le_trans line.cmp line.total _ _ _ lo_low h.0,
-          lt_le_trans line.cmp line.total _ _ _ upto
-              (le_trans line.cmp line.total _ _ _ right.above e_high),
+          le_trans line _ _ _ lo_low h.0,
+          lt_le_trans line _ _ _ upto (le_trans line _ _ _ right.above e_high),
         )) (λ k. k) (λ k. k),
-      ))
-      (λ p W alike where_. elim where_ [
-        | inl k ↦ absurd (lt_not_le line.cmp line.total _ _ k.1 k.0)
-        | inr k ↦
-            both_ways (right.joined p W alike k.0 k.1)
-            (held_alone line init other [] p W (line.value z) joined (
-              le_trans line.cmp line.total _ _ _ (lt_le line.cmp line.total _ _ low) k.0,
-              lt_le_trans line.cmp line.total _ _ _ k.1 e_high,
+      )) (λ p W alike where_. elim where_ [
+        | inl k ↦ absurd (lt_not_le line _ _ k.1 k.0)
+        | inr k ↦ both_ways (right.joined p W alike k.0 k.1) (held_alone line init other [] p W
+            (line.value z) joined (
+              le_trans line _ _ _ (lt_le line _ _ low) k.0,
+              lt_le_trans line _ _ _ k.1 e_high,
             ) alike alike_value)
       ]))

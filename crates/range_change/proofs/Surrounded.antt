@@ -1,5 +1,5 @@
 -- What becomes of the one item that a range meets where it surrounds the range.
-use Rattle.range_change.proofs.Common.{◌≡◌, ℕ, ◌+◌, ◌-◌, ◌<◌, ◌≤◌, List, [], ◌∷◌, ◌++◌, length, take, drop, get_or, refl, ap, sym, ◌∙◌, arith, Option, Some, None, Result, Bool, true, false, IsTrue, IsSome, IsEquivalence, Shared, ForSome, Bor, Every, KeyOrder, IsLawful, position_cmp, SameBound, lower, upper, Lt, IsKnownBound, AnyRange, good_at, Item, AnswersPiece, MayAnswer, IsInserted, IsRemoved, IsDivided, flipped_bound, with_end, Overlap, IsConnectedTo, ArePieces, ReachesBefore, ReachesAfter, IsReach, IsSurrounded, item_upper, option_items, Window, PLt, lt_le}
+use Rattle.range_change.proofs.Common.{◌≡◌, ℕ, ◌+◌, ◌-◌, ◌<◌, ◌≤◌, List, [], ◌∷◌, ◌++◌, length, take, drop, get_or, refl, ap, sym, ◌∙◌, arith, Option, Some, None, Result, Bool, true, false, IsTrue, IsEquivalence, Shared, Bor, Every, KeyOrder, IsLawful, SameBound, lower, upper, IsKnownBound, AnyRange, Item, AnswersPiece, MayAnswer, IsInserted, IsRemoved, IsDivided, flipped_bound, with_end, Overlap, IsConnectedTo, ArePieces, ReachesBefore, ReachesAfter, IsReach, IsSurrounded, option_items, Window, PLt, lt_le}
 use Rattle.range_change.specs.declared.cut.DividedItem.{DividedItem}
 use Rattle.range_change.specs.declared.reach.Reach.{Reach}
 use Rattle.range_change.proofs.RangePieces.{IsFull, all_full, item_at}
@@ -28,13 +28,6 @@ module _ {K : Type 0} (order : KeyOrder K) {V : Type 0} {P : Type 0} (is_good : 
   few_after None reach = omega arith
   few_after (Some p) reach = omega (arith, reach.2)
 
-  ends_by : (last : Option P) → count ≡ 1 → IsSome last
-      → ReachesAfter order is_good rank items r place count last → (x : Item (AnyRange K) V)
-      → x ≡ get_or items place x → Lt (position_cmp order.cmp) (upper order r) (item_upper order x)
-  ends_by None one some reach x read = absurd (cc)
-  ends_by (Some p) one some reach x read = let at : place ≡ place + count - 1 =
-      omega (arith, one) in reach.3 x (read ∙ ap (λ n. get_or items n x) at)
-
 module _ {K : Type 0} {order : KeyOrder K} {V : Type 0} {same : V → V → Bool} {P : Type 0}
     {is_good : P → Type 0} {rank : P → ℕ} {items : List (Item (AnyRange K) V)} {r : AnyRange K}
     {place : ℕ} where
@@ -47,40 +40,13 @@ module _ {K : Type 0} {order : KeyOrder K} {V : Type 0} {same : V → V → Bool
     few_after order is_good rank items r place reach.window.count reach.last found.last,
   )
 
-  -- and a run can start there
-  pub run_can_start : {reach : Reach P} → IsReach order same is_good rank items r reach place
-      → ForSome reach.window.from is_good × ForSome reach.first (λ p. is_good p × (rank p ≡ place))
-  run_can_start {reach} found = (
-    good_at is_good rank (length items) reach.window.from place found.window.position,
-    λ p is. let first = rw is at found.first in (first.0, first.1),
-  )
-
   -- so none does where the window is empty
   pub none_reach : {reach : Reach P} → IsReach order same is_good rank items r reach place
       → reach.window.count ≡ 0 → (reach.first ≡ None) × (reach.last ≡ None)
-  none_reach {reach} found none = let met =
-      reach_is_met found in (
-        none_of reach.first (rw none at met.0),
-        none_of reach.last (rw none at met.1),
-      )
-
-  -- the one item of a window, which reaches out of the range on both sides
-  pub surrounded_by : {reach : Reach P} {p : P}
-      → IsReach order same is_good rank items r reach place
-      → (reach.window.count ≡ 1) × (reach.first ≡ Some p) × IsSome reach.last
-      → IsSurrounded order same is_good rank items r reach.window place p
-  surrounded_by {reach} {p} found alone =
-      let first = rw alone.1 at found.first in
-      record {
-        window = found.window;
-        one = alone.0;
-        good = first.0;
-        here = first.1;
-        starts = first.3;
-        ends =
-            ends_by order is_good rank items r place reach.window.count reach.last alone.0 alone.2
-            found.last;
-      }
+  none_reach {reach} found none = let met = reach_is_met found in (
+    none_of reach.first (rw none at met.0),
+    none_of reach.last (rw none at met.1),
+  )
 
 module _ {K : Type 0} {order : KeyOrder K} (lawful : IsLawful order) {V : Type 0}
     {same : V → V → Bool} (equal : IsEquivalence same) {P : Type 0} {is_good : P → Type 0}
@@ -107,30 +73,24 @@ module _ {K : Type 0} {order : KeyOrder K} (lawful : IsLawful order) {V : Type 0
   pub stands : (v : V) → same x.value v ≡ true → IsInserted order same items items r v
   stands v values =
       let window = within.window in
-      let left =
-      left_border_at lawful equal window v place x within_list here
+      let left = left_border_at lawful equal window v place x within_list here
       (lt_le lawful _ _ (within.starts x here)) (first_reaches lawful equal window x here some)
       values in
-      let right =
-      right_border_at lawful equal window (place + w.count) place v x (sym next) within_list here
-      (last_starts lawful equal window x here_end some) (lt_le lawful _ _ (within.ends x here))
-      values in
-      let list =
-      standing_item_splits_list items place (place + w.count) x
+      let right = right_border_at lawful equal window (place + w.count) place v x (sym next)
+      within_list here (last_starts lawful equal window x here_end some)
+      (lt_le lawful _ _ (within.ends x here)) values in
+      let list = standing_item_splits_list items place (place + w.count) x
       (omega (arith, window.in_range, some)) here next in
-      borders_insert lawful equal window items v x.value place (place + w.count) None None
-      (Some x.key.start) (Some x.key.end) left right (left_frame_inside lawful equal window v x here
-      some) (right_frame_inside lawful equal window v x here_end some) (omega arith) values
-      (λ e. absurd (omega (arith, within.one, e))) list
+      borders_insert lawful equal window items v x.value left right
+      (left_frame_inside lawful equal window v x here some) (right_frame_inside lawful equal window
+      v x here_end some) (omega arith) values (λ e. absurd (omega (arith, within.one, e))) list
 
   -- the range is cut out of it: what the copies are, and the list with the parts
   module _ (parts : DividedItem K V)
       (end_is : IsKnownBound order parts.end × SameBound order (flipped_bound r.start) parts.end)
-      (start_is : IsKnownBound order parts.start
-      × SameBound order (flipped_bound r.end) parts.start)
-      (alike : (d : Item (AnyRange K) V)
-      → IsTrue (same (get_or items (rank p) d).value parts.value))
-      (others new : List (Item (AnyRange K) V)) (at : ℕ) (same_list : others ≡ items)
+      (start_is : IsKnownBound order parts.start × SameBound order (flipped_bound r.end)
+      parts.start) (alike : (d : Item (AnyRange K) V) → IsTrue (same (get_or items (rank p) d).value
+      parts.value)) (others new : List (Item (AnyRange K) V)) (at : ℕ) (same_list : others ≡ items)
       (same_rank : at ≡ rank p) where
     abbrev front : Item (AnyRange K) V
     front = with_end x parts.end
@@ -167,33 +127,27 @@ module _ {K : Type 0} {order : KeyOrder K} (lawful : IsLawful order) {V : Type 0
         let window = within.window in
         let other : same parts.value v ≡ false =
         equal.congr parts.value x.value v copied ∙ differs in
-        let left =
-        left_border_rest lawful equal window v front (left_rest_cut lawful equal window x here some
-        (within.starts x here) parts.end end_is.0 end_is.1) differs in
-        let right =
-        right_border_rest lawful equal window (place + w.count) v behind window.in_range
-        (right_rest_cut lawful equal window x here_end some
-        (within.ends x here) parts.start start_is.0 start_is.1 parts.value copied) other in
-        borders_insert lawful equal window new v v place (place + w.count) (Some front)
-        (Some behind) None None left right (left_frame_cut lawful equal window v x here some
-        parts.end end_is.1 differs) (right_frame_cut lawful equal window v x here_end some
-        parts.start parts.value start_is.1 copied other) (omega (arith, within.one)) (equal.refl v)
-        (λ e. refl) (list_is (Some (record { key = r; value = v })) divided)
+        let left = left_border_rest lawful equal window v front (left_rest_cut lawful equal window x
+        here some (within.starts x here) parts.end end_is.0 end_is.1) differs in
+        let right = right_border_rest lawful equal window (place + w.count) v behind window.in_range
+        (right_rest_cut lawful equal window x here_end some (within.ends x here) parts.start
+        start_is.0 start_is.1 parts.value copied) other in
+        borders_insert lawful equal window new v v left right (left_frame_cut lawful equal window v
+        x here some parts.end end_is.1 differs) (right_frame_cut lawful equal window v x here_end
+        some parts.start parts.value start_is.1 copied other) (omega (arith, within.one))
+        (equal.refl v) (λ e. refl) (list_is (Some (record { key = r; value = v })) divided)
 
     -- the range is unbound
     pub divided_alone : IsDivided others new at parts None → IsRemoved order same items new r
     divided_alone divided =
         let window = within.window in
-        let left =
-        left_rest_cut lawful equal window x here some
-        (within.starts x here) parts.end end_is.0 end_is.1 in
-        let right =
-        right_rest_cut lawful equal window x here_end some
-        (within.ends x here) parts.start start_is.0 start_is.1 parts.value copied in
+        let left = left_rest_cut lawful equal window x here some (within.starts x here) parts.end
+        end_is.0 end_is.1 in
+        let right = right_rest_cut lawful equal window x here_end some (within.ends x here)
+        parts.start start_is.0 start_is.1 parts.value copied in
         borders_remove lawful equal window new (Some front) (Some behind) some left right
         (left_part lawful equal window x here some parts.end end_is.1, tt) (
-          right_part lawful equal window x here_end some parts.start parts.value start_is.1
-              copied,
+          right_part lawful equal window x here_end some parts.start parts.value start_is.1 copied,
           tt,
         ) (list_is None divided)
 
@@ -204,26 +158,22 @@ module _ {K : Type 0} {order : KeyOrder K} (lawful : IsLawful order) {V : Type 0
   chain = stored_chain order lawful same equal items within.window.stored
 
   full : Every (IsFull order lawful items r) items
-  full =
-      all_full order lawful same equal r items within.window.stored.known chain
+  full = all_full order lawful same equal r items within.window.stored.known chain
 
   good : PLt lawful (lower order r) (upper order r)
   good = (nonempty_good order lawful r within.window.known).0 within.window.nonempty
 
   -- no other item touches the range
   pub alone : Every (λ i. IsConnectedTo order i.key r → Overlap order i.key r) items
-  alone =
-      surrounded_alone order lawful same equal items r within.window.known good full chain
+  alone = surrounded_alone order lawful same equal items r within.window.known good full chain
       (take place items) (drop (place + 1) items) x split (within.starts x here)
       (within.ends x here)
 
   -- the whole range is the one piece
   pub only_piece : ArePieces order items r (record { key = r; value = Some x.value } ∷ [])
-  only_piece =
-      whole_piece order lawful same equal items r within.window.known full chain good
-      (take place items) (drop (place + 1) items) x split
-      (item_at (IsFull order lawful items r) items place x full within_list here).0
-      (within.starts x here) (within.ends x here)
+  only_piece = whole_piece order lawful same equal items r within.window.known full chain good
+      (take place items) (drop (place + 1) items) x split (item_at (IsFull order lawful items r)
+      items place x full within_list here).0 (within.starts x here) (within.ends x here)
 
   -- what the closure may answer to its value
   pub only_answered : {F E : Type 0}

@@ -1,5 +1,5 @@
 -- What follows from the answers of tests and calls, and what contradicts them.
-use Rattle.range_change.proofs.Common.{◌≡◌, Bool, true, false, Some, Result, Ok, Err}
+use Rattle.range_change.proofs.Common.{◌≡◌, Bool, true, false, Some}
 
 -- a test does not fail and hold
 pub not_both : {b : Bool} → b ≡ false → b ≡ true → ⊥
@@ -7,6 +7,3 @@ not_both fails holds = cc
 
 pub same_some : {A : Type 0} {a b : A} → Some a ≡ Some b → a ≡ b
 same_some e = cc
-
-pub value_is_no_error : {A E : Type 0} {a : A} {e : E} → ◌≡◌ {A = Result A E} (Ok a) (Err e) → ⊥
-value_is_no_error is = cc

@@ -6,19 +6,17 @@ use Rattle.range_change.proofs.Forms.{Chained}
 use Rattle.range_change.proofs.MergedItems.{rest_stands, way_follows}
 
 module _ {K : Type 0} (order : KeyOrder K) {V : Type 0} (same : V → V → Bool)
-    (equal : IsEquivalence same) {F E : Type 0}
-    (calls : Shared F (Option (Bor V) × Unit {0}) (Result (Option V) E)) (f : F)
-    (items new : List (Item (AnyRange K) V)) (r : AnyRange K) where
+    (equal : IsEquivalence same) {F E : Type 0} (calls : Shared F (Option (Bor V) × Unit {0})
+    (Result (Option V) E)) (f : F) (items new : List (Item (AnyRange K) V)) (r : AnyRange K) where
   same_is_symmetric : (a b : V) → IsTrue (same a b) → IsTrue (same b a)
   same_is_symmetric a b h = equal.symm b a ∙ h
 
   given_by : (answers : List (Answered K V)) (j : Item (AnyRange K) V) (v : V)
       → same v j.value ≡ true → Any (λ a. a.answer ≡ Some j.value) answers
       → IsGivenBy same answers v
-  given_by answers j v alike h =
-      any_over (λ a. a.answer ≡ Some j.value) (λ a. IsAsAnswered same a.answer (Some v)) answers
-      (λ a is. subst (λ o. IsAsAnswered same o (Some v)) (sym is)
-      (same_is_symmetric v j.value alike)) h
+  given_by answers j v alike h = any_over (λ a. a.answer ≡ Some j.value)
+      (λ a. IsAsAnswered same a.answer (Some v)) answers (λ a is. subst
+      (λ o. IsAsAnswered same o (Some v)) (sym is) (same_is_symmetric v j.value alike)) h
 
   -- what was gathered stands in the place of the range
   pub by_middle : (middle : List (Item (AnyRange K) V))
@@ -29,29 +27,23 @@ module _ {K : Type 0} (order : KeyOrder K) {V : Type 0} (same : V → V → Bool
       answers = h.answers;
       pieces = h.pieces;
       given = h.given;
-      held =
-          λ k key in_r.
-          any_over (λ a. Holds order a.key k
-          × ((b : Option V) → Binds order same middle k b ↔ IsAsAnswered same a.answer b))
-          (λ a. Holds order a.key k
-          × ((b : Option V) → Binds order same new k b ↔ IsAsAnswered same a.answer b)) h.answers
+      held = λ k key in_r. any_over (λ a. Holds order a.key k × ((b : Option V) → Binds order same
+          middle k b ↔ IsAsAnswered same a.answer b)) (λ a. Holds order a.key k ×
+          ((b : Option V) → Binds order same new k b ↔ IsAsAnswered same a.answer b)) h.answers
           (λ a t. (
             t.0,
             λ b. let own =
                 put.held k key in_r b in (λ g. (t.1 b).0 (own.0 g), λ g. own.1 ((t.1 b).1 g)),
-          ))
-          (h.held k key in_r);
+          )) (h.held k key in_r);
       others = put.others;
     };
     frame = way_follows (λ run others way. record {
       concerned = way.concerned;
-      valued =
-          every_weaker (λ j. HasValue order same run j.value ⊎ HasValue order same middle j.value)
-          (λ j. HasValue order same run j.value ⊎ IsGivenBy same h.answers j.value) others
+      valued = every_weaker (λ j. HasValue order same run j.value ⊎ HasValue order same middle
+          j.value) (λ j. HasValue order same run j.value ⊎ IsGivenBy same h.answers j.value) others
           (λ j t. elim t [
             | inl old ↦ inl old
-            | inr own ↦
-                inr (any_use (λ i. IsTrue (same j.value i.value))
+            | inr own ↦ inr (any_use (λ i. IsTrue (same j.value i.value))
                 (λ i. Any (λ a. a.answer ≡ Some i.value) h.answers) middle own h.valued
                 (λ i alike from. given_by h.answers i j.value alike from))
           ]) way.valued;
@@ -61,10 +53,8 @@ module _ {K : Type 0} (order : KeyOrder K) {V : Type 0} (same : V → V → Bool
   -- what an update does not meet stands or is merged
   pub updated_stands : IsUpdated order same calls f items new r
       → IsUpdateFrame order same items new r
-  updated_stands h =
-      rw (h.frame.before, h.frame.after)
-      (rest_stands order same r h.frame.front h.frame.run h.frame.others h.frame.behind
-      h.frame.such.concerned)
+  updated_stands h = rw (h.frame.before, h.frame.after) (rest_stands order same r h.frame.front
+      h.frame.run h.frame.others h.frame.behind h.frame.such.concerned)
 
   abbrev one_answer : V → Option V → List (Answered K V)
   one_answer v answer = record { key = r; value = Some v; answer = answer } ∷ []
@@ -80,9 +70,8 @@ module _ {K : Type 0} (order : KeyOrder K) {V : Type 0} (same : V → V → Bool
         → IsInsertionFrame order same items new r v
         → IsMergeFrame order same items new r (IsGivenBy same (one_answer old (Some v)))
     inserted_frame v alone h =
-        let met =
-        every_right _ h.front h.run
-        (every_left _ (h.front ++ h.run) h.behind (rw h.before at alone)) in
+        let met = every_right _ h.front h.run (every_left _ (h.front ++ h.run) h.behind
+        (rw h.before at alone)) in
         record {
           front = h.front;
           run = h.run;
@@ -91,14 +80,12 @@ module _ {K : Type 0} (order : KeyOrder K) {V : Type 0} (same : V → V → Bool
           before = h.before;
           after = h.after;
           such = record {
-            concerned =
-                every_with (JoinsOrMeets order same r v) _
+            concerned = every_with (JoinsOrMeets order same r v) _
                 (λ i. Overlap order i.key r ⊎ IsMergedInto order same h.others r i) h.run
                 h.such.concerned met (λ i t a. inl (meets_alone i v t a));
-            valued =
-                every_weaker (IsNewItem order same h.run r v)
-                (λ j. HasValue order same h.run j.value ⊎ IsGivenBy same
-                (one_answer old (Some v)) j.value) h.others (λ j t. elim t.value [
+            valued = every_weaker (IsNewItem order same h.run r v)
+                (λ j. HasValue order same h.run j.value ⊎ IsGivenBy same (one_answer old (Some v))
+                j.value) h.others (λ j t. elim t.value [
                   | inl own ↦ inr (inl (same_is_symmetric j.value v own))
                   | inr other ↦ inl other
                 ]) h.such.made;
@@ -109,10 +96,8 @@ module _ {K : Type 0} (order : KeyOrder K) {V : Type 0} (same : V → V → Bool
         → IsMergeFrame order same items new r (IsGivenBy same (one_answer old None))
     removed_frame = way_follows (λ run others way. record {
       concerned = every_weaker _ _ run (λ i t. inl t) way.concerned;
-      valued =
-          every_weaker (IsPart order same run r)
-          (λ j. HasValue order same run j.value ⊎ IsGivenBy same (one_answer old None) j.value)
-          others (λ j t. inl t.value) way.made;
+      valued = every_weaker (IsPart order same run r) (λ j. HasValue order same run j.value ⊎
+          IsGivenBy same (one_answer old None) j.value) others (λ j t. inl t.value) way.made;
     })
 
     some_of : (v : V) (k : K) (b : Option V) → Binds order same new k b ↔ IsSomeOf order same v b
@@ -153,14 +138,12 @@ module _ {K : Type 0} (order : KeyOrder K) {V : Type 0} (same : V → V → Bool
 -- a range that one item surrounds is one piece
 module _ {K : Type 0} (order : KeyOrder K) (lawful : IsLawful order) {V : Type 0}
     (same : V → V → Bool) (equal : IsEquivalence same) (items : List (Item (AnyRange K) V))
-    (r : AnyRange K) (known : IsKnownRange order r)
-    (full : Every (IsFull order lawful items r) items)
-    (chain : Chained order lawful same equal items)
-    (some : PLt lawful (lower order r) (upper order r))
-    (done rest : List (Item (AnyRange K) V)) (x : Item (AnyRange K) V)
+    (r : AnyRange K) (known : IsKnownRange order r) (full : Every (IsFull order lawful items r)
+    items) (chain : Chained order lawful same equal items) (some : PLt lawful (lower order r)
+    (upper order r)) (done rest : List (Item (AnyRange K) V)) (x : Item (AnyRange K) V)
     (list : items ≡ done ++ x ∷ rest) (known_x : IsKnownRange order x.key)
-    (starts : PLt lawful (lower order x.key) (lower order r))
-    (ends : PLt lawful (upper order r) (upper order x.key)) where
+    (starts : PLt lawful (lower order x.key) (lower order r)) (ends : PLt lawful (upper order r)
+    (upper order x.key)) where
   whole_inside : IsInside order lawful items r r
   whole_inside = (
     known,
@@ -176,26 +159,21 @@ module _ {K : Type 0} (order : KeyOrder K) (lawful : IsLawful order) {V : Type 0
       let q = start_position order x.key.start in
       let u = end_position order r.end in
       let v = end_position order x.key.end in
-      let under =
-      end_le order lawful r.end x.key.end known.1 known_x.1 (lt_le lawful _ _ ends) in
+      let under = end_le order lawful r.end x.key.end known.1 known_x.1 (lt_le lawful _ _ ends) in
       record {
-        starts =
-            both lawful _ _ (later_over order lawful p q).0
+        starts = both lawful _ _ (later_over order lawful p q).0
             (either_choice_holds order lawful (λ y. PLe lawful y p) (is_gt (cmp p q)) p q
             (le_refl lawful p) (lt_le lawful _ _ starts));
-        ends =
-            both lawful _ _ (either_choice_holds order lawful (λ y. PLe lawful u y)
+        ends = both lawful _ _ (either_choice_holds order lawful (λ y. PLe lawful u y)
             (is_gt (cmp u v)) v u under (le_refl lawful u)) (earlier_under order lawful u v).0;
       }
 
   whole_right : IsRight order lawful items r r (Some x.value)
-  whole_right =
-      rw list (any_right (λ i. IsCommonPart order r i.key r × (i.value ≡ x.value)) done (x ∷ rest)
-      (inl (whole_common, refl)))
+  whole_right = rw list (any_right (λ i. IsCommonPart order r i.key r × (i.value ≡ x.value)) done
+      (x ∷ rest) (inl (whole_common, refl)))
 
   pub whole_piece : ArePieces order items r (record { key = r; value = Some x.value } ∷ [])
-  whole_piece =
-      cut_all order lawful items r known same equal full chain
+  whole_piece = cut_all order lawful items r known same equal full chain
       (record { key = r; value = Some x.value } ∷ []) (record {
         inside = (whole_inside, tt);
         right = (whole_right, tt);

@@ -48,24 +48,19 @@ module _ {K : Type 0} (order : KeyOrder K) (lawful : IsLawful order) {V : Type 0
         in_range = walk.in_range;
         last_is = walk.last_is;
         after_is = walk.after_is;
-        below =
-            every_weaker _ _ (take place items)
-            (λ i h. (before_is order lawful i.key.end r.start h.0.1 known.0).0 (rw at_start at h.1))
+        below = every_weaker _ _ (take place items) (λ i h.
+            (before_is order lawful i.key.end r.start h.0.1 known.0).0 (rw at_start at h.1))
             (every_both _ _ (take place items) (every_front _ place items all) found.below);
-        above =
-            every_weaker _ _ (drop place items)
-            (λ i h. (reaching_is_before_past order lawful r.start i.key.end known.0 h.0.1).0
-            (rw at_start at h.1))
+        above = every_weaker _ _ (drop place items) (λ i h. (reaching_is_before_past order lawful
+            r.start i.key.end known.0 h.0.1).0 (rw at_start at h.1))
             (every_both _ _ (drop place items) (every_back _ place items all) found.above);
-        meets = λ d some. let x =
-            get_or items (place + count - 1)
-            d in (reaching_is_before_past order lawful x.key.start r.end
+        meets = λ d some. let x = get_or items (place + count - 1) d in
+            (reaching_is_before_past order lawful x.key.start r.end
             (every_at (λ i. IsKnownRange order i.key) items (place + count - 1) d all
             (omega (arith, walk.in_range))).0 known.1).0 (rw at_end at (walk.meets d some));
-        behind =
-            rest_starts_after_range e r (drop end items) at_end known (every_back _ end items all)
-            (chain_right (line_of order lawful same equal) (take end items) (drop end items) chain)
-            (λ d some.
+        behind = rest_starts_after_range e r (drop end items) at_end known
+            (every_back _ end items all) (chain_right (line_of order lawful same equal)
+            (take end items) (drop end items) chain) (λ d some.
             let index : end + 0 ≡ end = omega arith in
             rw (get_or-drop end items 0 d, index)
             (walk.stops d (omega (arith, length-drop end items, walk.in_range))));
@@ -86,7 +81,6 @@ pub last_of_run : {T : Type 0} (items : List T) (place left at : ℕ) (x : T) �
 last_of_run items place left at x some within last read =
     let one_more : left ≡ (left - 1) + 1 = omega arith in
     let there : place + (left - 1) ≡ at = omega arith in
-    ap (λ n. take n (drop place items)) one_more
-    ∙ take_more (drop place items) (left - 1) x (omega (arith, length-drop place items))
-    ∙ ap (λ y. take (left - 1) (drop place items) ++ y ∷ [])
-    (get_or-drop place items (left - 1) x ∙ ap (λ n. get_or items n x) there ∙ sym read)
+    ap (λ n. take n (drop place items)) one_more ∙ take_more (drop place items) (left - 1) x
+    (omega (arith, length-drop place items)) ∙ ap (λ y. take (left - 1) (drop place items) ++ y ∷
+    []) (get_or-drop place items (left - 1) x ∙ ap (λ n. get_or items n x) there ∙ sym read)

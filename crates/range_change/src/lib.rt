@@ -14,7 +14,7 @@
 //! - the one way of changing a map: `src/`: `bind.rt`, `unbind.rt` and `replace.rt` plan,
 //!   `splice.rt` commits
 //! - one item stored, or handed back where there is no memory: `src/free.rt`; between two others,
-//!   neither of which it joins: `proofs/Between.antt`
+//!   neither of which it joins: `put_between`
 //! - ranges that lie apart from all stored ones: `put_apart` in `src/append.rt`, `src/apart.rt`,
 //!   `proofs/{ApartRanges,OuterRange}.antt`; before or after all of them, with no search
 //! - whole ranges taken out: `unbind_whole` in `src/unbind.rt`

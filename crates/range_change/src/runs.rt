@@ -1,5 +1,5 @@
 //! Runs of stored items, from both ends.
-ghost use Rattle.std.specs.Prelude.{◌≡◌, ◌∷◌, ◌++◌, [], ⊤, Some, length, take, drop, ◌-◌};
+ghost use Rattle.std.specs.Prelude.{◌≡◌, ◌∷◌, ◌++◌, [], ⊤, Some, length, take, drop, ◌-◌, MatchOption};
 ghost use Rattle.std.specs.Iterator.{YieldsFirstBy, YieldsLastBy, item_count};
 ghost use Rattle.std.specs.Ordering.{is_gt};
 ghost use Rattle.range_keys.specs.Position.{position_cmp, start_position};
@@ -175,6 +175,33 @@ fn alone<'a, T, P: Copy>(item: &'a T, ends: Option<(P, P)>, singles: u8) -> Fron
     }
 }
 
+/// Takes the first item from a run before which none lie near, and those that lie with it. It
+/// stands in its caller, so that only those who come here make room for it.
+#[inline(always)]
+fn take_first<'a, K: PartialEnum, V: Eq, C: Storage<Item<AnyRange<K>, V>>>(
+    stored: &'a C,
+    near: &mut Run<'a, Item<AnyRange<K>, V>>,
+    ends: &mut Option<(C::Position, C::Position)>,
+    singles: &mut u8,
+) -> Option<&'a Item<AnyRange<K>, V>>
+    requires stored { IsStored K.order V.eq (C.items stored.now) }
+    requires near { near.old ≡ [] }
+    requires run { IsRun (C.is_good stored.now) (C.rank stored.now) ends.old }
+    ensures items { MatchOption result
+        (run_items (C.rank stored.now) (C.items stored.now) ends.old ≡ [])
+        (λ item. run_items (C.rank stored.now) (C.items stored.now) ends.old
+        ≡ item.now ∷ (near.new ++ run_items (C.rank stored.now) (C.items stored.now) ends.new)) }
+    ensures none { MatchOption result ((near.new ≡ []) × (ends.new ≡ ends.old)) (λ _. ⊤) }
+    ensures run { IsRun (C.is_good stored.now) (C.rank stored.now) ends.new }
+{
+    let (first, last) = (*ends)?;
+    let front = split_first::<K, V, C>(stored, first, last, *singles);
+    *near = front.near;
+    *ends = front.ends;
+    *singles = front.singles;
+    Some(front.item)
+}
+
 /// The last item of a run, and the run that is left before it.
 fn split_last<'a, K: PartialEnum, V: Eq, C: Storage<Item<AnyRange<K>, V>>>(
     stored: &'a C,
@@ -248,15 +275,16 @@ impl<'a, K: PartialEnum + 'a, V: Eq + 'a, C: Storage<Item<AnyRange<K>, V>> + 'a>
 
     #[inline(always)]
     fn next(&mut self) -> Option<(&'a AnyRange<K>, &'a V)> {
-        if let Some(item) = self.near.next() {
-            return Some((&item.key, &item.value));
-        }
-        let (first, last) = self.ends?;
-        let front = split_first::<K, V, C>(self.stored, first, last, self.singles);
-        self.near = front.near;
-        self.ends = front.ends;
-        self.singles = front.singles;
-        Some((&front.item.key, &front.item.value))
+        let item = match self.near.next() {
+            Some(item) => item,
+            None => take_first::<K, V, C>(
+                self.stored,
+                &mut self.near,
+                &mut self.ends,
+                &mut self.singles,
+            )?,
+        };
+        Some((&item.key, &item.value))
     }
 
     fn size_hint(&self) -> (usize, Option<usize>) {

@@ -10,10 +10,9 @@ invariant-loop-part g l =
     let place = place_before (g.C.Storage.rank l.stored) (length items) l.window.from in
     record {
       spelled : KeepsSpelling order items l.middle.items;
-      underway : (lawful : IsLawful order) (equal : IsEquivalence same)
-          → IsUnderway order lawful same equal l.range g.F.Fn l.f
-          (pieces_of order l.range (take l.window.count (drop place items))) l.pieces
-          l.middle.items;
+      underway : (lawful : IsLawful order) (equal : IsEquivalence same) → IsUnderway order lawful
+          same equal l.range g.F.Fn l.f (pieces_of order l.range
+          (take l.window.count (drop place items))) l.pieces l.middle.items;
     }
 
 abbrev pub decreases-loop-part : goal.decreases-loop-part

@@ -11,15 +11,13 @@ returns g c =
     let before = c.is_clear_before-clear_before.result in
     let behind = c.is_clear_after-clear_after.result in
     let start = ap (start_position order) (c.start_bound.ensures tt) in
-    let both : c.if-clear_before.result ≡ (before && behind) =
-    elim c.if-clear_before.branch [
+    let both : c.if-clear_before.result ≡ (before && behind) = elim c.if-clear_before.branch [
       | then-clear_before w ↦ search rules
       | else-clear_before w ↦ search rules
     ] in
-    gap_is order g.met.K.PartialEnum.lawful g.V.PartialEq.eq g.met.V.Eq.laws
-    (storage.items stored) c.args.range.now c.requires.stored c.known.ensures
-    c.requires.nonempty (storage.is_good stored) (storage.rank stored)
-    (g.met.C.Storage.good_is_in_range stored)
+    gap_is order g.met.K.PartialEnum.lawful g.V.PartialEq.eq g.met.V.Eq.laws (storage.items stored)
+    c.args.range.now c.requires.stored c.known.ensures c.requires.nonempty (storage.is_good stored)
+    (storage.rank stored) (g.met.C.Storage.good_is_in_range stored)
     (start_position order (bound_of c.start_bound.result)) c.find.result.0 c.find.result.1
     c.if-clear_before.result before behind start c.find.ensures.found
     c.is_clear_before-clear_before.ensures c.is_clear_after-clear_after.ensures both

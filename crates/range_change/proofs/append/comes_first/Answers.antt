@@ -7,7 +7,6 @@ returns-then-is_clear_after g c =
     let storage = g.C.Storage in
     let stored = c.args.stored.now in
     all_behind g.K.MaybeBounded.order g.met.K.PartialEnum.lawful g.V.PartialEq.eq g.met.V.Eq.laws
-    (storage.items stored) c.args.range.now c.requires.stored c.known.ensures
-    c.requires.nonempty (storage.is_good stored) (storage.rank stored)
-    (g.met.C.Storage.good_is_in_range stored) c.first-first.result _
-    c.first-first.ensures c.if-is_clear_after.ensures refl
+    (storage.items stored) c.args.range.now c.requires.stored c.known.ensures c.requires.nonempty
+    (storage.is_good stored) (storage.rank stored) (g.met.C.Storage.good_is_in_range stored)
+    c.first-first.result _ c.first-first.ensures c.if-is_clear_after.ensures refl

@@ -1,9 +1,6 @@
 use Rattle.range_change.proofs.Common.{sym, ◌∙◌, get_or_read}
 use Rattle.range_change.proofs.append.is_clear_before.Goals as goal
 
-pub get-requires : goal.get-requires
-get-requires g c = c.requires c.in-Some.p c.in-Some.is
-
 pub returns-in-Some : goal.returns-in-Some
 returns-in-Some g c =
     let storage = g.C.Storage in
@@ -11,10 +8,5 @@ returns-in-Some g c =
     let p = c.in-Some.p in
     let y = c.get.result.now in
     let within = g.met.C.Storage.good_is_in_range stored p (c.requires p c.in-Some.is) in
-    rw c.in-Some.is (λ x is.
-    rw (is
-    ∙ sym (get_or_read (storage.items stored) (storage.rank stored p) y within c.get.ensures x))
-    c.lies_apart.ensures)
-
-pub returns-in-None : goal.returns-in-None
-returns-in-None g c = rw c.in-None.is
+    rw c.in-Some.is (λ x is. rw (is ∙ sym (get_or_read (storage.items stored)
+    (storage.rank stored p) y within c.get.ensures x)) c.lies_apart.ensures)

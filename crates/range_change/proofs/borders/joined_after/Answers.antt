@@ -11,10 +11,8 @@ returns-then-eq-clause-joined g c =
     let within = g.met.C.Storage.good_is_in_range stored c.in-Some.after after.0 in (
       after.0,
       after.1,
-      λ d.
-          rw (
-            sym after.1,
-            ← get_or_read items rank c.get-item.result.now within c.get-item.ensures d,
-          )
-          (sym c.if-touching.ensures.touching, sym c.if-eq.ensures),
+      λ d. rw (
+        sym after.1,
+        ← get_or_read items rank c.get-item.result.now within c.get-item.ensures d,
+      ) (sym c.if-touching.ensures.touching, sym c.if-eq.ensures),
     )

@@ -7,10 +7,9 @@ returns-in-Some g c =
     let start = bound_of c.in-Some.start in
     let turns : Some start ≡ flipped (g.R.AsRange.range c.args.second.now).end =
     c.in-Some.ensures ∙ ap flipped c.end.ensures in
-    rw (c.le.ensures, c.end_bound.ensures tt)
-    (ends_after_is g.K.MaybeBounded.order g.met.K.PartialEnum.lawful
-    (g.R.AsRange.range c.args.second.now) c.args.first.now start c.known_range.ensures
-    c.known.ensures turns)
+    rw (c.le.ensures, c.end_bound.ensures tt) (ends_after_is g.K.MaybeBounded.order
+    g.met.K.PartialEnum.lawful (g.R.AsRange.range c.args.second.now) c.args.first.now start
+    c.known_range.ensures c.known.ensures turns)
 
 pub returns-in-None : goal.returns-in-None
 returns-in-None g c =

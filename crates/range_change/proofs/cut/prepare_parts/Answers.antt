@@ -1,35 +1,16 @@
-use Rattle.range_change.proofs.Common.{◌≡◌, get_or, refl, get_or_read}
+use Rattle.range_change.proofs.Common.{◌≡◌, get_or, get_or_read}
 use Rattle.range_change.proofs.cut.prepare_parts.Goals as goal
 
-pub get-requires : goal.get-requires
-get-requires g c = (c.reserve.ensures.positions c.args.p c.requires.good).0
-
-pub returns : goal.returns
-returns g c =
-    record {
-      value =
-          λ d.
-          let storage = g.C.Storage in
-          let stored = c.args.stored.now in
-          let items = storage.items stored in
-          let p = c.args.p in
-          let x = c.get.result.now in
-          let kept = c.reserve.ensures.positions p c.requires.good in
-          let read : x ≡ get_or items (storage.rank stored p) x =
-          rw (c.reserve.ensures.list, kept.1) at c.get.ensures in
-          rw (← get_or_read items (storage.rank stored p) x
-          (g.met.C.Storage.good_is_in_range stored p c.requires.good) read d)
-          (c.requires.values x.value c.in_ok-clone.field-0 c.in_ok-clone.ensures.cases);
-      end =
-          (c.in_ok-cut_bound.ensures.known, c.in_ok-cut_bound.ensures.flipped);
-      start =
-          (c.in_ok-cut_bound-2.ensures.known, c.in_ok-cut_bound-2.ensures.flipped);
-      list =
-          c.reserve.ensures.list;
-      space =
-          c.in_ok-reserve.ensures.ok;
-      no_less = c.reserve.ensures.space;
-      positions =
-          c.reserve.ensures.positions;
-      succeeds = λ keys values enough. refl;
-    }
+pub returns-clause-value : goal.returns-clause-value
+returns-clause-value g c = λ d.
+    let storage = g.C.Storage in
+    let stored = c.args.stored.now in
+    let items = storage.items stored in
+    let p = c.args.p in
+    let x = c.get.result.now in
+    let kept = c.reserve.ensures.positions p c.requires.good in
+    let read : x ≡ get_or items (storage.rank stored p) x =
+    rw (c.reserve.ensures.list, kept.1) at c.get.ensures in
+    rw (← get_or_read items (storage.rank stored p) x
+    (g.met.C.Storage.good_is_in_range stored p c.requires.good) read d)
+    (c.requires.values x.value c.in_ok-clone.field-0 c.in_ok-clone.ensures.cases)

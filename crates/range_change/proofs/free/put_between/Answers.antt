@@ -1,44 +1,27 @@
-use Rattle.range_change.proofs.Common.{◌≡◌, ◌+◌, length, arith, rules, place_before, flipped_bound}
-use Rattle.range_change.proofs.Between.{put_between as stands_between}
+use Rattle.range_change.proofs.Common.{◌≡◌, ◌+◌, length, arith, place_before, flipped_bound}
 use Rattle.range_change.proofs.CoveredPlaces.{on_ok}
 use Rattle.range_change.proofs.CutParts.{known_turned, same_turned}
-use Rattle.range_change.proofs.OuterRange.{one_longer}
+use Rattle.range_change.proofs.Planned.{put_between as stands_between}
 use Rattle.range_change.proofs.Surrounded.{none_reach}
 use Rattle.range_change.proofs.free.put_between.Goals as goal
 
-pub returns : goal.returns
-returns g c =
+pub returns-clause-ok : goal.returns-clause-ok
+returns-clause-ok g c =
     let order = g.K.MaybeBounded.order in
     let lawful = g.met.K.PartialEnum.lawful in
     let equal = g.met.V.Eq.laws in
     let storage = g.C.Storage in
     let stored = c.args.stored.now in
-    let items = storage.items stored in
     let w = c.args.reach.now.window in
     let window = c.requires.reach.window in
     let r = c.args.item.key in
-    let place = place_before (storage.rank stored) (length items) w.from in
-    let new = storage.items c.put.new.stored in
+    let place = place_before (storage.rank stored) (length (storage.items stored)) w.from in
     let none = none_reach c.requires.reach c.requires.none in
     let plus : place + 0 ≡ place = omega arith in
-    let left =
-    rw none.0 at (c.requires.before lawful equal (flipped_bound r.start) w.from
+    let left = rw none.0 at (c.requires.before lawful equal (flipped_bound r.start) w.from
     (known_turned order lawful r.start window.known.0) (same_turned order lawful r.start)
     (rw (none.0, plus) window.position)) in
-    let right =
-    rw none.1 at (c.requires.after lawful equal (flipped_bound r.end)
+    let right = rw none.1 at (c.requires.after lawful equal (flipped_bound r.end)
     (known_turned order lawful r.end window.known.1) (same_turned order lawful r.end)) in
-    record {
-      ok =
-          on_ok _ _ c.put.result
-          (stands_between lawful equal window c.args.item.value c.requires.none left right new)
-          c.put.ensures.put;
-      few =
-          on_ok _ _ c.put.result
-          (λ done. let longer =
-          one_longer items new place c.args.item (omega (arith, window.in_range)) done in omega (arith, longer))
-          c.put.ensures.put;
-      given = search rules;
-      refused = search rules;
-      succeeds = search rules;
-    }
+    on_ok _ _ c.put.result (stands_between lawful equal window c.args.item.value c.requires.none left
+    right (storage.items c.put.new.stored)) c.put.ensures.put

@@ -5,18 +5,16 @@ use Rattle.range_change.proofs.JoinedMiddle.{got_only, got_none}
 use Rattle.range_change.proofs.replace.joined_left.Goals as goal
 
 pub returns-in_default : goal.returns-in_default
-returns-in_default g c = λ lawful equal b at known_b same_b start.
-    inr (
-      got_none _ c.args.next c.in_default.is,
-      left_cut_out lawful equal c.requires.reach.window c.args.reach.now.first b at
-          c.requires.reach.first known_b same_b start,
-    )
+returns-in_default g c = λ lawful equal b at known_b same_b start. inr (
+  got_none _ c.args.next c.in_default.is,
+  left_cut_out lawful equal c.requires.reach.window c.args.reach.now.first b at
+      c.requires.reach.first known_b same_b start,
+)
 
 pub returns-then-starts_before : goal.returns-then-starts_before
 returns-then-starts_before g c = λ lawful equal b at known_b same_b start.
     let order = g.K.MaybeBounded.order in
-    let Later =
-    λ (m : Item (AnyRange g.row.K.Denot) g.row.V.Denot). Lt (places order lawful)
+    let Later = λ (m : Item (AnyRange g.row.K.Denot) g.row.V.Denot). Lt (places order lawful)
     (lower order c.args.range.now) (item_lower order m) in
     inr (
       got_only Later c.args.next c.in-Some.item c.in-Some.is (c.if-starts_before.ensures.0 refl),

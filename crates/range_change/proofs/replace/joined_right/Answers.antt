@@ -5,22 +5,19 @@ use Rattle.range_change.proofs.JoinedMiddle.{got_only, got_none, within_end}
 use Rattle.range_change.proofs.replace.joined_right.Goals as goal
 
 pub returns-in_default : goal.returns-in_default
-returns-in_default g c = λ lawful equal b known_b same_b.
-    inr (
-      got_none _ c.args.previous c.in_default.is,
-      right_cut_out lawful equal c.requires.reach.window c.args.reach.now.last b
-          c.requires.reach.last known_b same_b,
-    )
+returns-in_default g c = λ lawful equal b known_b same_b. inr (
+  got_none _ c.args.previous c.in_default.is,
+  right_cut_out lawful equal c.requires.reach.window c.args.reach.now.last b
+      c.requires.reach.last known_b same_b,
+)
 
 pub returns-then-ends_after : goal.returns-then-ends_after
 returns-then-ends_after g c = λ lawful equal b known_b same_b.
     let order = g.K.MaybeBounded.order in
-    let Earlier =
-    λ (m : Item (AnyRange g.row.K.Denot) g.row.V.Denot). Lt (places order lawful)
+    let Earlier = λ (m : Item (AnyRange g.row.K.Denot) g.row.V.Denot). Lt (places order lawful)
     (item_upper order m) (upper order c.args.range.now) in
     inr (
-      got_only Earlier c.args.previous c.in-Some.item c.in-Some.is
-          (c.if-ends_after.ensures.0 refl),
+      got_only Earlier c.args.previous c.in-Some.item c.in-Some.is (c.if-ends_after.ensures.0 refl),
       right_cut_out lawful equal c.requires.reach.window c.args.reach.now.last b
           c.requires.reach.last known_b same_b,
     )
@@ -31,9 +28,8 @@ returns g c = λ lawful equal b known_b same_b.
     inl (
       c.in-Some.item.now,
       ap option_copied c.in-Some.is,
-      both lawful _ _
-          (within_end g.K.MaybeBounded.order lawful c.in-Some.item.now.key c.args.range.now
-          c.known.ensures c.requires.reach.window.known within)
+      both lawful _ _ (within_end g.K.MaybeBounded.order lawful c.in-Some.item.now.key
+          c.args.range.now c.known.ensures c.requires.reach.window.known within)
           (not_lt lawful _ _ (λ l. false≢true (c.if-ends_after.ensures.1 l))),
       c.joins_after.ensures.joins lawful equal b known_b same_b,
     )

@@ -1,10 +1,8 @@
-use Rattle.range_change.proofs.Common.{false≢true, common_steps, ◌≡◌, ◌+◌, ◌-◌, length, refl, ap, ◌∙◌, arith, slice_get, option_copied, place_before, joined_count, seam_border, flipped_bound}
+use Rattle.range_change.proofs.Common.{common_steps, ◌-◌, length, refl, ap, ◌∙◌, arith, slice_get, option_copied, place_before, joined_count}
 use Rattle.range_change.proofs.InsertionFrames.{all_meet}
-use Rattle.range_change.proofs.Planned.{plan_fits}
-use Rattle.range_change.proofs.Replaced.{IsReplacement, plans_replacement, replacement_is_made}
+use Rattle.range_change.proofs.Replaced.{IsReplacement, plans_replacement, replacement_fits, replacement_is_made}
 use Rattle.range_change.proofs.JoinedMiddle.{seam_count}
 use Rattle.range_change.proofs.SpelledChanges.{replaced_keeps_spelling}
-use Rattle.range_change.proofs.Surrounded.{run_can_start}
 use Rattle.range_change.proofs.replace.replace.Given.{Over}
 use Rattle.range_change.proofs.replace.replace.Goals.{After-run_start}
 use Rattle.range_change.proofs.replace.replace.Goals as goal
@@ -36,25 +34,14 @@ plan_is_replacement g c =
     let other = c.joined_right-after.result in
     let from = c.run_start.result in
     let is_first = c.first.ensures.value ∙ ap (λ xs. slice_get xs 0) c.deref.ensures.value in
-    let is_last =
-    c.last.ensures.value
-    ∙ ap (λ xs. slice_get xs (length xs - 1)) c.deref-2.ensures.value in
-    plans_replacement order lawful equal_values equal (storage.is_good stored)
-    (storage.rank stored) items r place w.count middle first last joined other
-    from (option_copied c.first.result)
-    (option_copied c.last.result) c.requires.reach.window.stored c.requires.middle
-    c.requires.within c.requires.reach.window.known c.requires.reach.window.nonempty
-    c.requires.reach.window.in_range c.requires.apart is_first is_last c.run_start.ensures
-    (c.joined_left-before.ensures lawful equal) (c.joined_right-after.ensures lawful equal)
-
-pub run_start-requires : goal.run_start-requires
-run_start-requires g c =
-    record {
-      from =
-          (run_can_start c.requires.reach).0;
-      first =
-          (run_can_start c.requires.reach).1;
-    }
+    let is_last = c.last.ensures.value ∙ ap (λ xs. slice_get xs (length xs - 1))
+    c.deref-2.ensures.value in
+    plans_replacement order lawful equal_values equal (storage.is_good stored) (storage.rank stored)
+    items r place w.count middle first last joined other from (option_copied c.first.result)
+    (option_copied c.last.result) c.requires.reach.window.stored c.requires.middle c.requires.within
+    c.requires.reach.window.known c.requires.reach.window.nonempty c.requires.reach.window.in_range
+    c.requires.apart is_first is_last c.run_start.ensures (c.joined_left-before.ensures lawful
+    equal) (c.joined_right-after.ensures lawful equal)
 
 pub run_length-requires-clause-fits : goal.run_length-requires-clause-fits
 run_length-requires-clause-fits g c =
@@ -65,32 +52,13 @@ run_length-requires-clause-fits g c =
 pub change_to-requires : goal.change_to-requires
 change_to-requires g c =
     let plan = plan_is_replacement g (goal.at.change_to-requires g c).After-run_start in
-    let order = g.K.MaybeBounded.order in
-    let reach = c.args.reach.now in
-    let r = c.args.range in
-    let joined = c.joined_left-before.result in
-    let other = c.joined_right-after.result in
-    let border = seam_border joined reach.first (flipped_bound r.start) in
-    let behind = seam_border other reach.last (flipped_bound r.end) in
-    let border_is : c.seam-left.result ≡ border =
-    c.seam-left.ensures
-    ∙ ap (seam_border joined reach.first)
-    (c.flip_bound.ensures ∙ ap flipped_bound c.into_bounds-start.ensures.start) in
-    let behind_is : c.seam-right.result ≡ behind =
-    c.seam-right.ensures
-    ∙ ap (seam_border other reach.last)
-    (c.flip_bound-2.ensures ∙ ap flipped_bound c.into_bounds-start.ensures.end) in
-    let left = plan.left in
-    let right = plan.right in
-    let sum : left.begin + c.run_length.result ≡ right.upto =
-    omega (arith, plan.upto, c.run_length.ensures) in
     let fit =
-    plan_fits c.reserve.ensures.positions c.reserve.ensures.list border behind
-    c.run_start.result c.run_length.result left.at left.begin right.upto right.end left.rest
-    right.rest left.start right.finish left.shape right.shape left.run sum right.in_range in
+    replacement_fits plan c.reserve.ensures.positions c.reserve.ensures.list c.run_length.ensures in
     record {
-      left = rw border_is fit.left_good;
-      right = rw behind_is fit.right_good;
+      left = rw (c.seam-left.ensures, c.flip_bound.ensures, c.into_bounds-start.ensures.start)
+          fit.left_good;
+      right = rw (c.seam-right.ensures, c.flip_bound-2.ensures, c.into_bounds-start.ensures.end)
+          fit.right_good;
       good = fit.good;
       in_range = fit.in_range;
       space = grind (arith, common_steps);
@@ -99,67 +67,38 @@ change_to-requires g c =
 pub returns : goal.returns
 returns g c =
     let plan = plan_is_replacement g (goal.at.returns g c).After-run_start in
-    let order = g.K.MaybeBounded.order in
-    let reach = c.args.reach.now in
-    let r = c.args.range in
-    let joined = c.joined_left-before.result in
-    let other = c.joined_right-after.result in
-    let border = seam_border joined reach.first (flipped_bound r.start) in
-    let behind = seam_border other reach.last (flipped_bound r.end) in
-    let border_is : c.seam-left.result ≡ border =
-    c.seam-left.ensures
-    ∙ ap (seam_border joined reach.first)
-    (c.flip_bound.ensures ∙ ap flipped_bound c.into_bounds-start.ensures.start) in
-    let behind_is : c.seam-right.result ≡ behind =
-    c.seam-right.ensures
-    ∙ ap (seam_border other reach.last)
-    (c.flip_bound-2.ensures ∙ ap flipped_bound c.into_bounds-start.ensures.end) in
     let left = plan.left in
     let right = plan.right in
-    let sum : left.begin + c.run_length.result ≡ right.upto =
-    omega (arith, plan.upto, c.run_length.ensures) in
     let fit =
-    plan_fits c.reserve.ensures.positions c.reserve.ensures.list border behind
-    c.run_start.result c.run_length.result left.at left.begin right.upto right.end left.rest
-    right.rest left.start right.finish left.shape right.shape left.run sum right.in_range in
-    let joins = seam_count joined reach.first (flipped_bound r.start) in
-    let joins_behind = seam_count other reach.last (flipped_bound r.end) in
-    let done =
-    c.change_to.ensures left.at right.end left.rest right.rest left.start right.finish
-    (rw border_is fit.on_left) (rw behind_is fit.on_right)
-    (omega (
+    replacement_fits plan c.reserve.ensures.positions c.reserve.ensures.list c.run_length.ensures in
+    let reach = c.args.reach.now in
+    let done = c.change_to.ensures left.at right.end left.rest right.rest left.start right.finish
+    (rw (c.seam-left.ensures, c.flip_bound.ensures, c.into_bounds-start.ensures.start) fit.on_left)
+    (rw (c.seam-right.ensures, c.flip_bound-2.ensures, c.into_bounds-start.ensures.end)
+    fit.on_right) (omega (
       arith,
-      ap joined_count border_is ∙ joins,
-      ap joined_count behind_is
-          ∙ joins_behind,
+      ap joined_count c.seam-left.ensures ∙ seam_count c.joined_left-before.result reach.first _,
+      ap joined_count c.seam-right.ensures ∙ seam_count c.joined_right-after.result reach.last _,
       c.run_length.ensures,
     )) in
+    let new = g.C.Storage.items c.change_to.new.stored in
+    let made = rw c.reserve.ensures.list at done in
+    let window = c.requires.reach.window in
     let lawful = g.met.K.PartialEnum.lawful in
     let equal = g.met.V.Eq.laws in
-    let stored = c.args.stored.now in
-    let items = g.C.Storage.items stored in
-    let window = c.requires.reach.window in
     record {
-      ok =
-          replacement_is_made order lawful g.V.PartialEq.eq equal (g.C.Storage.is_good stored)
-          (g.C.Storage.rank stored) items r
-          (place_before (g.C.Storage.rank stored) (length items) reach.window.from)
-          reach.window.count (g.C.Storage.items c.change_to.new.stored) c.args.middle.items
-          reach.first reach.last border behind c.run_start.result window.stored c.requires.middle
-          window.known (all_meet lawful equal window) left right
-          (rw c.reserve.ensures.list at done);
-      spelled =
-          replaced_keeps_spelling lawful equal window.stored c.requires.reach joined other
-          (g.C.Storage.items c.change_to.new.stored) c.args.middle.items left.at left.begin
-          right.upto right.end left.rest right.rest left.start right.finish left.shape left.begins
-          right.shape right.in_range (rw c.reserve.ensures.list at done);
+      ok = replacement_is_made plan new window.stored c.requires.middle window.known
+          (all_meet lawful equal window) made;
+      spelled = replaced_keeps_spelling lawful equal window.stored c.requires.reach plan new made;
       refused = tt;
       none_put = λ none. refl;
     }
 
+pub run_start-requires : goal.run_start-requires
+run_start-requires g c = grind (arith, common_steps)
+
 pub returns-in_err-reserve-clause-none_put : goal.returns-in_err-reserve-clause-none_put
-returns-in_err-reserve-clause-none_put g c = λ none.
-    absurd (false≢true (c.in_err-reserve.ensures.succeeds (grind (arith, common_steps))))
+returns-in_err-reserve-clause-none_put g c = grind (arith, common_steps)
 
 pub joined_left-before-requires-clause-within : goal.joined_left-before-requires-clause-within
 joined_left-before-requires-clause-within g c = grind (arith, common_steps)

@@ -1,36 +1,12 @@
-use Rattle.range_change.proofs.Common.{◌≡◌, ◌+◌, length, get_or, ap, ◌∙◌, arith, AnyRange, Item, place_before, place_at, kept_at, good_at, with_end}
-use Rattle.range_change.proofs.DividedItems.{parted_alone, parted_around}
-use Rattle.range_change.proofs.Tests.{same_some}
+use Rattle.range_change.proofs.Common.{common_steps, ◌≡◌, ◌+◌, length, get_or, ap, ◌∙◌, arith, AnyRange, Item, place_before, place_at, kept_at, with_end}
+use Rattle.range_change.proofs.DividedItems.{parted_alone}
 use Rattle.range_change.proofs.splice.divide.Goals as goal
 
 pub insert_at-at-requires : goal.insert_at-at-requires
-insert_at-at-requires g c =
-    let storage = g.C.Storage in
-    let old = c.args.stored.now in
-    let ready = c.replace_end-old_end.new.stored in
-    let next = storage.rank old c.args.p + 1 in
-    let len = length (storage.items old) in
-    record {
-      good =
-          good_at (storage.is_good ready) (storage.rank ready) len c.args.after next
-          (kept_at (storage.is_good old) (storage.is_good ready) (storage.rank old)
-          (storage.rank ready) len c.args.after next c.replace_end-old_end.ensures.positions
-          c.requires.after);
-      has_room =
-          omega (arith, c.requires.space, c.replace_end-old_end.ensures.space);
-    }
+insert_at-at-requires g c = grind (arith, common_steps)
 
 pub insert_at-middle-requires : goal.insert_at-middle-requires
-insert_at-middle-requires g c =
-    let space = rw c.in-Some.is at c.requires.space in
-    record {
-      good =
-          λ q e.
-          let same : c.insert_at-at.result ≡ q = same_some e in
-          rw (← same) c.insert_at-at.ensures.position.0;
-      has_room =
-          omega (arith, space, c.replace_end-old_end.ensures.space, c.insert_at-at.ensures.space);
-    }
+insert_at-middle-requires g c = grind (arith, common_steps)
 
 pub returns-in-None-clause-list : goal.returns-in-None-clause-list
 returns-in-None-clause-list g c = λ d.
@@ -44,72 +20,25 @@ returns-in-None-clause-list g c = λ d.
     let one = c.insert_at-at.new.self in
     let parts = c.args.parts in
     let within = g.met.C.Storage.good_is_in_range old p c.requires.good in
-    let after =
-    kept_at (storage.is_good old) (storage.is_good ready) (storage.rank old)
-    (storage.rank ready) (length items) c.args.after
-    (place + 1) edit.positions c.requires.after in
-    let here : place_before (storage.rank ready) (length (storage.items ready)) c.args.after
-    ≡ place + 1 =
-    ap (λ n. place_before (storage.rank ready) n c.args.after) edit.size
-    ∙ place_at (storage.is_good ready) (storage.rank ready) (length items) c.args.after
-    (place + 1) after in
-    let behind : Item (AnyRange g.row.K.Denot) g.row.V.Denot =
-    record {
+    let after = kept_at (storage.is_good old) (storage.is_good ready) (storage.rank old)
+    (storage.rank ready) (length items) c.args.after (place + 1) edit.positions c.requires.after in
+    let
+    here : place_before (storage.rank ready) (length (storage.items ready)) c.args.after ≡ place + 1
+    = ap (λ n. place_before (storage.rank ready) n c.args.after) edit.size ∙ place_at
+    (storage.is_good ready) (storage.rank ready) (length items) c.args.after (place + 1) after in
+    let behind : Item (AnyRange g.row.K.Denot) g.row.V.Denot = record {
       key = record { start = parts.start; end = c.replace_end-old_end.result };
       value = parts.value;
     } in
-    rw (c.in-None.is, ← edit.end d)
-    (parted_alone items (storage.items ready) (storage.items one) place
-    (with_end (get_or items place d) parts.end) behind within (edit.list d)
+    rw (c.in-None.is, ← edit.end d) (parted_alone items (storage.items ready) (storage.items one)
+    place (with_end (get_or items place d) parts.end) behind within (edit.list d)
     (rw here at c.insert_at-at.ensures.list))
 
 pub returns-in-Some-clause-list : goal.returns-in-Some-clause-list
-returns-in-Some-clause-list g c = λ d.
-    let storage = g.C.Storage in
-    let old = c.args.stored.now in
-    let items = storage.items old in
-    let p = c.args.p in
-    let place = storage.rank old p in
-    let ready = c.replace_end-old_end.new.stored in
-    let edit = c.replace_end-old_end.ensures in
-    let one = c.insert_at-at.new.self in
-    let parts = c.args.parts in
-    let within = g.met.C.Storage.good_is_in_range old p c.requires.good in
-    let after =
-    kept_at (storage.is_good old) (storage.is_good ready) (storage.rank old)
-    (storage.rank ready) (length items) c.args.after
-    (place + 1) edit.positions c.requires.after in
-    let here : place_before (storage.rank ready) (length (storage.items ready)) c.args.after
-    ≡ place + 1 =
-    ap (λ n. place_before (storage.rank ready) n c.args.after) edit.size
-    ∙ place_at (storage.is_good ready) (storage.rank ready) (length items) c.args.after
-    (place + 1) after in
-    let there : storage.rank one c.insert_at-at.result ≡ place + 1 =
-    c.insert_at-at.ensures.position.1 ∙ here in
-    let behind : Item (AnyRange g.row.K.Denot) g.row.V.Denot =
-    record {
-      key = record { start = parts.start; end = c.replace_end-old_end.result };
-      value = parts.value;
-    } in
-    rw (c.in-Some.is, ← edit.end d)
-    (parted_around items (storage.items ready) (storage.items one)
-    (storage.items c.insert_at-middle.new.self) place
-    (with_end (get_or items place d) parts.end) behind c.in-Some.item within (edit.list d)
-    (rw here at c.insert_at-at.ensures.list) (rw there at c.insert_at-middle.ensures.list))
+returns-in-Some-clause-list g c = grind (arith, common_steps)
 
 pub returns-in-None-clause-space : goal.returns-in-None-clause-space
-returns-in-None-clause-space g c =
-    rw c.in-None.is (omega (
-      arith,
-      c.replace_end-old_end.ensures.space,
-      c.insert_at-at.ensures.space,
-    ))
+returns-in-None-clause-space g c = grind (arith, common_steps)
 
 pub returns-in-Some-clause-space : goal.returns-in-Some-clause-space
-returns-in-Some-clause-space g c =
-    rw c.in-Some.is (omega (
-      arith,
-      c.replace_end-old_end.ensures.space,
-      c.insert_at-at.ensures.space,
-      c.insert_at-middle.ensures.space,
-    ))
+returns-in-Some-clause-space g c = grind (arith, common_steps)

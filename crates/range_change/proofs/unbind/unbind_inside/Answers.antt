@@ -21,12 +21,10 @@ returns g c =
     let start = rw c.end.ensures at cloned.start in
     let rank_is = (c.prepare_parts.ensures.positions c.args.p within.good).1 in
     let new = storage.items c.divide.new.stored in
-    let size =
-    divided_size lawful equal within x read parts end start cloned.value _ new _
+    let size = divided_size lawful equal within x read parts end start cloned.value _ new _
     c.prepare_parts.ensures.list rank_is None c.divide.ensures.list in
     record {
-      ok =
-          divided_alone lawful equal within x read parts end start cloned.value _ new _
+      ok = divided_alone lawful equal within x read parts end start cloned.value _ new _
           c.prepare_parts.ensures.list rank_is c.divide.ensures.list;
       few = omega (arith, size);
       refused = tt;

@@ -1,26 +1,8 @@
-use Rattle.range_change.proofs.Common.{rules, arith, common_steps}
-use Rattle.range_change.proofs.Surrounded.{reach_is_met, surrounded_by}
+use Rattle.range_change.proofs.Common.{arith, common_steps}
 use Rattle.range_change.proofs.unbind.unbind_met.Goals as goal
 
 pub surrounding-requires : goal.surrounding-requires
-surrounding-requires g c = let met =
-    reach_is_met c.reaching-reach.ensures.reach in record { first = met.0; last = met.1 }
+surrounding-requires g c = grind (arith, common_steps)
 
 pub unbind_inside-requires-clause-within : goal.unbind_inside-requires-clause-within
-unbind_inside-requires-clause-within g c =
-    surrounded_by c.reaching-reach.ensures.reach c.in-Some.ensures
-
-pub unbind_whole-requires : goal.unbind_whole-requires
-unbind_whole-requires g c =
-    record {
-      reach = search rules;
-      some =
-          rw c.reaching-reach.ensures.window c.requires.some;
-      first =
-          grind (arith, common_steps);
-      last =
-          grind (arith, common_steps);
-    }
-
-pub unbind_cutting-requires-clause-some : goal.unbind_cutting-requires-clause-some
-unbind_cutting-requires-clause-some g c = rw c.reaching-reach.ensures.window c.requires.some
+unbind_inside-requires-clause-within g c = grind (arith, common_steps)

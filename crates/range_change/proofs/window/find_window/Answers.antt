@@ -12,6 +12,5 @@ returns-clause-window g c =
     (g.R.AsRange.range c.args.range.now) (start_position order (bound_of c.start.result))
     (end_position order (bound_of c.end.result)) c.find.result.0 c.find.result.1
     c.walk-count.result.1 c.walk-count.result.2 c.walk-count.result.0 c.known_range.ensures
-    c.requires.nonempty c.requires.stored
-    (ap (start_position order) c.start.ensures)
+    c.requires.nonempty c.requires.stored (ap (start_position order) c.start.ensures)
     (ap (end_position order) c.end.ensures) c.find.ensures.found c.walk-count.ensures.walked

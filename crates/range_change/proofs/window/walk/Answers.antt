@@ -1,25 +1,5 @@
-use Rattle.range_change.proofs.Common.{not_le, true≢false, ◌≡◌, ◌+◌, ◌-◌, ◌<◌, length, refl, arith, sym, ◌∙◌, get_or_read, reference_position, start_position, place_before, at_place}
-use Rattle.range_change.proofs.WalkStarts.{place_is_in_range}
+use Rattle.range_change.proofs.Common.{common_steps, not_le, true≢false, ◌≡◌, ◌+◌, ◌-◌, ◌<◌, length, arith, sym, ◌∙◌, get_or_read, reference_position, start_position, place_before}
 use Rattle.range_change.proofs.window.walk.Goals as goal
-
-pub loop-at-init : goal.loop-at-init
-loop-at-init g c =
-    let storage = g.C.Storage in
-    let stored = c.args.stored.now in
-    let len = length (storage.items stored) in
-    let place = place_before (storage.rank stored) len c.args.from in
-    let none : place + 0 ≡ place = omega arith in
-    record {
-      position =
-          rw none (at_place (storage.is_good stored)
-          (storage.rank stored) len c.args.from c.requires);
-      in_range =
-          rw none (place_is_in_range (storage.is_good stored) (storage.rank stored) len c.args.from
-          (g.met.C.Storage.good_is_in_range stored) c.requires);
-      last_is = refl;
-      meets = λ d some. absurd (omega (arith, some));
-      counted = record { at_most = omega arith; at_least = omega arith };
-    }
 
 pub loop-at-preserved : goal.loop-at-preserved
 loop-at-preserved g c =
@@ -38,15 +18,16 @@ loop-at-preserved g c =
       position = rw next at c.next-at.ensures;
       in_range = omega (arith, here.1, within);
       last_is = (here.0, next, omega arith);
-      meets =
-          λ d some.
-          rw (
-            index,
-            ← get_or_read items (storage.rank stored c.in-Some.p) c.get.result.now within
-                c.get.ensures d,
-          ) (sym c.if-starts_past.ensures.past);
+      meets = λ d some. rw (
+        index,
+        ← get_or_read items (storage.rank stored c.in-Some.p) c.get.result.now within
+            c.get.ensures d,
+      ) (sym c.if-starts_past.ensures.past);
       counted = record { at_most = omega arith; at_least = omega arith };
     }
+
+pub loop-at-init : goal.loop-at-init
+loop-at-init g c = grind (arith, common_steps)
 
 pub returns-then-starts_past : goal.returns-then-starts_past
 returns-then-starts_past g c =
@@ -61,8 +42,7 @@ returns-then-starts_past g c =
     g.met.C.Storage.good_is_in_range stored c.in-Some.p here.0 in
     let index : place + c.loop-at.count ≡ storage.rank stored c.in-Some.p = sym here.1 in
     let x = c.get.result.now in
-    let past =
-    not_le g.met.K.PartialEnum.lawful (reference_position order c.args.end.now)
+    let past = not_le g.met.K.PartialEnum.lawful (reference_position order c.args.end.now)
     (start_position order x.key.start) (λ h. true≢false (c.if-starts_past.ensures.past ∙ h)) in
     record {
       walked = record {
@@ -70,22 +50,10 @@ returns-then-starts_past g c =
         last_is = was.last_is;
         after_is = here;
         meets = was.meets;
-        stops =
-            λ d some.
-            rw (
-              index,
-              ← get_or_read items (storage.rank stored c.in-Some.p) x within c.get.ensures d,
-            ) past;
+        stops = λ d some. rw (
+          index,
+          ← get_or_read items (storage.rank stored c.in-Some.p) x within c.get.ensures d,
+        ) past;
       };
       counted = record { at_most = omega arith; at_least = omega arith };
     }
-
-pub returns-clause-counted : goal.returns-clause-counted
-returns-clause-counted g c = record { at_most = omega arith; at_least = omega arith }
-
-pub loop-at-smaller : goal.loop-at-smaller
-loop-at-smaller g c =
-    let stored = c.args.stored.now in
-    let here = rw c.in-Some.is at c.loop-at.invariant.position in
-    let within = g.met.C.Storage.good_is_in_range stored c.in-Some.p here.0 in
-    omega (arith, here.1, within)

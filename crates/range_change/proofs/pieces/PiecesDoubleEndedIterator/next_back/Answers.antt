@@ -4,13 +4,11 @@ use Rattle.range_change.proofs.pieces.PiecesDoubleEndedIterator.next_back.Goals 
 
 pub returns-in-Some-range_between : goal.returns-in-Some-range_between
 returns-in-Some-range_between g c =
-    let steps =
-    sym c.self.view_is
-    ∙ gap_last g.met.K.PartialEnum.lawful (range_of c.self.inside.range)
-    (option_map bound_of c.self.inside.start) (option_map bound_of c.self.inside.end) _ _
-    (sym c.duplicate-rest.ensures ∙ c.in-Some.ensures.steps)
-    (range_of c.in-Some-range_between.gap) _ c.known.ensures
-    (rw (c.in-Some-range_between.is, c.flip.ensures, c.end_bound.ensures tt) at
+    let steps = sym c.self.view_is ∙ gap_last g.met.K.PartialEnum.lawful
+    (range_of c.self.inside.range) (option_map bound_of c.self.inside.start)
+    (option_map bound_of c.self.inside.end) _ _
+    (sym c.duplicate-rest.ensures ∙ c.in-Some.ensures.steps) (range_of c.in-Some-range_between.gap)
+    _ c.known.ensures (rw (c.in-Some-range_between.is, c.flip.ensures, c.end_bound.ensures tt) at
     c.range_between-in-Some.ensures) (c.end_bound-in-Some-range_between.ensures tt) in
     let less = last_is_less _ _ _ steps in
     record {
@@ -20,14 +18,13 @@ returns-in-Some-range_between g c =
 
 pub returns-in-None-range_between : goal.returns-in-None-range_between
 returns-in-None-range_between g c =
-    let steps =
-    sym c.self.view_is
-    ∙ item_last g.met.K.PartialEnum.lawful (range_of c.self.inside.range)
-    (option_map bound_of c.self.inside.start) (option_map bound_of c.self.inside.end) _ _
+    let steps = sym c.self.view_is ∙ item_last g.met.K.PartialEnum.lawful
+    (range_of c.self.inside.range) (option_map bound_of c.self.inside.start)
+    (option_map bound_of c.self.inside.end) _ _
     (sym c.duplicate-rest.ensures ∙ c.in-Some.ensures.steps) _ _
     (rw (c.in-None-range_between.is, c.flip.ensures, c.end_bound.ensures tt) at
-    c.range_between-in-Some.ensures)
-    (c.flip-self-inside.ensures ∙ ap flipped (c.start_bound.ensures tt)) c.clipped.ensures in
+    c.range_between-in-Some.ensures) (c.flip-self-inside.ensures ∙ ap flipped
+    (c.start_bound.ensures tt)) c.clipped.ensures in
     let less = last_is_less _ _ _ steps in
     record {
       steps = steps;
