@@ -90,16 +90,16 @@ invariant_of-self g c =
       levelled = rw (many ∙ count) at (has_levels (tree g a));
     }
 
-pub returns-clause-list : goal.returns-clause-list
-returns-clause-list g c = listed g (goal.at.returns-clause-list g c).After-build-self
-
-pub returns-clause-room : goal.returns-clause-room
-returns-clause-room g c =
-    let a = (goal.at.returns-clause-room g c).After-build-self in
-    omega (
-      arith,
-      ap length (listed g a),
-      ap length c.requires.empty,
-      c.requires.room,
-      c.build-self.ensures.built.moved.capacity,
-    )
+pub returns : goal.returns
+returns g c =
+    let a = (goal.at.returns g c).After-build-self in
+    record {
+      list = listed g a;
+      room = omega (
+        arith,
+        ap length (listed g a),
+        ap length c.requires.empty,
+        c.requires.room,
+        c.build-self.ensures.built.moved.capacity,
+      );
+    }

@@ -73,42 +73,23 @@ invariant_of-self g c =
       levelled = rw (more ∙ ap (λ m. m + 1) (sym s.counted)) at (has_levels put.tree);
     }
 
-pub returns-then-item_count-lt-CAPACITY-clause-list :
-    goal.returns-then-item_count-lt-CAPACITY-clause-list
-returns-then-item_count-lt-CAPACITY-clause-list g c =
-    (put_here g (goal.at.returns-then-item_count-lt-CAPACITY-clause-list g c).After-put).items_are
-
-pub returns-then-item_count-lt-CAPACITY-clause-room :
-    goal.returns-then-item_count-lt-CAPACITY-clause-room
-returns-then-item_count-lt-CAPACITY-clause-room g c =
+pub returns-then-item_count-lt-CAPACITY : goal.returns-then-item_count-lt-CAPACITY
+returns-then-item_count-lt-CAPACITY g c =
     let s = c.args.self.now in
-    let put = put_here g (goal.at.returns-then-item_count-lt-CAPACITY-clause-room g c).After-put in
-    omega (
-      arith,
-      ap length put.items_are,
-      length-insert (box_items s) (box_place s c.args.edge) c.args.item
-          (edge_within c.requires.edge),
-      c.requires.room,
-      put.capacity,
-    )
-
-pub returns-then-item_count-lt-CAPACITY-clause-edge :
-    goal.returns-then-item_count-lt-CAPACITY-clause-edge
-returns-then-item_count-lt-CAPACITY-clause-edge g c =
+    let put = put_here g (goal.at.returns-then-item_count-lt-CAPACITY g c).After-put in
     record {
-      some = c.requires.edge.some;
-      edge =
-          (put_here g (goal.at.returns-then-item_count-lt-CAPACITY-clause-edge g c).After-put).edge;
+      list = put.items_are;
+      room = omega (
+        arith,
+        ap length put.items_are,
+        length-insert (box_items s) (box_place s c.args.edge) c.args.item
+            (edge_within c.requires.edge),
+        c.requires.room,
+        put.capacity,
+      );
+      edge = record { some = c.requires.edge.some; edge = put.edge };
+      place = omega (arith, put.place_is);
     }
-
-pub returns-then-item_count-lt-CAPACITY-clause-place :
-    goal.returns-then-item_count-lt-CAPACITY-clause-place
-returns-then-item_count-lt-CAPACITY-clause-place g c =
-    omega (
-      arith,
-      (put_here g (goal.at.returns-then-item_count-lt-CAPACITY-clause-place g
-          c).After-put).place_is,
-    )
 
 -- below the root
 level : (g : Over) (c : After-insert_below-inserted g)
@@ -177,40 +158,25 @@ invariant_of-self-in-None g c =
           (has_levels tree.tree);
     }
 
-pub returns-in-None-clause-list : goal.returns-in-None-clause-list
-returns-in-None-clause-list g c =
-    let a = goal.at.returns-in-None-clause-list g c in
-    (kept g a.In-None).items_are ∙ listed g a.After-insert_below-inserted
-
-pub returns-in-None-clause-room : goal.returns-in-None-clause-room
-returns-in-None-clause-room g c =
-    let a = goal.at.returns-in-None-clause-room g c in
-    omega (
-      arith,
-      ap length (kept g a.In-None).items_are,
-      longer g a.After-insert_below-inserted,
-      c.requires.room,
-      c.insert_below-inserted.ensures.replaces.moved.capacity,
-    )
-
-pub returns-in-None-clause-edge : goal.returns-in-None-clause-edge
-returns-in-None-clause-edge g c =
+pub returns-in-None : goal.returns-in-None
+returns-in-None g c =
+    let a = goal.at.returns-in-None g c in
+    let list = (kept g a.In-None).items_are in
+    let edge = kept_edge c.insert_below-inserted.new.nodes (c.args.self.now.levels - 1)
+    c.args.self.now.root c.insert_below-inserted.result.side c.insert_below-inserted.result.edge
+    (rw c.in-None.is at c.insert_below-inserted.ensures.edge) in
     record {
-      some = c.requires.edge.some;
-      edge =
-          (kept_edge c.insert_below-inserted.new.nodes
-          (c.args.self.now.levels - 1) c.args.self.now.root c.insert_below-inserted.result.side
-          c.insert_below-inserted.result.edge
-          (rw c.in-None.is at c.insert_below-inserted.ensures.edge)).0;
+      list = list ∙ listed g a.After-insert_below-inserted;
+      room = omega (
+        arith,
+        ap length list,
+        longer g a.After-insert_below-inserted,
+        c.requires.room,
+        c.insert_below-inserted.ensures.replaces.moved.capacity,
+      );
+      edge = record { some = c.requires.edge.some; edge = edge.0 };
+      place = edge.1 ∙ (rw c.in-None.is at c.insert_below-inserted.ensures.place);
     }
-
-pub returns-in-None-clause-place : goal.returns-in-None-clause-place
-returns-in-None-clause-place g c =
-    (kept_edge c.insert_below-inserted.new.nodes
-    (c.args.self.now.levels - 1) c.args.self.now.root c.insert_below-inserted.result.side
-    c.insert_below-inserted.result.edge
-    (rw c.in-None.is at c.insert_below-inserted.ensures.edge)).1
-    ∙ (rw c.in-None.is at c.insert_below-inserted.ensures.place)
 
 -- with a cut of the root
 pub store_branch-self-requires : goal.store_branch-self-requires
@@ -257,43 +223,18 @@ invariant_of-self-in-Some g c =
           (has_levels tree.tree);
     }
 
-pub seen_above-requires-clause-index : goal.seen_above-requires-clause-index
-seen_above-requires-clause-index g c =
-    omega (
-      arith,
-      seat_side c.insert_below-inserted.new.nodes
-          (c.args.self.now.levels - 1) _ _ c.insert_below-inserted.result.side
-          c.insert_below-inserted.result.edge
-          (rw c.in-Some.is at c.insert_below-inserted.ensures.edge),
-    )
-
-pub seen_above-requires-clause-path : goal.seen_above-requires-clause-path
-seen_above-requires-clause-path g c =
-    let below =
-    seat_inside c.insert_below-inserted.new.nodes
-    (c.args.self.now.levels - 1) _ _ c.insert_below-inserted.result.side
-    c.insert_below-inserted.result.edge
-    (rw c.in-Some.is at c.insert_below-inserted.ensures.edge) in
-    path_small c.insert_below-inserted.new.nodes (c.args.self.now.levels - 1) _
-    c.insert_below-inserted.result.edge
-    (tree_is_not_too_deep c.args.self.now.levels c.args.self.now.whole) below
-
-pub returns-in-Some-clause-list : goal.returns-in-Some-clause-list
-returns-in-Some-clause-list g c =
-    let a = goal.at.returns-in-Some-clause-list g c in
-    (taller g a.After-store_branch-self).items_are ∙ listed g a.After-insert_below-inserted
-
-pub returns-in-Some-clause-room : goal.returns-in-Some-clause-room
-returns-in-Some-clause-room g c =
-    let a = goal.at.returns-in-Some-clause-room g c in
-    omega (
-      arith,
-      ap length (taller g a.After-store_branch-self).items_are,
-      longer g a.After-insert_below-inserted,
-      c.requires.room,
-      c.store_branch-self.ensures.capacity,
-      c.insert_below-inserted.ensures.replaces.moved.capacity,
-    )
+pub seen_above-requires : goal.seen_above-requires
+seen_above-requires g c =
+    let t = c.insert_below-inserted.new.nodes in
+    let low = c.args.self.now.levels - 1 in
+    let edge = c.insert_below-inserted.result.edge in
+    let seat = rw c.in-Some.is at c.insert_below-inserted.ensures.edge in
+    record {
+      index = omega (arith, seat_side t low _ _ c.insert_below-inserted.result.side edge seat);
+      path = path_small t low _ edge
+          (tree_is_not_too_deep c.args.self.now.levels c.args.self.now.whole)
+          (seat_inside t low _ _ c.insert_below-inserted.result.side edge seat);
+    }
 
 higher : (g : Over) (c : After-seen_above g)
     → IsEdge c.store_branch-self.new.self
@@ -310,9 +251,20 @@ higher g c = taller_edge c.args.self.now.levels c.insert_below-inserted.result.s
     c.store_branch-self.ensures c.seen_above.ensures.turn c.seen_above.ensures.inside
     (rw c.in-Some.is at c.insert_below-inserted.ensures.edge)
 
-pub returns-in-Some-clause-edge : goal.returns-in-Some-clause-edge
-returns-in-Some-clause-edge g c = record { some = omega arith; edge = (higher g c).0 }
-
-pub returns-in-Some-clause-place : goal.returns-in-Some-clause-place
-returns-in-Some-clause-place g c =
-    (higher g c).1 ∙ (rw c.in-Some.is at c.insert_below-inserted.ensures.place)
+pub returns-in-Some : goal.returns-in-Some
+returns-in-Some g c =
+    let a = goal.at.returns-in-Some g c in
+    let list = (taller g a.After-store_branch-self).items_are in
+    record {
+      list = list ∙ listed g a.After-insert_below-inserted;
+      room = omega (
+        arith,
+        ap length list,
+        longer g a.After-insert_below-inserted,
+        c.requires.room,
+        c.store_branch-self.ensures.capacity,
+        c.insert_below-inserted.ensures.replaces.moved.capacity,
+      );
+      edge = record { some = omega arith; edge = (higher g c).0 };
+      place = (higher g c).1 ∙ (rw c.in-Some.is at c.insert_below-inserted.ensures.place);
+    }

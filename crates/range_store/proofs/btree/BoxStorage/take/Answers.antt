@@ -110,31 +110,22 @@ invariant_of-self g c =
     let so = replaced_so g (goal.at.invariant_of-self g c).After-replace_item-item in
     record { whole = so.roomy; counted = so.many; levelled = c.take_in_leaf-next.new.self.levelled }
 
-pub returns-clause-removed : goal.returns-clause-removed
-returns-clause-removed g c =
+pub returns : goal.returns
+returns g c =
+    let s = c.args.self.now in
+    let t = c.take_in_leaf-next.new.self in
+    let at = goal.at.returns g c in
+    let so = replaced_so g at.After-replace_item-item in
     let behind = tree_behind c.requires.edge (omega (arith, c.if-edge-gt0.false)) in
     let left = rw c.in-Some-left.is at c.take_in_leaf-next.ensures.edge in
-    replaced_item c.args.self.now c.take_in_leaf-next.new.self c.args.edge
-    (record { leaf = c.args.edge.leaf; path = c.args.edge.path; index = 1 }) c.in-Some-left.left
-    c.requires.some (edge_within behind.0) behind.1 c.take_in_leaf-next.ensures.list left.0 left.1
-    c.replace_item-item.result c.home-home.result c.home-home.ensures
-    c.replace_item-item.ensures.before
-
-pub returns-clause-list : goal.returns-clause-list
-returns-clause-list g c =
-    (replaced_so g (goal.at.returns-clause-list g c).After-replace_item-item).items_are
-
-pub returns-clause-space : goal.returns-clause-space
-returns-clause-space g c =
-    let at = goal.at.returns-clause-space g c in
-    let so = replaced_so g at.After-replace_item-item in
-    space_grows c.args.self.now
-    (box_place c.args.self.now c.args.edge) c.replace_item-item.new.self
-    c.take_in_leaf-next.new.self.levels c.take_in_leaf-next.new.self.root c.requires.some
-    (within g at.Start) so.items_are so.capacity
-
-pub returns-clause-following : goal.returns-clause-following
-returns-clause-following g c =
-    let so = replaced_so g (goal.at.returns-clause-following g c).After-replace_item-item in
-    let left = rw c.in-Some-left.is at c.take_in_leaf-next.ensures.edge in
-    (record { some = left.0.some; edge = so.edge }, so.place_is)
+    record {
+      removed = replaced_item s t c.args.edge
+          (record { leaf = c.args.edge.leaf; path = c.args.edge.path; index = 1 })
+          c.in-Some-left.left c.requires.some (edge_within behind.0) behind.1
+          c.take_in_leaf-next.ensures.list left.0 left.1 c.replace_item-item.result
+          c.home-home.result c.home-home.ensures c.replace_item-item.ensures.before;
+      list = so.items_are;
+      space = space_grows s (box_place s c.args.edge) c.replace_item-item.new.self t.levels t.root
+          c.requires.some (within g at.Start) so.items_are so.capacity;
+      following = (record { some = left.0.some; edge = so.edge }, so.place_is);
+    }

@@ -86,33 +86,20 @@ invariant_of-self g c =
       levelled = rw (← many) at (has_levels taken.tree);
     }
 
-pub returns-then-item_count-gt-MIN_LEN-clause-removed :
-    goal.returns-then-item_count-gt-MIN_LEN-clause-removed
-returns-then-item_count-gt-MIN_LEN-clause-removed g c =
-    c.take_beside-item.ensures.item
-    ∙ sym (leaf_item c.requires.edge c.take_beside-item.result.0 c.requires.in_leaf)
-
-pub returns-then-item_count-gt-MIN_LEN-clause-list :
-    goal.returns-then-item_count-gt-MIN_LEN-clause-list
-returns-then-item_count-gt-MIN_LEN-clause-list g c =
-    (taken g (goal.at.returns-then-item_count-gt-MIN_LEN-clause-list g
-    c).After-take_beside-item).items_are
-
-pub returns-then-item_count-gt-MIN_LEN-clause-capacity :
-    goal.returns-then-item_count-gt-MIN_LEN-clause-capacity
-returns-then-item_count-gt-MIN_LEN-clause-capacity g c =
-    (taken g (goal.at.returns-then-item_count-gt-MIN_LEN-clause-capacity g
-    c).After-take_beside-item).capacity
-
-pub returns-then-item_count-gt-MIN_LEN-clause-edge :
-    goal.returns-then-item_count-gt-MIN_LEN-clause-edge
-returns-then-item_count-gt-MIN_LEN-clause-edge g c =
-    let taken =
-    taken g (goal.at.returns-then-item_count-gt-MIN_LEN-clause-edge g
-    c).After-take_beside-item in (
-      record { some = c.requires.edge.some; edge = taken.edge },
-      omega (arith, taken.place_is, c.requires.in_leaf),
-    )
+pub returns-then-item_count-gt-MIN_LEN : goal.returns-then-item_count-gt-MIN_LEN
+returns-then-item_count-gt-MIN_LEN g c =
+    let a = goal.at.returns-then-item_count-gt-MIN_LEN g c in
+    let taken = taken g a.After-take_beside-item in
+    record {
+      removed = c.take_beside-item.ensures.item
+          ∙ sym (leaf_item c.requires.edge c.take_beside-item.result.0 c.requires.in_leaf);
+      list = taken.items_are;
+      capacity = taken.capacity;
+      edge = (
+        record { some = c.requires.edge.some; edge = taken.edge },
+        omega (arith, taken.place_is, c.requires.in_leaf),
+      );
+    }
 
 -- below the root
 pub remove_below-taken-requires : goal.remove_below-taken-requires
@@ -170,39 +157,29 @@ invariant_of-self-2 g c =
       levelled = rw (← many) at (has_levels c.shrink_root-shrunk.ensures.tree);
     }
 
-pub returns-then-self-eq0-clause-removed : goal.returns-then-self-eq0-clause-removed
-returns-then-self-eq0-clause-removed g c =
-    c.remove_below-taken.ensures.item
-    ∙ sym (leaf_item c.requires.edge c.remove_below-taken.result.item c.requires.in_leaf)
+pub returns-then-self-eq0 : goal.returns-then-self-eq0
+returns-then-self-eq0 g c =
+    record {
+      removed = c.remove_below-taken.ensures.item
+          ∙ sym (leaf_item c.requires.edge c.remove_below-taken.result.item c.requires.in_leaf);
+      list = shrunk g (goal.at.returns-then-self-eq0 g c).After-shrink_root-shrunk;
+      capacity = c.shrink_root-shrunk.ensures.capacity
+          ∙ c.remove_below-taken.ensures.shrinks.moved.capacity;
+      edge = rw c.if-self-eq0.true
+          (items_below_none c.shrink_root-shrunk.new.nodes c.shrink_root-shrunk.result.root);
+    }
 
-pub returns-then-self-eq0-clause-list : goal.returns-then-self-eq0-clause-list
-returns-then-self-eq0-clause-list g c =
-    shrunk g (goal.at.returns-then-self-eq0-clause-list g c).After-shrink_root-shrunk
-
-pub returns-then-self-eq0-clause-capacity : goal.returns-then-self-eq0-clause-capacity
-returns-then-self-eq0-clause-capacity g c =
-    c.shrink_root-shrunk.ensures.capacity ∙ c.remove_below-taken.ensures.shrinks.moved.capacity
-
-pub returns-then-self-eq0-clause-edge : goal.returns-then-self-eq0-clause-edge
-returns-then-self-eq0-clause-edge g c =
-    rw c.if-self-eq0.true
-    (items_below_none c.shrink_root-shrunk.new.nodes c.shrink_root-shrunk.result.root)
-
-pub returns-clause-removed : goal.returns-clause-removed
-returns-clause-removed g c =
-    c.remove_below-taken.ensures.item
-    ∙ sym (leaf_item c.requires.edge c.remove_below-taken.result.item c.requires.in_leaf)
-
-pub returns-clause-list : goal.returns-clause-list
-returns-clause-list g c = shrunk g (goal.at.returns-clause-list g c).After-shrink_root-shrunk
-
-pub returns-clause-capacity : goal.returns-clause-capacity
-returns-clause-capacity g c =
-    c.shrink_root-shrunk.ensures.capacity ∙ c.remove_below-taken.ensures.shrinks.moved.capacity
-
-pub returns-clause-edge : goal.returns-clause-edge
-returns-clause-edge g c =
-    let some : 0 < c.shrink_root-shrunk.result.levels = omega (arith, c.if-self-eq0.false) in (
-      record { some = some; edge = c.shrink_root-shrunk.ensures.edge some },
-      omega (arith, c.shrink_root-shrunk.ensures.place some, c.remove_below-taken.ensures.place),
-    )
+pub returns : goal.returns
+returns g c =
+    let some : 0 < c.shrink_root-shrunk.result.levels = omega (arith, c.if-self-eq0.false) in
+    record {
+      removed = c.remove_below-taken.ensures.item
+          ∙ sym (leaf_item c.requires.edge c.remove_below-taken.result.item c.requires.in_leaf);
+      list = shrunk g (goal.at.returns g c).After-shrink_root-shrunk;
+      capacity = c.shrink_root-shrunk.ensures.capacity
+          ∙ c.remove_below-taken.ensures.shrinks.moved.capacity;
+      edge = (
+        record { some = some; edge = c.shrink_root-shrunk.ensures.edge some },
+        omega (arith, c.shrink_root-shrunk.ensures.place some, c.remove_below-taken.ensures.place),
+      );
+    }

@@ -28,15 +28,15 @@ preceding-requires g t c κs within =
       ),
     )
 
-pub seen_above-requires-clause-index : goal.seen_above-requires-clause-index
-seen_above-requires-clause-index g t c =
+pub seen_above-requires : goal.seen_above-requires
+seen_above-requires g t c =
     let low = below_turn c.if-below-eq0.false c.requires.shaped c.args.edge c.requires.edge in
-    omega (arith, c.first_turn-index.ensures, low, c.requires.shaped.node.fits)
-
-pub seen_above-requires-clause-path : goal.seen_above-requires-clause-path
-seen_above-requires-clause-path g t c =
     let found = rw c.in-Some.is at c.preceding.ensures in
-    path_small c.args.nodes.now (c.args.below - 1) _ _ (omega (arith, c.requires.deep)) found.0
+    record {
+      index = omega (arith, c.first_turn-index.ensures, low, c.requires.shaped.node.fits);
+      path = path_small c.args.nodes.now (c.args.below - 1) _ _
+          (omega (arith, c.requires.deep)) found.0;
+    }
 
 pub returns-in-Some : goal.returns-in-Some
 returns-in-Some g t c =
@@ -102,15 +102,14 @@ end_edge-requires g t c =
       deep = omega (arith, c.requires.deep);
     }
 
-pub seen_above-requires-2-clause-index : goal.seen_above-requires-2-clause-index
-seen_above-requires-2-clause-index g t c =
+pub seen_above-requires-2 : goal.seen_above-requires-2
+seen_above-requires-2 g t c =
     let low = below_turn c.if-below-eq0.false c.requires.shaped c.args.edge c.requires.edge in
-    omega (arith, c.first_turn-index.ensures, low, c.requires.shaped.node.fits)
-
-pub seen_above-requires-2-clause-path : goal.seen_above-requires-2-clause-path
-seen_above-requires-2-clause-path g t c =
-    path_small c.args.nodes.now (c.args.below - 1) _ _
-    (omega (arith, c.requires.deep)) c.end_edge.ensures.edge
+    record {
+      index = omega (arith, c.first_turn-index.ensures, low, c.requires.shaped.node.fits);
+      path = path_small c.args.nodes.now (c.args.below - 1) _ _
+          (omega (arith, c.requires.deep)) c.end_edge.ensures.edge;
+    }
 
 pub returns : goal.returns
 returns g t c =

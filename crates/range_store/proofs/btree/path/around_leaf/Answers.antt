@@ -118,13 +118,13 @@ comes g c = comes_to_the_end c.args.nodes.now c.down.left c.down.at c.down.path 
     (leaf_end c.args.nodes.now c.down.inner) c.down.behind (omega (arith, c.down-test.false))
     c.down.invariant.way (omega arith)
 
-pub returns-in-None-clause-home : goal.returns-in-None-clause-home
-returns-in-None-clause-home g c =
-    home_found g (goal.at.returns-in-None-clause-home g c).After-home_before-found
-
-pub returns-in-None-clause-behind : goal.returns-in-None-clause-behind
-returns-in-None-clause-behind g c = rw c.in-None.is at
-    (comes g (goal.at.returns-in-None-clause-behind g c).After-home_before-found)
+pub returns-in-None : goal.returns-in-None
+returns-in-None g c =
+    record {
+      home = home_found g (goal.at.returns-in-None g c).After-home_before-found;
+      behind = rw c.in-None.is at
+          (comes g (goal.at.returns-in-None g c).After-home_before-found);
+    }
 
 pub first_edge-first-requires : goal.first_edge-first-requires
 first_edge-first-requires g c =
@@ -132,13 +132,12 @@ first_edge-first-requires g c =
     (comes g (goal.at.first_edge-first-requires g c).After-home_before-found) in
     record { shaped = begins.shaped; deep = omega (arith, begins.low, c.requires.deep) }
 
-pub returns-in-Some-clause-home : goal.returns-in-Some-clause-home
-returns-in-Some-clause-home g c =
-    home_found g (goal.at.returns-in-Some-clause-home g c).After-home_before-found
-
-pub returns-in-Some-clause-behind : goal.returns-in-Some-clause-behind
-returns-in-Some-clause-behind g c =
+pub returns-in-Some : goal.returns-in-Some
+returns-in-Some g c =
     let begins = rw c.in-Some.is at
-    (comes g (goal.at.returns-in-Some-clause-behind g c).After-home_before-found) in
-    begins.first c.first_edge-first.result c.first_edge-first.ensures.edge
-    c.first_edge-first.ensures.place
+    (comes g (goal.at.returns-in-Some g c).After-home_before-found) in
+    record {
+      home = home_found g (goal.at.returns-in-Some g c).After-home_before-found;
+      behind = begins.first c.first_edge-first.result c.first_edge-first.ensures.edge
+          c.first_edge-first.ensures.place;
+    }

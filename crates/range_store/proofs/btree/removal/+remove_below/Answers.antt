@@ -1,4 +1,4 @@
-use Rattle.std.proofs.Common.{◌≡◌, ◌+◌, ◌-◌, length, refl, ap, ◌∙◌, arith, rules}
+use Rattle.std.proofs.Common.{◌≡◌, ◌+◌, ◌-◌, ◌<◌, length, refl, ap, ◌∙◌, arith, rules}
 use Rattle.std.proofs.lemmas.List.Edits.{length-remove}
 use Rattle.range_store.specs.Heap.{node_items, node_child}
 use Rattle.range_store.specs.declared.btree.nodes.TheConstants.{MIN_LEN}
@@ -25,50 +25,34 @@ take_beside-item-requires g t c =
       );
     }
 
-pub returns-then-below-eq0-clause-item : goal.returns-then-below-eq0-clause-item
-returns-then-below-eq0-clause-item g t c =
-    let leaf =
-    leaf_is c.args.nodes.now c.args.number c.args.edge
-    (rw c.if-below-eq0.true at c.requires.edge) in
-    rw leaf c.take_beside-item.ensures.item
-
-pub returns-then-below-eq0-clause-shrinks : goal.returns-then-below-eq0-clause-shrinks
-returns-then-below-eq0-clause-shrinks g t c = rw (
-  c.if-below-eq0.true,
-  leaf_place c.args.nodes.now c.args.number c.args.edge,
-) (leaf_shrinks (c.args.edge.index - 1) (rw c.if-below-eq0.true at c.requires.shaped)
-    (rw c.if-below-eq0.true at c.requires.owned) (omega (
-      arith,
-      leaf_index c.args.nodes.now c.args.number c.args.edge
-          (rw c.if-below-eq0.true at c.requires.edge),
-      c.requires.in_leaf,
-    )) (rw (no_child_gone _ (rw c.if-below-eq0.true at c.requires.shaped).node.branches) at
-    c.take_beside-item.ensures.rest))
-
-pub returns-then-below-eq0-clause-edge : goal.returns-then-below-eq0-clause-edge
-returns-then-below-eq0-clause-edge g t c =
-    let index =
-    leaf_index c.args.nodes.now c.args.number c.args.edge
-    (rw c.if-below-eq0.true at c.requires.edge) in
-    rw c.if-below-eq0.true (leaf_edge c.take_beside-item.new.self c.args.number _ refl refl
-    (omega (
-      arith,
-      index,
-      c.requires.in_leaf,
-      ap length c.take_beside-item.ensures.rest.items_are,
-      length-remove (node_items c.args.nodes.now c.args.number) (c.args.edge.index - 1)
-          (omega (arith, index, c.requires.in_leaf)),
-    )))
-
-pub returns-then-below-eq0-clause-place : goal.returns-then-below-eq0-clause-place
-returns-then-below-eq0-clause-place g t c =
-    rw c.if-below-eq0.true (omega (
-      arith,
-      leaf_place c.args.nodes.now c.args.number c.args.edge,
-      leaf_place c.take_beside-item.new.self c.args.number
-          (record { leaf = c.args.number; path = 0; index = c.args.edge.index - 1 }),
-      c.requires.in_leaf,
-    ))
+pub returns-then-below-eq0 : goal.returns-then-below-eq0
+returns-then-below-eq0 g t c =
+    let s = c.args.nodes.now in
+    let is = rw c.if-below-eq0.true at c.requires.edge in
+    let shaped = rw c.if-below-eq0.true at c.requires.shaped in
+    let owned = rw c.if-below-eq0.true at c.requires.owned in
+    let index = leaf_index s c.args.number c.args.edge is in
+    let within : c.args.edge.index - 1 < length (node_items s c.args.number) =
+    omega (arith, index, c.requires.in_leaf) in
+    record {
+      item = rw (leaf_is s c.args.number c.args.edge is) c.take_beside-item.ensures.item;
+      shrinks = rw (c.if-below-eq0.true, leaf_place s c.args.number c.args.edge)
+          (leaf_shrinks (c.args.edge.index - 1) shaped owned within
+          (rw (no_child_gone _ shaped.node.branches) at c.take_beside-item.ensures.rest));
+      edge = rw c.if-below-eq0.true (leaf_edge c.take_beside-item.new.self c.args.number _ refl refl
+          (omega (
+            arith,
+            ap length c.take_beside-item.ensures.rest.items_are,
+            length-remove (node_items s c.args.number) (c.args.edge.index - 1) within,
+          )));
+      place = rw c.if-below-eq0.true (omega (
+        arith,
+        leaf_place s c.args.number c.args.edge,
+        leaf_place c.take_beside-item.new.self c.args.number
+            (record { leaf = c.args.number; path = 0; index = c.args.edge.index - 1 }),
+        c.requires.in_leaf,
+      ));
+    }
 
 pub child_at-child-requires : goal.child_at-child-requires
 child_at-child-requires g t c =

@@ -11,14 +11,13 @@ rotate_left-requires g c =
       room = omega (arith, c.requires.levelled.fits, c.requires.spare);
     }
 
-pub seen_above-requires-clause-index : goal.seen_above-requires-clause-index
-seen_above-requires-clause-index g c =
-    omega (arith, c.requires.levelled.within, c.requires.levelled.node.fits)
-
-pub seen_above-requires-clause-path : goal.seen_above-requires-clause-path
-seen_above-requires-clause-path g c =
-    path_small c.args.nodes.now c.args.low _ c.args.edge
-    (omega (arith, c.requires.deep)) c.requires.edge
+pub seen_above-requires : goal.seen_above-requires
+seen_above-requires g c =
+    record {
+      index = omega (arith, c.requires.levelled.within, c.requires.levelled.node.fits);
+      path = path_small c.args.nodes.now c.args.low _ c.args.edge
+          (omega (arith, c.requires.deep)) c.requires.edge;
+    }
 
 pub returns : goal.returns
 returns g c =

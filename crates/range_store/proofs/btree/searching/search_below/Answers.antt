@@ -12,11 +12,12 @@ use Rattle.range_store.proofs.btree.searching.search_below.Goals as goal
 use Rattle.range_store.proofs.btree.searching.search_below.Given.{Over}
 use Rattle.range_store.proofs.btree.searching.search_below.Goals.{After-count_passing-index}
 
-pub cells-requires-clause-present : goal.cells-requires-clause-present
-cells-requires-clause-present g c = c.down.invariant.0.lies.shaped.node.present
-
-pub cells-requires-clause-some : goal.cells-requires-clause-some
-cells-requires-clause-some g c = omega (arith, c.down.invariant.0.lies.shaped.node.enough)
+pub cells-requires : goal.cells-requires
+cells-requires g c =
+    record {
+      present = c.down.invariant.0.lies.shaped.node.present;
+      some = omega (arith, c.down.invariant.0.lies.shaped.node.enough);
+    }
 
 pub count_passing-index-requires-clause-falls : goal.count_passing-index-requires-clause-falls
 count_passing-index-requires-clause-falls g c =
