@@ -1,6 +1,6 @@
 -- Cells of a row, of which the first have items.
 use Rattle.std.proofs.Common.{◌≡◌, ℕ, zero, suc, ◌+◌, ◌-◌, ◌<◌, ◌≤◌, List, [], ◌∷◌, ◌++◌, length, get_or, take, drop, replicate, Option, Some, None, refl, sym, ap, ◌∙◌, subst, arith, length-append, length-drop, drop-cons}
-use Rattle.std.proofs.Math.ListN.{set}
+use Rattle.std.proofs.Math.ListN.{set, length-set}
 use Rattle.std.specs.List.{insert, remove}
 use Rattle.std.proofs.lemmas.List.{append-nil, append_assoc, set_at, take_at, drop_at, get_or_at, take-append-le, drop-append-le, length-take-le, length-map, length-replicate, map-append, map-set, take-map, drop-map, get_or_append_left, set-append_left}
 use Rattle.std.proofs.lemmas.List.Edits.{length-insert, length-remove}
@@ -202,7 +202,7 @@ module _ {T : Type 0} where
       → i < length xs → HoldsItems (set old i (Some item)) (set xs i item)
   held_set {old} {xs} i item h within =
       let rest : List (Option T) = replicate (CAPACITY - length xs) None in
-      let same : length (set xs i item) ≡ length xs = length_set xs i item in
+      let same : length (set xs i item) ≡ length xs = length-set xs i item in
       record {
         fits = omega (arith, same, h.fits);
         cells_are =
@@ -211,11 +211,6 @@ module _ {T : Type 0} where
             ∙ ap (λ cells. cells ++ rest) (sym (map-set (λ x. Some x) xs i item))
             ∙ ap (λ k. full_cells (set xs i item) ++ replicate (CAPACITY - k) None) (sym same);
       }
-    where
-      length_set : (ys : List T) (k : ℕ) (y : T) → length (set ys k y) ≡ length ys
-      length_set [] k y = refl
-      length_set (z ∷ ys) zero y = refl
-      length_set (z ∷ ys) (suc k) y = ap suc (length_set ys k y)
 
   -- a row with no item
   pub held_none : HoldsItems {T = T} (replicate CAPACITY None) []

@@ -69,6 +69,17 @@ module _ {T : Type 0} {s t : Heap T} {d n : ℕ} {xs : List T} {ks : List ℕ}
     children = rw holds.children_are (holds.same.shaped_same shaped);
   }
 
+-- a node that was written, once its children have the subtrees again
+pub held_after : {T : Type 0} {q r s t : Heap T} {d n : ℕ} {xs : List T} {ks : List ℕ}
+    → Writes q r n xs ks → node_of t n ≡ node_of r n → AgreeAt s t (flat_map (used s d) ks)
+    → Holds s t d n xs ks
+held_after {T} {q} {r} {s} {t} {d} {n} {xs} {ks} written kept agree = record {
+  present = rw kept written.present;
+  items_are = rw kept written.items_are;
+  children_are = rw kept written.children_are;
+  same = same_children s t d ks agree;
+}
+
 -- a part of the children of a node
 pub child_count_part : (d k m k' m' : ℕ) → m ≡ child_count d k → (m ≡ 0 → m' ≡ 0)
     → (m ≡ k + 1 → m' ≡ k' + 1) → m' ≡ child_count d k'
@@ -97,12 +108,7 @@ module _ {T : Type 0} {s : Heap T} (t : Heap T) {d n : ℕ} {xs : List T} {ks : 
     written_agree k among = written.others k (content_apart k among)
 
     pub written_holds : Holds s t d n xs ks
-    written_holds = record {
-      present = written.present;
-      items_are = written.items_are;
-      children_are = written.children_are;
-      same = same_children s t d ks written_agree;
-    }
+    written_holds = held_after written refl written_agree
 
     pub written_settles : length xs ≤ CAPACITY → Settles s t d n xs ks None
     written_settles fits = record {
@@ -267,14 +273,7 @@ module _ {T : Type 0} {s t : Heap T} {d n half : ℕ} {xs : List T} {ks : List �
       (arith, none, here_some cut.between n cut.first.present))
 
   pub left_holds : Holds s t d n (take half xs) (take (half + 1) ks)
-  left_holds =
-      record {
-        present = rw n_kept cut.first.present;
-        items_are = rw n_kept cut.first.items_are;
-        children_are = rw n_kept cut.first.children_are;
-        same =
-            same_children s t d (take (half + 1) ks) (part_agree s t d (half + 1) ks cut_agree).0;
-      }
+  left_holds = held_after cut.first n_kept (part_agree s t d (half + 1) ks cut_agree).0
 
   pub right_holds : Holds s t d split.right (drop (half + 1) xs) (drop (half + 1) ks)
   right_holds =

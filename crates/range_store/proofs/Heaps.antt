@@ -42,12 +42,6 @@ module _ {T : Type 0} where
         children = node_children s n;
       })) None other
 
-  -- a write to an item is one of its node
-  pub writes_item : (s : Heap T) (n i : ℕ) (x : T) → HasNode s n
-      → Writes s (with_item s n i x) n (set (node_items s n) i x) (node_children s n)
-  writes_item s n i x present = writes_slot s n
-      (record { items = set (node_items s n) i x; children = node_children s n }) present
-
   content_is : (node : Option (Content T)) (xs : List T) (ks : List ℕ) → IsSome node
       → items_of node ≡ xs → children_of node ≡ ks
       → node ≡ Some (record { items = xs; children = ks })

@@ -1,22 +1,16 @@
 -- Rows of which the items of one, or of two, change one after the other.
-use Rattle.std.proofs.Common.{◌≡◌, ◌≢◌, ℕ, suc, ◌+◌, ◌-◌, ◌<◌, ◌≤◌, List, [], ◌∷◌, ◌++◌, length, get_or, take, drop, take-add, refl, sym, ap, ◌∙◌, arith}
+use Rattle.std.proofs.Common.{◌≡◌, ◌≢◌, ℕ, suc, ◌+◌, ◌-◌, ◌<◌, ◌≤◌, List, [], ◌∷◌, ◌++◌, length, get_or, take, drop, sym, ap, ◌∙◌, arith}
 use Rattle.std.proofs.Math.ListN.{set, length-set}
 use Rattle.std.proofs.Math.Seq.{drop-cons}
 use Rattle.std.specs.List.{insert, remove}
-use Rattle.std.proofs.lemmas.List.{append_assoc, drop-drop, drop_all, take-take, length-take-le, get_or-take, get_or-set_same, get_or-set_other, set-set, set_comm}
+use Rattle.std.proofs.lemmas.List.{append_assoc, take-take, length-take-le, get_or-take, get_or-set_same, get_or-set_other, set-set, set_comm}
 use Rattle.std.proofs.lemmas.List.Edits.{insert-append_left, insert_end}
 use Rattle.range_store.specs.Rows.{row_of}
-use Rattle.range_store.proofs.Dividing.{left_high, left_low, right_high, right_low}
+use Rattle.range_store.proofs.Edits.{without_last}
+use Rattle.range_store.proofs.Halves.{take_insert_before, take_insert_after, drop_insert_after, drop_insert_before}
+use Rattle.range_store.proofs.Moved.{taken_more}
 
 module _ {T : Type 0} where
-  without_last : (xs : List T) (i : ℕ) → length xs ≡ i + 1 → remove xs i ≡ take i xs
-  without_last xs i long =
-      ap (λ ys. take i xs ++ ys) (drop_all (suc i) xs (omega arith)) ∙ append_nil (take i xs)
-    where
-      append_nil : (ys : List T) → ys ++ [] ≡ ys
-      append_nil [] = refl
-      append_nil (y ∷ ys) = ap (λ zs. y ∷ zs) (append_nil ys)
-
   -- another item came to the end of a row
   pub filled_more : (rows now : List (List T)) (n k : ℕ) (items rest : List T) (x : T)
       → n < length rows → k < length items → now ≡ set rows n (take k items)
@@ -27,15 +21,14 @@ module _ {T : Type 0} where
       let here : row_of now n ≡ take k items =
       ap (λ zs. row_of zs n) was ∙ get_or-set_same rows n (take k items) [] there in
       let long : k ≡ length (take k items) = sym (length-take-le k items (omega arith)) in
-      let more : take (k + 1) items ≡ take k items ++ x ∷ [] =
-      take-add k 1 items ∙ ap (λ ys. take k items ++ take 1 ys) next in
+      let more = taken_more items rest k x next in
       let list : insert (row_of now n) k x ≡ take (k + 1) items =
       ap (λ ys. insert ys k x) here ∙ ap (λ j. insert (take k items) j x) long
-      ∙ insert_end (take k items) x ∙ sym more in (
+      ∙ insert_end (take k items) x ∙ sym more.0 in (
         ap (λ zs. set zs n (insert (row_of now n) k x)) was
             ∙ set-set rows n (take k items) (insert (row_of now n) k x)
             ∙ ap (set rows n) list,
-        sym (ap (drop 1) next) ∙ drop-drop 1 k items,
+        more.1,
       )
 
   -- the last item of one row went to the place behind those that another had
@@ -184,10 +177,10 @@ module _ {T : Type 0} (rows one two three : List (List T)) (l r : ℕ) (l_there 
             (set-set rows l (take (k - 1) whole) (insert (row_of two l) i x))
             ∙ ap (λ ys. set (set rows l (insert ys i x)) r (drop k whole)) left_two
             ∙ ap (λ ys. set (set rows l ys) r (drop k whole))
-            (left_low whole i x within (k - 1) (omega arith)
+            (sym (take_insert_after whole i (k - 1) x (omega arith) within)
             ∙ ap (λ j. take j (insert whole i x)) next)
             ∙ ap (set (set rows l (take k (insert whole i x))) r)
-            (right_low whole i x within k (omega arith))
+            (sym (drop_insert_after whole i k x (omega arith) within))
 
         pub divided_high : (j : ℕ) → k ≤ i → i ≤ 11 → j ≡ i - k
             → three ≡ set two r (insert (row_of two r) j x)
@@ -200,9 +193,10 @@ module _ {T : Type 0} (rows one two three : List (List T)) (l r : ℕ) (l_there 
             ∙ set-set (set rows l (take (k - 1) whole)) r (drop k whole) (insert (row_of two r) j x)
             ∙ ap (λ ys. set (set rows l (take (k - 1) whole)) r (insert ys j x)) right_two
             ∙ ap (set (set rows l (take (k - 1) whole)) r)
-            (right_high whole i x within k j high place)
+            (ap (λ m. insert (drop k whole) m x) place
+            ∙ sym (drop_insert_before whole i k x high within))
             ∙ ap (λ ys. set (set rows l ys) r (drop k (insert whole i x)))
-            (left_high whole i x within (k - 1) (omega arith))
+            (sym (take_insert_before whole i (k - 1) x (omega arith) within))
 
 -- a row took an item and all that another had
 pub absorbed : {T : Type 0} (rows now : List (List T)) (l r len : ℕ) (x : T) → l < length rows

@@ -6,6 +6,7 @@ use Rattle.std.proofs.lemmas.List.{append-nil, drop_all, drop_more, take_all, ta
 use Rattle.std.proofs.lemmas.List.Edits.{insert_end}
 use Rattle.std.proofs.lemmas.Option.{slice_get-get_or}
 use Rattle.range_store.specs.Heap.{Heap, node_of, items_of, children_of, child_count, with_child, with_item, FitsChild, Writes, HasPair, RotatesLeft, RotatesRight, Merges, Absorbs, left_items, right_items, left_children, right_children, node_items, node_children, node_child}
+use Rattle.range_store.proofs.Edits.{without_last}
 use Rattle.range_store.proofs.Heaps.{item_other, write_first, remove_first, remove_last}
 
 module _ {X : Type 0} where
@@ -18,10 +19,6 @@ module _ {X : Type 0} where
   last_and_front xs x n many is =
       sym (take_all (n + 1) xs (omega (arith, many))) ∙ take_more xs n x (omega (arith, many))
       ∙ ap (λ z. take n xs ++ z ∷ []) (sym is)
-
-  without_last : (xs : List X) (n : ℕ) → length xs ≤ n + 1 → remove xs n ≡ take n xs
-  without_last xs n few = ap (λ zs. take n xs ++ zs) (drop_all (suc n) xs (omega (arith, few)))
-      ∙ append-nil (take n xs)
 
 -- a child that comes from a node of as many levels
 pub fits_first : {X : Type 0} (below : ℕ) (xs : List X) (ks : List ℕ) (zs : List X) (ls : List ℕ)
@@ -76,9 +73,9 @@ few_children zero k m many = omega (arith, many)
 few_children (suc below) k m many = omega (arith, many)
 
 -- the other child is as it was
-module _ {T : Type 0} (s t u : Heap T) (n i : ℕ) (pair : HasPair s n i) (up : T) (l r : ℕ)
+module _ {T : Type 0} {s t u : Heap T} {n i : ℕ} (pair : HasPair s n i) (up : T) {l r : ℕ}
     (left_is : l ≡ node_child s n i) (right_is : r ≡ node_child s n (i + 1))
-    (after : u ≡ with_item t n i up) (xs : List T) (ks : List ℕ) where
+    (after : u ≡ with_item t n i up) {xs : List T} {ks : List ℕ} where
   pub left_kept : Writes s t r xs ks → node_of u l ≡ node_of s (node_child s n i)
   left_kept writes =
       let one = subst (λ k. Writes s t k xs ks) right_is writes in

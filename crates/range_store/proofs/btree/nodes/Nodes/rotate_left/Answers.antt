@@ -1,7 +1,7 @@
 use Rattle.std.proofs.Common.{length, sym, ap, subst, arith}
 use Rattle.std.proofs.Math.ListN.{set}
 use Rattle.range_store.specs.Heap.{HasNode, items_of, Writes, left_items, left_children, right_items, right_children, node_items, node_children}
-use Rattle.range_store.proofs.Heaps.{writes_item}
+use Rattle.range_store.specs.Written.{item_written}
 use Rattle.range_store.proofs.Siblings.{fits_first, left_kept, rotated_left}
 use Rattle.range_store.proofs.btree.nodes.Nodes.rotate_left.Goals as goal
 
@@ -26,7 +26,7 @@ returns g c =
     let one = rw (c.child_at-right.ensures) at c.take_beside-up.ensures.rest in
     let present : HasNode t n = rw (one.others n (λ e. pair.right_apart (sym e))) pair.parent in
     let two = subst (λ h. Writes t h n (set (node_items t n) i up)
-    (node_children t n)) (sym c.replace_item-down.ensures.after) (writes_item t n i up present) in
+    (node_children t n)) (sym c.replace_item-down.ensures.after) (item_written t n i up present) in
     let three = rw (
       c.item_count-end.ensures,
       c.take_beside-up.ensures.child,
@@ -39,18 +39,14 @@ returns g c =
 
 pub item_count-end-requires : goal.item_count-end-requires
 item_count-end-requires g c =
-    let same = left_kept c.args.self.now c.take_beside-up.new.self c.replace_item-down.new.self
-    c.args.number c.args.index c.requires.pair c.take_beside-up.result.0 c.child_at-left.result
-    c.child_at-right.result c.child_at-left.ensures c.child_at-right.ensures
-    c.replace_item-down.ensures.after _ _ c.take_beside-up.ensures.rest in
+    let same = left_kept c.requires.pair c.take_beside-up.result.0 c.child_at-left.ensures
+    c.child_at-right.ensures c.replace_item-down.ensures.after c.take_beside-up.ensures.rest in
     rw same c.requires.pair.left
 
 pub overflow_add-end : goal.overflow_add-end
 overflow_add-end g c =
-    let same = left_kept c.args.self.now c.take_beside-up.new.self c.replace_item-down.new.self
-    c.args.number c.args.index c.requires.pair c.take_beside-up.result.0 c.child_at-left.result
-    c.child_at-right.result c.child_at-left.ensures c.child_at-right.ensures
-    c.replace_item-down.ensures.after _ _ c.take_beside-up.ensures.rest in
+    let same = left_kept c.requires.pair c.take_beside-up.result.0 c.child_at-left.ensures
+    c.child_at-right.ensures c.replace_item-down.ensures.after c.take_beside-up.ensures.rest in
     omega (
       arith,
       c.item_count-end.ensures,
@@ -64,10 +60,8 @@ put-requires g c =
     let n = c.args.number in
     let i = c.args.index in
     let pair = c.requires.pair in
-    let same = left_kept c.args.self.now c.take_beside-up.new.self c.replace_item-down.new.self
-    c.args.number c.args.index c.requires.pair c.take_beside-up.result.0 c.child_at-left.result
-    c.child_at-right.result c.child_at-left.ensures c.child_at-right.ensures
-    c.replace_item-down.ensures.after _ _ c.take_beside-up.ensures.rest in
+    let same = left_kept c.requires.pair c.take_beside-up.result.0 c.child_at-left.ensures
+    c.child_at-right.ensures c.replace_item-down.ensures.after c.take_beside-up.ensures.rest in
     let fits = fits_first pair.below (left_items s n i) (left_children s n i) (right_items s n i)
     (right_children s n i) pair.left_branches pair.right_branches in
     record {

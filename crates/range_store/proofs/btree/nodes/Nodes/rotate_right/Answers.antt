@@ -1,7 +1,7 @@
 use Rattle.std.proofs.Common.{sym, subst, arith}
 use Rattle.std.proofs.Math.ListN.{set}
 use Rattle.range_store.specs.Heap.{HasNode, Writes, left_items, left_children, right_items, right_children, node_items, node_children}
-use Rattle.range_store.proofs.Heaps.{writes_item}
+use Rattle.range_store.specs.Written.{item_written}
 use Rattle.range_store.proofs.Siblings.{fits_last, right_kept, rotated_right}
 use Rattle.range_store.proofs.btree.nodes.Nodes.rotate_right.Goals as goal
 
@@ -27,7 +27,7 @@ returns g c =
     c.take_beside-up.ensures.rest in
     let present : HasNode t n = rw (one.others n (λ e. pair.left_apart (sym e))) pair.parent in
     let two = subst (λ h. Writes t h n (set (node_items t n) i up)
-    (node_children t n)) (sym c.replace_item-down.ensures.after) (writes_item t n i up present) in
+    (node_children t n)) (sym c.replace_item-down.ensures.after) (item_written t n i up present) in
     let three = rw (
       c.take_beside-up.ensures.child,
       c.item_count-end.ensures,
@@ -45,10 +45,8 @@ put-requires g c =
     let n = c.args.number in
     let i = c.args.index in
     let pair = c.requires.pair in
-    let same = right_kept c.args.self.now c.take_beside-up.new.self c.replace_item-down.new.self
-    c.args.number c.args.index c.requires.pair c.take_beside-up.result.0 c.child_at-left.result
-    c.child_at-right.result c.child_at-left.ensures c.child_at-right.ensures
-    c.replace_item-down.ensures.after _ _ c.take_beside-up.ensures.rest in
+    let same = right_kept c.requires.pair c.take_beside-up.result.0 c.child_at-left.ensures
+    c.child_at-right.ensures c.replace_item-down.ensures.after c.take_beside-up.ensures.rest in
     let fits = fits_last pair.below (right_items s n i) (right_children s n i) (left_items s n i)
     (left_children s n i) pair.right_branches pair.left_branches in
     record {
