@@ -9,10 +9,6 @@ use Rattle.range_store.proofs.btree.BoxStorage.build.Goals as goal
 use Rattle.range_store.proofs.btree.BoxStorage.build.Given.{Over}
 use Rattle.range_store.proofs.btree.BoxStorage.build.Goals.{After-build-self}
 
-pub layout_of-below-requires : goal.layout_of-below-requires
-layout_of-below-requires g c =
-    omega (arith, c.requires.some, c.len-count.ensures, c.args.added.ok.0)
-
 pub build-self-requires : goal.build-self-requires
 build-self-requires g c =
     let s = c.args.self.now in
@@ -39,10 +35,6 @@ build-self-requires g c =
             c.args.added.ok.0,
           );
     }
-
-pub overflow_add-self : goal.overflow_add-self
-overflow_add-self g c =
-    omega (arith, c.layout_of-below.ensures.deep, c.layout_of-below.ensures.least)
 
 tree : (g : Over) (c : After-build-self g)
     → IsTree c.build-self.new.nodes (c.layout_of-below.result.below + 1) c.build-self.result

@@ -32,6 +32,3 @@ box_edge : {T : Type 0} (s : BoxStorage T) (count : ℕ) → 0 < s.levels → (e
     → MatchOption edge (count ≡ 0) (λ h. IsBoxEdge s h × (box_place s h + 1 ≡ count))
 box_edge s count some None none = none
 box_edge s count some (Some h) is = (record { some = some; edge = is.0 }, is.1)
-
-pub returns : goal.returns
-returns g c = box_edge c.args.self.now _ c.requires.some c.preceding.result c.preceding.ensures

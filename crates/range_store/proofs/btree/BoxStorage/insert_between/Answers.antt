@@ -16,9 +16,6 @@ use Rattle.range_store.proofs.btree.BoxStorage.insert_between.Goals as goal
 use Rattle.range_store.proofs.btree.BoxStorage.insert_between.Given.{Over}
 use Rattle.range_store.proofs.btree.BoxStorage.insert_between.Goals.{After-put, After-insert_below-inserted, After-store_branch-self, After-seen_above, In-None}
 
-pub overflow_add-self : goal.overflow_add-self
-overflow_add-self g c = omega (arith, c.args.self.now.counted, c.requires.room)
-
 -- of a leaf with capacity to spare
 pub item_count-requires : goal.item_count-requires
 item_count-requires g c = (tree_leaf c.requires.edge).present
@@ -114,9 +111,6 @@ longer g c =
     ap length (listed g c)
     ∙ length-insert (box_items c.args.self.now) (box_place c.args.self.now c.args.edge) c.args.item
     (edge_within c.requires.edge)
-
-pub overflow_sub-self : goal.overflow_sub-self
-overflow_sub-self g c = omega (arith, c.requires.edge.some)
 
 pub insert_below-inserted-requires : goal.insert_below-inserted-requires
 insert_below-inserted-requires g c =

@@ -1,4 +1,4 @@
-use Rattle.std.proofs.Common.{◌≡◌, [], ◌-◌, ◌≤◌, ◌+◌, length, ap, arith}
+use Rattle.std.proofs.Common.{◌≡◌, [], ◌≤◌, ◌+◌, length, ap, arith}
 use Rattle.range_store.specs.Holding.{box_items, box_place, IsGood, good_home}
 use Rattle.range_store.proofs.Taking.{one_fewer, room_grows, space_grows, IsReplaced, replaced, replaced_item}
 use Rattle.range_store.proofs.Whole.{edge_within, tree_behind}
@@ -10,46 +10,12 @@ within : (g : Over) (c : Start g)
     → box_place c.args.self.now c.args.edge ≤ length (box_items c.args.self.now)
 within g c = edge_within c.requires.edge
 
--- out of a leaf
-pub returns-in-None-clause-space : goal.returns-in-None-clause-space
-returns-in-None-clause-space g c =
-    let s = c.args.self.now in
-    room_grows s c.take_in_leaf-item.new.self (box_place s c.args.edge) c.requires.some
-    (within g (goal.at.returns-in-None-clause-space g c).Start) c.take_in_leaf-item.ensures.list
-    c.take_in_leaf-item.ensures.capacity
-
-pub returns-in-None-clause-following : goal.returns-in-None-clause-following
-returns-in-None-clause-following g c =
-    let s = c.args.self.now in
-    let within = within g (goal.at.returns-in-None-clause-following g c).Start in
-    let none : box_items c.take_in_leaf-item.new.self ≡ [] =
-    rw c.in-None.is at c.take_in_leaf-item.ensures.edge in
-    omega (
-      arith,
-      one_fewer s c.take_in_leaf-item.new.self
-          (box_place s c.args.edge) c.requires.some within c.take_in_leaf-item.ensures.list,
-      ap length none,
-      within,
-    )
-
-pub following-requires : goal.following-requires
-following-requires g c =
-    let left = rw c.in-Some.is at c.take_in_leaf-item.ensures.edge in
-    left.0
-
 pub returns-in-Some-clause-space : goal.returns-in-Some-clause-space
 returns-in-Some-clause-space g c =
     let s = c.args.self.now in
     room_grows s c.take_in_leaf-item.new.self (box_place s c.args.edge) c.requires.some
     (within g (goal.at.returns-in-Some-clause-space g c).Start) c.take_in_leaf-item.ensures.list
     c.take_in_leaf-item.ensures.capacity
-
-pub returns-in-Some-clause-following : goal.returns-in-Some-clause-following
-returns-in-Some-clause-following g c =
-    let left = rw c.in-Some.is at c.take_in_leaf-item.ensures.edge in
-    let same : box_place c.take_in_leaf-item.new.self c.in-Some.left
-    ≡ box_place c.args.self.now c.args.edge - 1 = omega (arith, left.1) in
-    rw same at c.following.ensures
 
 -- from above the leaves
 pub take_in_leaf-next-requires : goal.take_in_leaf-next-requires

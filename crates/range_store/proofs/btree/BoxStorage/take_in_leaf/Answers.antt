@@ -8,7 +8,7 @@ use Rattle.range_store.proofs.InLeaf.{no_child_gone, place_index}
 use Rattle.range_store.proofs.InPlace.{IsLeafChange, take_from_leaf}
 use Rattle.range_store.proofs.Levels.{has_levels}
 use Rattle.range_store.proofs.Rank.{items_below_none}
-use Rattle.range_store.proofs.Roots.{loosened_items, loosened_tree, tree_owned}
+use Rattle.range_store.proofs.Roots.{loosened_items, tree_owned}
 use Rattle.range_store.proofs.Whole.{edge_within, leaf_item, tree_is_not_too_deep, tree_leaf}
 use Rattle.range_store.proofs.btree.BoxStorage.take_in_leaf.Goals as goal
 use Rattle.range_store.proofs.btree.BoxStorage.take_in_leaf.Given.{Over}
@@ -31,17 +31,6 @@ fewer g c =
           (omega (arith, some_before g c, within)),
       some_before g c,
       within,
-    )
-
-pub overflow_sub-self : goal.overflow_sub-self
-overflow_sub-self g c =
-    let s = c.args.self.now in
-    omega (
-      arith,
-      s.counted,
-      place_index s.nodes (s.levels - 1) s.root c.args.edge,
-      c.requires.in_leaf,
-      edge_within c.requires.edge,
     )
 
 pub item_count-requires : goal.item_count-requires
@@ -113,15 +102,6 @@ remove_below-taken-requires g c =
       deep = tree_is_not_too_deep s.levels s.whole;
       edge = c.requires.edge.edge;
       in_leaf = c.requires.in_leaf;
-    }
-
-pub shrink_root-shrunk-requires : goal.shrink_root-shrunk-requires
-shrink_root-shrunk-requires g c =
-    let s = c.args.self.now in
-    record {
-      tree = loosened_tree s.levels c.requires.edge.some s.whole.tree
-          c.remove_below-taken.ensures.shrinks;
-      edge = c.remove_below-taken.ensures.edge;
     }
 
 shrunk : (g : Over) (c : After-shrink_root-shrunk g)

@@ -71,14 +71,6 @@ overflow_mul-weight g c =
           c.down.invariant.way.lies.weight_is,
     )
 
-pub child_at-requires : goal.child_at-requires
-child_at-requires g c =
-    record {
-      present = c.down.invariant.way.lies.shaped.node.present;
-      within = child_within (omega (arith, c.down-test.true)) c.down.invariant.way.lies.shaped _
-          (omega (arith, c.if-index-item_count.true, c.item_count.ensures));
-    }
-
 pub down-preserved-then-index-item_count : goal.down-preserved-then-index-item_count
 down-preserved-then-index-item_count g c =
     let above : c.down.left ≢ 0 = omega (arith, c.down-test.true) in
@@ -125,12 +117,6 @@ returns-in-None g c =
       behind = rw c.in-None.is at
           (comes g (goal.at.returns-in-None g c).After-home_before-found);
     }
-
-pub first_edge-first-requires : goal.first_edge-first-requires
-first_edge-first-requires g c =
-    let begins = rw c.in-Some.is at
-    (comes g (goal.at.first_edge-first-requires g c).After-home_before-found) in
-    record { shaped = begins.shaped; deep = omega (arith, begins.low, c.requires.deep) }
 
 pub returns-in-Some : goal.returns-in-Some
 returns-in-Some g c =

@@ -4,13 +4,6 @@ use Rattle.range_store.proofs.Pairs.{seat_low}
 use Rattle.range_store.proofs.Rotating.{has_pair, moved_path, next_edge, next_kept, next_shrinks}
 use Rattle.range_store.proofs.btree.removal.borrow_from_left.Goals as goal
 
-pub child_at-right-requires : goal.child_at-right-requires
-child_at-right-requires g c =
-    record {
-      present = c.requires.levelled.node.present;
-      within = omega (arith, c.requires.levelled.within, c.requires.levelled.node.branches);
-    }
-
 pub rotate_right-requires : goal.rotate_right-requires
 rotate_right-requires g c =
     record {
@@ -18,9 +11,6 @@ rotate_right-requires g c =
       some = omega (arith, c.requires.spare);
       room = omega (arith, c.requires.levelled.fits, c.requires.spare);
     }
-
-pub overflow_add-index-2 : goal.overflow_add-index-2
-overflow_add-index-2 g c = omega (arith, c.requires.levelled.within, c.requires.levelled.node.fits)
 
 pub overflow_add-seat : goal.overflow_add-seat
 overflow_add-seat g c =

@@ -4,17 +4,6 @@ use Rattle.range_store.proofs.Pairs.{near_seat}
 use Rattle.range_store.proofs.Rotating.{has_pair, joined_edge, joined_shrinks, moved_path}
 use Rattle.range_store.proofs.btree.removal.join.Goals as goal
 
-pub child_at-left-requires : goal.child_at-left-requires
-child_at-left-requires g c =
-    record {
-      present = c.requires.levelled.node.present;
-      within = omega (arith, c.requires.levelled.within, c.requires.levelled.node.branches);
-    }
-
-pub item_count-many-requires : goal.item_count-many-requires
-item_count-many-requires g c =
-    rw c.child_at-left.ensures c.requires.levelled.left.node.present
-
 pub merge-requires : goal.merge-requires
 merge-requires g c =
     record {

@@ -1,5 +1,5 @@
 use Rattle.std.proofs.Common.{refl}
-use Rattle.range_store.proofs.Spares.{item_whole, item_written, items_seen, row_there}
+use Rattle.range_store.proofs.Spares.{item_written, items_seen, row_there}
 use Rattle.range_store.proofs.btree.nodes.Nodes.item_mut.Goals as goal
 
 pub item_mut-requires : goal.item_mut-requires
@@ -10,11 +10,6 @@ item_mut-requires g c =
       within = rw (← items_seen c.self.invariant.0 c.args.number present)
           (rw (← c.self.view_is) at c.requires.within);
     }
-
-pub invariant_of-self-lent : goal.invariant_of-self-lent
-invariant_of-self-lent g c w =
-    let present = rw (← c.self.view_is) at c.requires.present in
-    (item_whole c.self.invariant.0 c.args.number c.args.index w present, c.self.invariant.1)
 
 pub returns : goal.returns
 returns g c =
