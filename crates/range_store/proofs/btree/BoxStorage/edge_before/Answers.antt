@@ -3,7 +3,6 @@ use Rattle.range_store.specs.Edges.{IsEdge}
 use Rattle.range_store.specs.Holding.{IsBoxEdge, box_place}
 use Rattle.range_store.specs.declared.btree.BoxStorage.{BoxStorage}
 use Rattle.range_store.specs.declared.btree.path.Edge.{Edge}
-use Rattle.range_store.specs.Written.{root_shaped}
 use Rattle.range_store.proofs.Whole.{tree_is_not_too_deep, tree_leaf, tree_beside}
 use Rattle.range_store.proofs.btree.BoxStorage.edge_before.Goals as goal
 
@@ -17,14 +16,10 @@ returns-then-edge-gt0 g c =
     }) refl refl (omega (arith, (tree_leaf c.requires).within)) in
     (back.0, omega (arith, back.1, c.if-edge-gt0.true))
 
-pub preceding-requires : goal.preceding-requires
-preceding-requires g c =
+pub preceding-requires-clause-deep : goal.preceding-requires-clause-deep
+preceding-requires-clause-deep g c =
     let s = c.args.self.now in
-    record {
-      shaped = root_shaped s.levels c.requires.some s.whole.tree;
-      deep = tree_is_not_too_deep s.levels s.whole;
-      edge = c.requires.edge;
-    }
+    tree_is_not_too_deep s.levels s.whole
 
 box_edge : {T : Type 0} (s : BoxStorage T) (count : ℕ) → 0 < s.levels → (edge : Option Edge)
     → MatchOption edge (count ≡ 0)

@@ -4,13 +4,11 @@ use Rattle.std.proofs.lemmas.List.Edits.{length-insert}
 use Rattle.range_store.specs.Edges.{IsEdge, place, seat_place}
 use Rattle.range_store.specs.Holding.{box_items, box_place}
 use Rattle.range_store.specs.Nodes.{items_below}
-use Rattle.range_store.specs.Written.{root_shaped}
 use Rattle.range_store.proofs.Edges.{path_small}
 use Rattle.range_store.proofs.InPlace.{IsLeafChange, put_in_leaf}
 use Rattle.range_store.proofs.Levels.{has_levels, levels_le}
-use Rattle.range_store.proofs.RootGrowth.{IsGrown, kept_edge, kept_root, one_more, grown_roomy, taller_edge, taller_room, taller_root}
+use Rattle.range_store.proofs.RootGrowth.{IsGrown, kept_edge, kept_root, grown_roomy, taller_edge, taller_room, taller_root}
 use Rattle.range_store.proofs.Seats.{seat_inside, seat_side}
-use Rattle.range_store.proofs.Roots.{tree_owned}
 use Rattle.range_store.proofs.Whole.{edge_within, tree_is_not_too_deep, tree_leaf}
 use Rattle.range_store.proofs.btree.BoxStorage.insert_between.Goals as goal
 use Rattle.range_store.proofs.btree.BoxStorage.insert_between.Given.{Over}
@@ -112,18 +110,10 @@ longer g c =
     ∙ length-insert (box_items c.args.self.now) (box_place c.args.self.now c.args.edge) c.args.item
     (edge_within c.requires.edge)
 
-pub insert_below-inserted-requires : goal.insert_below-inserted-requires
-insert_below-inserted-requires g c =
+pub insert_below-inserted-requires-clause-deep : goal.insert_below-inserted-requires-clause-deep
+insert_below-inserted-requires-clause-deep g c =
     let s = c.args.self.now in
-    let some = c.requires.edge.some in
-    let level : suc (s.levels - 1) ≡ s.levels = omega (arith, some) in
-    record {
-      shaped = root_shaped s.levels some s.whole.tree;
-      owned = rw level (tree_owned s.whole.tree);
-      edge = c.requires.edge.edge;
-      deep = tree_is_not_too_deep s.levels s.whole;
-      room = one_more s.nodes s.levels s.root some s.whole.tree (omega (arith, c.requires.room));
-    }
+    tree_is_not_too_deep s.levels s.whole
 
 -- with no cut of the root
 kept : (g : Over) (c : In-None g)

@@ -18,12 +18,9 @@ returns-in-Some-clause-space g c =
     c.take_in_leaf-item.ensures.capacity
 
 -- from above the leaves
-pub take_in_leaf-next-requires : goal.take_in_leaf-next-requires
-take_in_leaf-next-requires g c =
-    record {
-      edge = (tree_behind c.requires.edge (omega (arith, c.if-edge-gt0.false))).0;
-      in_leaf = omega arith;
-    }
+pub take_in_leaf-next-requires-clause-edge : goal.take_in_leaf-next-requires-clause-edge
+take_in_leaf-next-requires-clause-edge g c =
+    (tree_behind c.requires.edge (omega (arith, c.if-edge-gt0.false))).0
 
 pub unreachable-requires : goal.unreachable-requires
 unreachable-requires g c =
@@ -42,11 +39,11 @@ unreachable-requires g c =
       c.requires.some,
     )
 
-pub home-home-requires : goal.home-home-requires
-home-home-requires g c =
+pub home-home-requires-clause-some : goal.home-home-requires-clause-some
+home-home-requires-clause-some g c =
     let behind = tree_behind c.requires.edge (omega (arith, c.if-edge-gt0.false)) in
     let left = rw c.in-Some-left.is at c.take_in_leaf-next.ensures.edge in
-    record { edge = left.0; some = omega (arith, left.1, behind.1, c.requires.some) }
+    omega (arith, left.1, behind.1, c.requires.some)
 
 pub replace_item-item-requires : goal.replace_item-item-requires
 replace_item-item-requires g c =

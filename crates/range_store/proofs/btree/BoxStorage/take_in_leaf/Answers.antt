@@ -3,12 +3,10 @@ use Rattle.std.specs.List.{remove}
 use Rattle.std.proofs.lemmas.List.Edits.{length-remove}
 use Rattle.range_store.specs.Holding.{box_items, box_place}
 use Rattle.range_store.specs.Nodes.{items_below}
-use Rattle.range_store.specs.Written.{root_shaped}
 use Rattle.range_store.proofs.InLeaf.{no_child_gone, place_index}
 use Rattle.range_store.proofs.InPlace.{IsLeafChange, take_from_leaf}
 use Rattle.range_store.proofs.Levels.{has_levels}
-use Rattle.range_store.proofs.Rank.{items_below_none}
-use Rattle.range_store.proofs.Roots.{loosened_items, tree_owned}
+use Rattle.range_store.proofs.Roots.{loosened_items}
 use Rattle.range_store.proofs.Whole.{edge_within, leaf_item, tree_is_not_too_deep, tree_leaf}
 use Rattle.range_store.proofs.btree.BoxStorage.take_in_leaf.Goals as goal
 use Rattle.range_store.proofs.btree.BoxStorage.take_in_leaf.Given.{Over}
@@ -37,10 +35,10 @@ pub item_count-requires : goal.item_count-requires
 item_count-requires g c = (tree_leaf c.requires.edge).present
 
 -- from a leaf with an item to spare
-pub take_beside-item-requires : goal.take_beside-item-requires
-take_beside-item-requires g c =
+pub take_beside-item-requires-clause-within : goal.take_beside-item-requires-clause-within
+take_beside-item-requires-clause-within g c =
     let leaf = tree_leaf c.requires.edge in
-    record { present = leaf.present; within = omega (arith, leaf.within, c.requires.in_leaf) }
+    omega (arith, leaf.within, c.requires.in_leaf)
 
 taken : (g : Over) (c : After-take_beside-item g)
     → IsLeafChange c.take_beside-item.new.self c.requires.edge
@@ -91,18 +89,10 @@ returns-then-item_count-gt-MIN_LEN g c =
     }
 
 -- below the root
-pub remove_below-taken-requires : goal.remove_below-taken-requires
-remove_below-taken-requires g c =
+pub remove_below-taken-requires-clause-deep : goal.remove_below-taken-requires-clause-deep
+remove_below-taken-requires-clause-deep g c =
     let s = c.args.self.now in
-    let some = c.requires.edge.some in
-    let level : suc (s.levels - 1) ≡ s.levels = omega (arith, some) in
-    record {
-      shaped = root_shaped s.levels some s.whole.tree;
-      owned = rw level (tree_owned s.whole.tree);
-      deep = tree_is_not_too_deep s.levels s.whole;
-      edge = c.requires.edge.edge;
-      in_leaf = c.requires.in_leaf;
-    }
+    tree_is_not_too_deep s.levels s.whole
 
 shrunk : (g : Over) (c : After-shrink_root-shrunk g)
     → items_below c.shrink_root-shrunk.new.nodes c.shrink_root-shrunk.result.levels c.shrink_root-shrunk.result.root
@@ -137,29 +127,12 @@ invariant_of-self-2 g c =
       levelled = rw (← many) at (has_levels c.shrink_root-shrunk.ensures.tree);
     }
 
-pub returns-then-self-eq0 : goal.returns-then-self-eq0
-returns-then-self-eq0 g c =
-    record {
-      removed = c.remove_below-taken.ensures.item
-          ∙ sym (leaf_item c.requires.edge c.remove_below-taken.result.item c.requires.in_leaf);
-      list = shrunk g (goal.at.returns-then-self-eq0 g c).After-shrink_root-shrunk;
-      capacity = c.shrink_root-shrunk.ensures.capacity
-          ∙ c.remove_below-taken.ensures.shrinks.moved.capacity;
-      edge = rw c.if-self-eq0.true
-          (items_below_none c.shrink_root-shrunk.new.nodes c.shrink_root-shrunk.result.root);
-    }
+pub returns-then-self-eq0-clause-removed : goal.returns-then-self-eq0-clause-removed
+returns-then-self-eq0-clause-removed g c =
+    c.remove_below-taken.ensures.item
+    ∙ sym (leaf_item c.requires.edge c.remove_below-taken.result.item c.requires.in_leaf)
 
-pub returns : goal.returns
-returns g c =
-    let some : 0 < c.shrink_root-shrunk.result.levels = omega (arith, c.if-self-eq0.false) in
-    record {
-      removed = c.remove_below-taken.ensures.item
-          ∙ sym (leaf_item c.requires.edge c.remove_below-taken.result.item c.requires.in_leaf);
-      list = shrunk g (goal.at.returns g c).After-shrink_root-shrunk;
-      capacity = c.shrink_root-shrunk.ensures.capacity
-          ∙ c.remove_below-taken.ensures.shrinks.moved.capacity;
-      edge = (
-        record { some = some; edge = c.shrink_root-shrunk.ensures.edge some },
-        omega (arith, c.shrink_root-shrunk.ensures.place some, c.remove_below-taken.ensures.place),
-      );
-    }
+pub returns-clause-removed : goal.returns-clause-removed
+returns-clause-removed g c =
+    c.remove_below-taken.ensures.item
+    ∙ sym (leaf_item c.requires.edge c.remove_below-taken.result.item c.requires.in_leaf)

@@ -60,14 +60,11 @@ returns-then-below-eq0-clause-place g t c =
     rw (c.if-below-eq0.true, leaf_place c.args.nodes.now c.args.number c.args.edge)
     (at ∙ leaf_seat_place c.args.nodes.now _ _ (c.args.edge.index + 1) c.args.edge)
 
-pub child_at-child-requires : goal.child_at-child-requires
-child_at-child-requires g t c =
+pub child_at-child-requires-clause-within : goal.child_at-child-requires-clause-within
+child_at-child-requires-clause-within g t c =
     let low = below_turn c.if-below-eq0.false c.requires.shaped c.args.edge c.requires.edge in
     let within = child_within c.if-below-eq0.false c.requires.shaped _ low in
-    record {
-      present = c.requires.shaped.node.present;
-      within = rw c.first_turn-index.ensures within;
-    }
+    rw c.first_turn-index.ensures within
 
 pub insert_below-inserted-requires : goal.insert_below-inserted-requires
 insert_below-inserted-requires g t c κs inside =

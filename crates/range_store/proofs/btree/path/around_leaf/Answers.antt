@@ -30,14 +30,11 @@ low g c = turn_low c.args.nodes.now (omega (arith, c.down-test.true)) c.down.inv
 few : (g : Over) (c : After-first_turn-index g) → c.first_turn-index.result ≤ CAPACITY
 few g c = omega (arith, low g c, c.down.invariant.way.lies.shaped.node.fits)
 
-pub child_at-at-requires : goal.child_at-at-requires
-child_at-at-requires g c =
-    let a = (goal.at.child_at-at-requires g c).After-first_turn-index in
-    record {
-      present = c.down.invariant.way.lies.shaped.node.present;
-      within = child_within (omega (arith, c.down-test.true)) c.down.invariant.way.lies.shaped _
-          (low g a);
-    }
+pub child_at-at-requires-clause-within : goal.child_at-at-requires-clause-within
+child_at-at-requires-clause-within g c =
+    let a = (goal.at.child_at-at-requires-clause-within g c).After-first_turn-index in
+    child_within (omega (arith, c.down-test.true)) c.down.invariant.way.lies.shaped _
+    (low g a)
 
 small : (g : Over) (c : After-first_turn-index g)
     → c.down.path + c.down.weight * c.first_turn-index.result + c.down.weight < 2 ^ 64

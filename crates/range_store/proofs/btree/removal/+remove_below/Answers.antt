@@ -13,17 +13,14 @@ use Rattle.range_store.proofs.Shortening.{leaf_shrinks, kid_kept, kid_front, kid
 use Rattle.range_store.proofs.Paths.{level_of_children, child_within, below_kid, below_turn, below_inside, below_here, below_most}
 use Rattle.range_store.proofs.btree.removal.+remove_below.Goals as goal
 
-pub take_beside-item-requires : goal.take_beside-item-requires
-take_beside-item-requires g t c =
-    record {
-      present = c.requires.shaped.node.present;
-      within = omega (
-        arith,
-        leaf_index c.args.nodes.now c.args.number c.args.edge
-            (rw c.if-below-eq0.true at c.requires.edge),
-        c.requires.in_leaf,
-      );
-    }
+pub take_beside-item-requires-clause-within : goal.take_beside-item-requires-clause-within
+take_beside-item-requires-clause-within g t c =
+    omega (
+      arith,
+      leaf_index c.args.nodes.now c.args.number c.args.edge
+          (rw c.if-below-eq0.true at c.requires.edge),
+      c.requires.in_leaf,
+    )
 
 pub returns-then-below-eq0 : goal.returns-then-below-eq0
 returns-then-below-eq0 g t c =
@@ -54,13 +51,10 @@ returns-then-below-eq0 g t c =
       ));
     }
 
-pub child_at-child-requires : goal.child_at-child-requires
-child_at-child-requires g t c =
-    record {
-      present = c.requires.shaped.node.present;
-      within = rw c.first_turn-index.ensures (child_within c.if-below-eq0.false c.requires.shaped _
-          (below_turn c.if-below-eq0.false c.requires.shaped c.args.edge c.requires.edge));
-    }
+pub child_at-child-requires-clause-within : goal.child_at-child-requires-clause-within
+child_at-child-requires-clause-within g t c =
+    rw c.first_turn-index.ensures (child_within c.if-below-eq0.false c.requires.shaped _
+    (below_turn c.if-below-eq0.false c.requires.shaped c.args.edge c.requires.edge))
 
 pub remove_below-taken-requires : goal.remove_below-taken-requires
 remove_below-taken-requires g t c κs inside =

@@ -4,13 +4,9 @@ use Rattle.range_store.proofs.Pairs.{seat_low}
 use Rattle.range_store.proofs.Rotating.{has_pair, moved_path, next_edge, next_kept, next_shrinks}
 use Rattle.range_store.proofs.btree.removal.borrow_from_left.Goals as goal
 
-pub rotate_right-requires : goal.rotate_right-requires
-rotate_right-requires g c =
-    record {
-      pair = has_pair c.requires.levelled;
-      some = omega (arith, c.requires.spare);
-      room = omega (arith, c.requires.levelled.fits, c.requires.spare);
-    }
+pub rotate_right-requires-clause-pair : goal.rotate_right-requires-clause-pair
+rotate_right-requires-clause-pair g c =
+    has_pair c.requires.levelled
 
 pub overflow_add-seat : goal.overflow_add-seat
 overflow_add-seat g c =
@@ -21,32 +17,22 @@ overflow_add-seat g c =
       c.requires.levelled.right.node.fits,
     )
 
-pub edge_at-inner-requires : goal.edge_at-inner-requires
-edge_at-inner-requires g c =
-    record {
-      seat = omega (
-        arith,
-        c.seat.ensures,
-        seat_low c.args.low c.args.edge c.requires.levelled.right c.requires.edge,
-        c.requires.levelled.fits,
-        c.requires.spare,
-      );
-      path = λ some. rw c.seen_inside.ensures
-          (omega (
-            arith,
-            path_low c.args.nodes.now c.args.low _ c.args.edge c.requires.deep c.requires.edge,
-          ));
-    }
+pub edge_at-inner-requires-clause-seat : goal.edge_at-inner-requires-clause-seat
+edge_at-inner-requires-clause-seat g c =
+    omega (
+      arith,
+      c.seat.ensures,
+      seat_low c.args.low c.args.edge c.requires.levelled.right c.requires.edge,
+      c.requires.levelled.fits,
+      c.requires.spare,
+    )
 
-pub seen_above-requires : goal.seen_above-requires
-seen_above-requires g c =
-    record {
-      index = omega (arith, c.requires.levelled.within, c.requires.levelled.node.fits);
-      path = moved_path c.args.low _ _ c.edge_at-inner.result c.args.edge
-          c.edge_at-inner.ensures.leaf
-          (rw c.seen_inside.ensures at c.edge_at-inner.ensures.inside)
-          (path_low c.args.nodes.now c.args.low _ c.args.edge c.requires.deep c.requires.edge);
-    }
+pub seen_above-requires-clause-path : goal.seen_above-requires-clause-path
+seen_above-requires-clause-path g c =
+    moved_path c.args.low _ _ c.edge_at-inner.result c.args.edge
+    c.edge_at-inner.ensures.leaf
+    (rw c.seen_inside.ensures at c.edge_at-inner.ensures.inside)
+    (path_low c.args.nodes.now c.args.low _ c.args.edge c.requires.deep c.requires.edge)
 
 pub returns : goal.returns
 returns g c =

@@ -12,13 +12,6 @@ use Rattle.range_store.proofs.btree.searching.search_below.Goals as goal
 use Rattle.range_store.proofs.btree.searching.search_below.Given.{Over}
 use Rattle.range_store.proofs.btree.searching.search_below.Goals.{After-count_passing-index}
 
-pub cells-requires : goal.cells-requires
-cells-requires g c =
-    record {
-      present = c.down.invariant.0.lies.shaped.node.present;
-      some = omega (arith, c.down.invariant.0.lies.shaped.node.enough);
-    }
-
 pub count_passing-index-requires-clause-falls : goal.count_passing-index-requires-clause-falls
 count_passing-index-requires-clause-falls g c =
     let p = g.P.Probe.test c.args.probe.now in
