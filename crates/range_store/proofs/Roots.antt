@@ -22,42 +22,6 @@ pub loosened_items : {T : Type 0} {s t : Heap T} (levels : ℕ) {root : ℕ} {li
 loosened_items levels some step = let level : suc (levels - 1) ≡ levels = omega arith in rw level at
     step.listed
 
--- the tree after one went below the root, which may be short
-pub loosened_tree : {T : Type 0} {s t : Heap T} (levels : ℕ) {root : ℕ} {list : List T} → 0 < levels
-    → IsTree s levels root → Shrinks s t (levels - 1) root list → IsLooseTree t levels root
-loosened_tree {T} {s} {t} zero {root} {list} some tree step = absurd (omega arith)
-loosened_tree (suc d) some tree step' =
-    let level : suc d - 1 ≡ d = omega arith in
-    let step = rw level at step' in
-    record {
-      some = some;
-      shaped = rw level (step.shape 0 (omega (arith, tree.shaped.node.enough)));
-      once = λ k. omega (arith, step.moved.owned k, tree.once k);
-      len = omega (arith, step.moved.len, tree.len);
-    }
-
--- a root with an item stays
-pub stays_root : {T : Type 0} {s : Heap T} (levels : ℕ) {root : ℕ} → IsLooseTree s levels root
-    → 0 < length (node_items s root) → IsTree s levels root
-stays_root {T} {s} zero {root} loose full = absurd (omega (arith, loose.some))
-stays_root (suc d) loose full =
-    let level : suc d - 1 ≡ d = omega arith in
-    let shaped = rw level at loose.shaped in
-    record {
-      shaped = record {
-        node =
-            record {
-              present = shaped.node.present;
-              enough = full;
-              fits = shaped.node.fits;
-              branches = shaped.node.branches;
-            };
-        children = shaped.children;
-      };
-      once = loose.once;
-      len = loose.len;
-    }
-
 list_of_one : (ks : List ℕ) → length ks ≡ 1 → ks ≡ get_or ks 0 0 ∷ []
 list_of_one [] one = absurd (omega arith)
 list_of_one (k ∷ []) one = refl

@@ -631,9 +631,6 @@ module _ {T : Type 0} {slab : Slab Node} {rows : List (List T)} {spares : List �
   pub spare_found : IsSome (get slab n)
   spare_found = content_some (row_of rows n) (get slab n) (rw (whole.empty n among) refl)
 
-  pub spare_there : n < length rows
-  spare_there = whole.there n spare_found
-
   pub bare_row : row_of rows n ≡ []
   bare_row =
       sym (content_items (row_of rows n) (get slab n) (rw (whole.empty n among) refl))
@@ -665,32 +662,6 @@ none_whole slab rows spares no_slots no_rows no_spares =
 module _ {T : Type 0} {slab : Slab Node} {rows : List (List T)} {spares : List ℕ}
     (whole : IsWhole slab rows spares) (n i : ℕ) (x : T)
     (present : HasNode (heap_of slab rows spares) n) where
-  pub item_whole : IsWhole slab (set rows n (set (row_of rows n) i x)) spares
-  item_whole =
-      let xs = set (row_of rows n) i x in
-      let within = row_there whole n present in
-      record {
-        there = λ k some. omega (arith, length-set rows n xs, whole.there k some);
-        lens = λ k.
-            elim (cases_eq k n) [
-              | inl same ↦
-                  rw same (ap length (get_or-set_same rows n xs [] within)
-                  ∙ length-set (row_of rows n) i x ∙ whole.lens n)
-              | inr differs ↦
-                  ap length (get_or-set_other rows n k xs [] differs) ∙ whole.lens k
-            ];
-        empty = λ k among.
-            ap (λ ys. content_of ys (get slab k)) (get_or-set_other rows n k xs []
-            (λ same. omega (
-              arith,
-              among,
-              ap (λ m. occurrences m spares) same,
-              in_use slab rows spares n present,
-            )))
-            ∙ whole.empty k among;
-        once = whole.once;
-      }
-
   pub item_written : heap_of slab (set rows n (set (row_of rows n) i x)) spares
       ≡ with_item (heap_of slab rows spares) n i x
   item_written =

@@ -1,15 +1,11 @@
-use Rattle.std.proofs.Common.{◌≡◌, ℕ, ◌<◌, ◌==◌, ◌∷◌, ◌++◌, [], Bool, false, length, ap, ◌∙◌, arith}
+use Rattle.std.proofs.Common.{◌≡◌, ◌∷◌, ◌++◌, [], length, ap, ◌∙◌, arith}
 use Rattle.std.specs.List.{insert}
-use Rattle.std.proofs.lemmas.Grind.{common_steps}
 use Rattle.std.proofs.lemmas.List.{length_push}
 use Rattle.std.proofs.lemmas.List.Edits.{insert_end}
 use Rattle.range_store.specs.Holding.{box_items}
 use Rattle.range_store.proofs.Moved.{moved_more, moved_after}
 use Rattle.range_store.proofs.Positions.{end_place}
 use Rattle.range_store.proofs.btree.BoxStorageStorage.append.Goals as goal
-
-some_items : (is_empty : Bool) (n m : ℕ) → is_empty ≡ (n == 0) → is_empty ≡ false → n ≡ m → 0 < m
-some_items is_empty n m test holds same = grind (arith, common_steps)
 
 pub loop-item-preserved : goal.loop-item-preserved
 loop-item-preserved g c =

@@ -18,9 +18,6 @@ module _ (g : Over) (c : After-deref_mut g) where
   long : CAPACITY * c.args.number + CAPACITY ≤ length c.add_cells.new.cells.items
   long = rw c.add_cells.ensures.cells (topped_room c.self.invariant.0 c.args.number less)
 
-  enough : CAPACITY * c.args.number + CAPACITY ≤ length c.deref_mut.result.now
-  enough = omega (arith, long, ap length c.deref_mut.ensures.value)
-
   held : HoldsItems (cells_of c.deref_mut.result.now c.args.number)
       (row_of (rows_in c.self.inside.many c.self.inside.cells.items) c.args.number)
   held = rw (c.deref_mut.ensures.value, c.add_cells.ensures.cells)
