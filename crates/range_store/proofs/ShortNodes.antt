@@ -6,7 +6,7 @@ use Rattle.std.proofs.lemmas.List.Elements.{All-cons, All-head, All-tail, All-ap
 use Rattle.range_store.specs.Heap.{Heap, node_of, node_items, node_children, node_child}
 use Rattle.range_store.specs.declared.btree.nodes.TheConstants.{CAPACITY, MIN_LEN}
 use Rattle.range_store.specs.Nodes.{items_below, used, Shaped, ShapedBut, Shrinks, MayBeRebalanced, IsLevelled}
-use Rattle.range_store.proofs.Below.{Shaped-from_but, Shaped-but, shaped_within_wider}
+use Rattle.range_store.proofs.Below.{Shaped-from_but, Shaped-but, shaped_within_wider, shaped_with}
 use Rattle.range_store.proofs.Moves.{Moves-none}
 use Rattle.range_store.specs.Weave.{list_splits_at}
 
@@ -46,16 +46,8 @@ module _ {T : Type 0} (s : Heap T) (low n i : ℕ) (m : MayBeRebalanced s low n 
   pub stays_balanced : MIN_LEN ≤ length (node_items s kid)
       → Shrinks s s (suc low) n (items_below s (suc (suc low)) n)
   stays_balanced enough =
-      let here = Shaped-from_but s low kid (record {
-        node =
-            record {
-              present = m.child.node.present;
-              enough = enough;
-              fits = m.child.node.fits;
-              branches = m.child.node.branches;
-            };
-        children = m.child.children;
-      }) in
+      let here = Shaped-from_but s low kid
+      (shaped_with MIN_LEN CAPACITY enough m.child.node.fits m.child) in
       let children =
       subst (All P) (sym kids)
       (All-append P (take i ks) (kid ∷ drop (i + 1) ks) m.before

@@ -5,7 +5,7 @@ use Rattle.range_store.specs.Holding.{box_items, box_place}
 use Rattle.range_store.specs.Nodes.{items_below}
 use Rattle.range_store.proofs.InLeaf.{no_child_gone, place_index}
 use Rattle.range_store.proofs.InPlace.{IsLeafChange, take_from_leaf}
-use Rattle.range_store.proofs.Levels.{has_levels}
+use Rattle.range_store.proofs.RootGrowth.{grown_whole}
 use Rattle.range_store.proofs.Roots.{loosened_items}
 use Rattle.range_store.proofs.Whole.{edge_within, leaf_item, tree_is_not_too_deep, tree_leaf}
 use Rattle.range_store.proofs.btree.BoxStorage.take_in_leaf.Goals as goal
@@ -57,21 +57,11 @@ invariant_of-self g c =
     let s = c.args.self.now in
     let at = goal.at.invariant_of-self g c in
     let taken = taken g at.After-take_beside-item in
-    let less = ap length taken.items_are in
     let back = fewer g at.Start in
-    let many : c.args.self.now.len - 1
-    ≡ length (items_below c.take_beside-item.new.self s.levels s.root) =
-    omega (arith, less, back, s.counted) in
-    record {
-      whole =
-          record {
-            tree = taken.tree;
-            fits = omega (arith, less, back, s.whole.fits, taken.capacity);
-            counted = omega (arith, less, back, s.whole.counted);
-          };
-      counted = many;
-      levelled = rw (← many) at (has_levels taken.tree);
-    }
+    let whole = grown_whole (s.len - 1)
+    (record { tree = taken.tree; items_are = taken.items_are }) (omega (arith, back, s.counted))
+    (omega (arith, back, s.whole.fits, taken.capacity)) (omega (arith, back, s.whole.counted)) in
+    record { whole = whole.0; counted = whole.1; levelled = whole.2 }
 
 pub returns-then-item_count-gt-MIN_LEN : goal.returns-then-item_count-gt-MIN_LEN
 returns-then-item_count-gt-MIN_LEN g c =
@@ -109,23 +99,15 @@ pub invariant_of-self-2 : goal.invariant_of-self-2
 invariant_of-self-2 g c =
     let s = c.args.self.now in
     let at = goal.at.invariant_of-self-2 g c in
-    let less = ap length (shrunk g at.After-shrink_root-shrunk) in
     let back = fewer g at.Start in
     let capacity =
     c.shrink_root-shrunk.ensures.capacity ∙ c.remove_below-taken.ensures.shrinks.moved.capacity in
-    let many : c.args.self.now.len - 1
-    ≡ length (items_below c.shrink_root-shrunk.new.nodes c.shrink_root-shrunk.result.levels
-    c.shrink_root-shrunk.result.root) = omega (arith, less, back, s.counted) in
-    record {
-      whole =
-          record {
-            tree = c.shrink_root-shrunk.ensures.tree;
-            fits = omega (arith, less, back, s.whole.fits, capacity);
-            counted = omega (arith, less, back, s.whole.counted);
-          };
-      counted = many;
-      levelled = rw (← many) at (has_levels c.shrink_root-shrunk.ensures.tree);
-    }
+    let whole = grown_whole (s.len - 1) (record {
+      tree = c.shrink_root-shrunk.ensures.tree;
+      items_are = shrunk g at.After-shrink_root-shrunk;
+    }) (omega (arith, back, s.counted)) (omega (arith, back, s.whole.fits, capacity))
+    (omega (arith, back, s.whole.counted)) in
+    record { whole = whole.0; counted = whole.1; levelled = whole.2 }
 
 pub returns-then-self-eq0-clause-removed : goal.returns-then-self-eq0-clause-removed
 returns-then-self-eq0-clause-removed g c =
