@@ -18,18 +18,23 @@ unfolding Shaped
 Shaped-but s d n shaped = record { node = shaped.0; children = shaped.1 }
 
 -- the bounds on a node may be wider
-pub shaped_within_wider : {T : Type 0} (low : ℕ) {least most : ℕ} (top : ℕ) {s : Heap T} {d n : ℕ}
-    → low ≤ least → most ≤ top → ShapedBut least most s d n → ShapedBut low top s d n
-shaped_within_wider low top le le' shaped = record {
-  node =
-      record {
-        present = shaped.node.present;
-        enough = omega (arith, shaped.node.enough);
-        fits = omega (arith, shaped.node.fits);
-        branches = shaped.node.branches;
-      };
+pub shaped_with : {T : Type 0} {least most : ℕ} (low top : ℕ) {s : Heap T} {d n : ℕ}
+    → low ≤ length (node_items s n) → length (node_items s n) ≤ top → ShapedBut least most s d n
+    → ShapedBut low top s d n
+shaped_with low top enough fits shaped = record {
+  node = record {
+    present = shaped.node.present;
+    enough = enough;
+    fits = fits;
+    branches = shaped.node.branches;
+  };
   children = shaped.children;
 }
+
+pub shaped_within_wider : {T : Type 0} (low : ℕ) {least most : ℕ} (top : ℕ) {s : Heap T} {d n : ℕ}
+    → low ≤ least → most ≤ top → ShapedBut least most s d n → ShapedBut low top s d n
+shaped_within_wider low top le le' shaped = shaped_with low top (omega (arith, shaped.node.enough))
+    (omega (arith, shaped.node.fits)) shaped
 
 pub child_count_cases : (d k m : ℕ) → m ≡ child_count d k → (m ≡ 0) ⊎ (m ≡ k + 1)
 child_count_cases zero k m h = inl h

@@ -13,8 +13,8 @@ use Rattle.range_store.specs.Contents.{IsContent}
 use Rattle.range_store.specs.Frame.{AgreeAt, AgreeAt-right, SameChildren, same_children}
 use Rattle.range_store.specs.Occurrences.{occurrences, occurrences-append, occurrences-cons, occurrences-nil, occurrences_here}
 use Rattle.range_store.specs.Weave.{weave_cut}
-use Rattle.range_store.proofs.Below.{Shaped-from_but, child_count_inner, items_below_leaf, used_is, used_leaf, weave_items_below}
-use Rattle.range_store.proofs.Contents.{Holds, held_items_below, held_used, held_shape, written_holds}
+use Rattle.range_store.proofs.Below.{Shaped-from_but, child_count_inner, items_below_leaf, used_is, used_leaf, weave_items_below, shaped_with}
+use Rattle.range_store.proofs.Contents.{Holds, held_items_below, held_used, held_shape, written_holds, held_new}
 use Rattle.range_store.proofs.Moves.{Moves-agree, Moves-beside, Moves-like, Moves-then, Stores-moves, Writes-moves}
 use Rattle.range_store.proofs.Moved.{moved_all}
 use Rattle.range_store.proofs.Rank.{used_none}
@@ -32,16 +32,8 @@ weave_more xs x (k ∷ ks) l many =
 pub built_shaped : {T : Type 0} {r s : Heap T} {d n many : ℕ} → IsBuilt r s d n many
     → MIN_LEN ≤ many → Shaped s (suc d) n
 built_shaped {T} {r} {s} {d} {n} built enough =
-    Shaped-from_but s d n (record {
-      node =
-          record {
-            present = built.shape.node.present;
-            enough = omega (arith, built.items, enough);
-            fits = built.shape.node.fits;
-            branches = built.shape.node.branches;
-          };
-      children = built.shape.children;
-    })
+    Shaped-from_but s d n (shaped_with MIN_LEN CAPACITY (omega (arith, built.items, enough))
+    built.shape.node.fits built.shape)
 
 -- what a node, of which the rest of the heap is old, becomes with an item and perhaps a child more
 module _ {T : Type 0} {r s t : Heap T} {d n many : ℕ} (cs : List ℕ) (built : IsBuilt r s d n many)
@@ -176,13 +168,7 @@ module _ {T : Type 0} {r s t : Heap T} (d : ℕ) {n : ℕ} (c : ℕ) (inner : 0 
       omega (arith, among, ap (occurrences k) alone, moved.owned k, occurrences-nil k, absent))
 
   above_holds : Holds s t d n [] (c ∷ [])
-  above_holds =
-      record {
-        present = stored.present;
-        items_are = stored.items_are;
-        children_are = stored.children_are;
-        same = same_children s t d (c ∷ []) above_agree;
-      }
+  above_holds = held_new stored above_agree
 
   pub begun_above : IsBuilt r t d n 0
   begun_above = record {
@@ -299,16 +285,8 @@ built_tree {T} {r} {s} (suc e) {root} {d} {n} {many} none tree built some = absu
 built_tree {T} {r} {s} zero {root} {d} none tree built some =
     let next : d + 1 ≡ suc d = omega arith in
     rw next (record {
-      shaped = record {
-        node =
-            record {
-              present = built.shape.node.present;
-              enough = omega (arith, built.items, some);
-              fits = built.shape.node.fits;
-              branches = built.shape.node.branches;
-            };
-        children = built.shape.children;
-      };
+      shaped = shaped_with 1 CAPACITY (omega (arith, built.items, some)) built.shape.node.fits
+          built.shape;
       once =
           λ k.
           omega (

@@ -1,37 +1,63 @@
 -- Cells of a row, of which the first have items.
-use Rattle.std.proofs.Common.{◌≡◌, ℕ, zero, suc, ◌+◌, ◌-◌, ◌<◌, ◌≤◌, List, [], ◌∷◌, ◌++◌, length, get_or, take, drop, replicate, Option, Some, None, refl, sym, ap, ◌∙◌, arith, length-append}
-use Rattle.std.proofs.Math.ListN.{set}
+use Rattle.std.proofs.Common.{◌≡◌, ℕ, zero, suc, ◌+◌, ◌-◌, ◌<◌, ◌≤◌, List, [], ◌∷◌, ◌++◌, length, get_or, take, drop, replicate, Option, Some, None, refl, sym, ap, ◌∙◌, subst, arith, length-append, length-drop, drop-cons}
+use Rattle.std.proofs.Math.ListN.{set, length-set}
 use Rattle.std.specs.List.{insert, remove}
-use Rattle.std.proofs.lemmas.List.{append-nil, append_assoc, length-map, length-replicate, map-append, map-set, take-map, drop-map, get_or_append_left, set-append_left}
-use Rattle.std.proofs.lemmas.List.Edits.{insert-append_left, insert_end, remove-append_left, length-insert, length-remove, get_or-insert_at}
+use Rattle.std.proofs.lemmas.List.{append-nil, append_assoc, set_at, take_at, drop_at, get_or_at, take-append-le, drop-append-le, length-take-le, length-map, length-replicate, map-append, map-set, take-map, drop-map, get_or_append_left, set-append_left}
+use Rattle.std.proofs.lemmas.List.Edits.{length-insert, length-remove}
+use borrow.Rule.Slice.PartMut.{put_mid, mid_of}
 use Rattle.std.proofs.lemmas.List.Elements.{filter_map-append}
 use Rattle.range_store.specs.declared.btree.nodes.TheConstants.{CAPACITY}
 use Rattle.range_store.specs.Rows.{full_cells, items_in, HoldsItems}
 
--- an item that is carried along a list, and left where another is taken up
-module _ {A : Type 0} where
-  pub carried_on : (xs : List A) (i : ℕ) (c d : A) → i < length xs
-      → insert (set xs i c) (suc i) (get_or xs i d) ≡ insert xs i c
-  carried_on [] i c d within = absurd (omega arith)
-  carried_on (x ∷ xs) zero c d within = refl
-  carried_on (x ∷ xs) (suc i) c d within = ap (λ ys. x ∷ ys) (carried_on xs i c d (omega arith))
+-- the first elements of a list from an index on, turned by one, where others follow
+module _ {A : Type 0} (i k : ℕ) (xs rest : List A) (ys : List A) where
+  part_is : i ≤ length xs → i + k ≡ length xs → take k (drop i (xs ++ rest)) ≡ drop i xs
+  part_is within long = ap (take k) (drop-append-le i xs rest within)
+      ∙ take_at (drop i xs) rest k (omega (arith, length-drop i xs))
 
-  pub carried_back : (xs : List A) (i : ℕ) (c d : A) → i < length xs
-      → insert (set xs i c) i (get_or xs i d) ≡ insert xs (suc i) c
-  carried_back [] i c d within = absurd (omega arith)
-  carried_back (x ∷ xs) zero c d within = refl
-  carried_back (x ∷ xs) (suc i) c d within = ap (λ ys. x ∷ ys) (carried_back xs i c d (omega arith))
+  part_put : i ≤ length xs → i + k ≡ length xs
+      → put_mid i k (xs ++ rest) ys ≡ take i xs ++ (ys ++ rest)
+  part_put within long =
+      let after : drop k (drop i (xs ++ rest)) ≡ rest =
+      ap (drop k) (drop-append-le i xs rest within)
+      ∙ drop_at (drop i xs) rest k (omega (arith, length-drop i xs)) in
+      ap (λ l. l ++ (ys ++ drop k (drop i (xs ++ rest)))) (take-append-le i xs rest within)
+      ∙ ap (λ l. take i xs ++ (ys ++ l)) after
 
-  without_carried : (xs : List A) (i : ℕ) (c : A) → i ≤ length xs → remove (insert xs i c) i ≡ xs
-  without_carried [] zero c within = refl
-  without_carried [] (suc i) c within = absurd (omega arith)
-  without_carried (x ∷ xs) zero c within = refl
-  without_carried (x ∷ xs) (suc i) c within =
-      ap (λ ys. x ∷ ys) (without_carried xs i c (omega arith))
+  turned_left : (d : A) → i < length xs → i + k ≡ length xs
+      → ys ≡ drop 1 (mid_of i k (xs ++ rest)) ++ take 1 (mid_of i k (xs ++ rest))
+      → put_mid i k (xs ++ rest) ys ≡ remove xs i ++ get_or xs i d ∷ rest
+  turned_left d within long turned =
+      let part = part_is (omega arith) long ∙ drop-cons xs i d within in
+      part_put (omega arith) long
+      ∙ ap (λ l. take i xs ++ (l ++ rest)) (turned ∙ ap (λ l. drop 1 l ++ take 1 l) part)
+      ∙ ap (λ l. take i xs ++ l) (append_assoc (drop (suc i) xs) (get_or xs i d ∷ []) rest)
+      ∙ sym (append_assoc (take i xs) (drop (suc i) xs) (get_or xs i d ∷ rest))
 
-  without_between : (xs ys : List A) (y : A) → remove (xs ++ y ∷ ys) (length xs) ≡ xs ++ ys
-  without_between [] ys y = refl
-  without_between (x ∷ xs) ys y = ap (λ zs. x ∷ zs) (without_between xs ys y)
+turned_right : {A : Type 0} (i k : ℕ) (xs : List A) (x : A) (rest ys : List A) → i ≤ length xs
+    → i + k ≡ length xs + 1
+    → (let mid = mid_of i k (xs ++ x ∷ rest) in
+    ys ≡ drop (length mid - 1) mid ++ take (length mid - 1) mid)
+    → put_mid i k (xs ++ x ∷ rest) ys ≡ take i xs ++ x ∷ (drop i xs ++ rest)
+turned_right i k xs x rest ys within long turned =
+    let more = xs ++ x ∷ [] in
+    let longer : length more ≡ length xs + 1 = length-append xs (x ∷ []) in
+    let whole : xs ++ x ∷ rest ≡ more ++ rest = sym (append_assoc xs (x ∷ []) rest) in
+    let left = drop i xs in
+    let last : length (left ++ x ∷ []) - 1 ≡ length left =
+    omega (arith, length-append left (x ∷ [])) in
+    let mid : mid_of i k (xs ++ x ∷ rest) ≡ left ++ x ∷ [] = ap (mid_of i k) whole
+    ∙ part_is i k more rest ys (omega arith) (omega arith)
+    ∙ drop-append-le i xs (x ∷ []) within in
+    let came : ys ≡ x ∷ left = turned
+    ∙ ap (λ l. drop (length l - 1) l ++ take (length l - 1) l) mid
+    ∙ ap (λ n. drop n (left ++ x ∷ []) ++ take n (left ++ x ∷ [])) last
+    ∙ ap (λ l. l ++ take (length left) (left ++ x ∷ [])) (drop_at left (x ∷ []) (length left) refl)
+    ∙ ap (λ l. x ∷ l) (take_at left (x ∷ []) (length left) refl) in
+    ap (λ l. put_mid i k l ys) whole
+    ∙ part_put i k more rest ys (omega arith) (omega arith)
+    ∙ ap (λ l. l ++ (ys ++ rest)) (take-append-le i xs (x ∷ []) within)
+    ∙ ap (λ l. take i xs ++ (l ++ rest)) came
 
 module _ {T : Type 0} where
   pub items_in_full : (xs : List T) → items_in (full_cells xs) ≡ xs
@@ -103,74 +129,80 @@ module _ {T : Type 0} where
       ∙ stands.cell_is d
 
   -- an item came to the others
-  pub held_with : {old : List (Option T)} (new : List (Option T)) {xs : List T} (len i : ℕ)
-      (item : T) (carried : Option T) → HoldsItems old xs → len ≡ length xs → i ≤ len
-      → len < CAPACITY → length new ≡ length old
-      → insert new (len + 1) carried ≡ insert old i (Some item) → HoldsItems new (insert xs i item)
-  held_with {old} new {xs} len i item carried h many within room long same =
+  pub held_with : {old : List (Option T)} {xs : List T} (i k : ℕ) (item : T)
+      (part : List (Option T)) → HoldsItems old xs → length xs < CAPACITY → i ≤ length xs
+      → i + k ≡ length xs + 1
+      → (let mid = mid_of i k old in part ≡ drop (length mid - 1) mid ++ take (length mid - 1) mid)
+      → HoldsItems (set (put_mid i k old part) i (Some item)) (insert xs i item)
+  held_with {old} {xs} i k item part h room within long turned =
       let more = insert xs i item in
+      let longer = length-insert xs i item within in
+      let cells = full_cells xs in
       let rest : List (Option T) = replicate (CAPACITY - length more) None in
-      let longer = length-insert xs i item (omega arith) in
       let left : CAPACITY - length xs ≡ suc (CAPACITY - length more) = omega (arith, longer) in
-      let list : insert old i (Some item) ≡ full_cells more ++ None ∷ rest =
-      ap (λ cells. insert cells i (Some item)) h.cells_are
-      ∙ insert-append_left (full_cells xs) (replicate (CAPACITY - length xs) None) i (Some item)
-      (omega (arith, length-full xs))
-      ∙ ap (λ cells. cells ++ replicate (CAPACITY - length xs) None) (full_insert xs i item)
-      ∙ ap (λ k. full_cells more ++ replicate k None) left in
-      let place : len + 1 ≡ length (full_cells more) = omega (arith, length-full more, longer) in
+      let same : old ≡ cells ++ None ∷ rest =
+      h.cells_are ∙ ap (λ n. cells ++ replicate n None) left in
+      let many = length-full xs in
+      let moved : put_mid i k old part ≡ take i cells ++ None ∷ (drop i cells ++ rest) =
+      ap (λ l. put_mid i k l part) same
+      ∙ turned_right i k cells None rest part (omega arith) (omega arith) (subst (λ l. part
+      ≡ drop (length (mid_of i k l) - 1) (mid_of i k l)
+      ++ take (length (mid_of i k l) - 1) (mid_of i k l)) same turned) in
       record {
-        fits = omega (arith, longer);
-        cells_are = sym (without_carried new (len + 1) carried (omega (arith, long, row_length h)))
-            ∙ ap (λ cells. remove cells (len + 1)) (same ∙ list)
-            ∙ ap (remove (full_cells more ++ None ∷ rest)) place
-            ∙ without_between (full_cells more) rest None;
+        fits = omega arith;
+        cells_are = ap (λ l. set l i (Some item)) moved
+            ∙ set_at (take i cells) None (drop i cells ++ rest) (Some item) i
+            (length-take-le i cells (omega arith))
+            ∙ sym (append_assoc (take i cells) (Some item ∷ drop i cells) rest)
+            ∙ ap (λ l. l ++ rest) (full_insert xs i item);
       }
 
   -- an item was taken from the others
-  pub held_without : {old : List (Option T)} (new : List (Option T)) {xs : List T} (len i : ℕ)
-      (carried : Option T) → HoldsItems old xs → len ≡ length xs → i < len → length new ≡ length old
-      → insert new i carried ≡ insert old len None → HoldsItems new (remove xs i) ×
-      ((stands : Standing xs i) → carried ≡ Some stands.item)
-  held_without {old} new {xs} len i carried h many within long same =
-      let fewer = length-remove xs i (omega arith) in
-      let rest : List (Option T) = replicate (CAPACITY - length xs) None in
-      let left : suc (CAPACITY - length xs) ≡ CAPACITY - length (remove xs i) =
-      omega (arith, fewer, h.fits) in
-      let end : len ≡ length (full_cells xs) = omega (arith, length-full xs) in
-      let short : i < length (full_cells xs) = omega (arith, end) in
-      let list : insert old len None ≡ full_cells xs ++ None ∷ rest =
-      ap (λ cells. insert cells len None) h.cells_are
-      ∙ insert-append_left (full_cells xs) rest len None (omega (arith, end))
-      ∙ ap (λ k. insert (full_cells xs) k None ++ rest) end
-      ∙ ap (λ cells. cells ++ rest) (insert_end (full_cells xs) None)
-      ∙ append_assoc (full_cells xs) (None ∷ []) rest in (
+  module _ {old : List (Option T)} {xs : List T} (i k end : ℕ) (part : List (Option T))
+      (h : HoldsItems old xs) (within : i < length xs) (long : i + k ≡ length xs)
+      (last : end + 1 ≡ length xs)
+      (turned : part ≡ drop 1 (mid_of i k old) ++ take 1 (mid_of i k old)) where
+    left : (stands : Standing xs i) → put_mid i k old part
+        ≡ full_cells (remove xs i) ++ Some stands.item ∷ replicate (CAPACITY - length xs) None
+    left stands =
+        let rest : List (Option T) = replicate (CAPACITY - length xs) None in
+        let many = length-full xs in
+        ap (λ l. put_mid i k l part) h.cells_are
+        ∙ turned_left i k (full_cells xs) rest part None (omega arith) (omega arith)
+        (subst (λ l. part ≡ drop 1 (mid_of i k l) ++ take 1 (mid_of i k l)) h.cells_are turned)
+        ∙ ap (λ l. l ++ get_or (full_cells xs) i None ∷ rest) (full_remove xs i)
+        ∙ ap (λ x. full_cells (remove xs i) ++ x ∷ rest) (stands.cell_is None)
+
+    pub turned_out : (stands : Standing xs i) (d : Option T)
+        → get_or (put_mid i k old part) end d ≡ Some stands.item
+    turned_out stands d =
+        let fewer = length-remove xs i within in
+        let many = length-full (remove xs i) in
+        ap (λ l. get_or l end d) (left stands)
+        ∙ get_or_at (full_cells (remove xs i)) (Some stands.item)
+        (replicate (CAPACITY - length xs) None) d end (omega arith)
+
+    pub held_without : HoldsItems (set (put_mid i k old part) end None) (remove xs i)
+    held_without =
+        let fewer = length-remove xs i within in
+        let many = length-full (remove xs i) in
+        let stands = standing xs i within in
+        let more : suc (CAPACITY - length xs) ≡ CAPACITY - length (remove xs i) =
+        omega (arith, h.fits) in
         record {
-          fits = omega (arith, fewer, h.fits);
-          cells_are = sym
-              (without_carried new i carried (omega (arith, long, row_length h, h.fits)))
-              ∙ ap (λ cells. remove cells i) (same ∙ list)
-              ∙ remove-append_left (full_cells xs) (None ∷ rest) i short
-              ∙ ap (λ cells. cells ++ None ∷ rest) (full_remove xs i)
-              ∙ ap (λ k. full_cells (remove xs i) ++ replicate k None) left;
-        },
-        λ stands. sym (get_or-insert_at new i carried carried (omega (
-          arith,
-          long,
-          row_length h,
-          h.fits,
-        )))
-            ∙ ap (λ cells. get_or cells i carried) (same ∙ list)
-            ∙ get_or_append_left (full_cells xs) (None ∷ rest) carried i short
-            ∙ stands.cell_is carried,
-      )
+          fits = omega (arith, h.fits);
+          cells_are = ap (λ l. set l end None) (left stands)
+              ∙ set_at (full_cells (remove xs i)) (Some stands.item)
+              (replicate (CAPACITY - length xs) None) None end (omega arith)
+              ∙ ap (λ n. full_cells (remove xs i) ++ replicate n None) more;
+        }
 
   -- another item stands for one
   pub held_set : {old : List (Option T)} {xs : List T} (i : ℕ) (item : T) → HoldsItems old xs
       → i < length xs → HoldsItems (set old i (Some item)) (set xs i item)
   held_set {old} {xs} i item h within =
       let rest : List (Option T) = replicate (CAPACITY - length xs) None in
-      let same : length (set xs i item) ≡ length xs = length_set xs i item in
+      let same : length (set xs i item) ≡ length xs = length-set xs i item in
       record {
         fits = omega (arith, same, h.fits);
         cells_are =
@@ -179,11 +211,6 @@ module _ {T : Type 0} where
             ∙ ap (λ cells. cells ++ rest) (sym (map-set (λ x. Some x) xs i item))
             ∙ ap (λ k. full_cells (set xs i item) ++ replicate (CAPACITY - k) None) (sym same);
       }
-    where
-      length_set : (ys : List T) (k : ℕ) (y : T) → length (set ys k y) ≡ length ys
-      length_set [] k y = refl
-      length_set (z ∷ ys) zero y = refl
-      length_set (z ∷ ys) (suc k) y = ap suc (length_set ys k y)
 
   -- a row with no item
   pub held_none : HoldsItems {T = T} (replicate CAPACITY None) []

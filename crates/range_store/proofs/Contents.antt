@@ -4,10 +4,10 @@ use Rattle.std.specs.List.{All, flat_map}
 use Rattle.std.proofs.lemmas.List.{append-nil, length-append, length-map, length-take-le, length-drop, take-append-drop, take-map, drop-map}
 use Rattle.std.proofs.lemmas.List.Concat.{flat_map-append}
 use Rattle.std.proofs.lemmas.List.Elements.{All-nil, All-cons, All-take, All-drop}
-use Rattle.range_store.specs.Heap.{Heap, node_of, child_count, Writes, Divides, node_items, node_children}
+use Rattle.range_store.specs.Heap.{Heap, node_of, child_count, Writes, Stores, Divides, node_items, node_children}
 use Rattle.range_store.specs.declared.btree.nodes.Split.{Split}
 use Rattle.range_store.specs.declared.btree.nodes.TheConstants.{CAPACITY, MIN_LEN}
-use Rattle.range_store.specs.Nodes.{weave, items_below, used, Shaped, ShapedBut, here, Moves, tops, separators}
+use Rattle.range_store.specs.Nodes.{weave, items_below, used, Shaped, ShapedBut, here, Moves, Owned, tops, separators}
 use Rattle.range_store.specs.Contents.{IsContent, Settles}
 use Rattle.range_store.specs.Occurrences.{occurrences, occurrences-append, occurrences-cons}
 use Rattle.range_store.specs.Frame.{AgreeAt, AgreeAt-left, AgreeAt-right, SameChildren, same_children}
@@ -69,11 +69,42 @@ module _ {T : Type 0} {s t : Heap T} {d n : ℕ} {xs : List T} {ks : List ℕ}
     children = rw holds.children_are (holds.same.shaped_same shaped);
   }
 
+-- a node that was written, once its children have the subtrees again
+pub held_after : {T : Type 0} {q r s t : Heap T} {d n : ℕ} {xs : List T} {ks : List ℕ}
+    → Writes q r n xs ks → node_of t n ≡ node_of r n → AgreeAt s t (flat_map (used s d) ks)
+    → Holds s t d n xs ks
+held_after {T} {q} {r} {s} {t} {d} {n} {xs} {ks} written kept agree = record {
+  present = rw kept written.present;
+  items_are = rw kept written.items_are;
+  children_are = rw kept written.children_are;
+  same = same_children s t d ks agree;
+}
+
+-- one that is new
+pub held_new : {T : Type 0} {r s t : Heap T} {d n : ℕ} {xs : List T} {ks : List ℕ}
+    → Stores r t n xs ks → AgreeAt s t (flat_map (used s d) ks) → Holds s t d n xs ks
+held_new {T} {r} {s} {t} {d} {n} {xs} {ks} stored agree = record {
+  present = stored.present;
+  items_are = stored.items_are;
+  children_are = stored.children_are;
+  same = same_children s t d ks agree;
+}
+
 -- a part of the children of a node
 pub child_count_part : (d k m k' m' : ℕ) → m ≡ child_count d k → (m ≡ 0 → m' ≡ 0)
     → (m ≡ k + 1 → m' ≡ k' + 1) → m' ≡ child_count d k'
 child_count_part zero k m k' m' h none some = none h
 child_count_part (suc d) k m k' m' h none some = some h
+
+-- a leaf with other items
+pub bare_content : {T : Type 0} {least most : ℕ} {s : Heap T} {n : ℕ} (xs : List T)
+    → ShapedBut least most s 0 n → Owned s 1 n → IsContent s 0 n xs (node_children s n)
+bare_content {T} {least} {most} {s} {n} xs shaped owned = record {
+  present = shaped.node.present;
+  shaped = shaped.children;
+  branches = shaped.node.branches;
+  owned = λ k. omega (arith, owned k, ap (occurrences k) (used_is s 0 n));
+}
 
 module _ {T : Type 0} {s : Heap T} (t : Heap T) {d n : ℕ} {xs : List T} {ks : List ℕ}
     (content : IsContent s d n xs ks) where
@@ -97,12 +128,7 @@ module _ {T : Type 0} {s : Heap T} (t : Heap T) {d n : ℕ} {xs : List T} {ks : 
     written_agree k among = written.others k (content_apart k among)
 
     pub written_holds : Holds s t d n xs ks
-    written_holds = record {
-      present = written.present;
-      items_are = written.items_are;
-      children_are = written.children_are;
-      same = same_children s t d ks written_agree;
-    }
+    written_holds = held_after written refl written_agree
 
     pub written_settles : length xs ≤ CAPACITY → Settles s t d n xs ks None
     written_settles fits = record {
@@ -267,24 +293,10 @@ module _ {T : Type 0} {s t : Heap T} {d n half : ℕ} {xs : List T} {ks : List �
       (arith, none, here_some cut.between n cut.first.present))
 
   pub left_holds : Holds s t d n (take half xs) (take (half + 1) ks)
-  left_holds =
-      record {
-        present = rw n_kept cut.first.present;
-        items_are = rw n_kept cut.first.items_are;
-        children_are = rw n_kept cut.first.children_are;
-        same =
-            same_children s t d (take (half + 1) ks) (part_agree s t d (half + 1) ks cut_agree).0;
-      }
+  left_holds = held_after cut.first n_kept (part_agree s t d (half + 1) ks cut_agree).0
 
   pub right_holds : Holds s t d split.right (drop (half + 1) xs) (drop (half + 1) ks)
-  right_holds =
-      record {
-        present = cut.second.present;
-        items_are = cut.second.items_are;
-        children_are = cut.second.children_are;
-        same =
-            same_children s t d (drop (half + 1) ks) (part_agree s t d (half + 1) ks cut_agree).1;
-      }
+  right_holds = held_new cut.second (part_agree s t d (half + 1) ks cut_agree).1
 
   moved : Moves s t (n ∷ flat_map (used s d) ks)
       (used t (suc d) n ++ (used t (suc d) split.right ++ []))

@@ -79,13 +79,6 @@ module _ {T : Type 0} (p : T → Bool) (s : Heap T) where
             ∙ found ∙ sum;
       }
 
--- no node, no step
-pub adds_none : (count below : ℕ)
-    → AddsSteps count count (below - below) (MAX_ASKS * (below - below))
-adds_none count below =
-    let none : below - below ≡ 0 = omega arith in
-    rw none (record { at_most = omega arith; at_least = omega arith })
-
 -- the steps of a node come to those of the nodes above
 pub adds_more : {first before after : ℕ} (below left : ℕ) → left ≢ 0 → left ≤ below
     → AddsSteps first before (below - left) (MAX_ASKS * (below - left))

@@ -1,7 +1,7 @@
 -- Edits just after a front.
 use Rattle.std.proofs.Common.{◌≡◌, ℕ, zero, suc, ◌+◌, ◌-◌, ◌<◌, ◌≤◌, List, [], ◌∷◌, ◌++◌, length, take, drop, get_or, refl, ap, sym, ◌∙◌, add-one, arith, length-append, append_assoc}
 use Rattle.std.specs.List.{remove}
-use Rattle.std.proofs.lemmas.List.{take_at, drop_at, drop_more, length-take-le, drop-drop}
+use Rattle.std.proofs.lemmas.List.{append-nil, drop_all, take_at, drop_at, drop_more, length-take-le, drop-drop}
 use Rattle.std.proofs.Math.ListN.{set}
 use Rattle.std.proofs.lemmas.List.Edits.{remove-append_right}
 use Rattle.range_store.specs.Written.{set_parts}
@@ -69,6 +69,10 @@ replaced_run before now new place left less x was fewer within done =
     ∙ append_assoc (take place before) (x ∷ []) (drop (place + left) before)))
 
 module _ {X : Type 0} where
+  pub without_last : (xs : List X) (n : ℕ) → length xs ≤ n + 1 → remove xs n ≡ take n xs
+  without_last xs n few = ap (λ zs. take n xs ++ zs) (drop_all (suc n) xs (omega (arith, few)))
+      ∙ append-nil (take n xs)
+
   -- the front of two lists, and the rest of them
   pub take-append-add : (xs ys : List X) (n k : ℕ) → n ≡ length xs + k
       → take n (xs ++ ys) ≡ xs ++ take k ys

@@ -1,5 +1,5 @@
 -- A test that falls once along a list.
-use Rattle.std.proofs.Common.{◌≡◌, ◌⊎◌, ℕ, zero, suc, ◌+◌, ◌-◌, ◌<◌, ◌≤◌, Bool, true, false, cond, List, [], ◌∷◌, ◌++◌, length, get_or, refl, sym, ◌∙◌, inl, inr, arith, count_by, max, min}
+use Rattle.std.proofs.Common.{◌≡◌, ◌⊎◌, ℕ, zero, suc, ◌+◌, ◌<◌, ◌≤◌, Bool, true, false, cond, List, [], ◌∷◌, ◌++◌, length, get_or, refl, sym, ◌∙◌, inl, inr, arith, count_by, min}
 use Rattle.std.specs.List.Sorted.{IsPartitionedBy}
 use Rattle.std.proofs.lemmas.Bool.{false_from_ne_true, false≢true, both_ways}
 use Rattle.std.proofs.lemmas.List.Sums.{sum_by-cons, sum_by-append, count_by-le-length}
@@ -139,17 +139,6 @@ module _ {X : Type 0} (p : X → Bool) (xs : List X) where
     λ low. absurd (omega (arith, low, falls_false p xs i d falls within (sym is))),
     λ high. refl,
   )
-
--- four answers tell how many of five to eleven items pass, where the second asks the same item
--- whatever the first tells
-pub four_tell : (n count first a b c d : ℕ) → 5 ≤ n → n ≤ 11 → count ≤ n → first ≡ max n 8 - 7
-    → (first ≤ count → a ≡ first) → (count < first → a ≡ 0)
-    → (n - 3 ≤ count → b ≡ n - 3) → (count < n - 3 → b ≡ a)
-    → (b + 2 ≤ count → c ≡ b + 2) → (count < b + 2 → c ≡ b)
-    → (c + 1 ≤ count → d ≡ c + 1) → (count < c + 1 → d ≡ c)
-    → d ≡ count
-four_tell n count first a b c d many few within is a_yes a_no b_yes b_no c_yes c_no d_yes d_no =
-    grind arith
 
 -- a test that all items pass, and one that none does
 pub count_all : {X : Type 0} (xs : List X) → count_by (λ _. true) xs ≡ length xs

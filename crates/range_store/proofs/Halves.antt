@@ -1,39 +1,36 @@
 -- The parts of a list with one element more.
-use Rattle.std.proofs.Common.{◌≡◌, ℕ, zero, suc, ◌-◌, ◌≤◌, List, [], ◌∷◌, length, take, drop, refl, ap, ◌∙◌, arith}
+use Rattle.std.proofs.Common.{◌≡◌, ℕ, suc, ◌+◌, ◌-◌, ◌≤◌, List, ◌∷◌, ◌++◌, length, take, drop, sym, ap, ◌∙◌, arith}
 use Rattle.std.specs.List.{insert}
+use Rattle.std.proofs.lemmas.List.{drop-append-le, drop-drop, length-take-le, take-append-le, take-take}
+use Rattle.std.proofs.lemmas.Slice.{between_is}
+use Rattle.range_store.proofs.Edits.{take-append-add, drop-append-add}
 
-module _ {X : Type 0} where
-  pub take_insert_before : (xs : List X) (i k : ℕ) (x : X) → k ≤ i → i ≤ length xs
-      → take k (insert xs i x) ≡ take k xs
-  take_insert_before xs i zero x low within = refl
-  take_insert_before xs zero (suc k) x low within = absurd (omega arith)
-  take_insert_before [] (suc i) (suc k) x low within = absurd (omega arith)
-  take_insert_before (y ∷ xs) (suc i) (suc k) x low within = ap (λ zs. y ∷ zs)
-      (take_insert_before xs i k x (omega arith) (omega arith))
+module _ {X : Type 0} (xs : List X) (i k : ℕ) (x : X) where
+  pub take_insert_before : k ≤ i → i ≤ length xs → take k (insert xs i x) ≡ take k xs
+  take_insert_before low within =
+      take-append-le k (take i xs) (x ∷ drop i xs) (omega (arith, length-take-le i xs within))
+      ∙ take-take k i xs low
 
-  pub take_insert_after : (xs : List X) (i k : ℕ) (x : X) → i ≤ k → i ≤ length xs
+  pub take_insert_after : i ≤ k → i ≤ length xs
       → take (suc k) (insert xs i x) ≡ insert (take k xs) i x
-  take_insert_after xs zero k x low within = refl
-  take_insert_after xs (suc i) zero x low within = absurd (omega arith)
-  take_insert_after [] (suc i) (suc k) x low within = absurd (omega arith)
-  take_insert_after (y ∷ xs) (suc i) (suc k) x low within = ap (λ zs. y ∷ zs)
-      (take_insert_after xs i k x (omega arith) (omega arith))
+  take_insert_after low within =
+      take-append-add (take i xs) (x ∷ drop i xs) (suc k) (suc (k - i))
+      (omega (arith, length-take-le i xs within))
+      ∙ ap (λ ys. take i xs ++ x ∷ ys) (between_is xs i k)
+      ∙ ap (λ ys. ys ++ x ∷ drop i (take k xs)) (sym (take-take i k xs low))
 
-  pub drop_insert_after : (xs : List X) (i k : ℕ) (x : X) → i ≤ k → i ≤ length xs
-      → drop (suc k) (insert xs i x) ≡ drop k xs
-  drop_insert_after xs zero k x low within = refl
-  drop_insert_after xs (suc i) zero x low within = absurd (omega arith)
-  drop_insert_after [] (suc i) (suc k) x low within = absurd (omega arith)
-  drop_insert_after (y ∷ xs) (suc i) (suc k) x low within = drop_insert_after xs i k x (omega arith)
-      (omega arith)
+  pub drop_insert_after : i ≤ k → i ≤ length xs → drop (suc k) (insert xs i x) ≡ drop k xs
+  drop_insert_after low within =
+      let on : i + (k - i) ≡ k = omega arith in
+      drop-append-add (take i xs) (x ∷ drop i xs) (suc k) (suc (k - i))
+      (omega (arith, length-take-le i xs within))
+      ∙ drop-drop (k - i) i xs ∙ ap (λ n. drop n xs) on
 
-  pub drop_insert_before : (xs : List X) (i k : ℕ) (x : X) → k ≤ i → i ≤ length xs
+  pub drop_insert_before : k ≤ i → i ≤ length xs
       → drop k (insert xs i x) ≡ insert (drop k xs) (i - k) x
-  drop_insert_before xs i zero x low within = let same : i ≡ i - 0 = omega arith in
-      ap (λ j. insert xs j x) same
-  drop_insert_before xs zero (suc k) x low within = absurd (omega arith)
-  drop_insert_before [] (suc i) (suc k) x low within = absurd (omega arith)
-  drop_insert_before (y ∷ xs) (suc i) (suc k) x low within =
-      let same : i - k ≡ suc i - suc k = omega arith in
-      drop_insert_before xs i k x (omega arith) (omega arith)
-      ∙ ap (λ j. insert (drop k xs) j x) same
+  drop_insert_before low within =
+      let on : k + (i - k) ≡ i = omega arith in
+      drop-append-le k (take i xs) (x ∷ drop i xs) (omega (arith, length-take-le i xs within))
+      ∙ ap (λ ys. ys ++ x ∷ drop i xs) (sym (between_is xs k i))
+      ∙ ap (λ ys. take (i - k) (drop k xs) ++ x ∷ ys)
+      (sym (drop-drop (i - k) k xs ∙ ap (λ n. drop n xs) on))

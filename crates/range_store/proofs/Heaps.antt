@@ -3,7 +3,7 @@ use Rattle.std.proofs.Common.{◌≡◌, ◌≢◌, ℕ, List, Option, Some, Non
 use Rattle.std.proofs.Math.ListN.{set}
 use Rattle.std.proofs.lemmas.Bool.{cases_eq}
 use Rattle.std.proofs.lemmas.List.{get_or-set_other}
-use Rattle.range_store.specs.Heap.{Heap, Content, node_of, HasNode, items_of, children_of, node_count, with_item, Writes, Stores, Removes, node_items, node_children}
+use Rattle.range_store.specs.Heap.{Heap, Content, node_of, HasNode, items_of, children_of, node_count, with_item, Writes, Removes, node_items, node_children}
 use Rattle.range_store.proofs.Slots.{slot_count, slot_read}
 
 module _ {T : Type 0} where
@@ -42,12 +42,6 @@ module _ {T : Type 0} where
         children = node_children s n;
       })) None other
 
-  -- a write to an item is one of its node
-  pub writes_item : (s : Heap T) (n i : ℕ) (x : T) → HasNode s n
-      → Writes s (with_item s n i x) n (set (node_items s n) i x) (node_children s n)
-  writes_item s n i x present = writes_slot s n
-      (record { items = set (node_items s n) i x; children = node_children s n }) present
-
   content_is : (node : Option (Content T)) (xs : List T) (ks : List ℕ) → IsSome node
       → items_of node ≡ xs → children_of node ≡ ks
       → node ≡ Some (record { items = xs; children = ks })
@@ -80,19 +74,6 @@ module _ {T : Type 0} where
         len = len;
         capacity = capacity;
       }
-
-  -- a new node was written once more
-  pub stored_written : {s t u : Heap T} {n : ℕ} {xs ys : List T} {ks ls : List ℕ}
-      → Stores s t n xs ks → Writes t u n ys ls → Stores s u n ys ls
-  stored_written stores writes = record {
-    fresh = stores.fresh;
-    present = writes.present;
-    items_are = writes.items_are;
-    children_are = writes.children_are;
-    others = λ k other. writes.others k other ∙ stores.others k other;
-    len = writes.len ∙ stores.len;
-    capacity = writes.capacity ∙ stores.capacity;
-  }
 
   module _ (s t u : Heap T) (n m : ℕ) (xs : List T) (ks : List ℕ) (apart : m ≢ n) where
     -- two writes of different nodes

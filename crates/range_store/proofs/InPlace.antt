@@ -11,10 +11,9 @@ use Rattle.range_store.specs.declared.btree.path.TheConstants.{PATH_BASE}
 use Rattle.range_store.specs.Nodes.{weave, items_below, used, Shaped, ShapedBut, Owned, IsTree, before_child, after_child}
 use Rattle.range_store.specs.Edges.{turn, inside, IsEdge, place}
 use Rattle.range_store.specs.Contents.{IsContent}
-use Rattle.range_store.specs.Occurrences.{occurrences}
 use Rattle.range_store.specs.Holding.{box_items, IsBoxEdge, box_place}
 use Rattle.range_store.proofs.Below.{items_below_at, items_below_leaf, used_is, shaped_within_wider, Shaped-from_but}
-use Rattle.range_store.proofs.Contents.{IsRewritten, Holds, written_holds, held_items_below, held_used, held_shape}
+use Rattle.range_store.proofs.Contents.{IsRewritten, Holds, written_holds, held_items_below, held_used, held_shape, bare_content}
 use Rattle.range_store.specs.Frame.{IsNode-same}
 use Rattle.range_store.proofs.Edges.{leaf_edge, leaf_place, edge_above, place_inside}
 use Rattle.range_store.proofs.Growing.{kid_owned}
@@ -44,12 +43,7 @@ module _ {T : Type 0} {s t : Heap T} {n : ℕ} (g : Edge) {items : List T}
     (node_items s n) → least ≤ length items) (shaped : ShapedBut 1 CAPACITY s zero n)
     (owned : Owned s 1 n) (written : Writes s t n items (node_children s n)) where
   content : IsContent s zero n items (node_children s n)
-  content = record {
-    present = shaped.node.present;
-    shaped = shaped.children;
-    branches = shaped.node.branches;
-    owned = λ k. omega (arith, owned k, ap (occurrences k) (used_is s zero n));
-  }
+  content = bare_content items shaped owned
 
   holds : Holds s t zero n items (node_children s n)
   holds = written_holds t content written

@@ -13,11 +13,11 @@ use Rattle.range_store.specs.Edges.{turn, inside, seat_of, IsEdge, place, IsSeat
 use Rattle.range_store.specs.Contents.{IsContent}
 use Rattle.range_store.specs.Occurrences.{occurrences, occurrences-append, occurrences-cons, occurrences_itself}
 use Rattle.range_store.specs.Weave.{weave_cut}
-use Rattle.range_store.specs.Frame.{AgreeAt, same_children}
+use Rattle.range_store.specs.Frame.{AgreeAt}
 use Rattle.range_store.proofs.Below.{weave_items_below, used_is, items_below_leaf, Shaped-from_but}
 use Rattle.range_store.proofs.Room.{items_below_size}
 use Rattle.range_store.proofs.Moves.{here_le, SameNodes, Moves-like, Moves-then, Writes-moves, Removes-moves}
-use Rattle.range_store.proofs.Contents.{IsPair, Rejoins, Holds, held_items_below, held_used, held_shape, content_apart, halves_listed, halves_nodes, halves_shape, part_agree}
+use Rattle.range_store.proofs.Contents.{IsPair, Rejoins, Holds, held_after, held_items_below, held_used, held_shape, content_apart, halves_listed, halves_nodes, halves_shape, part_agree}
 use Rattle.range_store.proofs.Seats.{seat_run}
 
 weave_join : {T : Type 0} (xs : List T) (x : T) (ys : List T) (ks ls : List (List T)) (d : ℕ)
@@ -143,13 +143,7 @@ module _ {T : Type 0} {s : Heap T} {d l r : ℕ} (x : T) (pair : IsPair s d l r)
     l_kept = removed.others l pair_apart
 
     pub united_holds : Holds s u d l xs ks
-    united_holds =
-        record {
-          present = rw l_kept written.present;
-          items_are = rw l_kept written.items_are;
-          children_are = rw l_kept written.children_are;
-          same = same_children s u d ks gone_apart;
-        }
+    united_holds = held_after written l_kept gone_apart
 
     pub united_agree : AgreeAt s u F
     united_agree = gone_apart
@@ -187,25 +181,10 @@ module _ {T : Type 0} {s : Heap T} {d l r : ℕ} (x : T) (pair : IsPair s d l r)
 
     pub shared_left : Holds s u d l (take half xs) (take (half + 1) ks)
     shared_left =
-        record {
-          present = rw left_kept first.present;
-          items_are = rw left_kept first.items_are;
-          children_are = rw left_kept first.children_are;
-          same =
-              same_children s u d (take (half + 1) ks)
-              (part_agree s u d (half + 1) ks shared_agree).0;
-        }
+        held_after first left_kept (part_agree s u d (half + 1) ks shared_agree).0
 
     pub shared_right : Holds s u d r (drop (half + 1) xs) (drop (half + 1) ks)
-    shared_right =
-        record {
-          present = second.present;
-          items_are = second.items_are;
-          children_are = second.children_are;
-          same =
-              same_children s u d (drop (half + 1) ks)
-              (part_agree s u d (half + 1) ks shared_agree).1;
-        }
+    shared_right = held_after second refl (part_agree s u d (half + 1) ks shared_agree).1
 
     pub shared_rejoins : (split : Split T) → split.right ≡ r
         → split.middle ≡ get_or xs half split.middle → MIN_LEN ≤ half → half ≤ CAPACITY

@@ -9,19 +9,14 @@ use Rattle.range_store.specs.declared.btree.path.Edge.{Edge}
 use Rattle.range_store.specs.Nodes.{weave, items_below, used, ShapedBut, Owned, Moves, child_lists}
 use Rattle.range_store.specs.Edges.{IsSeat, seat_place}
 use Rattle.range_store.specs.Contents.{IsContent}
-use Rattle.range_store.specs.Occurrences.{occurrences}
 use Rattle.range_store.proofs.Below.{used_is, items_below_leaf}
 use Rattle.range_store.proofs.Moves.{Moves-none}
+use Rattle.range_store.proofs.Contents.{bare_content}
 
 module _ {T : Type 0} {s : Heap T} {n : ℕ} (i : ℕ) (item : T) (shaped : ShapedBut 1 CAPACITY s 0 n) where
   pub leaf_content : Owned s 1 n
       → IsContent s 0 n (insert (node_items s n) i item) (node_children s n)
-  leaf_content owned = record {
-    present = shaped.node.present;
-    shaped = shaped.children;
-    branches = shaped.node.branches;
-    owned = λ k. omega (arith, owned k, ap (occurrences k) (used_is s 0 n));
-  }
+  leaf_content owned = bare_content (insert (node_items s n) i item) shaped owned
 
   pub leaf_moved : Moves s s (used s 1 n) (n ∷ flat_map (used s 0) (node_children s n))
   leaf_moved = subst (λ zs. Moves s s (used s 1 n) zs) (used_is s 0 n) (Moves-none s (used s 1 n))

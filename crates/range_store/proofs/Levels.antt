@@ -13,94 +13,70 @@ use Rattle.range_store.proofs.Below.{Shaped-but}
 use Rattle.range_store.proofs.Room.{sizes, items_below_size}
 use Rattle.range_store.proofs.Rank.{items_below_none}
 
-children_lower : {T : Type 0} (s : Heap T) (d p : ℕ)
-    → ((n : ℕ) → Shaped s d n → p ≤ length (items_below s d n) + 1) → (ns : List ℕ)
-    → All (Shaped s d) ns → length ns * p ≤ sizes s d ns + length ns
-children_lower {T} s d p below [] shaped = omega (arith, zero-mul p)
-children_lower {T} s d p below (n ∷ ns) shaped =
-    omega (
-      arith,
-      suc-mul (length ns) p,
-      below n (All-head (Shaped s d) n ns shaped),
-      children_lower s d p below ns (All-tail (Shaped s d) n ns shaped),
-      sum_by-cons (length {A = T}) (items_below s d n) (map (items_below s d) ns),
+children_sizes : {T : Type 0} (s : Heap T) (d p q : ℕ)
+    → ((n : ℕ) → Shaped s d n
+    → (p ≤ length (items_below s d n) + 1) × (length (items_below s d n) + 1 ≤ q))
+    → (ns : List ℕ) → All (Shaped s d) ns
+    → (length ns * p ≤ sizes s d ns + length ns) × (sizes s d ns + length ns ≤ length ns * q)
+children_sizes {T} s d p q below [] shaped =
+    (omega (arith, zero-mul p), omega (arith, zero-mul q))
+children_sizes {T} s d p q below (n ∷ ns) shaped =
+    let first = below n (All-head (Shaped s d) n ns shaped) in
+    let later = children_sizes s d p q below ns (All-tail (Shaped s d) n ns shaped) in
+    let all = sum_by-cons (length {A = T}) (items_below s d n) (map (items_below s d) ns) in (
+      omega (arith, suc-mul (length ns) p, first.0, later.0, all),
+      omega (arith, suc-mul (length ns) q, first.1, later.1, all),
     )
 
-children_upper : {T : Type 0} (s : Heap T) (d p : ℕ)
-    → ((n : ℕ) → Shaped s d n → length (items_below s d n) + 1 ≤ p) → (ns : List ℕ)
-    → All (Shaped s d) ns → sizes s d ns + length ns ≤ length ns * p
-children_upper {T} s d p below [] shaped = omega (arith, zero-mul p)
-children_upper {T} s d p below (n ∷ ns) shaped =
-    omega (
-      arith,
-      suc-mul (length ns) p,
-      below n (All-head (Shaped s d) n ns shaped),
-      children_upper s d p below ns (All-tail (Shaped s d) n ns shaped),
-      sum_by-cons (length {A = T}) (items_below s d n) (map (items_below s d) ns),
-    )
-
-lower_but : {T : Type 0} {least most : ℕ} {s : Heap T} (d : ℕ) {n : ℕ}
-    → ((k : ℕ) → Shaped s d k → (MIN_LEN + 1) ^ d ≤ length (items_below s d k) + 1)
+but_sizes : {T : Type 0} {least most : ℕ} {s : Heap T} (d : ℕ) {n : ℕ}
+    → ((k : ℕ) → Shaped s d k → ((MIN_LEN + 1) ^ d ≤ length (items_below s d k) + 1)
+    × (length (items_below s d k) + 1 ≤ (CAPACITY + 1) ^ d))
     → ShapedBut least most s d n
-    → (least + 1) * (MIN_LEN + 1) ^ d ≤ length (items_below s (suc d) n) + 1
-lower_but {T} {least} {most} {s} zero {n} below shaped = omega (
-  arith,
-  mul-one (least + 1),
-  items_below_size shaped,
-  shaped.node.enough,
+    → ((least + 1) * (MIN_LEN + 1) ^ d ≤ length (items_below s (suc d) n) + 1)
+    × (length (items_below s (suc d) n) + 1 ≤ (most + 1) * (CAPACITY + 1) ^ d)
+but_sizes {T} {least} {most} {s} zero {n} below shaped = (
+  omega (arith, mul-one (least + 1), items_below_size shaped, shaped.node.enough),
+  omega (
+    arith,
+    mul-one (most + 1),
+    items_below_size shaped,
+    shaped.node.fits,
+    ap (λ zs. sizes s zero zs) (nil_from_length (node_children s n) shaped.node.branches),
+  ),
 )
-lower_but {T} {least} {most} {s} (suc d) {n} below shaped =
+but_sizes {T} {least} {most} {s} (suc d) {n} below shaped =
     let ks = node_children s n in
-    let all = children_lower s (suc d) ((MIN_LEN + 1) ^ suc d) below ks shaped.children in
+    let p = (MIN_LEN + 1) ^ suc d in
+    let q = (CAPACITY + 1) ^ suc d in
+    let all = children_sizes s (suc d) p q below ks shaped.children in
     let enough : least + 1 ≤ length ks = omega (arith, shaped.node.enough, shaped.node.branches) in
-    let more : (least + 1) * (MIN_LEN + 1) ^ suc d ≤ length ks * (MIN_LEN + 1) ^ suc d =
-    mul-le-mul_right ((MIN_LEN + 1) ^ suc d) enough in
-    let size = items_below_size shaped in
-    le_trans more (omega (arith, all, size, shaped.node.branches))
-
-upper_but : {T : Type 0} {least most : ℕ} {s : Heap T} (d : ℕ) {n : ℕ}
-    → ((k : ℕ) → Shaped s d k → length (items_below s d k) + 1 ≤ (CAPACITY + 1) ^ d)
-    → ShapedBut least most s d n
-    → length (items_below s (suc d) n) + 1 ≤ (most + 1) * (CAPACITY + 1) ^ d
-upper_but {T} {least} {most} {s} zero {n} below shaped = omega (
-  arith,
-  mul-one (most + 1),
-  items_below_size shaped,
-  shaped.node.fits,
-  ap (λ zs. sizes s zero zs) (nil_from_length (node_children s n) shaped.node.branches),
-)
-upper_but {T} {least} {most} {s} (suc d) {n} below shaped =
-    let ks = node_children s n in
-    let all = children_upper s (suc d) ((CAPACITY + 1) ^ suc d) below ks shaped.children in
     let fits : length ks ≤ most + 1 = omega (arith, shaped.node.fits, shaped.node.branches) in
-    let more : length ks * (CAPACITY + 1) ^ suc d ≤ (most + 1) * (CAPACITY + 1) ^ suc d =
-    mul-le-mul_right ((CAPACITY + 1) ^ suc d) fits in
     let size = items_below_size shaped in
-    le_trans (omega (arith, all, size, shaped.node.branches)) more
+    let more : (least + 1) * p ≤ length ks * p = mul-le-mul_right p enough in
+    let less : length ks * q ≤ (most + 1) * q = mul-le-mul_right q fits in (
+      le_trans more (omega (arith, all.0, size, shaped.node.branches)),
+      le_trans (omega (arith, all.1, size, shaped.node.branches)) less,
+    )
 
-pub fewest_items_below : {T : Type 0} (s : Heap T) (d n : ℕ) → Shaped s d n
-    → (MIN_LEN + 1) ^ d ≤ length (items_below s d n) + 1
-fewest_items_below s zero n shaped = omega arith
-fewest_items_below s (suc d) n shaped =
-    let least = lower_but d (fewest_items_below s d) (Shaped-but s d n shaped) in
-    omega (arith, pow-suc (MIN_LEN + 1) d, mul_comm (MIN_LEN + 1) ((MIN_LEN + 1) ^ d), least)
-
-pub most_items_below : {T : Type 0} (s : Heap T) (d n : ℕ) → Shaped s d n
-    → length (items_below s d n) + 1 ≤ (CAPACITY + 1) ^ d
-most_items_below s zero n shaped = omega (arith, ap length (items_below_none s n))
-most_items_below s (suc d) n shaped =
-    let most = upper_but d (most_items_below s d) (Shaped-but s d n shaped) in
-    omega (arith, pow-suc (CAPACITY + 1) d, mul_comm (CAPACITY + 1) ((CAPACITY + 1) ^ d), most)
+items_sizes : {T : Type 0} (s : Heap T) (d n : ℕ) → Shaped s d n
+    → ((MIN_LEN + 1) ^ d ≤ length (items_below s d n) + 1)
+    × (length (items_below s d n) + 1 ≤ (CAPACITY + 1) ^ d)
+items_sizes s zero n shaped = (omega arith, omega (arith, ap length (items_below_none s n)))
+items_sizes s (suc d) n shaped =
+    let both = but_sizes d (items_sizes s d) (Shaped-but s d n shaped) in (
+      omega (arith, pow-suc (MIN_LEN + 1) d, mul_comm (MIN_LEN + 1) ((MIN_LEN + 1) ^ d), both.0),
+      omega (arith, pow-suc (CAPACITY + 1) d, mul_comm (CAPACITY + 1) ((CAPACITY + 1) ^ d), both.1),
+    )
 
 -- a tree that is not empty
 pub tree_lower : {T : Type 0} {s : Heap T} (d : ℕ) {root : ℕ} → IsTree s (suc d) root
     → 2 * (MIN_LEN + 1) ^ d ≤ length (items_below s (suc d) root) + 1
-tree_lower {T} {s} d {root} tree = lower_but d (fewest_items_below s d) tree.shaped
+tree_lower {T} {s} d {root} tree = (but_sizes d (items_sizes s d) tree.shaped).0
 
 pub tree_upper : {T : Type 0} {s : Heap T} (d : ℕ) {root : ℕ} → IsTree s (suc d) root
     → length (items_below s (suc d) root) + 1 ≤ (CAPACITY + 1) ^ suc d
 tree_upper {T} {s} d {root} tree =
-    let most = upper_but d (most_items_below s d) tree.shaped in
+    let most = (but_sizes d (items_sizes s d) tree.shaped).1 in
     omega (arith, pow-suc (CAPACITY + 1) d, mul_comm (CAPACITY + 1) ((CAPACITY + 1) ^ d), most)
 
 -- a power outgrows its exponent

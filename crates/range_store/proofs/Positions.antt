@@ -1,5 +1,5 @@
 -- Positions that a call may or may not return, and the ends of a list.
-use Rattle.std.proofs.Common.{◌≡◌, ℕ, ◌+◌, ◌-◌, ◌<◌, Bool, List, [], ◌∷◌, ◌++◌, length, zero, suc, get_or, refl, sym, ap, ◌∙◌, arith, count_by, Option, Some, None}
+use Rattle.std.proofs.Common.{◌≡◌, ℕ, ◌+◌, ◌-◌, ◌<◌, Bool, List, [], ◌∷◌, ◌++◌, length, zero, suc, get_or, refl, ap, arith, count_by, Option, Some, None}
 use Rattle.std.specs.Prelude.{MatchOption}
 use Rattle.std.specs.List.{remove}
 use Rattle.range_store.specs.Edges.{IsEdge, place}
@@ -20,18 +20,6 @@ module _ {X : Type 0} where
   remove_last (x ∷ y ∷ xs) zero d last = absurd (omega arith)
   remove_last (x ∷ y ∷ xs) (suc j) d last =
       ap (λ zs. x ∷ zs) (remove_last (y ∷ xs) j d (omega arith))
-
-  pub popped_first : (xs ys : List X) (x : X) (j : ℕ) → j ≡ 0 → j < length xs → x ≡ get_or xs j x
-      → ys ≡ remove xs j → xs ≡ x ∷ ys
-  popped_first [] ys x j first within here rest = absurd (omega arith)
-  popped_first (z ∷ xs) ys x zero first within here rest = rw (here, rest) refl
-  popped_first (z ∷ xs) ys x (suc j) first within here rest = absurd (omega arith)
-
-  pub popped_last : (xs ys : List X) (x : X) (j : ℕ) → j + 1 ≡ length xs → x ≡ get_or xs j x
-      → ys ≡ remove xs j → xs ≡ ys ++ (x ∷ [])
-  popped_last xs ys x j last here rest =
-      sym (remove_last xs j x last) ∙ ap (λ zs. zs ++ (get_or xs j x ∷ [])) (sym rest)
-      ∙ ap (λ z. ys ++ (z ∷ [])) (sym here)
 
 module _ {T : Type 0} (s : BoxStorage T) where
   -- an edge after an item stands for that
@@ -64,20 +52,6 @@ module _ {T : Type 0} (s : BoxStorage T) where
       → edge_or_end s edge ≡ length (box_items s)
   end_place None h = refl
   end_place (Some g) h = h.1
-
-  pub end_known : (edge : Option Edge)
-      → MatchOption edge (box_items s ≡ [])
-      (λ g. IsBoxEdge s g × (box_place s g ≡ length (box_items s)))
-      → MatchOption edge (box_items s ≡ []) (IsBoxEdge s)
-  end_known None h = h
-  end_known (Some g) h = h.0
-
-  -- the edge before the item that a good edge stands for
-  pub before_good : {p : Edge} → IsGood s p → (edge : Option Edge) → MatchOption edge (box_place s p
-      ≡ 0) (λ h. IsBoxEdge s h × (box_place s h + 1 ≡ box_place s p))
-      → MatchOption edge (box_items s ≡ []) (IsBoxEdge s) × (edge_or_end s edge ≡ box_rank s p)
-  before_good {p} good None none = absurd (omega (arith, none, good.some))
-  before_good {p} good (Some h) here = (here.0, omega (arith, here.1, rank_is good))
 
   -- the edge after the items that pass, as a position of the last of them
   pub front_found : (test : T → Bool) → Falls test (box_items s) → (edge : Option Edge)

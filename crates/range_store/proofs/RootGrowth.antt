@@ -12,9 +12,11 @@ use Rattle.range_store.specs.Nodes.{items_below, used, Shaped, ShapedBut, IsTree
 use Rattle.range_store.specs.Edges.{turn, inside, IsEdge, place, IsSeat, seat_place}
 use Rattle.range_store.specs.Occurrences.{occurrences, occurrences-cons, occurrences-nil, occurrences_itself, occurrences_other}
 use Rattle.range_store.proofs.Below.{items_below_leaf, used_leaf, Shaped-from_but}
-use Rattle.range_store.proofs.Contents.{Holds, held_items_below, held_used, held_shape}
-use Rattle.range_store.specs.Frame.{AgreeAt, same_children}
+use Rattle.range_store.proofs.Contents.{Holds, held_items_below, held_used, held_shape, held_new}
+use Rattle.range_store.specs.Frame.{AgreeAt}
 use Rattle.range_store.proofs.Moves.{here_some}
+use Rattle.range_store.specs.Depth.{HasLevels}
+use Rattle.range_store.proofs.Levels.{has_levels}
 use Rattle.range_store.proofs.Rank.{used_none}
 use Rattle.range_store.proofs.Room.{used_le}
 use Rattle.range_store.proofs.Seats.{seat_written}
@@ -90,14 +92,22 @@ module _ {T : Type 0} where
     pub tree : IsTree s levels root
     pub items_are : items_below s levels root ≡ list
 
-pub grown_roomy : {T : Type 0} {s : Heap T} {levels root : ℕ} {list : List T}
-    → IsGrown s levels root list → length list ≤ MIN_LEN * s.capacity → length list ≤ MAX_LEN
-    → IsRoomy s levels root
-grown_roomy grown fits counted = record {
-  tree = grown.tree;
-  fits = omega (arith, ap length grown.items_are, fits);
-  counted = omega (arith, ap length grown.items_are, counted);
-}
+-- what is known of it as a whole
+pub grown_whole : {T : Type 0} {s : Heap T} {levels root : ℕ} {list : List T} (len : ℕ)
+    → IsGrown s levels root list → len ≡ length list → length list ≤ MIN_LEN * s.capacity
+    → length list ≤ MAX_LEN
+    → IsRoomy s levels root × (len ≡ length (items_below s levels root)) × HasLevels len levels
+grown_whole {T} {s} {levels} {root} len grown many fits counted =
+    let all : len ≡ length (items_below s levels root) =
+    many ∙ ap length (sym grown.items_are) in (
+      record {
+        tree = grown.tree;
+        fits = omega (arith, all, many, fits);
+        counted = omega (arith, all, many, counted);
+      },
+      all,
+      rw all (has_levels grown.tree),
+    )
 
 module _ {T : Type 0} {s t : Heap T} {d root : ℕ} {list : List T} (tree : IsTree s (suc d) root)
     (step : Replaces s t d root None list) where
@@ -147,13 +157,7 @@ module _ {T : Type 0} {s t u : Heap T} {d root n : ℕ} (split : Split T) {list 
       rw (same, stored.fresh) refl in omega (arith, once_before k, absent))
 
   holds : Holds t u (suc d) n (split.middle ∷ []) ts
-  holds =
-      record {
-        present = stored.present;
-        items_are = stored.items_are;
-        children_are = stored.children_are;
-        same = same_children t u (suc d) ts agree;
-      }
+  holds = held_new stored agree
 
   ts_shaped : All (Shaped t (suc d)) ts
   ts_shaped =

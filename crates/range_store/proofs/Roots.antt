@@ -9,7 +9,7 @@ use Rattle.range_store.specs.Occurrences.{occurrences, occurrences-cons, occurre
 use Rattle.range_store.specs.Nodes.{weave, before, items_below, used, here, Shaped, IsTree, IsLooseTree, Shrinks, child_lists}
 use Rattle.range_store.proofs.Contents.{IsRewritten}
 use Rattle.range_store.proofs.Below.{weave_items_below, used_is, used_leaf, items_below_leaf, Shaped-but, shaped_within_wider}
-use Rattle.range_store.specs.Frame.{same_below, SameBelow}
+use Rattle.range_store.specs.Frame.{AgreeAt, same_below, SameBelow}
 use Rattle.range_store.proofs.Edges.{SameEdge, same_edge, edge_inside, turn_within, place_inside}
 use Rattle.range_store.proofs.Moves.{here_some}
 use Rattle.range_store.proofs.Rank.{items_below_none, used_none}
@@ -21,42 +21,6 @@ pub loosened_items : {T : Type 0} {s t : Heap T} (levels : ℕ) {root : ℕ} {li
     → 0 < levels → Shrinks s t (levels - 1) root list → items_below t levels root ≡ list
 loosened_items levels some step = let level : suc (levels - 1) ≡ levels = omega arith in rw level at
     step.listed
-
--- the tree after one went below the root, which may be short
-pub loosened_tree : {T : Type 0} {s t : Heap T} (levels : ℕ) {root : ℕ} {list : List T} → 0 < levels
-    → IsTree s levels root → Shrinks s t (levels - 1) root list → IsLooseTree t levels root
-loosened_tree {T} {s} {t} zero {root} {list} some tree step = absurd (omega arith)
-loosened_tree (suc d) some tree step' =
-    let level : suc d - 1 ≡ d = omega arith in
-    let step = rw level at step' in
-    record {
-      some = some;
-      shaped = rw level (step.shape 0 (omega (arith, tree.shaped.node.enough)));
-      once = λ k. omega (arith, step.moved.owned k, tree.once k);
-      len = omega (arith, step.moved.len, tree.len);
-    }
-
--- a root with an item stays
-pub stays_root : {T : Type 0} {s : Heap T} (levels : ℕ) {root : ℕ} → IsLooseTree s levels root
-    → 0 < length (node_items s root) → IsTree s levels root
-stays_root {T} {s} zero {root} loose full = absurd (omega (arith, loose.some))
-stays_root (suc d) loose full =
-    let level : suc d - 1 ≡ d = omega arith in
-    let shaped = rw level at loose.shaped in
-    record {
-      shaped = record {
-        node =
-            record {
-              present = shaped.node.present;
-              enough = full;
-              fits = shaped.node.fits;
-              branches = shaped.node.branches;
-            };
-        children = shaped.children;
-      };
-      once = loose.once;
-      len = loose.len;
-    }
 
 list_of_one : (ks : List ℕ) → length ks ≡ 1 → ks ≡ get_or ks 0 0 ∷ []
 list_of_one [] one = absurd (omega arith)
@@ -107,6 +71,28 @@ empty_root_leaves_nothing {T} {s} {t} (suc zero) {root} one loose empty gone =
     )
 
 -- a taller tree whose root has one child alone
+module _ {T : Type 0} {s t : Heap T} {e root : ℕ} (loose : IsLooseTree s (suc (suc e)) root)
+    (one : node_children s root ≡ node_child s root 0 ∷ []) (gone : Removes s t root) where
+  used_all : used s (suc (suc e)) root ≡ root ∷ used s (suc e) (node_child s root 0)
+  used_all =
+      used_is s (suc e) root ∙ ap (λ zs. root ∷ flat_map (used s (suc e)) zs) one
+      ∙ ap (λ zs. root ∷ zs) (append-nil (used s (suc e) (node_child s root 0)))
+
+  occurs : (k : ℕ) → occurrences k (root ∷ [])
+      + occurrences k (used s (suc e) (node_child s root 0)) ≡ here s k
+  occurs k = omega (
+    arith,
+    loose.once k,
+    ap (occurrences k) used_all,
+    occurrences-cons k root (used s (suc e) (node_child s root 0)),
+  )
+
+  agree : AgreeAt s t (used s (suc e) (node_child s root 0))
+  agree k among = gone.others k (λ at.
+      let itself : occurrences k (root ∷ []) ≡ 1 = rw (← at) (occurrences_itself k) in
+      let was : here s k ≡ 1 = rw at (here_some s root gone.was) in
+      omega (arith, occurs k, itself, was))
+
 pub only_child_is_root : {T : Type 0} {s t : Heap T} (levels : ℕ) {root : ℕ} → levels ≢ 1
     → IsLooseTree s levels root → length (node_items s root) ≡ 0 → Removes s t root
     → IsTree t (levels - 1) (node_child s root 0) × (items_below t
@@ -120,25 +106,7 @@ only_child_is_root {T} {s} {t} (suc (suc e)) {root} more loose empty gone =
     let kid = node_child s root 0 in
     let one : node_children s root ≡ kid ∷ [] =
     list_of_one ks (omega (arith, shaped.node.branches, empty)) in
-    let used_all : used s (suc (suc e)) root ≡ root ∷ used s (suc e) kid =
-    used_is s (suc e) root ∙ ap (λ zs. root ∷ flat_map (used s (suc e)) zs) one
-    ∙ ap (λ zs. root ∷ zs) (append-nil (used s (suc e) kid)) in
-    let present = here_some s root shaped.node.present in
-    let occurs : (k : ℕ)
-    → occurrences k (root ∷ []) + occurrences k (used s (suc e) kid) ≡ here s k =
-    λ k.
-    omega (
-      arith,
-      loose.once k,
-      ap (occurrences k) used_all,
-      occurrences-cons k root (used s (suc e) kid),
-    ) in
-    let same : SameBelow s t (suc e) kid =
-    same_below s t (suc e) kid
-    (λ k among. gone.others k
-    (λ at. let itself : occurrences k (root ∷ [])
-    ≡ 1 = rw (← at) (occurrences_itself k) in let was : here s k ≡ 1 =
-    rw at present in omega (arith, occurs k, itself, was))) in
+    let same : SameBelow s t (suc e) kid = same_below s t (suc e) kid (agree loose one gone) in
     let kid_shaped : Shaped s (suc e) kid = shaped.children 0 0 (omega (arith, ap length one)) in
     let tree : IsTree t (suc e) kid = record {
       shaped = shaped_within_wider 1 CAPACITY (omega arith) (omega arith)
@@ -147,11 +115,11 @@ only_child_is_root {T} {s} {t} (suc (suc e)) {root} more loose empty gone =
           λ k.
           omega (
             arith,
-            occurs k,
-            here_without present gone k,
+            occurs loose one gone k,
+            here_without (here_some s root gone.was) gone k,
             ap (occurrences k) same.used_same,
           );
-      len = omega (arith, gone.len, loose.len, ap length used_all, ap length same.used_same);
+      len = omega (arith, gone.len, loose.len, ap length (used_all loose one gone), ap length same.used_same);
     } in
     let list : items_below t (suc e) kid ≡ items_below s (suc (suc e)) root =
     same.items_below_same
@@ -179,26 +147,9 @@ lowered_edge {T} {s} {t} (suc (suc e)) {root} g more loose empty gone is' =
     let one : ks ≡ kid ∷ [] = list_of_one ks (omega (arith, shaped.node.branches, empty)) in
     let first : turn g ≡ 0 =
     omega (arith, turn_within s e root g is, shaped.node.branches, empty) in
-    let used_all : used s (suc (suc e)) root ≡ root ∷ used s (suc e) kid =
-    used_is s (suc e) root ∙ ap (λ zs. root ∷ flat_map (used s (suc e)) zs) one
-    ∙ ap (λ zs. root ∷ zs) (append-nil (used s (suc e) kid)) in
-    let present = here_some s root shaped.node.present in
-    let occurs : (k : ℕ)
-    → occurrences k (root ∷ []) + occurrences k (used s (suc e) kid) ≡ here s k =
-    λ k.
-    omega (
-      arith,
-      loose.once k,
-      ap (occurrences k) used_all,
-      occurrences-cons k root (used s (suc e) kid),
-    ) in
     let below : IsEdge s e kid (inside g) = rw first at (edge_inside s e root g is) in
     let same : SameEdge s t e kid (inside g) =
-    same_edge s t e kid (inside g)
-    (λ k among. gone.others k
-    (λ at. let itself : occurrences k (root ∷ [])
-    ≡ 1 = rw (← at) (occurrences_itself k) in let was : here s k ≡ 1 =
-    rw at present in omega (arith, occurs k, itself, was))) below in
+    same_edge s t e kid (inside g) (agree loose one gone) below in
     let here' = rw first at (place_inside s e root g) in
     let start : length (before (node_items s root) (map (items_below s (suc e)) ks) 0) ≡ 0 =
     refl in

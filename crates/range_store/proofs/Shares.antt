@@ -137,14 +137,6 @@ wider width below count is deep full =
       omega (arith, parts.1, mul-le-mul_left width more),
     )
 
--- the levels are enough
-pub not_wider : (width count : ℕ) → 0 < width → count / width ≤ CAPACITY
-    → count < (CAPACITY + 1) * width
-not_wider width count some few =
-    let parts = quotient count width some in
-    let more : count / width + 1 ≤ CAPACITY + 1 = omega (arith, few) in
-    omega (arith, parts.1, parts.2, mul-le-mul_left width more)
-
 -- a node that is no leaf, over children of which each has fewer than 12 times `inner` items
 pub record IsBranch (width below count inner many : ℕ) : Type 0 where
   pub inner_is : inner ≡ (CAPACITY + 1) ^ (below - 1)
@@ -186,10 +178,3 @@ pub next_share : {rest many : ℕ} (index : ℕ) {low high : ℕ} → index < ma
 next_share {rest} {many} index {low} {high} more can =
     let level : many - index ≡ many - (index + 1) + 1 = omega arith in
     rw level (share_is (many - (index + 1)) (rw level at can))
-
--- nothing is left
-pub all_shared : {rest many : ℕ} (index : ℕ) {low high : ℕ} → index ≡ many
-    → CanBeShared rest (many - index) low high → rest ≡ 0
-all_shared {rest} {many} index all can =
-    let none : many - index ≡ 0 = omega (arith, all) in
-    omega (arith, (rw none at can).fits)

@@ -1,24 +1,14 @@
 -- What is known of a node of whose children one may be short.
-use Rattle.std.proofs.Common.{◌≡◌, ◌⊎◌, ℕ, suc, ◌+◌, ◌-◌, ◌<◌, ◌≤◌, List, [], ◌∷◌, ◌++◌, length, get_or, take, drop, refl, sym, subst, inl, inr, arith, IsSome}
+use Rattle.std.proofs.Common.{◌≡◌, ◌⊎◌, ℕ, suc, ◌+◌, ◌-◌, ◌<◌, ◌≤◌, List, ◌∷◌, ◌++◌, length, get_or, take, drop, refl, sym, subst, inl, inr, arith, IsSome}
 use Rattle.std.specs.List.{All}
-use Rattle.std.proofs.lemmas.List.{drop_more, take_more, length-append, get_or_append_left}
-use Rattle.std.proofs.lemmas.List.Elements.{All-cons, All-head, All-tail, All-append, All-weaker}
+use Rattle.std.proofs.lemmas.List.{drop_more, get_or-take, length-take-le, take-take}
+use Rattle.std.proofs.lemmas.List.Elements.{All-cons, All-head, All-tail, All-append, All-take, All-weaker}
 use Rattle.range_store.specs.Heap.{Heap, node_of, node_items, node_children, node_child}
 use Rattle.range_store.specs.declared.btree.nodes.TheConstants.{CAPACITY, MIN_LEN}
 use Rattle.range_store.specs.Nodes.{items_below, used, Shaped, ShapedBut, Shrinks, MayBeRebalanced, IsLevelled}
-use Rattle.range_store.proofs.Below.{Shaped-from_but, Shaped-but, shaped_within_wider}
+use Rattle.range_store.proofs.Below.{Shaped-from_but, Shaped-but, shaped_within_wider, shaped_with}
 use Rattle.range_store.proofs.Moves.{Moves-none}
 use Rattle.range_store.specs.Weave.{list_splits_at}
-
-module _ {X : Type 0} (P : X → Type 0) where
-  All-left : (xs ys : List X) → All P (xs ++ ys) → All P xs
-  All-left xs ys all k d within =
-      rw (← get_or_append_left xs ys d k within)
-      (all k d (omega (arith, length-append xs ys, within)))
-
-  All-right : (xs ys : List X) → All P (xs ++ ys) → All P ys
-  All-right [] ys all = all
-  All-right (x ∷ xs) ys all = All-right xs ys (All-tail P x (xs ++ ys) all)
 
 module _ {T : Type 0} (s : Heap T) (low n i : ℕ) (m : MayBeRebalanced s low n i) where
   abbrev xs : List T
@@ -56,16 +46,8 @@ module _ {T : Type 0} (s : Heap T) (low n i : ℕ) (m : MayBeRebalanced s low n 
   pub stays_balanced : MIN_LEN ≤ length (node_items s kid)
       → Shrinks s s (suc low) n (items_below s (suc (suc low)) n)
   stays_balanced enough =
-      let here = Shaped-from_but s low kid (record {
-        node =
-            record {
-              present = m.child.node.present;
-              enough = enough;
-              fits = m.child.node.fits;
-              branches = m.child.node.branches;
-            };
-        children = m.child.children;
-      }) in
+      let here = Shaped-from_but s low kid
+      (shaped_with MIN_LEN CAPACITY enough m.child.node.fits m.child) in
       let children =
       subst (All P) (sym kids)
       (All-append P (take i ks) (kid ∷ drop (i + 1) ks) m.before
@@ -112,18 +94,17 @@ module _ {T : Type 0} (s : Heap T) (low n i : ℕ) (m : MayBeRebalanced s low n 
   with_before : (j : ℕ) → j + 1 ≡ i → length (node_items s kid) < MIN_LEN → IsLevelled s low n j
   with_before j next short =
       let within : j < length xs = omega (arith, m.within) in
-      let front : take i ks ≡ take j ks ++ (get_or ks j 0 ∷ []) =
-      rw (← next) (take_more ks j 0 (omega (arith, many))) in
-      let before = subst (All P) front m.before in
-      let last =
-      All-head P (get_or ks j 0) [] (All-right P (take j ks) (get_or ks j 0 ∷ []) before) in
+      let last = rw (get_or-take i ks j 0 (omega arith)) at (m.before j 0 (omega (
+        arith,
+        length-take-le i ks (omega (arith, many, m.within)),
+      ))) in
       let last' = Shaped-but s low (get_or ks j 0) last in
       let far : i + 1 ≡ j + 2 = omega arith in
       record {
         node = m.node;
         owned = m.owned;
         within = within;
-        before = All-left P (take j ks) (get_or ks j 0 ∷ []) before;
+        before = subst (All P) (take-take j i ks (omega arith)) (All-take P j (take i ks) m.before);
         left = loose (get_or ks j 0) last;
         right = rw next m.child;
         behind = rw far at m.behind;

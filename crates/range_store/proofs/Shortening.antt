@@ -7,9 +7,7 @@ use Rattle.std.proofs.lemmas.List.Elements.{All-append, All-cons, All-take, All-
 use Rattle.range_store.specs.Heap.{Heap, node_of, items_of, children_of, Writes, node_items, node_children, node_child}
 use Rattle.range_store.specs.declared.btree.nodes.TheConstants.{CAPACITY, MIN_LEN}
 use Rattle.range_store.specs.Nodes.{weave, rest_of, front_of, before, after, items_below, used, Shaped, ShapedBut, Owned, Moves, Shrinks, MayBeRebalanced, child_lists, before_child}
-use Rattle.range_store.specs.Contents.{IsContent}
-use Rattle.range_store.specs.Occurrences.{occurrences}
-use Rattle.range_store.proofs.Contents.{written_holds, held_items_below, held_used, held_shape}
+use Rattle.range_store.proofs.Contents.{written_holds, held_items_below, held_used, held_shape, bare_content}
 use Rattle.range_store.specs.Weave.{list_splits_at, weave_splice, length-before}
 use Rattle.range_store.specs.Frame.{IsNode-same}
 use Rattle.range_store.proofs.Below.{children_length, items_below_at, weave_items_below, used_is, items_below_leaf}
@@ -164,14 +162,7 @@ pub leaf_shrinks : {T : Type 0} {s t : Heap T} {n : ℕ} (q : ℕ) → ShapedBut
     → Shrinks s t 0 n (remove (items_below s 1 n) q)
 leaf_shrinks {T} {s} {t} {n} q shaped owned within written =
     let less = length-remove (node_items s n) q within in
-    let content : IsContent s 0 n (remove (node_items s n) q) (node_children s n) =
-    record {
-      present = shaped.node.present;
-      shaped = shaped.children;
-      branches = shaped.node.branches;
-      owned =
-          λ k. omega (arith, owned k, ap (occurrences k) (used_is s 0 n));
-    } in
+    let content = bare_content (remove (node_items s n) q) shaped owned in
     let holds = written_holds t content written in
     let none = nil_from_length (node_children s n) shaped.node.branches in
     record {

@@ -1,11 +1,12 @@
 -- Items that move between two children of a node and the node.
-use Rattle.std.proofs.Common.{◌≡◌, ◌⊎◌, ℕ, zero, suc, ◌+◌, ◌-◌, ◌<◌, ◌≤◌, List, [], ◌∷◌, ◌++◌, length, get_or, take, drop, Some, refl, sym, ap, subst, ◌∙◌, inl, inr, arith, slice_get}
+use Rattle.std.proofs.Common.{◌≡◌, ℕ, zero, suc, ◌+◌, ◌-◌, ◌<◌, ◌≤◌, List, [], ◌∷◌, ◌++◌, length, get_or, take, drop, Some, refl, sym, ap, subst, ◌∙◌, arith, slice_get}
 use Rattle.std.proofs.Math.ListN.{set}
 use Rattle.std.specs.List.{insert, remove}
 use Rattle.std.proofs.lemmas.List.{append-nil, drop_all, drop_more, take_all, take_more, nil_from_length}
 use Rattle.std.proofs.lemmas.List.Edits.{insert_end}
 use Rattle.std.proofs.lemmas.Option.{slice_get-get_or}
-use Rattle.range_store.specs.Heap.{Heap, node_of, items_of, children_of, child_count, with_child, with_item, FitsChild, Writes, HasPair, RotatesLeft, RotatesRight, Merges, Absorbs, left_items, right_items, left_children, right_children, node_items, node_children, node_child}
+use Rattle.range_store.specs.Heap.{Heap, node_of, items_of, children_of, child_count, with_child, with_item, Writes, HasPair, RotatesLeft, RotatesRight, Merges, Absorbs, left_items, right_items, left_children, right_children, node_items, node_children, node_child}
+use Rattle.range_store.proofs.Edits.{without_last}
 use Rattle.range_store.proofs.Heaps.{item_other, write_first, remove_first, remove_last}
 
 module _ {X : Type 0} where
@@ -18,30 +19,6 @@ module _ {X : Type 0} where
   last_and_front xs x n many is =
       sym (take_all (n + 1) xs (omega (arith, many))) ∙ take_more xs n x (omega (arith, many))
       ∙ ap (λ z. take n xs ++ z ∷ []) (sym is)
-
-  without_last : (xs : List X) (n : ℕ) → length xs ≤ n + 1 → remove xs n ≡ take n xs
-  without_last xs n few = ap (λ zs. take n xs ++ zs) (drop_all (suc n) xs (omega (arith, few)))
-      ∙ append-nil (take n xs)
-
--- a child that comes from a node of as many levels
-pub fits_first : {X : Type 0} (below : ℕ) (xs : List X) (ks : List ℕ) (zs : List X) (ls : List ℕ)
-    → length ks ≡ child_count below (length xs) → length ls ≡ child_count below (length zs)
-    → FitsChild (slice_get ls 0) xs ks
-fits_first zero xs ks zs [] many others = many
-fits_first zero xs ks zs (l ∷ ls) many others = absurd (omega (arith, others))
-fits_first (suc below) xs ks zs [] many others = absurd (omega (arith, others))
-fits_first (suc below) xs ks zs (l ∷ ls) many others = many
-
-pub fits_last : {X : Type 0} (below : ℕ) (xs : List X) (ks : List ℕ) (zs : List X) (ls : List ℕ)
-    → length ks ≡ child_count below (length xs) → length ls ≡ child_count below (length zs)
-    → FitsChild (slice_get ls (length zs)) xs ks
-fits_last zero xs ks zs ls many others =
-    let none : ls ≡ [] = nil_from_length ls others in
-    rw none many
-fits_last (suc below) xs ks zs ls many others =
-    let some : slice_get ls (length zs) ≡ Some (get_or ls (length zs) 0) = slice_get-get_or ls
-    (length zs) 0 (omega (arith, others)) in
-    rw some many
 
 -- the children with the first of others at the end
 end_child : {X : Type 0} (below : ℕ) (xs : List X) (ks : List ℕ) (zs : List X) (ls : List ℕ)
@@ -76,22 +53,15 @@ few_children zero k m many = omega (arith, many)
 few_children (suc below) k m many = omega (arith, many)
 
 -- the other child is as it was
-module _ {T : Type 0} (s t u : Heap T) (n i : ℕ) (pair : HasPair s n i) (up : T) (l r : ℕ)
+module _ {T : Type 0} {s t u : Heap T} {n i : ℕ} (pair : HasPair s n i) (up : T) {l r : ℕ}
     (left_is : l ≡ node_child s n i) (right_is : r ≡ node_child s n (i + 1))
-    (after : u ≡ with_item t n i up) (xs : List T) (ks : List ℕ) where
+    (after : u ≡ with_item t n i up) {xs : List T} {ks : List ℕ} where
   pub left_kept : Writes s t r xs ks → node_of u l ≡ node_of s (node_child s n i)
   left_kept writes =
       let one = subst (λ k. Writes s t k xs ks) right_is writes in
       ap (λ h. node_of h l) after ∙ ap (node_of (with_item t n i up)) left_is
       ∙ item_other t n i (node_child s n i) up pair.left_apart
       ∙ one.others (node_child s n i) pair.apart
-
-  pub right_kept : Writes s t l xs ks → node_of u r ≡ node_of s (node_child s n (i + 1))
-  right_kept writes =
-      let one = subst (λ k. Writes s t k xs ks) left_is writes in
-      ap (λ h. node_of h r) after ∙ ap (node_of (with_item t n i up)) right_is
-      ∙ item_other t n i (node_child s n (i + 1)) up pair.right_apart
-      ∙ one.others (node_child s n (i + 1)) (λ e. pair.apart (sym e))
 
 module _ {T : Type 0} {s : Heap T} (t u v : Heap T) {n i : ℕ} (pair : HasPair s n i) (down up : T) where
   abbrev l : ℕ
@@ -212,26 +182,3 @@ module _ {T : Type 0} (s t u : Heap T) (n i : ℕ) (pair : HasPair s n i) (down 
         right = upper.first;
         parent = upper.second;
       }
-
--- what the joining of two children asks of them
-module _ {T : Type 0} {s : Heap T} {n i : ℕ} (pair : HasPair s n i) where
-  by_levels : (below k m lefts rights : ℕ) → lefts ≡ child_count below k
-      → rights ≡ child_count below m → (rights ≡ 0) ⊎ (0 < lefts)
-  by_levels zero k m lefts rights many others = inl others
-  by_levels (suc below) k m lefts rights many others = inr (omega (arith, many))
-
-  pub merged_children : (length (right_children s n i) ≡ 0) ⊎ (0 < length (left_children s n i))
-  merged_children = by_levels pair.below (length (left_items s n i)) (length (right_items s n i))
-      (length (left_children s n i)) (length (right_children s n i)) pair.left_branches
-      pair.right_branches
-
-  pub merged_places : length (left_items s n i) + 1 + length (right_items s n i) ≤ 11
-      → length (left_children s n i) + length (right_children s n i) ≤ 12
-  merged_places few =
-      omega (
-        arith,
-        few_children pair.below (length (left_items s n i))
-            (length (left_children s n i)) pair.left_branches,
-        few_children pair.below
-            (length (right_items s n i)) (length (right_children s n i)) pair.right_branches,
-      )

@@ -226,8 +226,8 @@ pub record Changes {T : Type 0} (old new : Slab Node) (was now : List (List T)) 
   pub there : n < length now
   pub len_is : node.len ≡ length items
 
-module _ {T : Type 0} (old new : Slab Node) (was now : List (List T)) (spares : List ℕ)
-    (whole : IsWhole old was spares) (n : ℕ) (node : Node) (items : List T)
+module _ {T : Type 0} {old new : Slab Node} {was now : List (List T)} {spares : List ℕ}
+    (whole : IsWhole old was spares) {n : ℕ} {node : Node} {items : List T}
     (changes : Changes old new was now n node items) where
   changed_there : (k : ℕ) → IsSome (get new k) → k < length now
   changed_there k some =
@@ -347,7 +347,7 @@ module _ {T : Type 0} (old new : Slab Node) (was now : List (List T)) (spares : 
         }
 
     -- a spare got what a new node has
-    module _ (left : List ℕ) (parts : spares ≡ n ∷ left) where
+    module _ {left : List ℕ} (parts : spares ≡ n ∷ left) where
       told : (k : ℕ) → occurrences k spares ≡ occurrences k (n ∷ []) + occurrences k left
       told k = ap (occurrences k) parts ∙ occurrences-cons k n left
 
@@ -509,10 +509,8 @@ module _ {T : Type 0} {slab : Slab Node} {rows : List (List T)} {spares : List �
   pub edited : HasNode (heap_of slab rows spares) n
       → Leaves slab rows spares n node items spares (λ old new. Writes old new n items ks)
   edited present = record {
-    whole = written_whole slab (with_value slab n node) rows (set rows n items) spares whole n node
-        items edit same_len (in_use slab rows spares n present);
-    nodes = rw (← children_are) (written slab (with_value slab n node) rows (set rows n items)
-        spares whole n node items edit same_len present);
+    whole = written_whole whole edit same_len (in_use slab rows spares n present);
+    nodes = rw (← children_are) (written whole edit same_len present);
     len = same_len;
   }
 
@@ -520,10 +518,8 @@ module _ {T : Type 0} {slab : Slab Node} {rows : List (List T)} {spares : List �
   pub filled : {left : List ℕ} → spares ≡ n ∷ left
       → Leaves slab rows spares n node items left (λ old new. Stores old new n items ks)
   filled {left} parts = record {
-    whole = stored_whole slab (with_value slab n node) rows (set rows n items) spares whole n node
-        items edit same_len left parts;
-    nodes = rw (← children_are) (stored slab (with_value slab n node) rows (set rows n items)
-        spares whole n node items edit same_len left parts);
+    whole = stored_whole whole edit same_len parts;
+    nodes = rw (← children_are) (stored whole edit same_len parts);
     len = same_len;
   }
 
@@ -531,10 +527,8 @@ module _ {T : Type 0} {slab : Slab Node} {rows : List (List T)} {spares : List �
   pub emptied : HasNode (heap_of slab rows spares) n → items ≡ [] → ks ≡ []
       → Leaves slab rows spares n node items (n ∷ spares) (λ old new. Removes old new n)
   emptied present no_items none = record {
-    whole = freed_whole slab (with_value slab n node) rows (set rows n items) spares whole n node
-        items edit same_len present no_items (children_are ∙ none);
-    nodes = removed slab (with_value slab n node) rows (set rows n items) spares whole n node items
-        edit same_len present no_items (children_are ∙ none);
+    whole = freed_whole whole edit same_len present no_items (children_are ∙ none);
+    nodes = removed whole edit same_len present no_items (children_are ∙ none);
     len = same_len;
   }
 
@@ -637,9 +631,6 @@ module _ {T : Type 0} {slab : Slab Node} {rows : List (List T)} {spares : List �
   pub spare_found : IsSome (get slab n)
   spare_found = content_some (row_of rows n) (get slab n) (rw (whole.empty n among) refl)
 
-  pub spare_there : n < length rows
-  spare_there = whole.there n spare_found
-
   pub bare_row : row_of rows n ≡ []
   bare_row =
       sym (content_items (row_of rows n) (get slab n) (rw (whole.empty n among) refl))
@@ -671,32 +662,6 @@ none_whole slab rows spares no_slots no_rows no_spares =
 module _ {T : Type 0} {slab : Slab Node} {rows : List (List T)} {spares : List ℕ}
     (whole : IsWhole slab rows spares) (n i : ℕ) (x : T)
     (present : HasNode (heap_of slab rows spares) n) where
-  pub item_whole : IsWhole slab (set rows n (set (row_of rows n) i x)) spares
-  item_whole =
-      let xs = set (row_of rows n) i x in
-      let within = row_there whole n present in
-      record {
-        there = λ k some. omega (arith, length-set rows n xs, whole.there k some);
-        lens = λ k.
-            elim (cases_eq k n) [
-              | inl same ↦
-                  rw same (ap length (get_or-set_same rows n xs [] within)
-                  ∙ length-set (row_of rows n) i x ∙ whole.lens n)
-              | inr differs ↦
-                  ap length (get_or-set_other rows n k xs [] differs) ∙ whole.lens k
-            ];
-        empty = λ k among.
-            ap (λ ys. content_of ys (get slab k)) (get_or-set_other rows n k xs []
-            (λ same. omega (
-              arith,
-              among,
-              ap (λ m. occurrences m spares) same,
-              in_use slab rows spares n present,
-            )))
-            ∙ whole.empty k among;
-        once = whole.once;
-      }
-
   pub item_written : heap_of slab (set rows n (set (row_of rows n) i x)) spares
       ≡ with_item (heap_of slab rows spares) n i x
   item_written =

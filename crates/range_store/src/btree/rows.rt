@@ -8,7 +8,6 @@ ghost use Rattle.range_store.specs.Rows.{row_of, items_in, HoldsItems};
 use crate::btree::nodes::{CAPACITY, HALF};
 use std::alloc::{AllocError, Global};
 use std::marker::Model;
-use std::mem;
 use std::vec::IntoIter;
 
 /// Up to `CAPACITY` items under each number from 0 on.
@@ -67,10 +66,8 @@ fn put_item<T: Drop>(row: &mut [Option<T>], len: usize, index: usize, item: T)
     ensures held { HoldsItems row.new (insert (items_in row.old) index item) }
     ensures length { length row.new ≡ length row.old }
 {
-    let mut carried = Some(item);
-    for at in index..len + 1 {
-        mem::swap(&mut row[at], &mut carried);
-    }
+    row[index..=len].rotate_right(1);
+    row[index] = Some(item);
 }
 
 // Takes the item at an index out of a row with `len` items.
@@ -82,13 +79,8 @@ fn take_item<T: Drop>(row: &mut [Option<T>], len: usize, index: usize) -> T
     ensures held { HoldsItems row.new (remove (items_in row.old) index) }
     ensures length { length row.new ≡ length row.old }
 {
-    let mut carried = None;
-    let mut at = len;
-    while at > index {
-        at -= 1;
-        mem::swap(&mut row[at], &mut carried);
-    }
-    carried.unwrap()
+    row[index..len].rotate_left(1);
+    row[len - 1].take().unwrap()
 }
 
 // Adds the empty cells that are missing to so many, for which there is room.

@@ -9,40 +9,24 @@ use Rattle.range_store.proofs.btree.BoxStorage.build.Goals as goal
 use Rattle.range_store.proofs.btree.BoxStorage.build.Given.{Over}
 use Rattle.range_store.proofs.btree.BoxStorage.build.Goals.{After-build-self}
 
-pub layout_of-below-requires : goal.layout_of-below-requires
-layout_of-below-requires g c =
-    omega (arith, c.requires.some, c.len-count.ensures, c.args.added.ok.0)
-
-pub build-self-requires : goal.build-self-requires
-build-self-requires g c =
+pub build-self-requires-clause-room : goal.build-self-requires-clause-room
+build-self-requires-clause-room g c =
     let s = c.args.self.now in
     let layout = c.layout_of-below.ensures in
     let cut =
     cut_is c.layout_of-below.result.width c.len-count.result (omega (arith, layout.deep))
     layout.least layout.most in
-    let count = ap length c.into_iter-items.ensures.rest in
     let none = ap length c.requires.empty in
     let empty = nothing_stored s.levels (empty_levels s.whole.tree none) s.whole.tree in
-    record {
-      width = layout.width;
-      least = layout.least;
-      most = layout.most;
-      enough = omega (arith, count, c.len-count.ensures, c.args.added.ok.0);
-      room =
-          omega (
-            arith,
-            empty,
-            none,
-            cut.some,
-            c.requires.room,
-            c.len-count.ensures,
-            c.args.added.ok.0,
-          );
-    }
-
-pub overflow_add-self : goal.overflow_add-self
-overflow_add-self g c =
-    omega (arith, c.layout_of-below.ensures.deep, c.layout_of-below.ensures.least)
+    omega (
+      arith,
+      empty,
+      none,
+      cut.some,
+      c.requires.room,
+      c.len-count.ensures,
+      c.args.added.ok.0,
+    )
 
 tree : (g : Over) (c : After-build-self g)
     → IsTree c.build-self.new.nodes (c.layout_of-below.result.below + 1) c.build-self.result
@@ -89,17 +73,3 @@ invariant_of-self g c =
       counted = sym (many ∙ count);
       levelled = rw (many ∙ count) at (has_levels (tree g a));
     }
-
-pub returns-clause-list : goal.returns-clause-list
-returns-clause-list g c = listed g (goal.at.returns-clause-list g c).After-build-self
-
-pub returns-clause-room : goal.returns-clause-room
-returns-clause-room g c =
-    let a = (goal.at.returns-clause-room g c).After-build-self in
-    omega (
-      arith,
-      ap length (listed g a),
-      ap length c.requires.empty,
-      c.requires.room,
-      c.build-self.ensures.built.moved.capacity,
-    )

@@ -1,24 +1,13 @@
-use Rattle.std.proofs.Common.{◌≡◌, suc, ◌-◌, ◌<◌, sym, ap, ◌∙◌, arith, count_by}
+use Rattle.std.proofs.Common.{◌≡◌, suc, ◌-◌, ◌<◌, sym, ◌∙◌, arith}
 use Rattle.range_store.specs.Written.{root_shaped}
-use Rattle.range_store.proofs.Rank.{items_below_none}
 use Rattle.range_store.proofs.Paths.{not_start, stands_first}
 use Rattle.range_store.proofs.Whole.{tree_is_not_too_deep}
 use Rattle.range_store.proofs.btree.BoxStorage.edge_after_passing.Goals as goal
 
-pub returns-then-self-eq0-clause-found : goal.returns-then-self-eq0-clause-found
-returns-then-self-eq0-clause-found g c =
-    rw c.if-self-eq0.true (ap (count_by (g.P.Probe.test c.args.probe.now))
-    (items_below_none c.args.self.now.nodes c.args.self.now.root))
-
-pub search_below-edge-requires : goal.search_below-edge-requires
-search_below-edge-requires g c =
+pub search_below-edge-requires-clause-deep : goal.search_below-edge-requires-clause-deep
+search_below-edge-requires-clause-deep g c =
     let s = c.args.self.now in
-    let level : suc (s.levels - 1) ≡ s.levels = omega (arith, c.if-self-eq0.false) in
-    record {
-      shaped = root_shaped s.levels (omega (arith, c.if-self-eq0.false)) s.whole.tree;
-      deep = tree_is_not_too_deep s.levels s.whole;
-      falls = rw level c.requires;
-    }
+    tree_is_not_too_deep s.levels s.whole
 
 pub returns-then-stands_first-clause-found : goal.returns-then-stands_first-clause-found
 returns-then-stands_first-clause-found g c =

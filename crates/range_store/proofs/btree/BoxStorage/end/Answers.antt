@@ -1,25 +1,7 @@
-use Rattle.std.proofs.Common.{◌<◌, length, ap, ◌∙◌, arith}
-use Rattle.range_store.specs.Holding.{box_levels}
-use Rattle.range_store.specs.Written.{root_shaped}
-use Rattle.range_store.proofs.Rank.{items_below_none}
 use Rattle.range_store.proofs.Whole.{tree_is_not_too_deep}
 use Rattle.range_store.proofs.btree.BoxStorage.end.Goals as goal
 
-pub returns-then-self-eq0 : goal.returns-then-self-eq0
-returns-then-self-eq0 g c =
-    rw c.if-self-eq0.true (items_below_none c.args.self.now.nodes c.args.self.now.root)
-
-pub end_edge-requires : goal.end_edge-requires
-end_edge-requires g c =
+pub end_edge-requires-clause-deep : goal.end_edge-requires-clause-deep
+end_edge-requires-clause-deep g c =
     let s = c.args.self.now in
-    record {
-      shaped = root_shaped s.levels (omega (arith, c.if-self-eq0.false)) s.whole.tree;
-      deep = tree_is_not_too_deep s.levels s.whole;
-    }
-
-pub returns : goal.returns
-returns g c =
-    let some : 0 < c.args.self.now.levels = omega (arith, c.if-self-eq0.false) in (
-      record { some = some; edge = c.end_edge.ensures.edge },
-      c.end_edge.ensures.place ∙ ap length (box_levels c.args.self.now some),
-    )
+    tree_is_not_too_deep s.levels s.whole

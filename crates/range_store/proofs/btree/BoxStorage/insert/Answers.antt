@@ -37,32 +37,24 @@ invariant_of-self g c =
       levelled = rw many at (has_levels (first g c).0);
     }
 
-pub returns-in-None-clause-list : goal.returns-in-None-clause-list
-returns-in-None-clause-list g c =
-    let a = (goal.at.returns-in-None-clause-list g c).After-store_leaf-self in
-    rw (c.in-None.is, rw c.in-None.is at c.requires.edge) (first g a).1
-
-pub returns-in-None-clause-room : goal.returns-in-None-clause-room
-returns-in-None-clause-room g c =
-    let a = (goal.at.returns-in-None-clause-room g c).After-store_leaf-self in
-    omega (
-      arith,
-      ap length (first g a).1,
-      ap length (rw c.in-None.is at c.requires.edge),
-      c.requires.room,
-      c.store_leaf-self.ensures.capacity,
-    )
-
-pub returns-in-None-clause-edge : goal.returns-in-None-clause-edge
-returns-in-None-clause-edge g c =
+pub returns-in-None : goal.returns-in-None
+returns-in-None g c =
+    let a = (goal.at.returns-in-None g c).After-store_leaf-self in
     record {
-      some = omega arith;
-      edge =
-          leaf_edge c.store_leaf-self.new.self c.store_leaf-self.result _ refl refl
-          (omega (arith, ap length c.store_leaf-self.ensures.items_are));
+      list = rw (c.in-None.is, rw c.in-None.is at c.requires.edge) (first g a).1;
+      room = omega (
+        arith,
+        ap length (first g a).1,
+        ap length (rw c.in-None.is at c.requires.edge),
+        c.requires.room,
+        c.store_leaf-self.ensures.capacity,
+      );
+      edge = record {
+        some = omega arith;
+        edge =
+            leaf_edge c.store_leaf-self.new.self c.store_leaf-self.result _ refl refl
+            (omega (arith, ap length c.store_leaf-self.ensures.items_are));
+      };
+      place = rw (c.in-None.is, rw c.in-None.is at c.requires.edge)
+          (leaf_place c.store_leaf-self.new.self c.store_leaf-self.result _);
     }
-
-pub returns-in-None-clause-place : goal.returns-in-None-clause-place
-returns-in-None-clause-place g c =
-    rw (c.in-None.is, rw c.in-None.is at c.requires.edge)
-    (leaf_place c.store_leaf-self.new.self c.store_leaf-self.result _)

@@ -1,23 +1,23 @@
-use Rattle.std.proofs.Common.{◌≡◌, suc, ◌+◌, ◌-◌, [], ◌∷◌, length, refl, sym, ap, ◌∙◌, arith}
+use Rattle.std.proofs.Common.{◌≡◌, suc, ◌+◌, ◌-◌, [], ◌∷◌, length, refl, ap, ◌∙◌, arith}
 use Rattle.std.specs.List.{insert}
 use Rattle.std.proofs.lemmas.List.Edits.{length-insert}
 use Rattle.range_store.specs.Edges.{IsEdge, place, seat_place}
 use Rattle.range_store.specs.Holding.{box_items, box_place}
-use Rattle.range_store.specs.Nodes.{items_below}
-use Rattle.range_store.specs.Written.{root_shaped}
 use Rattle.range_store.proofs.Edges.{path_small}
 use Rattle.range_store.proofs.InPlace.{IsLeafChange, put_in_leaf}
-use Rattle.range_store.proofs.Levels.{has_levels, levels_le}
-use Rattle.range_store.proofs.RootGrowth.{IsGrown, kept_edge, kept_root, one_more, grown_roomy, taller_edge, taller_room, taller_root}
+use Rattle.range_store.proofs.Levels.{levels_le}
+use Rattle.range_store.proofs.RootGrowth.{IsGrown, kept_edge, kept_root, grown_whole, taller_edge, taller_room, taller_root}
 use Rattle.range_store.proofs.Seats.{seat_inside, seat_side}
-use Rattle.range_store.proofs.Roots.{tree_owned}
 use Rattle.range_store.proofs.Whole.{edge_within, tree_is_not_too_deep, tree_leaf}
 use Rattle.range_store.proofs.btree.BoxStorage.insert_between.Goals as goal
 use Rattle.range_store.proofs.btree.BoxStorage.insert_between.Given.{Over}
-use Rattle.range_store.proofs.btree.BoxStorage.insert_between.Goals.{After-put, After-insert_below-inserted, After-store_branch-self, After-seen_above, In-None}
+use Rattle.range_store.proofs.btree.BoxStorage.insert_between.Goals.{Start, After-put, After-store_branch-self, After-seen_above, In-None}
 
-pub overflow_add-self : goal.overflow_add-self
-overflow_add-self g c = omega (arith, c.args.self.now.counted, c.requires.room)
+longer : (g : Over) (c : Start g)
+    → length (insert (box_items c.args.self.now) (box_place c.args.self.now c.args.edge)
+    c.args.item) ≡ length (box_items c.args.self.now) + 1
+longer g c = length-insert (box_items c.args.self.now) (box_place c.args.self.now c.args.edge)
+    c.args.item (edge_within c.requires.edge)
 
 -- of a leaf with capacity to spare
 pub item_count-requires : goal.item_count-requires
@@ -57,168 +57,86 @@ overflow_add-result g c =
 pub invariant_of-self : goal.invariant_of-self
 invariant_of-self g c =
     let s = c.args.self.now in
-    let put = put_here g (goal.at.invariant_of-self g c).After-put in
-    let more =
-    ap length put.items_are
-    ∙ length-insert (box_items s) (box_place s c.args.edge) c.args.item
-    (edge_within c.requires.edge) in
+    let at = goal.at.invariant_of-self g c in
+    let put = put_here g at.After-put in
+    let more = longer g at.Start in
+    let whole = grown_whole (s.len + 1) (record { tree = put.tree; items_are = put.items_are })
+    (omega (arith, more, s.counted)) (omega (arith, more, c.requires.room, put.capacity))
+    (omega (arith, more, c.requires.room)) in
+    record { whole = whole.0; counted = whole.1; levelled = whole.2 }
+
+pub returns-then-item_count-lt-CAPACITY : goal.returns-then-item_count-lt-CAPACITY
+returns-then-item_count-lt-CAPACITY g c =
+    let at = goal.at.returns-then-item_count-lt-CAPACITY g c in
+    let put = put_here g at.After-put in
     record {
-      whole =
-          record {
-            tree = put.tree;
-            fits = omega (arith, more, c.requires.room, put.capacity);
-            counted = omega (arith, more, c.requires.room);
-          };
-      counted = omega (arith, more, s.counted);
-      levelled = rw (more ∙ ap (λ m. m + 1) (sym s.counted)) at (has_levels put.tree);
+      list = put.items_are;
+      room = omega (
+        arith,
+        ap length put.items_are,
+        longer g at.Start,
+        c.requires.room,
+        put.capacity,
+      );
+      edge = record { some = c.requires.edge.some; edge = put.edge };
+      place = omega (arith, put.place_is);
     }
-
-pub returns-then-item_count-lt-CAPACITY-clause-list :
-    goal.returns-then-item_count-lt-CAPACITY-clause-list
-returns-then-item_count-lt-CAPACITY-clause-list g c =
-    (put_here g (goal.at.returns-then-item_count-lt-CAPACITY-clause-list g c).After-put).items_are
-
-pub returns-then-item_count-lt-CAPACITY-clause-room :
-    goal.returns-then-item_count-lt-CAPACITY-clause-room
-returns-then-item_count-lt-CAPACITY-clause-room g c =
-    let s = c.args.self.now in
-    let put = put_here g (goal.at.returns-then-item_count-lt-CAPACITY-clause-room g c).After-put in
-    omega (
-      arith,
-      ap length put.items_are,
-      length-insert (box_items s) (box_place s c.args.edge) c.args.item
-          (edge_within c.requires.edge),
-      c.requires.room,
-      put.capacity,
-    )
-
-pub returns-then-item_count-lt-CAPACITY-clause-edge :
-    goal.returns-then-item_count-lt-CAPACITY-clause-edge
-returns-then-item_count-lt-CAPACITY-clause-edge g c =
-    record {
-      some = c.requires.edge.some;
-      edge =
-          (put_here g (goal.at.returns-then-item_count-lt-CAPACITY-clause-edge g c).After-put).edge;
-    }
-
-pub returns-then-item_count-lt-CAPACITY-clause-place :
-    goal.returns-then-item_count-lt-CAPACITY-clause-place
-returns-then-item_count-lt-CAPACITY-clause-place g c =
-    omega (
-      arith,
-      (put_here g (goal.at.returns-then-item_count-lt-CAPACITY-clause-place g
-          c).After-put).place_is,
-    )
 
 -- below the root
-level : (g : Over) (c : After-insert_below-inserted g)
-    → suc (c.args.self.now.levels - 1) ≡ c.args.self.now.levels
-level g c = omega (arith, c.requires.edge.some)
-
-listed : (g : Over) (c : After-insert_below-inserted g)
-    → insert (items_below c.args.self.now.nodes
-    (suc (c.args.self.now.levels - 1)) c.args.self.now.root)
-    (box_place c.args.self.now c.args.edge) c.args.item
-    ≡ insert (box_items c.args.self.now) (box_place c.args.self.now c.args.edge) c.args.item
-listed g c =
-    ap (λ m. insert (items_below c.args.self.now.nodes m c.args.self.now.root)
-    (box_place c.args.self.now c.args.edge) c.args.item) (level g c)
-
-longer : (g : Over) (c : After-insert_below-inserted g)
-    → length
-    (insert (items_below c.args.self.now.nodes
-    (suc (c.args.self.now.levels - 1)) c.args.self.now.root)
-    (box_place c.args.self.now c.args.edge) c.args.item) ≡ length (box_items c.args.self.now) + 1
-longer g c =
-    ap length (listed g c)
-    ∙ length-insert (box_items c.args.self.now) (box_place c.args.self.now c.args.edge) c.args.item
-    (edge_within c.requires.edge)
-
-pub overflow_sub-self : goal.overflow_sub-self
-overflow_sub-self g c = omega (arith, c.requires.edge.some)
-
-pub insert_below-inserted-requires : goal.insert_below-inserted-requires
-insert_below-inserted-requires g c =
+pub insert_below-inserted-requires-clause-deep : goal.insert_below-inserted-requires-clause-deep
+insert_below-inserted-requires-clause-deep g c =
     let s = c.args.self.now in
-    let some = c.requires.edge.some in
-    let level : suc (s.levels - 1) ≡ s.levels = omega (arith, some) in
-    record {
-      shaped = root_shaped s.levels some s.whole.tree;
-      owned = rw level (tree_owned s.whole.tree);
-      edge = c.requires.edge.edge;
-      deep = tree_is_not_too_deep s.levels s.whole;
-      room = one_more s.nodes s.levels s.root some s.whole.tree (omega (arith, c.requires.room));
-    }
+    tree_is_not_too_deep s.levels s.whole
 
 -- with no cut of the root
 kept : (g : Over) (c : In-None g)
     → IsGrown c.insert_below-inserted.new.nodes c.args.self.now.levels c.args.self.now.root
-    (insert (items_below c.args.self.now.nodes
-    (suc (c.args.self.now.levels - 1)) c.args.self.now.root)
-    (box_place c.args.self.now c.args.edge) c.args.item)
-kept g c = kept_root c.args.self.now.levels c.requires.edge.some c.args.self.now.whole.tree
-    (rw c.in-None.is at c.insert_below-inserted.ensures.replaces)
+    (insert (box_items c.args.self.now) (box_place c.args.self.now c.args.edge) c.args.item)
+kept g c =
+    let level : suc (c.args.self.now.levels - 1) ≡ c.args.self.now.levels =
+    omega (arith, c.requires.edge.some) in
+    rw level at (kept_root c.args.self.now.levels c.requires.edge.some
+    c.args.self.now.whole.tree (rw c.in-None.is at c.insert_below-inserted.ensures.replaces))
 
 pub invariant_of-self-in-None : goal.invariant_of-self-in-None
 invariant_of-self-in-None g c =
     let s = c.args.self.now in
     let at = goal.at.invariant_of-self-in-None g c in
-    let more = longer g at.After-insert_below-inserted in
+    let more = longer g at.Start in
     let capacity = c.insert_below-inserted.ensures.replaces.moved.capacity in
-    let tree = kept g at.In-None in
+    let whole = grown_whole (s.len + 1) (kept g at.In-None) (omega (arith, more, s.counted))
+    (omega (arith, more, c.requires.room, capacity)) (omega (arith, more, c.requires.room)) in
+    record { whole = whole.0; counted = whole.1; levelled = whole.2 }
+
+pub returns-in-None : goal.returns-in-None
+returns-in-None g c =
+    let a = goal.at.returns-in-None g c in
+    let list = (kept g a.In-None).items_are in
+    let edge = kept_edge c.insert_below-inserted.new.nodes (c.args.self.now.levels - 1)
+    c.args.self.now.root c.insert_below-inserted.result.side c.insert_below-inserted.result.edge
+    (rw c.in-None.is at c.insert_below-inserted.ensures.edge) in
     record {
-      whole = grown_roomy tree (omega (arith, more, c.requires.room, capacity)) (omega (
+      list = list;
+      room = omega (
         arith,
-        more,
+        ap length list,
+        longer g a.Start,
         c.requires.room,
-      ));
-      counted = omega (arith, ap length tree.items_are, more, s.counted);
-      levelled = rw (ap length tree.items_are ∙ more ∙ ap (λ m. m + 1) (sym s.counted)) at
-          (has_levels tree.tree);
+        c.insert_below-inserted.ensures.replaces.moved.capacity,
+      );
+      edge = record { some = c.requires.edge.some; edge = edge.0 };
+      place = edge.1 ∙ (rw c.in-None.is at c.insert_below-inserted.ensures.place);
     }
-
-pub returns-in-None-clause-list : goal.returns-in-None-clause-list
-returns-in-None-clause-list g c =
-    let a = goal.at.returns-in-None-clause-list g c in
-    (kept g a.In-None).items_are ∙ listed g a.After-insert_below-inserted
-
-pub returns-in-None-clause-room : goal.returns-in-None-clause-room
-returns-in-None-clause-room g c =
-    let a = goal.at.returns-in-None-clause-room g c in
-    omega (
-      arith,
-      ap length (kept g a.In-None).items_are,
-      longer g a.After-insert_below-inserted,
-      c.requires.room,
-      c.insert_below-inserted.ensures.replaces.moved.capacity,
-    )
-
-pub returns-in-None-clause-edge : goal.returns-in-None-clause-edge
-returns-in-None-clause-edge g c =
-    record {
-      some = c.requires.edge.some;
-      edge =
-          (kept_edge c.insert_below-inserted.new.nodes
-          (c.args.self.now.levels - 1) c.args.self.now.root c.insert_below-inserted.result.side
-          c.insert_below-inserted.result.edge
-          (rw c.in-None.is at c.insert_below-inserted.ensures.edge)).0;
-    }
-
-pub returns-in-None-clause-place : goal.returns-in-None-clause-place
-returns-in-None-clause-place g c =
-    (kept_edge c.insert_below-inserted.new.nodes
-    (c.args.self.now.levels - 1) c.args.self.now.root c.insert_below-inserted.result.side
-    c.insert_below-inserted.result.edge
-    (rw c.in-None.is at c.insert_below-inserted.ensures.edge)).1
-    ∙ (rw c.in-None.is at c.insert_below-inserted.ensures.place)
 
 -- with a cut of the root
 pub store_branch-self-requires : goal.store_branch-self-requires
 store_branch-self-requires g c =
     let a = goal.at.store_branch-self-requires g c in
+    let level : suc (c.args.self.now.levels - 1) ≡ c.args.self.now.levels =
+    omega (arith, c.requires.edge.some) in
     taller_room c.args.self.now.levels c.in-Some.split c.requires.edge.some
-    (omega (arith, longer g a.After-insert_below-inserted, c.requires.room))
-    c.args.self.now.whole.tree (rw c.in-Some.is at c.insert_below-inserted.ensures.replaces)
+    (omega (arith, longer g a.Start, c.requires.room)) c.args.self.now.whole.tree
+    (rw level at (rw c.in-Some.is at c.insert_below-inserted.ensures.replaces))
 
 pub overflow_add-self-in-Some : goal.overflow_add-self-in-Some
 overflow_add-self-in-Some g c =
@@ -230,70 +148,39 @@ overflow_add-self-in-Some g c =
 
 taller : (g : Over) (c : After-store_branch-self g)
     → IsGrown c.store_branch-self.new.self (c.args.self.now.levels + 1) c.store_branch-self.result
-    (insert (items_below c.args.self.now.nodes
-    (suc (c.args.self.now.levels - 1)) c.args.self.now.root)
-    (box_place c.args.self.now c.args.edge) c.args.item)
-taller g c = taller_root c.args.self.now.levels c.in-Some.split c.requires.edge.some
+    (insert (box_items c.args.self.now) (box_place c.args.self.now c.args.edge) c.args.item)
+taller g c =
+    let level : suc (c.args.self.now.levels - 1) ≡ c.args.self.now.levels =
+    omega (arith, c.requires.edge.some) in
+    rw level at (taller_root c.args.self.now.levels c.in-Some.split c.requires.edge.some
     c.args.self.now.whole.tree (rw c.in-Some.is at c.insert_below-inserted.ensures.replaces)
-    c.store_branch-self.ensures
+    c.store_branch-self.ensures)
 
 pub invariant_of-self-in-Some : goal.invariant_of-self-in-Some
 invariant_of-self-in-Some g c =
     let s = c.args.self.now in
     let at = goal.at.invariant_of-self-in-Some g c in
-    let more = longer g at.After-insert_below-inserted in
+    let more = longer g at.Start in
     let capacity =
     c.store_branch-self.ensures.capacity
     ∙ c.insert_below-inserted.ensures.replaces.moved.capacity in
-    let tree = taller g at.After-store_branch-self in
+    let whole = grown_whole (s.len + 1) (taller g at.After-store_branch-self)
+    (omega (arith, more, s.counted)) (omega (arith, more, c.requires.room, capacity))
+    (omega (arith, more, c.requires.room)) in
+    record { whole = whole.0; counted = whole.1; levelled = whole.2 }
+
+pub seen_above-requires : goal.seen_above-requires
+seen_above-requires g c =
+    let t = c.insert_below-inserted.new.nodes in
+    let low = c.args.self.now.levels - 1 in
+    let edge = c.insert_below-inserted.result.edge in
+    let seat = rw c.in-Some.is at c.insert_below-inserted.ensures.edge in
     record {
-      whole = grown_roomy tree (omega (arith, more, c.requires.room, capacity)) (omega (
-        arith,
-        more,
-        c.requires.room,
-      ));
-      counted = omega (arith, ap length tree.items_are, more, s.counted);
-      levelled = rw (ap length tree.items_are ∙ more ∙ ap (λ m. m + 1) (sym s.counted)) at
-          (has_levels tree.tree);
+      index = omega (arith, seat_side t low _ _ c.insert_below-inserted.result.side edge seat);
+      path = path_small t low _ edge
+          (tree_is_not_too_deep c.args.self.now.levels c.args.self.now.whole)
+          (seat_inside t low _ _ c.insert_below-inserted.result.side edge seat);
     }
-
-pub seen_above-requires-clause-index : goal.seen_above-requires-clause-index
-seen_above-requires-clause-index g c =
-    omega (
-      arith,
-      seat_side c.insert_below-inserted.new.nodes
-          (c.args.self.now.levels - 1) _ _ c.insert_below-inserted.result.side
-          c.insert_below-inserted.result.edge
-          (rw c.in-Some.is at c.insert_below-inserted.ensures.edge),
-    )
-
-pub seen_above-requires-clause-path : goal.seen_above-requires-clause-path
-seen_above-requires-clause-path g c =
-    let below =
-    seat_inside c.insert_below-inserted.new.nodes
-    (c.args.self.now.levels - 1) _ _ c.insert_below-inserted.result.side
-    c.insert_below-inserted.result.edge
-    (rw c.in-Some.is at c.insert_below-inserted.ensures.edge) in
-    path_small c.insert_below-inserted.new.nodes (c.args.self.now.levels - 1) _
-    c.insert_below-inserted.result.edge
-    (tree_is_not_too_deep c.args.self.now.levels c.args.self.now.whole) below
-
-pub returns-in-Some-clause-list : goal.returns-in-Some-clause-list
-returns-in-Some-clause-list g c =
-    let a = goal.at.returns-in-Some-clause-list g c in
-    (taller g a.After-store_branch-self).items_are ∙ listed g a.After-insert_below-inserted
-
-pub returns-in-Some-clause-room : goal.returns-in-Some-clause-room
-returns-in-Some-clause-room g c =
-    let a = goal.at.returns-in-Some-clause-room g c in
-    omega (
-      arith,
-      ap length (taller g a.After-store_branch-self).items_are,
-      longer g a.After-insert_below-inserted,
-      c.requires.room,
-      c.store_branch-self.ensures.capacity,
-      c.insert_below-inserted.ensures.replaces.moved.capacity,
-    )
 
 higher : (g : Over) (c : After-seen_above g)
     → IsEdge c.store_branch-self.new.self
@@ -310,9 +197,20 @@ higher g c = taller_edge c.args.self.now.levels c.insert_below-inserted.result.s
     c.store_branch-self.ensures c.seen_above.ensures.turn c.seen_above.ensures.inside
     (rw c.in-Some.is at c.insert_below-inserted.ensures.edge)
 
-pub returns-in-Some-clause-edge : goal.returns-in-Some-clause-edge
-returns-in-Some-clause-edge g c = record { some = omega arith; edge = (higher g c).0 }
-
-pub returns-in-Some-clause-place : goal.returns-in-Some-clause-place
-returns-in-Some-clause-place g c =
-    (higher g c).1 ∙ (rw c.in-Some.is at c.insert_below-inserted.ensures.place)
+pub returns-in-Some : goal.returns-in-Some
+returns-in-Some g c =
+    let a = goal.at.returns-in-Some g c in
+    let list = (taller g a.After-store_branch-self).items_are in
+    record {
+      list = list;
+      room = omega (
+        arith,
+        ap length list,
+        longer g a.Start,
+        c.requires.room,
+        c.store_branch-self.ensures.capacity,
+        c.insert_below-inserted.ensures.replaces.moved.capacity,
+      );
+      edge = record { some = omega arith; edge = (higher g c).0 };
+      place = (higher g c).1 ∙ (rw c.in-Some.is at c.insert_below-inserted.ensures.place);
+    }

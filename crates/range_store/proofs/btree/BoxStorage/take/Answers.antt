@@ -1,4 +1,4 @@
-use Rattle.std.proofs.Common.{◌≡◌, [], ◌-◌, ◌≤◌, ◌+◌, length, ap, arith}
+use Rattle.std.proofs.Common.{◌≡◌, [], ◌≤◌, ◌+◌, length, ap, arith}
 use Rattle.range_store.specs.Holding.{box_items, box_place, IsGood, good_home}
 use Rattle.range_store.proofs.Taking.{one_fewer, room_grows, space_grows, IsReplaced, replaced, replaced_item}
 use Rattle.range_store.proofs.Whole.{edge_within, tree_behind}
@@ -10,33 +10,6 @@ within : (g : Over) (c : Start g)
     → box_place c.args.self.now c.args.edge ≤ length (box_items c.args.self.now)
 within g c = edge_within c.requires.edge
 
--- out of a leaf
-pub returns-in-None-clause-space : goal.returns-in-None-clause-space
-returns-in-None-clause-space g c =
-    let s = c.args.self.now in
-    room_grows s c.take_in_leaf-item.new.self (box_place s c.args.edge) c.requires.some
-    (within g (goal.at.returns-in-None-clause-space g c).Start) c.take_in_leaf-item.ensures.list
-    c.take_in_leaf-item.ensures.capacity
-
-pub returns-in-None-clause-following : goal.returns-in-None-clause-following
-returns-in-None-clause-following g c =
-    let s = c.args.self.now in
-    let within = within g (goal.at.returns-in-None-clause-following g c).Start in
-    let none : box_items c.take_in_leaf-item.new.self ≡ [] =
-    rw c.in-None.is at c.take_in_leaf-item.ensures.edge in
-    omega (
-      arith,
-      one_fewer s c.take_in_leaf-item.new.self
-          (box_place s c.args.edge) c.requires.some within c.take_in_leaf-item.ensures.list,
-      ap length none,
-      within,
-    )
-
-pub following-requires : goal.following-requires
-following-requires g c =
-    let left = rw c.in-Some.is at c.take_in_leaf-item.ensures.edge in
-    left.0
-
 pub returns-in-Some-clause-space : goal.returns-in-Some-clause-space
 returns-in-Some-clause-space g c =
     let s = c.args.self.now in
@@ -44,20 +17,10 @@ returns-in-Some-clause-space g c =
     (within g (goal.at.returns-in-Some-clause-space g c).Start) c.take_in_leaf-item.ensures.list
     c.take_in_leaf-item.ensures.capacity
 
-pub returns-in-Some-clause-following : goal.returns-in-Some-clause-following
-returns-in-Some-clause-following g c =
-    let left = rw c.in-Some.is at c.take_in_leaf-item.ensures.edge in
-    let same : box_place c.take_in_leaf-item.new.self c.in-Some.left
-    ≡ box_place c.args.self.now c.args.edge - 1 = omega (arith, left.1) in
-    rw same at c.following.ensures
-
 -- from above the leaves
-pub take_in_leaf-next-requires : goal.take_in_leaf-next-requires
-take_in_leaf-next-requires g c =
-    record {
-      edge = (tree_behind c.requires.edge (omega (arith, c.if-edge-gt0.false))).0;
-      in_leaf = omega arith;
-    }
+pub take_in_leaf-next-requires-clause-edge : goal.take_in_leaf-next-requires-clause-edge
+take_in_leaf-next-requires-clause-edge g c =
+    (tree_behind c.requires.edge (omega (arith, c.if-edge-gt0.false))).0
 
 pub unreachable-requires : goal.unreachable-requires
 unreachable-requires g c =
@@ -76,11 +39,11 @@ unreachable-requires g c =
       c.requires.some,
     )
 
-pub home-home-requires : goal.home-home-requires
-home-home-requires g c =
+pub home-home-requires-clause-some : goal.home-home-requires-clause-some
+home-home-requires-clause-some g c =
     let behind = tree_behind c.requires.edge (omega (arith, c.if-edge-gt0.false)) in
     let left = rw c.in-Some-left.is at c.take_in_leaf-next.ensures.edge in
-    record { edge = left.0; some = omega (arith, left.1, behind.1, c.requires.some) }
+    omega (arith, left.1, behind.1, c.requires.some)
 
 pub replace_item-item-requires : goal.replace_item-item-requires
 replace_item-item-requires g c =
@@ -110,31 +73,22 @@ invariant_of-self g c =
     let so = replaced_so g (goal.at.invariant_of-self g c).After-replace_item-item in
     record { whole = so.roomy; counted = so.many; levelled = c.take_in_leaf-next.new.self.levelled }
 
-pub returns-clause-removed : goal.returns-clause-removed
-returns-clause-removed g c =
+pub returns : goal.returns
+returns g c =
+    let s = c.args.self.now in
+    let t = c.take_in_leaf-next.new.self in
+    let at = goal.at.returns g c in
+    let so = replaced_so g at.After-replace_item-item in
     let behind = tree_behind c.requires.edge (omega (arith, c.if-edge-gt0.false)) in
     let left = rw c.in-Some-left.is at c.take_in_leaf-next.ensures.edge in
-    replaced_item c.args.self.now c.take_in_leaf-next.new.self c.args.edge
-    (record { leaf = c.args.edge.leaf; path = c.args.edge.path; index = 1 }) c.in-Some-left.left
-    c.requires.some (edge_within behind.0) behind.1 c.take_in_leaf-next.ensures.list left.0 left.1
-    c.replace_item-item.result c.home-home.result c.home-home.ensures
-    c.replace_item-item.ensures.before
-
-pub returns-clause-list : goal.returns-clause-list
-returns-clause-list g c =
-    (replaced_so g (goal.at.returns-clause-list g c).After-replace_item-item).items_are
-
-pub returns-clause-space : goal.returns-clause-space
-returns-clause-space g c =
-    let at = goal.at.returns-clause-space g c in
-    let so = replaced_so g at.After-replace_item-item in
-    space_grows c.args.self.now
-    (box_place c.args.self.now c.args.edge) c.replace_item-item.new.self
-    c.take_in_leaf-next.new.self.levels c.take_in_leaf-next.new.self.root c.requires.some
-    (within g at.Start) so.items_are so.capacity
-
-pub returns-clause-following : goal.returns-clause-following
-returns-clause-following g c =
-    let so = replaced_so g (goal.at.returns-clause-following g c).After-replace_item-item in
-    let left = rw c.in-Some-left.is at c.take_in_leaf-next.ensures.edge in
-    (record { some = left.0.some; edge = so.edge }, so.place_is)
+    record {
+      removed = replaced_item s t c.args.edge
+          (record { leaf = c.args.edge.leaf; path = c.args.edge.path; index = 1 })
+          c.in-Some-left.left c.requires.some (edge_within behind.0) behind.1
+          c.take_in_leaf-next.ensures.list left.0 left.1 c.replace_item-item.result
+          c.home-home.result c.home-home.ensures c.replace_item-item.ensures.before;
+      list = so.items_are;
+      space = space_grows s (box_place s c.args.edge) c.replace_item-item.new.self t.levels t.root
+          c.requires.some (within g at.Start) so.items_are so.capacity;
+      following = (record { some = left.0.some; edge = so.edge }, so.place_is);
+    }

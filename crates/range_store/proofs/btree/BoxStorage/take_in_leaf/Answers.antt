@@ -3,12 +3,10 @@ use Rattle.std.specs.List.{remove}
 use Rattle.std.proofs.lemmas.List.Edits.{length-remove}
 use Rattle.range_store.specs.Holding.{box_items, box_place}
 use Rattle.range_store.specs.Nodes.{items_below}
-use Rattle.range_store.specs.Written.{root_shaped}
 use Rattle.range_store.proofs.InLeaf.{no_child_gone, place_index}
 use Rattle.range_store.proofs.InPlace.{IsLeafChange, take_from_leaf}
-use Rattle.range_store.proofs.Levels.{has_levels}
-use Rattle.range_store.proofs.Rank.{items_below_none}
-use Rattle.range_store.proofs.Roots.{loosened_items, loosened_tree, tree_owned}
+use Rattle.range_store.proofs.RootGrowth.{grown_whole}
+use Rattle.range_store.proofs.Roots.{loosened_items}
 use Rattle.range_store.proofs.Whole.{edge_within, leaf_item, tree_is_not_too_deep, tree_leaf}
 use Rattle.range_store.proofs.btree.BoxStorage.take_in_leaf.Goals as goal
 use Rattle.range_store.proofs.btree.BoxStorage.take_in_leaf.Given.{Over}
@@ -33,25 +31,14 @@ fewer g c =
       within,
     )
 
-pub overflow_sub-self : goal.overflow_sub-self
-overflow_sub-self g c =
-    let s = c.args.self.now in
-    omega (
-      arith,
-      s.counted,
-      place_index s.nodes (s.levels - 1) s.root c.args.edge,
-      c.requires.in_leaf,
-      edge_within c.requires.edge,
-    )
-
 pub item_count-requires : goal.item_count-requires
 item_count-requires g c = (tree_leaf c.requires.edge).present
 
 -- from a leaf with an item to spare
-pub take_beside-item-requires : goal.take_beside-item-requires
-take_beside-item-requires g c =
+pub take_beside-item-requires-clause-within : goal.take_beside-item-requires-clause-within
+take_beside-item-requires-clause-within g c =
     let leaf = tree_leaf c.requires.edge in
-    record { present = leaf.present; within = omega (arith, leaf.within, c.requires.in_leaf) }
+    omega (arith, leaf.within, c.requires.in_leaf)
 
 taken : (g : Over) (c : After-take_beside-item g)
     → IsLeafChange c.take_beside-item.new.self c.requires.edge
@@ -70,72 +57,32 @@ invariant_of-self g c =
     let s = c.args.self.now in
     let at = goal.at.invariant_of-self g c in
     let taken = taken g at.After-take_beside-item in
-    let less = ap length taken.items_are in
     let back = fewer g at.Start in
-    let many : c.args.self.now.len - 1
-    ≡ length (items_below c.take_beside-item.new.self s.levels s.root) =
-    omega (arith, less, back, s.counted) in
+    let whole = grown_whole (s.len - 1)
+    (record { tree = taken.tree; items_are = taken.items_are }) (omega (arith, back, s.counted))
+    (omega (arith, back, s.whole.fits, taken.capacity)) (omega (arith, back, s.whole.counted)) in
+    record { whole = whole.0; counted = whole.1; levelled = whole.2 }
+
+pub returns-then-item_count-gt-MIN_LEN : goal.returns-then-item_count-gt-MIN_LEN
+returns-then-item_count-gt-MIN_LEN g c =
+    let a = goal.at.returns-then-item_count-gt-MIN_LEN g c in
+    let taken = taken g a.After-take_beside-item in
     record {
-      whole =
-          record {
-            tree = taken.tree;
-            fits = omega (arith, less, back, s.whole.fits, taken.capacity);
-            counted = omega (arith, less, back, s.whole.counted);
-          };
-      counted = many;
-      levelled = rw (← many) at (has_levels taken.tree);
+      removed = c.take_beside-item.ensures.item
+          ∙ sym (leaf_item c.requires.edge c.take_beside-item.result.0 c.requires.in_leaf);
+      list = taken.items_are;
+      capacity = taken.capacity;
+      edge = (
+        record { some = c.requires.edge.some; edge = taken.edge },
+        omega (arith, taken.place_is, c.requires.in_leaf),
+      );
     }
-
-pub returns-then-item_count-gt-MIN_LEN-clause-removed :
-    goal.returns-then-item_count-gt-MIN_LEN-clause-removed
-returns-then-item_count-gt-MIN_LEN-clause-removed g c =
-    c.take_beside-item.ensures.item
-    ∙ sym (leaf_item c.requires.edge c.take_beside-item.result.0 c.requires.in_leaf)
-
-pub returns-then-item_count-gt-MIN_LEN-clause-list :
-    goal.returns-then-item_count-gt-MIN_LEN-clause-list
-returns-then-item_count-gt-MIN_LEN-clause-list g c =
-    (taken g (goal.at.returns-then-item_count-gt-MIN_LEN-clause-list g
-    c).After-take_beside-item).items_are
-
-pub returns-then-item_count-gt-MIN_LEN-clause-capacity :
-    goal.returns-then-item_count-gt-MIN_LEN-clause-capacity
-returns-then-item_count-gt-MIN_LEN-clause-capacity g c =
-    (taken g (goal.at.returns-then-item_count-gt-MIN_LEN-clause-capacity g
-    c).After-take_beside-item).capacity
-
-pub returns-then-item_count-gt-MIN_LEN-clause-edge :
-    goal.returns-then-item_count-gt-MIN_LEN-clause-edge
-returns-then-item_count-gt-MIN_LEN-clause-edge g c =
-    let taken =
-    taken g (goal.at.returns-then-item_count-gt-MIN_LEN-clause-edge g
-    c).After-take_beside-item in (
-      record { some = c.requires.edge.some; edge = taken.edge },
-      omega (arith, taken.place_is, c.requires.in_leaf),
-    )
 
 -- below the root
-pub remove_below-taken-requires : goal.remove_below-taken-requires
-remove_below-taken-requires g c =
+pub remove_below-taken-requires-clause-deep : goal.remove_below-taken-requires-clause-deep
+remove_below-taken-requires-clause-deep g c =
     let s = c.args.self.now in
-    let some = c.requires.edge.some in
-    let level : suc (s.levels - 1) ≡ s.levels = omega (arith, some) in
-    record {
-      shaped = root_shaped s.levels some s.whole.tree;
-      owned = rw level (tree_owned s.whole.tree);
-      deep = tree_is_not_too_deep s.levels s.whole;
-      edge = c.requires.edge.edge;
-      in_leaf = c.requires.in_leaf;
-    }
-
-pub shrink_root-shrunk-requires : goal.shrink_root-shrunk-requires
-shrink_root-shrunk-requires g c =
-    let s = c.args.self.now in
-    record {
-      tree = loosened_tree s.levels c.requires.edge.some s.whole.tree
-          c.remove_below-taken.ensures.shrinks;
-      edge = c.remove_below-taken.ensures.edge;
-    }
+    tree_is_not_too_deep s.levels s.whole
 
 shrunk : (g : Over) (c : After-shrink_root-shrunk g)
     → items_below c.shrink_root-shrunk.new.nodes c.shrink_root-shrunk.result.levels c.shrink_root-shrunk.result.root
@@ -152,57 +99,22 @@ pub invariant_of-self-2 : goal.invariant_of-self-2
 invariant_of-self-2 g c =
     let s = c.args.self.now in
     let at = goal.at.invariant_of-self-2 g c in
-    let less = ap length (shrunk g at.After-shrink_root-shrunk) in
     let back = fewer g at.Start in
     let capacity =
     c.shrink_root-shrunk.ensures.capacity ∙ c.remove_below-taken.ensures.shrinks.moved.capacity in
-    let many : c.args.self.now.len - 1
-    ≡ length (items_below c.shrink_root-shrunk.new.nodes c.shrink_root-shrunk.result.levels
-    c.shrink_root-shrunk.result.root) = omega (arith, less, back, s.counted) in
-    record {
-      whole =
-          record {
-            tree = c.shrink_root-shrunk.ensures.tree;
-            fits = omega (arith, less, back, s.whole.fits, capacity);
-            counted = omega (arith, less, back, s.whole.counted);
-          };
-      counted = many;
-      levelled = rw (← many) at (has_levels c.shrink_root-shrunk.ensures.tree);
-    }
+    let whole = grown_whole (s.len - 1) (record {
+      tree = c.shrink_root-shrunk.ensures.tree;
+      items_are = shrunk g at.After-shrink_root-shrunk;
+    }) (omega (arith, back, s.counted)) (omega (arith, back, s.whole.fits, capacity))
+    (omega (arith, back, s.whole.counted)) in
+    record { whole = whole.0; counted = whole.1; levelled = whole.2 }
 
 pub returns-then-self-eq0-clause-removed : goal.returns-then-self-eq0-clause-removed
 returns-then-self-eq0-clause-removed g c =
     c.remove_below-taken.ensures.item
     ∙ sym (leaf_item c.requires.edge c.remove_below-taken.result.item c.requires.in_leaf)
 
-pub returns-then-self-eq0-clause-list : goal.returns-then-self-eq0-clause-list
-returns-then-self-eq0-clause-list g c =
-    shrunk g (goal.at.returns-then-self-eq0-clause-list g c).After-shrink_root-shrunk
-
-pub returns-then-self-eq0-clause-capacity : goal.returns-then-self-eq0-clause-capacity
-returns-then-self-eq0-clause-capacity g c =
-    c.shrink_root-shrunk.ensures.capacity ∙ c.remove_below-taken.ensures.shrinks.moved.capacity
-
-pub returns-then-self-eq0-clause-edge : goal.returns-then-self-eq0-clause-edge
-returns-then-self-eq0-clause-edge g c =
-    rw c.if-self-eq0.true
-    (items_below_none c.shrink_root-shrunk.new.nodes c.shrink_root-shrunk.result.root)
-
 pub returns-clause-removed : goal.returns-clause-removed
 returns-clause-removed g c =
     c.remove_below-taken.ensures.item
     ∙ sym (leaf_item c.requires.edge c.remove_below-taken.result.item c.requires.in_leaf)
-
-pub returns-clause-list : goal.returns-clause-list
-returns-clause-list g c = shrunk g (goal.at.returns-clause-list g c).After-shrink_root-shrunk
-
-pub returns-clause-capacity : goal.returns-clause-capacity
-returns-clause-capacity g c =
-    c.shrink_root-shrunk.ensures.capacity ∙ c.remove_below-taken.ensures.shrinks.moved.capacity
-
-pub returns-clause-edge : goal.returns-clause-edge
-returns-clause-edge g c =
-    let some : 0 < c.shrink_root-shrunk.result.levels = omega (arith, c.if-self-eq0.false) in (
-      record { some = some; edge = c.shrink_root-shrunk.ensures.edge some },
-      omega (arith, c.shrink_root-shrunk.ensures.place some, c.remove_below-taken.ensures.place),
-    )

@@ -8,7 +8,6 @@ use Rattle.range_store.proofs.LeafItems.{at_index, leaf_rest, rest_full, rest_it
 use Rattle.range_store.proofs.Lent.{item_home}
 use Rattle.range_store.proofs.Positions.{next_at, next_from}
 use Rattle.range_store.proofs.Whole.{tree_is_not_too_deep, tree_leaf}
-use Rattle.range_store.specs.Written.{root_shaped}
 use Rattle.range_store.proofs.btree.BoxStorageStorage.chunk_from.Goals as goal
 
 pub item_count-len-requires : goal.item_count-len-requires
@@ -47,15 +46,10 @@ of_cells-requires g c =
     rw c.item_count-len.ensures
     (rest_full c.cells-cells.ensures c.args.p.index (tree_leaf c.requires.is).within)
 
-pub around_leaf-behind-requires : goal.around_leaf-behind-requires
-around_leaf-behind-requires g c =
+pub around_leaf-behind-requires-clause-deep : goal.around_leaf-behind-requires-clause-deep
+around_leaf-behind-requires-clause-deep g c =
     let s = c.args.self.now in
-    record {
-      shaped = root_shaped s.levels c.requires.is.some s.whole.tree;
-      deep = tree_is_not_too_deep s.levels s.whole;
-      edge = c.requires.is.edge;
-      some = c.requires.some;
-    }
+    tree_is_not_too_deep s.levels s.whole
 
 pub returns : goal.returns
 returns g c =

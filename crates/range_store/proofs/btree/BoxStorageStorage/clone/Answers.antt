@@ -1,4 +1,4 @@
-use Rattle.std.proofs.Common.{◌≡◌, ℕ, ◌+◌, ◌-◌, ◌<◌, true, List, [], ◌∷◌, ◌++◌, length, get_or, take, sym, ap, ◌∙◌, rules, arith}
+use Rattle.std.proofs.Common.{◌≡◌, ℕ, ◌+◌, ◌-◌, ◌<◌, true, List, [], ◌∷◌, ◌++◌, length, get_or, take, sym, ap, ◌∙◌, arith}
 use Rattle.std.specs.List.{AllZip}
 use Rattle.std.proofs.lemmas.List.{length_push, take_all}
 use Rattle.std.proofs.lemmas.List.Elements.{all_zip_more}
@@ -13,15 +13,6 @@ copied_one : {T : Type 0} (Q : T → T → Type 0) (items before after : List T)
 copied_one Q items before after x y longer within read copied holds =
     rw (longer, length_push before y)
     (all_zip_more Q items before (length before) x y within read copied holds)
-
-pub loop-at-init : goal.loop-at-init
-loop-at-init g c =
-    let none : c.in_ok-copies.copies.items ≡ [] = c.in_ok-copies.ensures.items in
-    record {
-      position = rw none c.first-at.ensures;
-      copied = rw none (search rules);
-      space = omega (arith, c.in_ok-copies.ensures.capacity, c.args.self.now.counted);
-    }
 
 pub push_reserved-requires : goal.push_reserved-requires
 push_reserved-requires g c =
@@ -63,9 +54,6 @@ loop-at-smaller g c =
     rw (c.push_reserved.ensures.items) (length_push before c.in_ok-item.item) in
     fewer_left (length (box_items c.args.self.now)) (length before) (length after) count
     (rw here.1 at (good_in_range c.args.self.now c.in-Some.p here.0))
-
-pub append-requires : goal.append-requires
-append-requires g c = omega (arith, c.in_ok-reserve.ensures, c.len.ensures, c.loop-at.copies.ok.0)
 
 pub returns : goal.returns
 returns g c =

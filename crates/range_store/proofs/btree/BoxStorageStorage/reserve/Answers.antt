@@ -1,7 +1,4 @@
-use Rattle.std.proofs.Common.{◌+◌, ◌∙◌, length, refl, ap, sym, arith}
-use Rattle.std.proofs.lemmas.Grind.{div_ceil_times}
-use Rattle.std.proofs.lemmas.Result.{on_ok_weaker}
-use Rattle.range_store.specs.declared.btree.nodes.TheConstants.{MIN_LEN}
+use Rattle.std.proofs.Common.{◌∙◌, length, refl, ap, sym, arith}
 use Rattle.range_store.proofs.Lent.{good_same}
 use Rattle.range_store.proofs.Reserving.{kept_items, kept_shape, kept_tree}
 use Rattle.range_store.proofs.btree.BoxStorageStorage.reserve.Goals as goal
@@ -24,26 +21,6 @@ pub returns-clause-list : goal.returns-clause-list
 returns-clause-list g c =
     let s = c.args.self.now in
     kept_items c.reserve.ensures.kept s.levels s.root
-
-pub returns-clause-ok : goal.returns-clause-ok
-returns-clause-ok g c =
-    let s = c.args.self.now in
-    let kept = ap length (kept_items c.reserve.ensures.kept s.levels s.root) in
-    let ceiling = div_ceil_times (s.len + c.args.n) MIN_LEN (omega arith) in
-    on_ok_weaker c.reserve.result
-    (λ room.
-    omega (
-      arith,
-      kept,
-      c.reserve.ensures.kept.len,
-      ceiling.0,
-      room,
-      c.if-n-self.false,
-      s.counted,
-      s.whole.counted,
-      c.len.ensures,
-    ))
-    c.reserve.ensures.room
 
 pub returns-clause-positions : goal.returns-clause-positions
 returns-clause-positions g c q good =

@@ -4,18 +4,8 @@ use Rattle.range_store.specs.Building.{IsBuilt}
 use Rattle.range_store.specs.Nodes.{items_below}
 use Rattle.range_store.specs.declared.btree.nodes.TheConstants.{CAPACITY}
 use Rattle.range_store.proofs.Building.{begun_above, built_child, built_leaf, child_level, child_listed, child_more, listed_above, node_fits, node_length, node_there, taken_more}
-use Rattle.range_store.proofs.Shares.{all_shared, branch_is, cut_enough, first_share, leaf_cut, leaf_width, next_share}
+use Rattle.range_store.proofs.Shares.{branch_is, cut_enough, first_share, leaf_cut, leaf_width, next_share}
 use Rattle.range_store.proofs.btree.building.+build.Goals as goal
-
-pub store_items-requires : goal.store_items-requires
-store_items-requires g t c =
-    let one = leaf_width c.if-below-eq0.true c.requires.width in
-    let cut = leaf_cut c.args.count c.if-below-eq0.true c.requires.width in
-    record {
-      room = omega (arith, cut, c.requires.room);
-      fits = omega (arith, one, c.requires.most);
-      enough = c.requires.enough;
-    }
 
 pub returns-then-below-eq0 : goal.returns-then-below-eq0
 returns-then-below-eq0 g t c =
@@ -102,19 +92,6 @@ loop-index-init g t c =
           );
     }
 
-pub next_item-item-requires : goal.next_item-item-requires
-next_item-item-requires g t c =
-    let was = c.loop-index.invariant in
-    omega (
-      arith,
-      ap length was.listed,
-      length-append (items_below c.loop-index.nodes (suc c.args.below) c.store_above-number.result)
-          (into_iter_items c.loop-index.items),
-      was.size,
-      c.requires.enough,
-      c.loop-index-test.true,
-    )
-
 pub build-child-requires : goal.build-child-requires
 build-child-requires g t c κs inside =
     let some : 0 < c.args.below = omega (arith, c.if-below-eq0.false) in
@@ -168,11 +145,6 @@ put-requires g t c =
       child = node_fits c.build-child.result some was.built child.moved;
     }
 
-pub overflow_sub-rest : goal.overflow_sub-rest
-overflow_sub-rest g t c =
-    let some : 0 < c.args.below = omega (arith, c.if-below-eq0.false) in
-    (branch_is some c.requires.width c.requires.least c.requires.most).within
-
 pub loop-index-preserved : goal.loop-index-preserved
 loop-index-preserved g t c =
     let some : 0 < c.args.below = omega (arith, c.if-below-eq0.false) in
@@ -224,18 +196,4 @@ loop-index-preserved g t c =
             c.put.ensures.capacity,
             share.within,
           );
-    }
-
-pub returns : goal.returns
-returns g t c =
-    let was = c.loop-index.invariant in
-    let all : c.loop-index.index ≡ c.args.count / c.args.width =
-    omega (arith, c.loop-index-test.false) in
-    let nothing = all_shared c.loop-index.index all was.shares in
-    record {
-      built =
-          subst (IsBuilt c.args.nodes.now c.loop-index.nodes c.args.below
-          c.store_above-number.result) all was.built;
-      list = was.listed;
-      size = omega (arith, was.size, nothing, all);
     }

@@ -60,14 +60,11 @@ returns-then-below-eq0-clause-place g t c =
     rw (c.if-below-eq0.true, leaf_place c.args.nodes.now c.args.number c.args.edge)
     (at ∙ leaf_seat_place c.args.nodes.now _ _ (c.args.edge.index + 1) c.args.edge)
 
-pub child_at-child-requires : goal.child_at-child-requires
-child_at-child-requires g t c =
+pub child_at-child-requires-clause-within : goal.child_at-child-requires-clause-within
+child_at-child-requires-clause-within g t c =
     let low = below_turn c.if-below-eq0.false c.requires.shaped c.args.edge c.requires.edge in
     let within = child_within c.if-below-eq0.false c.requires.shaped _ low in
-    record {
-      present = c.requires.shaped.node.present;
-      within = rw c.first_turn-index.ensures within;
-    }
+    rw c.first_turn-index.ensures within
 
 pub insert_below-inserted-requires : goal.insert_below-inserted-requires
 insert_below-inserted-requires g t c κs inside =
@@ -88,11 +85,6 @@ insert_below-inserted-requires g t c κs inside =
         ),
       ),
     )
-
-pub seen_above-requires-clause-index : goal.seen_above-requires-clause-index
-seen_above-requires-clause-index g t c =
-    let low = below_turn c.if-below-eq0.false c.requires.shaped c.args.edge c.requires.edge in
-    omega (arith, c.first_turn-index.ensures, low, c.requires.shaped.node.fits)
 
 pub returns-in-None : goal.returns-in-None
 returns-in-None g t c =
@@ -117,13 +109,17 @@ returns-in-None g t c =
       place = omega (arith, alone.1, edge.1, at, here);
     }
 
-pub seen_above-requires-clause-path : goal.seen_above-requires-clause-path
-seen_above-requires-clause-path g t c =
-    path_small c.insert_below-inserted.new.nodes
-    (c.args.below - 1) _ c.insert_below-inserted.result.edge (omega (arith, c.requires.deep))
-    (seat_inside c.insert_below-inserted.new.nodes
-    (c.args.below - 1) _ _ _ c.insert_below-inserted.result.edge
-    c.insert_below-inserted.ensures.edge)
+pub seen_above-requires : goal.seen_above-requires
+seen_above-requires g t c =
+    let low = below_turn c.if-below-eq0.false c.requires.shaped c.args.edge c.requires.edge in
+    record {
+      index = omega (arith, c.first_turn-index.ensures, low, c.requires.shaped.node.fits);
+      path = path_small c.insert_below-inserted.new.nodes
+          (c.args.below - 1) _ c.insert_below-inserted.result.edge (omega (arith, c.requires.deep))
+          (seat_inside c.insert_below-inserted.new.nodes
+          (c.args.below - 1) _ _ _ c.insert_below-inserted.result.edge
+          c.insert_below-inserted.ensures.edge);
+    }
 
 pub overflow_add-seat : goal.overflow_add-seat
 overflow_add-seat g t c =
@@ -167,8 +163,8 @@ put_or_cut-requires-in-Some g t c =
       seat = rw (c.first_turn-index.ensures, ← some_items grows, ← some_children grows) up.0;
     }
 
-pub returns-in-Some-clause-replaces : goal.returns-in-Some-clause-replaces
-returns-in-Some-clause-replaces g t c =
+pub returns-in-Some : goal.returns-in-Some
+returns-in-Some g t c =
     let i = turn c.args.edge in
     let child = rw (c.child_at-child.ensures, c.first_turn-index.ensures, c.seen_inside.ensures) at
     (rw c.in-Some.is at c.insert_below-inserted.ensures.replaces) in
@@ -178,23 +174,6 @@ returns-in-Some-clause-replaces g t c =
     grows.low in
     let settles = rw (c.first_turn-index.ensures, ← some_items grows, ← some_children grows) at
     c.put_or_cut-in-Some.ensures.settles in
-    rw (below_here c.if-below-eq0.false c.requires.shaped c.args.edge) (settled_replaces _
-    (grown_moved grows) (grown_listed grows) (omega (arith, long)) settles)
-
-pub returns-in-Some-clause-left_whole : goal.returns-in-Some-clause-left_whole
-returns-in-Some-clause-left_whole g t c =
-    let child = rw (c.child_at-child.ensures, c.first_turn-index.ensures, c.seen_inside.ensures) at
-    (rw c.in-Some.is at c.insert_below-inserted.ensures.replaces) in
-    let grows = grows_below c.if-below-eq0.false c.requires.shaped c.requires.owned c.args.edge
-    c.requires.edge child in
-    λ few. c.put_or_cut-in-Some.ensures.left_whole (rw (grown_kept grows) few)
-
-pub returns-in-Some-clause-place : goal.returns-in-Some-clause-place
-returns-in-Some-clause-place g t c =
-    let child = rw (c.child_at-child.ensures, c.first_turn-index.ensures, c.seen_inside.ensures) at
-    (rw c.in-Some.is at c.insert_below-inserted.ensures.replaces) in
-    let grows = grows_below c.if-below-eq0.false c.requires.shaped c.requires.owned c.args.edge
-    c.requires.edge child in
     let seat = rw (c.child_at-child.ensures, c.first_turn-index.ensures, c.in-Some.is) at
     c.insert_below-inserted.ensures.edge in
     let at = rw (c.child_at-child.ensures, c.first_turn-index.ensures, c.seen_inside.ensures) at
@@ -203,4 +182,11 @@ returns-in-Some-clause-place g t c =
     c.insert_below-inserted.result.edge seat in
     let here = rw (c.first_turn-index.ensures, ← some_items grows, ← some_children grows) at
     c.put_or_cut-in-Some.ensures.place in
-    here ∙ omega (arith, up.1, at, below_here c.if-below-eq0.false c.requires.shaped c.args.edge)
+    let below = below_here c.if-below-eq0.false c.requires.shaped c.args.edge in
+    record {
+      replaces = rw below (settled_replaces _ (grown_moved grows) (grown_listed grows)
+          (omega (arith, long)) settles);
+      left_whole = λ few. c.put_or_cut-in-Some.ensures.left_whole (rw (grown_kept grows) few);
+      edge = c.put_or_cut-in-Some.ensures.edge;
+      place = here ∙ omega (arith, up.1, at, below);
+    }

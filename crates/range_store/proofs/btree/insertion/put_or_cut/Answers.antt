@@ -1,29 +1,42 @@
-use Rattle.std.proofs.Common.{◌≡◌, ◌+◌, ◌-◌, ◌<◌, length, take, drop, refl, ap, ◌∙◌, arith, Some, None}
+use Rattle.std.proofs.Common.{◌≡◌, ◌+◌, ◌-◌, ◌<◌, ◌^◌, ◌≤◌, length, take, drop, refl, ap, ◌∙◌, arith, Option, Some, None}
 use Rattle.std.specs.List.{insert}
 use Rattle.std.proofs.lemmas.List.Edits.{length-insert}
 use Rattle.range_store.specs.Heap.{with_child, node_items, node_children}
 use Rattle.range_store.specs.declared.btree.nodes.TheConstants.{CAPACITY, HALF}
+use Rattle.range_store.specs.Contents.{Settles}
+use Rattle.range_store.specs.declared.btree.nodes.Split.{Split}
 use Rattle.range_store.proofs.Contents.{left_items_below, written_settles, written_holds, written_agree, cut_settles, left_holds, right_holds, cut_agree, part_agree}
 use Rattle.range_store.proofs.Seats.{seat_written, seat_left, seat_right, seat_small, seat_path, seat_alone, seat_beside}
 use Rattle.range_store.proofs.btree.insertion.put_or_cut.Goals as goal
+use Rattle.range_store.proofs.btree.insertion.put_or_cut.Given.{Over}
+use Rattle.range_store.proofs.btree.insertion.put_or_cut.Goals.{Start, After-split-split}
 
-pub edge_at-requires-clause-seat : goal.edge_at-requires-clause-seat
-edge_at-requires-clause-seat g c =
-    let s = c.args.nodes.now in
-    let xs = insert (node_items s c.args.number) c.args.index c.args.item in
-    let ks = with_child (node_children s c.args.number) (c.args.index + 1) c.args.child in
-    let small = seat_small s c.args.below xs ks c.args.seat c.args.inner c.requires.content.branches
-    c.requires.seat in
-    let long = length-insert (node_items s c.args.number) c.args.index c.args.item c.requires.within
-    in
-    omega (arith, small, long, c.item_count.ensures, c.if-item_count-lt-CAPACITY.true)
+-- the node with the item
+module _ (g : Over) (c : Start g) where
+  long : length (insert (node_items c.args.nodes.now c.args.number) c.args.index c.args.item)
+      ≡ length (node_items c.args.nodes.now c.args.number) + 1
+  long = length-insert (node_items c.args.nodes.now c.args.number) c.args.index c.args.item
+      c.requires.within
 
-pub edge_at-requires-clause-path : goal.edge_at-requires-clause-path
-edge_at-requires-clause-path g c some =
-    let s = c.args.nodes.now in
-    let xs = insert (node_items s c.args.number) c.args.index c.args.item in
-    let ks = with_child (node_children s c.args.number) (c.args.index + 1) c.args.child in
-    seat_path s c.args.below xs ks c.args.seat c.args.inner c.requires.deep some c.requires.seat
+  small : c.args.seat ≤ length (node_items c.args.nodes.now c.args.number) + 1
+  small = omega (
+    arith,
+    long,
+    seat_small c.args.nodes.now c.args.below _ _ c.args.seat c.args.inner
+        c.requires.content.branches c.requires.seat,
+  )
+
+  path : 0 < c.args.below → c.args.inner.path < 2 ^ 60
+  path some = seat_path c.args.nodes.now c.args.below _ _ c.args.seat c.args.inner c.requires.deep
+      some c.requires.seat
+
+pub edge_at-requires : goal.edge_at-requires
+edge_at-requires g c =
+    let a = (goal.at.edge_at-requires g c).Start in
+    record {
+      seat = omega (arith, small g a, c.item_count.ensures, c.if-item_count-lt-CAPACITY.true);
+      path = path g a;
+    }
 
 pub returns-then-item_count-lt-CAPACITY : goal.returns-then-item_count-lt-CAPACITY
 returns-then-item_count-lt-CAPACITY g c =
@@ -31,8 +44,7 @@ returns-then-item_count-lt-CAPACITY g c =
     let xs = insert (node_items s c.args.number) c.args.index c.args.item in
     let ks = with_child (node_children s c.args.number) (c.args.index + 1) c.args.child in
     let t = c.put.new.self in
-    let long = length-insert (node_items s c.args.number) c.args.index c.args.item c.requires.within
-    in
+    let long = long g (goal.at.returns-then-item_count-lt-CAPACITY g c).Start in
     let holds = written_holds t c.requires.content c.put.ensures in
     let agree = written_agree t c.requires.content c.put.ensures in
     let edge =
@@ -50,11 +62,37 @@ returns-then-item_count-lt-CAPACITY g c =
 
 pub edge_at-requires-then-seat-le-HALF-clause-path :
     goal.edge_at-requires-then-seat-le-HALF-clause-path
-edge_at-requires-then-seat-le-HALF-clause-path g c some =
-    let s = c.args.nodes.now in
-    let xs = insert (node_items s c.args.number) c.args.index c.args.item in
-    let ks = with_child (node_children s c.args.number) (c.args.index + 1) c.args.child in
-    seat_path s c.args.below xs ks c.args.seat c.args.inner c.requires.deep some c.requires.seat
+edge_at-requires-then-seat-le-HALF-clause-path g c =
+    path g (goal.at.edge_at-requires-then-seat-le-HALF-clause-path g c).Start
+
+-- the node was full
+module _ (g : Over) (c : After-split-split g) where
+  full : length (insert (node_items c.args.nodes.now c.args.number) c.args.index c.args.item)
+      ≡ CAPACITY + 1
+  full = omega (
+    arith,
+    length-insert (node_items c.args.nodes.now c.args.number) c.args.index c.args.item
+        c.requires.within,
+    c.item_count.ensures,
+    c.if-item_count-lt-CAPACITY.false,
+    c.requires.fits,
+  )
+
+  low : HALF < length
+      (insert (node_items c.args.nodes.now c.args.number) c.args.index c.args.item)
+  low = omega (arith, full)
+
+  settles : Settles c.args.nodes.now c.split-split.new.self c.args.below c.args.number
+      (insert (node_items c.args.nodes.now c.args.number) c.args.index c.args.item)
+      (with_child (node_children c.args.nodes.now c.args.number) (c.args.index + 1) c.args.child)
+      (Some c.split-split.result)
+  settles = cut_settles c.split-split.result c.requires.content c.split-split.ensures
+      low (omega arith) (omega arith) (omega (arith, full)) (omega (arith, full))
+
+  left_whole : length (node_items c.args.nodes.now c.args.number) < CAPACITY
+      → ◌≡◌ {A = Option (Split g.row.T.Denot)} (Some c.split-split.result) None
+  left_whole few =
+      absurd (omega (arith, few, c.item_count.ensures, c.if-item_count-lt-CAPACITY.false))
 
 pub returns-then-seat-le-HALF : goal.returns-then-seat-le-HALF
 returns-then-seat-le-HALF g c =
@@ -62,11 +100,8 @@ returns-then-seat-le-HALF g c =
     let xs = insert (node_items s c.args.number) c.args.index c.args.item in
     let ks = with_child (node_children s c.args.number) (c.args.index + 1) c.args.child in
     let t = c.split-split.new.self in
-    let long = length-insert (node_items s c.args.number) c.args.index c.args.item c.requires.within
-    in
-    let full : length xs ≡ CAPACITY + 1 =
-    omega (arith, long, c.item_count.ensures, c.if-item_count-lt-CAPACITY.false, c.requires.fits) in
-    let low : HALF < length xs = omega (arith, full) in
+    let a = (goal.at.returns-then-seat-le-HALF g c).After-split-split in
+    let low = low g a in
     let cut = c.split-split.ensures in
     let left =
     seat_left s HALF xs ks c.args.seat c.args.inner low c.args.below c.requires.content.branches
@@ -83,35 +118,16 @@ returns-then-seat-le-HALF g c =
     seat_alone t c.args.below c.args.number c.edge_at-then-seat-le-HALF.result
     (Some c.split-split.result) edge.0 in
     record {
-      settles = cut_settles c.split-split.result c.requires.content cut (omega (arith, full))
-          (omega arith) (omega arith) (omega (arith, full)) (omega (arith, full));
-      left_whole = λ few. absurd (omega (
-        arith,
-        few,
-        c.item_count.ensures,
-        c.if-item_count-lt-CAPACITY.false,
-      ));
+      settles = settles g a;
+      left_whole = left_whole g a;
       edge = alone.0;
       place = alone.1 ∙ edge.1 ∙ left.1;
     }
 
-pub edge_at-edge-requires-clause-seat : goal.edge_at-edge-requires-clause-seat
-edge_at-edge-requires-clause-seat g c =
-    let s = c.args.nodes.now in
-    let xs = insert (node_items s c.args.number) c.args.index c.args.item in
-    let ks = with_child (node_children s c.args.number) (c.args.index + 1) c.args.child in
-    let small = seat_small s c.args.below xs ks c.args.seat c.args.inner c.requires.content.branches
-    c.requires.seat in
-    let long = length-insert (node_items s c.args.number) c.args.index c.args.item c.requires.within
-    in
-    omega (arith, small, long, c.requires.fits)
-
-pub edge_at-edge-requires-clause-path : goal.edge_at-edge-requires-clause-path
-edge_at-edge-requires-clause-path g c some =
-    let s = c.args.nodes.now in
-    let xs = insert (node_items s c.args.number) c.args.index c.args.item in
-    let ks = with_child (node_children s c.args.number) (c.args.index + 1) c.args.child in
-    seat_path s c.args.below xs ks c.args.seat c.args.inner c.requires.deep some c.requires.seat
+pub edge_at-edge-requires : goal.edge_at-edge-requires
+edge_at-edge-requires g c =
+    let a = (goal.at.edge_at-edge-requires g c).Start in
+    record { seat = omega (arith, small g a, c.requires.fits); path = path g a }
 
 pub returns : goal.returns
 returns g c =
@@ -119,11 +135,8 @@ returns g c =
     let xs = insert (node_items s c.args.number) c.args.index c.args.item in
     let ks = with_child (node_children s c.args.number) (c.args.index + 1) c.args.child in
     let t = c.split-split.new.self in
-    let long = length-insert (node_items s c.args.number) c.args.index c.args.item c.requires.within
-    in
-    let full : length xs ≡ CAPACITY + 1 =
-    omega (arith, long, c.item_count.ensures, c.if-item_count-lt-CAPACITY.false, c.requires.fits) in
-    let low : HALF < length xs = omega (arith, full) in
+    let a = (goal.at.returns g c).After-split-split in
+    let low = low g a in
     let cut = c.split-split.ensures in
     let right =
     seat_right s HALF xs ks c.args.seat c.args.inner low c.args.below c.requires.content.branches
@@ -142,14 +155,8 @@ returns g c =
     let fore = left_items_below HALF c.requires.content low
     (left_holds c.split-split.result c.requires.content cut low) holds in
     record {
-      settles = cut_settles c.split-split.result c.requires.content cut (omega (arith, full))
-          (omega arith) (omega arith) (omega (arith, full)) (omega (arith, full));
-      left_whole = λ few. absurd (omega (
-        arith,
-        few,
-        c.item_count.ensures,
-        c.if-item_count-lt-CAPACITY.false,
-      ));
+      settles = settles g a;
+      left_whole = left_whole g a;
       edge = beside.0;
       place = omega (arith, beside.1, edge.1, right.1, ap length fore);
     }

@@ -6,14 +6,11 @@ use Rattle.range_store.proofs.Edges.{leaf_edge, leaf_place, leaf_index, path_sma
 use Rattle.range_store.proofs.Paths.{level_of_children, child_within, below_kid, below_turn, below_inside, below_edge, below_place, below_here, before_next}
 use Rattle.range_store.proofs.btree.path.+preceding.Goals as goal
 
-pub child_at-child-requires : goal.child_at-child-requires
-child_at-child-requires g t c =
+pub child_at-child-requires-clause-within : goal.child_at-child-requires-clause-within
+child_at-child-requires-clause-within g t c =
     let low = below_turn c.if-below-eq0.false c.requires.shaped c.args.edge c.requires.edge in
     let within = child_within c.if-below-eq0.false c.requires.shaped _ low in
-    record {
-      present = c.requires.shaped.node.present;
-      within = rw c.first_turn-index.ensures within;
-    }
+    rw c.first_turn-index.ensures within
 
 pub preceding-requires : goal.preceding-requires
 preceding-requires g t c κs within =
@@ -28,15 +25,15 @@ preceding-requires g t c κs within =
       ),
     )
 
-pub seen_above-requires-clause-index : goal.seen_above-requires-clause-index
-seen_above-requires-clause-index g t c =
+pub seen_above-requires : goal.seen_above-requires
+seen_above-requires g t c =
     let low = below_turn c.if-below-eq0.false c.requires.shaped c.args.edge c.requires.edge in
-    omega (arith, c.first_turn-index.ensures, low, c.requires.shaped.node.fits)
-
-pub seen_above-requires-clause-path : goal.seen_above-requires-clause-path
-seen_above-requires-clause-path g t c =
     let found = rw c.in-Some.is at c.preceding.ensures in
-    path_small c.args.nodes.now (c.args.below - 1) _ _ (omega (arith, c.requires.deep)) found.0
+    record {
+      index = omega (arith, c.first_turn-index.ensures, low, c.requires.shaped.node.fits);
+      path = path_small c.args.nodes.now (c.args.below - 1) _ _
+          (omega (arith, c.requires.deep)) found.0;
+    }
 
 pub returns-in-Some : goal.returns-in-Some
 returns-in-Some g t c =
@@ -84,33 +81,26 @@ returns-then-index-eq0 g t c =
     rw first refl in
     omega (arith, below_here c.if-below-eq0.false c.requires.shaped c.args.edge, none, start)
 
-pub child_at-last-requires : goal.child_at-last-requires
-child_at-last-requires g t c =
+pub child_at-last-requires-clause-within : goal.child_at-last-requires-clause-within
+child_at-last-requires-clause-within g t c =
+    let low = below_turn c.if-below-eq0.false c.requires.shaped c.args.edge c.requires.edge in
+    child_within c.if-below-eq0.false c.requires.shaped _
+    (omega (arith, c.first_turn-index.ensures, low))
+
+pub end_edge-requires-clause-shaped : goal.end_edge-requires-clause-shaped
+end_edge-requires-clause-shaped g t c =
+    let low = below_turn c.if-below-eq0.false c.requires.shaped c.args.edge c.requires.edge in
+    rw c.child_at-last.ensures (below_kid c.if-below-eq0.false c.requires.shaped
+    (c.first_turn-index.result - 1) (omega (arith, c.first_turn-index.ensures, low)))
+
+pub seen_above-requires-2 : goal.seen_above-requires-2
+seen_above-requires-2 g t c =
     let low = below_turn c.if-below-eq0.false c.requires.shaped c.args.edge c.requires.edge in
     record {
-      present = c.requires.shaped.node.present;
-      within = child_within c.if-below-eq0.false c.requires.shaped _
-          (omega (arith, c.first_turn-index.ensures, low));
+      index = omega (arith, c.first_turn-index.ensures, low, c.requires.shaped.node.fits);
+      path = path_small c.args.nodes.now (c.args.below - 1) _ _
+          (omega (arith, c.requires.deep)) c.end_edge.ensures.edge;
     }
-
-pub end_edge-requires : goal.end_edge-requires
-end_edge-requires g t c =
-    let low = below_turn c.if-below-eq0.false c.requires.shaped c.args.edge c.requires.edge in
-    record {
-      shaped = rw c.child_at-last.ensures (below_kid c.if-below-eq0.false c.requires.shaped
-          (c.first_turn-index.result - 1) (omega (arith, c.first_turn-index.ensures, low)));
-      deep = omega (arith, c.requires.deep);
-    }
-
-pub seen_above-requires-2-clause-index : goal.seen_above-requires-2-clause-index
-seen_above-requires-2-clause-index g t c =
-    let low = below_turn c.if-below-eq0.false c.requires.shaped c.args.edge c.requires.edge in
-    omega (arith, c.first_turn-index.ensures, low, c.requires.shaped.node.fits)
-
-pub seen_above-requires-2-clause-path : goal.seen_above-requires-2-clause-path
-seen_above-requires-2-clause-path g t c =
-    path_small c.args.nodes.now (c.args.below - 1) _ _
-    (omega (arith, c.requires.deep)) c.end_edge.ensures.edge
 
 pub returns : goal.returns
 returns g t c =

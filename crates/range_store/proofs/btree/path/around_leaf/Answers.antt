@@ -30,14 +30,11 @@ low g c = turn_low c.args.nodes.now (omega (arith, c.down-test.true)) c.down.inv
 few : (g : Over) (c : After-first_turn-index g) → c.first_turn-index.result ≤ CAPACITY
 few g c = omega (arith, low g c, c.down.invariant.way.lies.shaped.node.fits)
 
-pub child_at-at-requires : goal.child_at-at-requires
-child_at-at-requires g c =
-    let a = (goal.at.child_at-at-requires g c).After-first_turn-index in
-    record {
-      present = c.down.invariant.way.lies.shaped.node.present;
-      within = child_within (omega (arith, c.down-test.true)) c.down.invariant.way.lies.shaped _
-          (low g a);
-    }
+pub child_at-at-requires-clause-within : goal.child_at-at-requires-clause-within
+child_at-at-requires-clause-within g c =
+    let a = (goal.at.child_at-at-requires-clause-within g c).After-first_turn-index in
+    child_within (omega (arith, c.down-test.true)) c.down.invariant.way.lies.shaped _
+    (low g a)
 
 small : (g : Over) (c : After-first_turn-index g)
     → c.down.path + c.down.weight * c.first_turn-index.result + c.down.weight < 2 ^ 64
@@ -70,14 +67,6 @@ overflow_mul-weight g c =
       weight_fits c.args.below c.down.left c.down.weight c.requires.deep c.down-test.true
           c.down.invariant.way.lies.weight_is,
     )
-
-pub child_at-requires : goal.child_at-requires
-child_at-requires g c =
-    record {
-      present = c.down.invariant.way.lies.shaped.node.present;
-      within = child_within (omega (arith, c.down-test.true)) c.down.invariant.way.lies.shaped _
-          (omega (arith, c.if-index-item_count.true, c.item_count.ensures));
-    }
 
 pub down-preserved-then-index-item_count : goal.down-preserved-then-index-item_count
 down-preserved-then-index-item_count g c =
@@ -118,27 +107,20 @@ comes g c = comes_to_the_end c.args.nodes.now c.down.left c.down.at c.down.path 
     (leaf_end c.args.nodes.now c.down.inner) c.down.behind (omega (arith, c.down-test.false))
     c.down.invariant.way (omega arith)
 
-pub returns-in-None-clause-home : goal.returns-in-None-clause-home
-returns-in-None-clause-home g c =
-    home_found g (goal.at.returns-in-None-clause-home g c).After-home_before-found
+pub returns-in-None : goal.returns-in-None
+returns-in-None g c =
+    record {
+      home = home_found g (goal.at.returns-in-None g c).After-home_before-found;
+      behind = rw c.in-None.is at
+          (comes g (goal.at.returns-in-None g c).After-home_before-found);
+    }
 
-pub returns-in-None-clause-behind : goal.returns-in-None-clause-behind
-returns-in-None-clause-behind g c = rw c.in-None.is at
-    (comes g (goal.at.returns-in-None-clause-behind g c).After-home_before-found)
-
-pub first_edge-first-requires : goal.first_edge-first-requires
-first_edge-first-requires g c =
+pub returns-in-Some : goal.returns-in-Some
+returns-in-Some g c =
     let begins = rw c.in-Some.is at
-    (comes g (goal.at.first_edge-first-requires g c).After-home_before-found) in
-    record { shaped = begins.shaped; deep = omega (arith, begins.low, c.requires.deep) }
-
-pub returns-in-Some-clause-home : goal.returns-in-Some-clause-home
-returns-in-Some-clause-home g c =
-    home_found g (goal.at.returns-in-Some-clause-home g c).After-home_before-found
-
-pub returns-in-Some-clause-behind : goal.returns-in-Some-clause-behind
-returns-in-Some-clause-behind g c =
-    let begins = rw c.in-Some.is at
-    (comes g (goal.at.returns-in-Some-clause-behind g c).After-home_before-found) in
-    begins.first c.first_edge-first.result c.first_edge-first.ensures.edge
-    c.first_edge-first.ensures.place
+    (comes g (goal.at.returns-in-Some g c).After-home_before-found) in
+    record {
+      home = home_found g (goal.at.returns-in-Some g c).After-home_before-found;
+      behind = begins.first c.first_edge-first.result c.first_edge-first.ensures.edge
+          c.first_edge-first.ensures.place;
+    }

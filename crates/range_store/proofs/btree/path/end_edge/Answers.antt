@@ -53,15 +53,12 @@ down-preserved g c = rw c.child_at-leaf.ensures (descends (λ _. true) c.args.no
     c.item_count-last.result
     (c.item_count-last.ensures ∙ sym (count_all (node_items c.args.nodes.now c.down.leaf))))
 
-pub returns-clause-edge : goal.returns-clause-edge
-returns-clause-edge g c = (descent_ends (λ _. true) c.args.nodes.now c.down.left c.down.leaf
-    c.down.path c.down.weight (omega (arith, c.down-test.false)) c.down.invariant
-    c.item_count.result (c.item_count.ensures
-    ∙ sym (count_all (node_items c.args.nodes.now c.down.leaf)))).edge
-
-pub returns-clause-place : goal.returns-clause-place
-returns-clause-place g c = (descent_ends (λ _. true) c.args.nodes.now c.down.left c.down.leaf
-    c.down.path c.down.weight (omega (arith, c.down-test.false)) c.down.invariant
-    c.item_count.result (c.item_count.ensures
-    ∙ sym (count_all (node_items c.args.nodes.now c.down.leaf)))).count
-    ∙ count_all (items_below c.args.nodes.now _ c.args.number)
+pub returns : goal.returns
+returns g c =
+    let ends = descent_ends (λ _. true) c.args.nodes.now c.down.left c.down.leaf c.down.path
+    c.down.weight (omega (arith, c.down-test.false)) c.down.invariant c.item_count.result
+    (c.item_count.ensures ∙ sym (count_all (node_items c.args.nodes.now c.down.leaf))) in
+    record {
+      edge = ends.edge;
+      place = ends.count ∙ count_all (items_below c.args.nodes.now _ c.args.number);
+    }

@@ -10,15 +10,12 @@ down-init g c =
       home = home_sets_out c.args.nodes.now c.args.edge _ c.requires.edge c.requires.some;
     }
 
-pub child_at-at-requires : goal.child_at-at-requires
-child_at-at-requires g c =
+pub child_at-at-requires-clause-within : goal.child_at-at-requires-clause-within
+child_at-at-requires-clause-within g c =
     let d = c.down.invariant in
     let above : c.down.left ≢ 0 = omega (arith, c.down-test.true) in
-    record {
-      present = d.shaped.node.present;
-      within = rw c.first_turn-index.ensures
-          (child_within above d.shaped _ (below_turn above d.shaped c.down.inner d.home.is));
-    }
+    rw c.first_turn-index.ensures
+    (child_within above d.shaped _ (below_turn above d.shaped c.down.inner d.home.is))
 
 pub down-preserved : goal.down-preserved
 down-preserved g c =

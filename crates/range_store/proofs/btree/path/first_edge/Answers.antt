@@ -25,13 +25,12 @@ down-preserved g c =
     let path : 0 + weight * 0 ≡ 0 = omega arith in
     rw (c.child_at-leaf.ensures, ← down.lies.weight_is) (rw path at down)
 
-pub returns-clause-edge : goal.returns-clause-edge
-returns-clause-edge g c = (descent_ends (λ _. false) c.args.nodes.now c.down.left c.down.leaf 0 _
+pub returns : goal.returns
+returns g c =
+    let ends = descent_ends (λ _. false) c.args.nodes.now c.down.left c.down.leaf 0 _
     (omega (arith, c.down-test.false)) c.down.invariant 0
-    (sym (count_none (node_items c.args.nodes.now c.down.leaf)))).edge
-
-pub returns-clause-place : goal.returns-clause-place
-returns-clause-place g c = (descent_ends (λ _. false) c.args.nodes.now c.down.left c.down.leaf 0 _
-    (omega (arith, c.down-test.false)) c.down.invariant 0
-    (sym (count_none (node_items c.args.nodes.now c.down.leaf)))).count
-    ∙ count_none (items_below c.args.nodes.now _ c.args.number)
+    (sym (count_none (node_items c.args.nodes.now c.down.leaf))) in
+    record {
+      edge = ends.edge;
+      place = ends.count ∙ count_none (items_below c.args.nodes.now _ c.args.number);
+    }

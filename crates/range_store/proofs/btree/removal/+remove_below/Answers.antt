@@ -1,4 +1,4 @@
-use Rattle.std.proofs.Common.{◌≡◌, ◌+◌, ◌-◌, length, refl, ap, ◌∙◌, arith, rules}
+use Rattle.std.proofs.Common.{◌≡◌, ◌+◌, ◌-◌, ◌<◌, length, refl, ap, ◌∙◌, arith, rules}
 use Rattle.std.proofs.lemmas.List.Edits.{length-remove}
 use Rattle.range_store.specs.Heap.{node_items, node_child}
 use Rattle.range_store.specs.declared.btree.nodes.TheConstants.{MIN_LEN}
@@ -13,70 +13,48 @@ use Rattle.range_store.proofs.Shortening.{leaf_shrinks, kid_kept, kid_front, kid
 use Rattle.range_store.proofs.Paths.{level_of_children, child_within, below_kid, below_turn, below_inside, below_here, below_most}
 use Rattle.range_store.proofs.btree.removal.+remove_below.Goals as goal
 
-pub take_beside-item-requires : goal.take_beside-item-requires
-take_beside-item-requires g t c =
-    record {
-      present = c.requires.shaped.node.present;
-      within = omega (
-        arith,
-        leaf_index c.args.nodes.now c.args.number c.args.edge
-            (rw c.if-below-eq0.true at c.requires.edge),
-        c.requires.in_leaf,
-      );
-    }
-
-pub returns-then-below-eq0-clause-item : goal.returns-then-below-eq0-clause-item
-returns-then-below-eq0-clause-item g t c =
-    let leaf =
-    leaf_is c.args.nodes.now c.args.number c.args.edge
-    (rw c.if-below-eq0.true at c.requires.edge) in
-    rw leaf c.take_beside-item.ensures.item
-
-pub returns-then-below-eq0-clause-shrinks : goal.returns-then-below-eq0-clause-shrinks
-returns-then-below-eq0-clause-shrinks g t c = rw (
-  c.if-below-eq0.true,
-  leaf_place c.args.nodes.now c.args.number c.args.edge,
-) (leaf_shrinks (c.args.edge.index - 1) (rw c.if-below-eq0.true at c.requires.shaped)
-    (rw c.if-below-eq0.true at c.requires.owned) (omega (
+pub take_beside-item-requires-clause-within : goal.take_beside-item-requires-clause-within
+take_beside-item-requires-clause-within g t c =
+    omega (
       arith,
       leaf_index c.args.nodes.now c.args.number c.args.edge
           (rw c.if-below-eq0.true at c.requires.edge),
       c.requires.in_leaf,
-    )) (rw (no_child_gone _ (rw c.if-below-eq0.true at c.requires.shaped).node.branches) at
-    c.take_beside-item.ensures.rest))
+    )
 
-pub returns-then-below-eq0-clause-edge : goal.returns-then-below-eq0-clause-edge
-returns-then-below-eq0-clause-edge g t c =
-    let index =
-    leaf_index c.args.nodes.now c.args.number c.args.edge
-    (rw c.if-below-eq0.true at c.requires.edge) in
-    rw c.if-below-eq0.true (leaf_edge c.take_beside-item.new.self c.args.number _ refl refl
-    (omega (
-      arith,
-      index,
-      c.requires.in_leaf,
-      ap length c.take_beside-item.ensures.rest.items_are,
-      length-remove (node_items c.args.nodes.now c.args.number) (c.args.edge.index - 1)
-          (omega (arith, index, c.requires.in_leaf)),
-    )))
-
-pub returns-then-below-eq0-clause-place : goal.returns-then-below-eq0-clause-place
-returns-then-below-eq0-clause-place g t c =
-    rw c.if-below-eq0.true (omega (
-      arith,
-      leaf_place c.args.nodes.now c.args.number c.args.edge,
-      leaf_place c.take_beside-item.new.self c.args.number
-          (record { leaf = c.args.number; path = 0; index = c.args.edge.index - 1 }),
-      c.requires.in_leaf,
-    ))
-
-pub child_at-child-requires : goal.child_at-child-requires
-child_at-child-requires g t c =
+pub returns-then-below-eq0 : goal.returns-then-below-eq0
+returns-then-below-eq0 g t c =
+    let s = c.args.nodes.now in
+    let is = rw c.if-below-eq0.true at c.requires.edge in
+    let shaped = rw c.if-below-eq0.true at c.requires.shaped in
+    let owned = rw c.if-below-eq0.true at c.requires.owned in
+    let index = leaf_index s c.args.number c.args.edge is in
+    let within : c.args.edge.index - 1 < length (node_items s c.args.number) =
+    omega (arith, index, c.requires.in_leaf) in
     record {
-      present = c.requires.shaped.node.present;
-      within = rw c.first_turn-index.ensures (child_within c.if-below-eq0.false c.requires.shaped _
-          (below_turn c.if-below-eq0.false c.requires.shaped c.args.edge c.requires.edge));
+      item = rw (leaf_is s c.args.number c.args.edge is) c.take_beside-item.ensures.item;
+      shrinks = rw (c.if-below-eq0.true, leaf_place s c.args.number c.args.edge)
+          (leaf_shrinks (c.args.edge.index - 1) shaped owned within
+          (rw (no_child_gone _ shaped.node.branches) at c.take_beside-item.ensures.rest));
+      edge = rw c.if-below-eq0.true (leaf_edge c.take_beside-item.new.self c.args.number _ refl refl
+          (omega (
+            arith,
+            ap length c.take_beside-item.ensures.rest.items_are,
+            length-remove (node_items s c.args.number) (c.args.edge.index - 1) within,
+          )));
+      place = rw c.if-below-eq0.true (omega (
+        arith,
+        leaf_place s c.args.number c.args.edge,
+        leaf_place c.take_beside-item.new.self c.args.number
+            (record { leaf = c.args.number; path = 0; index = c.args.edge.index - 1 }),
+        c.requires.in_leaf,
+      ));
     }
+
+pub child_at-child-requires-clause-within : goal.child_at-child-requires-clause-within
+child_at-child-requires-clause-within g t c =
+    rw c.first_turn-index.ensures (child_within c.if-below-eq0.false c.requires.shaped _
+    (below_turn c.if-below-eq0.false c.requires.shaped c.args.edge c.requires.edge))
 
 pub remove_below-taken-requires : goal.remove_below-taken-requires
 remove_below-taken-requires g t c κs inside =

@@ -4,23 +4,9 @@ use Rattle.range_store.proofs.Pairs.{seat_low}
 use Rattle.range_store.proofs.Rotating.{has_pair, moved_path, next_edge, next_kept, next_shrinks}
 use Rattle.range_store.proofs.btree.removal.borrow_from_left.Goals as goal
 
-pub child_at-right-requires : goal.child_at-right-requires
-child_at-right-requires g c =
-    record {
-      present = c.requires.levelled.node.present;
-      within = omega (arith, c.requires.levelled.within, c.requires.levelled.node.branches);
-    }
-
-pub rotate_right-requires : goal.rotate_right-requires
-rotate_right-requires g c =
-    record {
-      pair = has_pair c.requires.levelled;
-      some = omega (arith, c.requires.spare);
-      room = omega (arith, c.requires.levelled.fits, c.requires.spare);
-    }
-
-pub overflow_add-index-2 : goal.overflow_add-index-2
-overflow_add-index-2 g c = omega (arith, c.requires.levelled.within, c.requires.levelled.node.fits)
+pub rotate_right-requires-clause-pair : goal.rotate_right-requires-clause-pair
+rotate_right-requires-clause-pair g c =
+    has_pair c.requires.levelled
 
 pub overflow_add-seat : goal.overflow_add-seat
 overflow_add-seat g c =
@@ -41,21 +27,10 @@ edge_at-inner-requires-clause-seat g c =
       c.requires.spare,
     )
 
-pub edge_at-inner-requires-clause-path : goal.edge_at-inner-requires-clause-path
-edge_at-inner-requires-clause-path g c =
-    λ some. rw c.seen_inside.ensures
-    (omega (
-      arith,
-      path_low c.args.nodes.now c.args.low _ c.args.edge c.requires.deep c.requires.edge,
-    ))
-
-pub seen_above-requires-clause-index : goal.seen_above-requires-clause-index
-seen_above-requires-clause-index g c =
-    omega (arith, c.requires.levelled.within, c.requires.levelled.node.fits)
-
 pub seen_above-requires-clause-path : goal.seen_above-requires-clause-path
 seen_above-requires-clause-path g c =
-    moved_path c.args.low _ _ c.edge_at-inner.result c.args.edge c.edge_at-inner.ensures.leaf
+    moved_path c.args.low _ _ c.edge_at-inner.result c.args.edge
+    c.edge_at-inner.ensures.leaf
     (rw c.seen_inside.ensures at c.edge_at-inner.ensures.inside)
     (path_low c.args.nodes.now c.args.low _ c.args.edge c.requires.deep c.requires.edge)
 

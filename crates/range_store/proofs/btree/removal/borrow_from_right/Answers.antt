@@ -3,17 +3,9 @@ use Rattle.range_store.proofs.Edges.{path_small}
 use Rattle.range_store.proofs.Rotating.{has_pair, previous_edge, previous_kept, previous_shrinks}
 use Rattle.range_store.proofs.btree.removal.borrow_from_right.Goals as goal
 
-pub rotate_left-requires : goal.rotate_left-requires
-rotate_left-requires g c =
-    record {
-      pair = has_pair c.requires.levelled;
-      some = omega (arith, c.requires.spare);
-      room = omega (arith, c.requires.levelled.fits, c.requires.spare);
-    }
-
-pub seen_above-requires-clause-index : goal.seen_above-requires-clause-index
-seen_above-requires-clause-index g c =
-    omega (arith, c.requires.levelled.within, c.requires.levelled.node.fits)
+pub rotate_left-requires-clause-pair : goal.rotate_left-requires-clause-pair
+rotate_left-requires-clause-pair g c =
+    has_pair c.requires.levelled
 
 pub seen_above-requires-clause-path : goal.seen_above-requires-clause-path
 seen_above-requires-clause-path g c =

@@ -1,56 +1,29 @@
-use Rattle.std.proofs.Common.{arith}
 use Rattle.range_store.proofs.Edges.{path_low}
 use Rattle.range_store.proofs.Pairs.{near_seat}
 use Rattle.range_store.proofs.Rotating.{has_pair, joined_edge, joined_shrinks, moved_path}
 use Rattle.range_store.proofs.btree.removal.join.Goals as goal
 
-pub child_at-left-requires : goal.child_at-left-requires
-child_at-left-requires g c =
-    record {
-      present = c.requires.levelled.node.present;
-      within = omega (arith, c.requires.levelled.within, c.requires.levelled.node.branches);
-    }
-
-pub item_count-many-requires : goal.item_count-many-requires
-item_count-many-requires g c =
-    rw c.child_at-left.ensures c.requires.levelled.left.node.present
-
-pub merge-requires : goal.merge-requires
-merge-requires g c =
-    record {
-      pair = has_pair c.requires.levelled;
-      room = c.requires.few;
-    }
-
-pub joined_seat-seat-requires-clause-many : goal.joined_seat-seat-requires-clause-many
-joined_seat-seat-requires-clause-many g c =
-    rw (c.item_count-many.ensures, c.child_at-left.ensures) c.requires.levelled.left.node.fits
+pub merge-requires-clause-pair : goal.merge-requires-clause-pair
+merge-requires-clause-pair g c =
+    has_pair c.requires.levelled
 
 pub joined_seat-seat-requires-clause-small : goal.joined_seat-seat-requires-clause-small
-joined_seat-seat-requires-clause-small g c = (near_seat c.args.turn c.args.edge c.requires.levelled
-    c.requires.near c.requires.edge c.requires.few).0
+joined_seat-seat-requires-clause-small g c =
+    (near_seat c.args.turn c.args.edge c.requires.levelled c.requires.near
+    c.requires.edge c.requires.few).0
 
 pub edge_at-inner-requires-clause-seat : goal.edge_at-inner-requires-clause-seat
-edge_at-inner-requires-clause-seat g c = (near_seat c.args.turn c.args.edge c.requires.levelled
-    c.requires.near c.requires.edge c.requires.few).1 c.joined_seat-seat.result
+edge_at-inner-requires-clause-seat g c =
+    (near_seat c.args.turn c.args.edge c.requires.levelled c.requires.near
+    c.requires.edge c.requires.few).1 c.joined_seat-seat.result
     c.joined_seat-seat.ensures.first
-    (rw (c.item_count-many.ensures, c.child_at-left.ensures) at c.joined_seat-seat.ensures.second)
-
-pub edge_at-inner-requires-clause-path : goal.edge_at-inner-requires-clause-path
-edge_at-inner-requires-clause-path g c =
-    λ some. rw c.seen_inside.ensures
-    (omega (
-      arith,
-      path_low c.args.nodes.now c.args.low _ c.args.edge c.requires.deep c.requires.edge,
-    ))
-
-pub seen_above-requires-clause-index : goal.seen_above-requires-clause-index
-seen_above-requires-clause-index g c =
-    omega (arith, c.requires.levelled.within, c.requires.levelled.node.fits)
+    (rw (c.item_count-many.ensures, c.child_at-left.ensures) at
+    c.joined_seat-seat.ensures.second)
 
 pub seen_above-requires-clause-path : goal.seen_above-requires-clause-path
 seen_above-requires-clause-path g c =
-    moved_path c.args.low _ _ c.edge_at-inner.result c.args.edge c.edge_at-inner.ensures.leaf
+    moved_path c.args.low _ _ c.edge_at-inner.result c.args.edge
+    c.edge_at-inner.ensures.leaf
     (rw c.seen_inside.ensures at c.edge_at-inner.ensures.inside)
     (path_low c.args.nodes.now c.args.low _ c.args.edge c.requires.deep c.requires.edge)
 

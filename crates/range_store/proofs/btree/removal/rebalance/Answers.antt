@@ -10,10 +10,6 @@ use Rattle.range_store.proofs.btree.removal.rebalance.Given.{Over}
 use Rattle.range_store.proofs.btree.removal.rebalance.Goals as goal
 use Rattle.range_store.proofs.btree.removal.rebalance.Goals.{After-saturating_sub, Else-item_count-ge-MIN_LEN, then-index-gt0+else-item_count-gt-MIN_LEN, else-index-gt0, then-index-item_count+else-item_count-gt-MIN_LEN-2, else-index-item_count}
 
-pub seen_above-requires-clause-index : goal.seen_above-requires-clause-index
-seen_above-requires-clause-index g c =
-    omega (arith, c.requires.short.within, c.requires.short.node.fits)
-
 pub seen_above-requires-clause-path : goal.seen_above-requires-clause-path
 seen_above-requires-clause-path g c =
     path_small c.args.nodes.now c.args.low _ c.args.edge
@@ -174,20 +170,4 @@ join-requires g c =
             near = inl (omega (arith, same));
             edge = c.requires.edge;
           }
-    ]
-
-pub returns-clause-lent : goal.returns-clause-lent
-returns-clause-lent g c k lender =
-    let a = (goal.at.returns-clause-lent g c).After-saturating_sub in
-    elim lender.beside [
-      | inl before ↦ let at : k ≡ c.args.index - 1 =
-          omega (arith, before) in absurd
-          (omega (arith, rw at at lender.spare, none_before g a (omega (arith, before))))
-      | inr behind ↦ let at : k ≡ c.args.index + 1 =
-          behind in absurd
-          (omega (
-            arith,
-            rw at at lender.spare,
-            none_behind g a (omega (arith, behind, lender.within)),
-          ))
     ]

@@ -1,10 +1,6 @@
 use Rattle.std.proofs.Common.{arith}
-use Rattle.range_store.proofs.Roots.{stays_root, empty_root_leaves_nothing, only_child_is_root, lowered_edge}
+use Rattle.range_store.proofs.Roots.{empty_root_leaves_nothing, only_child_is_root, lowered_edge}
 use Rattle.range_store.proofs.btree.removal.shrink_root.Goals as goal
-
-pub returns-then-item_count-gt0-clause-tree : goal.returns-then-item_count-gt0-clause-tree
-returns-then-item_count-gt0-clause-tree g c = stays_root c.args.levels c.requires.tree
-    (omega (arith, c.item_count.ensures))
 
 pub returns-then-levels-eq1-clause-tree : goal.returns-then-levels-eq1-clause-tree
 returns-then-levels-eq1-clause-tree g c = (empty_root_leaves_nothing c.args.levels

@@ -1,9 +1,9 @@
-use Rattle.std.proofs.Common.{◌≡◌, ◌≤◌, length, refl, ◌∙◌, arith, count_by}
+use Rattle.std.proofs.Common.{◌≡◌, ◌≤◌, length, ◌∙◌, arith, count_by}
 use Rattle.std.proofs.Math.Nat.{mul-le-mul_left}
 use Rattle.std.proofs.lemmas.List.Sums.{count_by-le-length}
 use Rattle.range_store.specs.Heap.{node_items}
 use Rattle.range_store.specs.declared.btree.nodes.TheConstants.{CAPACITY}
-use Rattle.range_store.proofs.Descending.{adds_more, adds_none, begins, descends, descent_ends}
+use Rattle.range_store.proofs.Descending.{adds_more, descends, descent_ends}
 use Rattle.range_store.proofs.Searching.{node_falls}
 use Rattle.range_store.proofs.Cells.{items_held}
 use Rattle.range_store.proofs.Paths.{child_within}
@@ -11,12 +11,6 @@ use Rattle.range_store.proofs.PathsBelow.{weight_fits}
 use Rattle.range_store.proofs.btree.searching.search_below.Goals as goal
 use Rattle.range_store.proofs.btree.searching.search_below.Given.{Over}
 use Rattle.range_store.proofs.btree.searching.search_below.Goals.{After-count_passing-index}
-
-pub cells-requires-clause-present : goal.cells-requires-clause-present
-cells-requires-clause-present g c = c.down.invariant.0.lies.shaped.node.present
-
-pub cells-requires-clause-some : goal.cells-requires-clause-some
-cells-requires-clause-some g c = omega (arith, c.down.invariant.0.lies.shaped.node.enough)
 
 pub count_passing-index-requires-clause-falls : goal.count_passing-index-requires-clause-falls
 count_passing-index-requires-clause-falls g c =
@@ -113,14 +107,6 @@ down-preserved g c =
       c.count_passing-index.ensures.kept ∙ c.down.invariant.1,
       adds_more c.args.below c.down.left c.if-left-eq0.false d.lies.low c.down.invariant.2
           c.count_passing-index.ensures.asked,
-    )
-
-pub down-init : goal.down-init
-down-init g c =
-    let p = g.P.Probe.test c.args.probe.now in (
-      begins p c.args.nodes.now c.args.below c.args.number c.requires.shaped c.requires.falls,
-      refl,
-      adds_none (g.P.Probe.steps_taken c.args.probe.now) c.args.below,
     )
 
 pub child_at-at-requires-clause-within : goal.child_at-at-requires-clause-within

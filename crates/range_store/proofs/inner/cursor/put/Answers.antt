@@ -1,4 +1,4 @@
-use Rattle.std.proofs.Common.{◌≡◌, ◌+◌, ◌≤◌, length, ap, sym, arith, rules}
+use Rattle.std.proofs.Common.{◌≡◌, ◌+◌, ◌≤◌, length, ap, sym, arith}
 use Rattle.range_store.specs.ListPlaces.{place_before}
 use Rattle.range_store.proofs.Edits.{put_over}
 use Rattle.range_store.proofs.inner.cursor.put.Goals as goal
@@ -15,6 +15,3 @@ returns-clause-list g c =
     put_over items (storage.items c.replace-replaced.new.self) place
     (storage.rank stored c.in-Some.p) c.args.cursor.left c.args.item
     c.replace-replaced.ensures.list (sym here) (omega arith) (omega arith)
-
-pub returns-clause-position : goal.returns-clause-position
-returns-clause-position g c = search rules

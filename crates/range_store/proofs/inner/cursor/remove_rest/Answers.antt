@@ -1,5 +1,4 @@
-use Rattle.std.proofs.Common.{arith, length, rules}
-use Rattle.std.proofs.lemmas.Grind.{common_steps}
+use Rattle.std.proofs.Common.{arith, length}
 use Rattle.range_store.specs.ListPlaces.{place_before}
 use Rattle.range_store.proofs.Edits.{removed_one}
 use Rattle.range_store.proofs.inner.cursor.remove_rest.Goals as goal
@@ -19,9 +18,3 @@ loop-removed-preserved g c =
           c.loop-removed.invariant.changed c.remove_at-at.ensures.list here.1 (omega arith);
       space = omega (arith, c.remove_at-at.ensures.space, c.loop-removed.invariant.space);
     }
-
-pub loop-removed-init : goal.loop-removed-init
-loop-removed-init g c = grind (arith, common_steps)
-
-pub returns-clause-list : goal.returns-clause-list
-returns-clause-list g c = search rules

@@ -1,14 +1,14 @@
 use Rattle.range_store.proofs.Spares.{items_seen, row_there}
 use Rattle.range_store.proofs.btree.nodes.Nodes.item_at.Goals as goal
 
-pub item_at-requires-clause-number : goal.item_at-requires-clause-number
-item_at-requires-clause-number g c =
-    row_there c.self.invariant.0 c.args.number (rw (← c.self.view_is) at c.requires.present)
-
-pub item_at-requires-clause-within : goal.item_at-requires-clause-within
-item_at-requires-clause-within g c =
-    rw (← items_seen c.self.invariant.0 c.args.number (rw (← c.self.view_is) at c.requires.present))
-    (rw (← c.self.view_is) at c.requires.within)
+pub item_at-requires : goal.item_at-requires
+item_at-requires g c =
+    let present = rw (← c.self.view_is) at c.requires.present in
+    record {
+      number = row_there c.self.invariant.0 c.args.number present;
+      within = rw (← items_seen c.self.invariant.0 c.args.number present)
+          (rw (← c.self.view_is) at c.requires.within);
+    }
 
 pub returns : goal.returns
 returns g c =

@@ -1,20 +1,15 @@
 use Rattle.std.proofs.Common.{refl}
-use Rattle.range_store.proofs.Spares.{item_whole, item_written, items_seen, row_there}
+use Rattle.range_store.proofs.Spares.{item_written, items_seen, row_there}
 use Rattle.range_store.proofs.btree.nodes.Nodes.item_mut.Goals as goal
 
-pub item_mut-requires-clause-number : goal.item_mut-requires-clause-number
-item_mut-requires-clause-number g c =
-    row_there c.self.invariant.0 c.args.number (rw (← c.self.view_is) at c.requires.present)
-
-pub item_mut-requires-clause-within : goal.item_mut-requires-clause-within
-item_mut-requires-clause-within g c =
-    rw (← items_seen c.self.invariant.0 c.args.number (rw (← c.self.view_is) at c.requires.present))
-    (rw (← c.self.view_is) at c.requires.within)
-
-pub invariant_of-self-lent : goal.invariant_of-self-lent
-invariant_of-self-lent g c w =
+pub item_mut-requires : goal.item_mut-requires
+item_mut-requires g c =
     let present = rw (← c.self.view_is) at c.requires.present in
-    (item_whole c.self.invariant.0 c.args.number c.args.index w present, c.self.invariant.1)
+    record {
+      number = row_there c.self.invariant.0 c.args.number present;
+      within = rw (← items_seen c.self.invariant.0 c.args.number present)
+          (rw (← c.self.view_is) at c.requires.within);
+    }
 
 pub returns : goal.returns
 returns g c =

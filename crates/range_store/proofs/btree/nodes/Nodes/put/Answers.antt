@@ -14,22 +14,16 @@ pub index_mut-requires : goal.index_mut-requires
 index_mut-requires g c = found c.self.invariant.0 c.args.number
     (rw (← c.self.view_is) at c.requires.present)
 
-pub add-len-requires-clause-room : goal.add-len-requires-clause-room
-add-len-requires-clause-room g c =
-    let seen = seen_node g (goal.at.add-len-requires-clause-room g c).After-index_mut in
-    omega (arith, seen.len, rw (← c.self.view_is) at c.requires.room)
-
-pub add-len-requires-clause-near : goal.add-len-requires-clause-near
-add-len-requires-clause-near g c =
-    let seen = seen_node g (goal.at.add-len-requires-clause-near g c).After-index_mut in
-    omega (arith, seen.len, rw (← c.self.view_is) at c.requires.near)
-
-pub add-len-requires-clause-child : goal.add-len-requires-clause-child
-add-len-requires-clause-child g c =
-    let seen = seen_node g (goal.at.add-len-requires-clause-child g c).After-index_mut in
-    rw (← seen.children)
-    (fits_count c.args.child _ _ c.index_mut.result.now.len seen.len
-    (rw (← c.self.view_is) at c.requires.child))
+pub add-len-requires : goal.add-len-requires
+add-len-requires g c =
+    let seen = seen_node g (goal.at.add-len-requires g c).After-index_mut in
+    record {
+      room = omega (arith, seen.len, rw (← c.self.view_is) at c.requires.room);
+      near = omega (arith, seen.len, rw (← c.self.view_is) at c.requires.near);
+      child = rw (← seen.children)
+          (fits_count c.args.child _ _ c.index_mut.result.now.len seen.len
+          (rw (← c.self.view_is) at c.requires.child));
+    }
 
 pub put-requires-clause-within : goal.put-requires-clause-within
 put-requires-clause-within g c =

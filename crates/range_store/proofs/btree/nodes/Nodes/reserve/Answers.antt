@@ -106,9 +106,8 @@ loop-preserved g c =
       );
       len_is = c.new.ensures.len;
     } in
-    let next = added slab c.insert_reserved-number.new.self rows rows
-    c.loop.self-inside.spares.items was.whole number c.new.result [] changes inserted.was_vacant
-    inserted.len refl c.new.ensures.children in
+    let next =
+    added was.whole changes inserted.was_vacant inserted.len refl c.new.ensures.children in
     record {
       many = omega (arith, inserted.len, was.many);
       capacity = inserted.capacity ∙ was.capacity;

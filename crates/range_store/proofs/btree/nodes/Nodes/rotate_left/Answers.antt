@@ -1,19 +1,9 @@
-use Rattle.std.proofs.Common.{length, sym, ap, subst, arith}
+use Rattle.std.proofs.Common.{sym, subst}
 use Rattle.std.proofs.Math.ListN.{set}
-use Rattle.range_store.specs.Heap.{HasNode, items_of, Writes, left_items, left_children, right_items, right_children, node_items, node_children}
-use Rattle.range_store.proofs.Heaps.{writes_item}
-use Rattle.range_store.proofs.Siblings.{fits_first, left_kept, rotated_left}
+use Rattle.range_store.specs.Heap.{HasNode, Writes, node_items, node_children}
+use Rattle.range_store.specs.Written.{item_written}
+use Rattle.range_store.proofs.Siblings.{rotated_left}
 use Rattle.range_store.proofs.btree.nodes.Nodes.rotate_left.Goals as goal
-
-pub overflow_add-index : goal.overflow_add-index
-overflow_add-index g c = omega (arith, c.requires.pair.item, c.item_count-many.ensures)
-
-pub replace_item-down-requires : goal.replace_item-down-requires
-replace_item-down-requires g c =
-    let pair = c.requires.pair in
-    let one = rw c.child_at-right.ensures at c.take_beside-up.ensures.rest in
-    let same = one.others c.args.number (λ e. pair.right_apart (sym e)) in
-    record { present = rw same pair.parent; within = rw same pair.item }
 
 pub returns : goal.returns
 returns g c =
@@ -26,7 +16,7 @@ returns g c =
     let one = rw (c.child_at-right.ensures) at c.take_beside-up.ensures.rest in
     let present : HasNode t n = rw (one.others n (λ e. pair.right_apart (sym e))) pair.parent in
     let two = subst (λ h. Writes t h n (set (node_items t n) i up)
-    (node_children t n)) (sym c.replace_item-down.ensures.after) (writes_item t n i up present) in
+    (node_children t n)) (sym c.replace_item-down.ensures.after) (item_written t n i up present) in
     let three = rw (
       c.item_count-end.ensures,
       c.take_beside-up.ensures.child,
@@ -36,44 +26,3 @@ returns g c =
     let up_is = rw (c.child_at-right.ensures) at c.take_beside-up.ensures.item in
     rotated_left t u c.put.new.self pair c.replace_item-down.result up up_is c.requires.some
     c.replace_item-down.ensures.before one two three
-
-pub item_count-end-requires : goal.item_count-end-requires
-item_count-end-requires g c =
-    let same = left_kept c.args.self.now c.take_beside-up.new.self c.replace_item-down.new.self
-    c.args.number c.args.index c.requires.pair c.take_beside-up.result.0 c.child_at-left.result
-    c.child_at-right.result c.child_at-left.ensures c.child_at-right.ensures
-    c.replace_item-down.ensures.after _ _ c.take_beside-up.ensures.rest in
-    rw same c.requires.pair.left
-
-pub overflow_add-end : goal.overflow_add-end
-overflow_add-end g c =
-    let same = left_kept c.args.self.now c.take_beside-up.new.self c.replace_item-down.new.self
-    c.args.number c.args.index c.requires.pair c.take_beside-up.result.0 c.child_at-left.result
-    c.child_at-right.result c.child_at-left.ensures c.child_at-right.ensures
-    c.replace_item-down.ensures.after _ _ c.take_beside-up.ensures.rest in
-    omega (
-      arith,
-      c.item_count-end.ensures,
-      ap (λ node. length (items_of node)) same,
-      c.requires.room,
-    )
-
-pub put-requires : goal.put-requires
-put-requires g c =
-    let s = c.args.self.now in
-    let n = c.args.number in
-    let i = c.args.index in
-    let pair = c.requires.pair in
-    let same = left_kept c.args.self.now c.take_beside-up.new.self c.replace_item-down.new.self
-    c.args.number c.args.index c.requires.pair c.take_beside-up.result.0 c.child_at-left.result
-    c.child_at-right.result c.child_at-left.ensures c.child_at-right.ensures
-    c.replace_item-down.ensures.after _ _ c.take_beside-up.ensures.rest in
-    let fits = fits_first pair.below (left_items s n i) (left_children s n i) (right_items s n i)
-    (right_children s n i) pair.left_branches pair.right_branches in
-    record {
-      present = rw same pair.left;
-      within = omega (arith, c.item_count-end.ensures);
-      near = omega (arith, c.item_count-end.ensures);
-      room = rw same c.requires.room;
-      child = rw (c.take_beside-up.ensures.child, same, c.child_at-right.ensures) fits;
-    }

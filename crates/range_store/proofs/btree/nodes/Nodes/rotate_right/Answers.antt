@@ -1,19 +1,9 @@
-use Rattle.std.proofs.Common.{sym, subst, arith}
+use Rattle.std.proofs.Common.{sym, subst}
 use Rattle.std.proofs.Math.ListN.{set}
-use Rattle.range_store.specs.Heap.{HasNode, Writes, left_items, left_children, right_items, right_children, node_items, node_children}
-use Rattle.range_store.proofs.Heaps.{writes_item}
-use Rattle.range_store.proofs.Siblings.{fits_last, right_kept, rotated_right}
+use Rattle.range_store.specs.Heap.{HasNode, Writes, node_items, node_children}
+use Rattle.range_store.specs.Written.{item_written}
+use Rattle.range_store.proofs.Siblings.{rotated_right}
 use Rattle.range_store.proofs.btree.nodes.Nodes.rotate_right.Goals as goal
-
-pub overflow_add-index : goal.overflow_add-index
-overflow_add-index g c = omega (arith, c.requires.pair.item, c.item_count-many.ensures)
-
-pub replace_item-down-requires : goal.replace_item-down-requires
-replace_item-down-requires g c =
-    let pair = c.requires.pair in
-    let one = rw c.child_at-left.ensures at c.take_beside-up.ensures.rest in
-    let same = one.others c.args.number (λ e. pair.left_apart (sym e)) in
-    record { present = rw same pair.parent; within = rw same pair.item }
 
 pub returns : goal.returns
 returns g c =
@@ -27,7 +17,7 @@ returns g c =
     c.take_beside-up.ensures.rest in
     let present : HasNode t n = rw (one.others n (λ e. pair.left_apart (sym e))) pair.parent in
     let two = subst (λ h. Writes t h n (set (node_items t n) i up)
-    (node_children t n)) (sym c.replace_item-down.ensures.after) (writes_item t n i up present) in
+    (node_children t n)) (sym c.replace_item-down.ensures.after) (item_written t n i up present) in
     let three = rw (
       c.take_beside-up.ensures.child,
       c.item_count-end.ensures,
@@ -38,29 +28,3 @@ returns g c =
     c.take_beside-up.ensures.item in
     rotated_right t u c.put.new.self pair c.replace_item-down.result up up_is c.requires.some
     c.replace_item-down.ensures.before one two three
-
-pub put-requires : goal.put-requires
-put-requires g c =
-    let s = c.args.self.now in
-    let n = c.args.number in
-    let i = c.args.index in
-    let pair = c.requires.pair in
-    let same = right_kept c.args.self.now c.take_beside-up.new.self c.replace_item-down.new.self
-    c.args.number c.args.index c.requires.pair c.take_beside-up.result.0 c.child_at-left.result
-    c.child_at-right.result c.child_at-left.ensures c.child_at-right.ensures
-    c.replace_item-down.ensures.after _ _ c.take_beside-up.ensures.rest in
-    let fits = fits_last pair.below (right_items s n i) (right_children s n i) (left_items s n i)
-    (left_children s n i) pair.right_branches pair.left_branches in
-    record {
-      present = rw same pair.right;
-      within = omega arith;
-      near = omega arith;
-      room = rw same c.requires.room;
-      child = rw (
-        c.take_beside-up.ensures.child,
-        same,
-        c.item_count-end.ensures,
-        c.child_at-left.ensures,
-      )
-          fits;
-    }

@@ -1,7 +1,7 @@
 use Rattle.std.proofs.Common.{take, arith, sym}
 use Rattle.std.specs.Vec.Iter.{into_iter_items}
 use Rattle.std.proofs.lemmas.List.{length-take-le}
-use Rattle.range_store.proofs.Spares.{bare_children, bare_row, filled, spare_found, spare_there, spares_left}
+use Rattle.range_store.proofs.Spares.{bare_children, bare_row, filled, spare_found, spares_left}
 use Rattle.range_store.proofs.btree.nodes.Nodes.store_items.Goals as goal
 
 pub next_spare-number-requires : goal.next_spare-number-requires
@@ -10,9 +10,6 @@ next_spare-number-requires g c =
 
 pub index_mut-requires : goal.index_mut-requires
 index_mut-requires g c = spare_found c.self.invariant.0 c.next_spare-number.ensures.items
-
-pub fill-requires-clause-number : goal.fill-requires-clause-number
-fill-requires-clause-number g c = spare_there c.self.invariant.0 c.next_spare-number.ensures.items
 
 pub fill-requires-clause-empty : goal.fill-requires-clause-empty
 fill-requires-clause-empty g c = bare_row c.self.invariant.0 c.next_spare-number.ensures.items

@@ -1,6 +1,6 @@
 use Rattle.std.proofs.Common.{[], ◌∷◌, length, arith, refl, sym, ap}
 use Rattle.std.specs.List.{insert}
-use Rattle.range_store.proofs.Spares.{bare_children, bare_row, filled, spare_found, spare_there, spares_left}
+use Rattle.range_store.proofs.Spares.{bare_children, bare_row, filled, spare_found, spares_left}
 use Rattle.range_store.proofs.btree.nodes.Nodes.store_leaf.Goals as goal
 
 pub next_spare-number-requires : goal.next_spare-number-requires
@@ -9,9 +9,6 @@ next_spare-number-requires g c =
 
 pub index_mut-requires : goal.index_mut-requires
 index_mut-requires g c = spare_found c.self.invariant.0 c.next_spare-number.ensures.items
-
-pub put-requires-clause-number : goal.put-requires-clause-number
-put-requires-clause-number g c = spare_there c.self.invariant.0 c.next_spare-number.ensures.items
 
 pub put-requires-clause-len : goal.put-requires-clause-len
 put-requires-clause-len g c = sym (ap length (bare_row c.self.invariant.0

@@ -1,14 +1,10 @@
 use Rattle.std.proofs.Common.{length, get_or, arith, sym, ap, ◌∙◌}
 use Rattle.std.specs.Prelude.{slice_get}
-use Rattle.range_store.proofs.Spares.{found, items_seen, row_there, seen, taken_out}
+use Rattle.range_store.proofs.Spares.{found, items_seen, seen, taken_out}
 use Rattle.range_store.proofs.btree.nodes.Nodes.take_beside.Goals as goal
 
 pub index_mut-requires : goal.index_mut-requires
 index_mut-requires g c = found c.self.invariant.0 c.args.number
-    (rw (← c.self.view_is) at c.requires.present)
-
-pub take-requires-clause-number : goal.take-requires-clause-number
-take-requires-clause-number g c = row_there c.self.invariant.0 c.args.number
     (rw (← c.self.view_is) at c.requires.present)
 
 pub take-requires-clause-len : goal.take-requires-clause-len
@@ -16,14 +12,6 @@ take-requires-clause-len g c =
     (rw (← c.self.view_is) at c.item_count-len.ensures)
     ∙ ap length (items_seen c.self.invariant.0 c.args.number
     (rw (← c.self.view_is) at c.requires.present))
-
-pub take-requires-clause-within : goal.take-requires-clause-within
-take-requires-clause-within g c =
-    omega (
-      arith,
-      rw (← c.self.view_is) at c.item_count-len.ensures,
-      rw (← c.self.view_is) at c.requires.within,
-    )
 
 pub take-child-requires : goal.take-child-requires
 take-child-requires g c =

@@ -1,5 +1,5 @@
 use Rattle.std.proofs.Common.{sym, ◌∙◌}
-use Rattle.std.proofs.lemmas.Option.{none-some, same_Some}
+use Rattle.std.proofs.lemmas.Option.{none-some}
 use Rattle.range_store.specs.Rows.{row_of}
 use Rattle.range_store.proofs.Cells.{cell_read, standing}
 use Rattle.range_store.proofs.btree.rows.Rows.item_at.Goals as goal
@@ -10,11 +10,3 @@ unreachable-requires g c =
     let stands = standing xs c.args.index c.requires.within in
     none-some stands.item (sym c.in-None.is ∙ c.index-cells-index.is
     ∙ cell_read c.cells.ensures c.args.index c.requires.within stands _)
-
-pub returns : goal.returns
-returns g c =
-    let xs = row_of c.args.self.now c.args.number in
-    let stands = standing xs c.args.index c.requires.within in
-    same_Some c.in-Some.item stands.item (sym c.in-Some.is ∙ c.index-cells-index.is
-    ∙ cell_read c.cells.ensures c.args.index c.requires.within stands _)
-    ∙ sym (stands.item_is c.in-Some.item)

@@ -1,6 +1,5 @@
-use Rattle.std.proofs.Common.{◌≡◌, ◌≤◌, ◌<◌, ◌+◌, ◌-◌, ◌*◌, length, take, drop, rules, arith, ap, sym, ◌∙◌}
+use Rattle.std.proofs.Common.{◌≡◌, ◌≤◌, ◌<◌, ◌+◌, ◌-◌, ◌*◌, length, take, drop, arith, ap, sym, ◌∙◌}
 use borrow.Rule.Slice.PartMut.{put_mid}
-use borrow.Author.Rules.{scaled_fits≤}
 use Rattle.std.proofs.Math.ListN.{set}
 use Rattle.std.specs.List.{insert}
 use Rattle.std.proofs.lemmas.List.{with_items_is}
@@ -18,9 +17,6 @@ module _ (g : Over) (c : After-deref_mut g) where
 
   long : CAPACITY * c.args.number + CAPACITY ≤ length c.add_cells.new.cells.items
   long = rw c.add_cells.ensures.cells (topped_room c.self.invariant.0 c.args.number less)
-
-  enough : CAPACITY * c.args.number + CAPACITY ≤ length c.deref_mut.result.now
-  enough = omega (arith, long, ap length c.deref_mut.ensures.value)
 
   held : HoldsItems (cells_of c.deref_mut.result.now c.args.number)
       (row_of (rows_in c.self.inside.many c.self.inside.cells.items) c.args.number)
@@ -40,11 +36,6 @@ overflow_mul-start g c =
     let less = rw (← c.self.view_is, length-rows) at c.requires.number in
     omega (arith, less, c.self.invariant.1, c.self.inside.cells.small)
 
-pub overflow_add-start-2 : goal.overflow_add-start-2
-overflow_add-start-2 g c =
-    let less = rw (← c.self.view_is, length-rows) at c.requires.number in
-    omega (arith, less, c.self.invariant.1, c.self.inside.cells.small)
-
 pub add_cells-requires : goal.add_cells-requires
 add_cells-requires g c =
     let less = rw (← c.self.view_is, length-rows) at c.requires.number in
@@ -54,19 +45,6 @@ pub overflow_add-start : goal.overflow_add-start
 overflow_add-start g c =
     let less = rw (← c.self.view_is, length-rows) at c.requires.number in
     omega (arith, less, c.self.invariant.1, c.self.inside.cells.small)
-
-pub offset_bounds-deref_mut-start : goal.offset_bounds-deref_mut-start
-offset_bounds-deref_mut-start g c =
-    let enough = enough g (goal.at.offset_bounds-deref_mut-start g c).After-deref_mut in
-    let front : CAPACITY * c.args.number ≤ length c.deref_mut.result.now = omega (arith, enough) in
-    scaled_fits≤ (CAPACITY * c.args.number) (length c.deref_mut.result.now) _ front
-    c.deref_mut.type_inv.1
-
-pub slice_bounds-put_item-end : goal.slice_bounds-put_item-end
-slice_bounds-put_item-end g c =
-    let enough : CAPACITY * c.args.number + CAPACITY ≤ length c.deref_mut.result.now =
-    enough g (goal.at.slice_bounds-put_item-end g c).After-deref_mut in
-    search rules
 
 pub put_item-requires-clause-held : goal.put_item-requires-clause-held
 put_item-requires-clause-held g c =

@@ -72,10 +72,10 @@ invariant_of-self g c =
     (omega (arith, written.len, s.cells.ok)) in
     (rw (c.deref_mut.ensures.value, cells_are) written.rows, c.self.invariant.1)
 
-pub returns-clause-rest : goal.returns-clause-rest
-returns-clause-rest g c =
+pub returns : goal.returns
+returns g c =
     let s = c.self.inside in
-    let a = (goal.at.returns-clause-rest g c).After-deref_mut in
+    let a = (goal.at.returns g c).After-deref_mut in
     let start = CAPACITY * c.args.number in
     let written = part_written c.self.invariant.0 (less g a) (start + CAPACITY - start)
     (omega arith)
@@ -83,10 +83,9 @@ returns-clause-rest g c =
     let cells_are = with_items_is s.cells
     (put_mid start (start + CAPACITY - start) s.cells.items c.take_item.new.row)
     (omega (arith, written.len, s.cells.ok)) in
-    rw (← c.self.view_is, c.deref_mut.ensures.value, cells_are) written.is
-
-pub returns-clause-item : goal.returns-clause-item
-returns-clause-item g c =
-    let same = same g (goal.at.returns-clause-item g c).After-deref_mut in
-    rw (← c.self.view_is)
-    (c.take_item.ensures.item ∙ ap (λ xs. get_or xs c.args.index c.take_item.result) same)
+    let same = same g a in
+    record {
+      rest = rw (← c.self.view_is, c.deref_mut.ensures.value, cells_are) written.is;
+      item = rw (← c.self.view_is)
+          (c.take_item.ensures.item ∙ ap (λ xs. get_or xs c.args.index c.take_item.result) same);
+    }
