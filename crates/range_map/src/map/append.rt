@@ -120,10 +120,11 @@ fn is_one_with_last<K: PartialEnum, V: Eq + Drop>(
 }
 
 /// Puts an item after the others of a list, or makes it one with the last of them where they are to
-/// be one.
+/// be one. A list that has no capacity for the item gets it for so many more.
 pub(crate) fn push<K: PartialEnum, V: Eq + Drop>(
     items: &mut Vec<Item<AnyRange<K>, V>>,
     item: Item<AnyRange<K>, V>,
+    more: usize,
 ) -> Result<(), AllocError>
     ensures { OnOk result
         (items.new.items ≡ appended K.order V.eq items.old.items (item ∷ [])) }
@@ -133,6 +134,7 @@ pub(crate) fn push<K: PartialEnum, V: Eq + Drop>(
         end_last_at(items, range.end);
         return Ok(());
     }
+    items.reserve(more.saturating_add(1))?;
     items.push(item)?;
     Ok(())
 }

@@ -96,7 +96,7 @@ fn build<K: Measure, V: Eq + Drop, C: Storage<Item<AnyRange<K>, V>>, R: IntoRang
             key: range.into_range(),
             value,
         };
-        push(&mut items, item)?;
+        push(&mut items, item, 0)?;
     }
     map_of(alloc, items)
 }

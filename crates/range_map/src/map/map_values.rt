@@ -72,8 +72,7 @@ fn answers_to<
     let mut items = map.iter();
     while let Some(part) = next_part(&mut items) {
         let item = answered(part, f)?;
-        answers.reserve(items.len().saturating_add(1))?;
-        push(&mut answers, item)?;
+        push(&mut answers, item, items.len())?;
     }
     Ok(map_of(map.alloc, answers)?)
 }

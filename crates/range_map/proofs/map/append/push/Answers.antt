@@ -13,6 +13,6 @@ returns-then-is_one_with_last g c =
 
 pub returns : goal.returns
 returns g c =
-    c.in_ok-push.ensures.items
+    (rw c.reserve.ensures.items at c.in_ok-push.ensures.items)
     ∙ pushed_apart g.K.MaybeBounded.order g.V.PartialEq.eq c.args.items.now.items c.args.item
     (c.if-is_one_with_last.ensures.apart refl)

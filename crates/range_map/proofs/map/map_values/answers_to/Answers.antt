@@ -40,7 +40,7 @@ loop-part-preserved g c =
     clones_tied g.met.K.MaybeBounded.order_is_cmp g.met.K.Ord.matches_eq c.requires.keys in
     record {
       mapped =
-          rw (c.in_ok-push.ensures, c.reserve.ensures.items) (mapped_more order g.F.Fn
+          rw c.in_ok-push.ensures (mapped_more order g.F.Fn
           c.args.f.now g.W.PartialEq.eq _ g.met.K.PartialEnum.lawful g.met.W.Eq.laws (part_item c.in-Some.part)
           c.next_part.new.items c.loop-part.answers.items c.in_ok-item.item
           g.K.Clone.is_clone equal_keys c.in_ok-item.ensures.range
@@ -72,21 +72,6 @@ returns-in_err-item g c =
             said.0,
             next_answered g.K.MaybeBounded.order g.F.Fn c.args.f.now g.W.PartialEq.eq _ was said.1,
           );
-    }
-
-pub returns-in_err-reserve : goal.returns-in_err-reserve
-returns-in_err-reserve g c =
-    let left = c.from_residual-in_err-reserve in
-    record {
-      answers = error_has_no_value _ left.result left.ensures.0;
-      form = error_has_no_value _ left.result left.ensures.0;
-      closure = λ e failed. absurd (memory_is_no_closure left.result e left.ensures.1 failed);
-      memory = λ failed. (
-        c.in_ok-item.item.value,
-        next_answered g.K.MaybeBounded.order g.F.Fn c.args.f.now g.W.PartialEq.eq _
-            (rw (← c.in-Some.ensures.items) at c.loop-part.invariant.mapped)
-            c.in_ok-item.ensures.value,
-      );
     }
 
 pub returns-in_err-push : goal.returns-in_err-push
