@@ -349,13 +349,14 @@ static inline brm_status brm_without(const brm_handle *map, const brm_handle *ke
     return found == BRM_DONE ? brm_clear(made) : found;
 }
 
-/* What is wrong with two sets, or BRM_DONE. `found` is what the first answers to `contains` of its kind: they may be one. */
+/* What is wrong with two sets that a call of one kind is given, or BRM_DONE. `found` is what `contains` of that kind answers
+ * of the first. */
 static inline brm_status brm_sets_asked(brm_status found, const brm_handle *set, const brm_handle *other) {
     if (!set->is_open || !other->is_open) return BRM_CLOSED;
     return found == BRM_NONE ? BRM_DONE : found;
 }
 
-/* The same of sets of which the handle `made` is opened on another. */
+/* The same where the call opens the handle `made`. */
 static inline brm_status brm_sets_put_together(brm_status found, const brm_handle *set, const brm_handle *other, const brm_handle *made) {
     return made->is_open ? BRM_OPEN : brm_sets_asked(found, set, other);
 }

@@ -76,9 +76,9 @@ impl Collection {
             (Collection::Unsigned(map), Collection::Unsigned(second)) => answer(map.equals(second)),
             (Collection::Signed(map), Collection::Signed(second)) => answer(map.equals(second)),
             (Collection::Set(set), Collection::Set(second)) => answer(set.equals(second)),
-            (Collection::SignedSet(set), Collection::SignedSet(second)) => answer(set.equals(
-                second,
-            )),
+            (Collection::SignedSet(set), Collection::SignedSet(second)) => {
+                answer(set.equals(second))
+            }
             (_, _) => OTHER_KIND,
         }
     }

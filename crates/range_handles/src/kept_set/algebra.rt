@@ -155,9 +155,9 @@ pub fn is_subset(collection: &Collection, other: &Collection) -> u32
 {
     match (collection, other) {
         (Collection::Set(first), Collection::Set(second)) => answer(first.is_subset(second)),
-        (Collection::SignedSet(first), Collection::SignedSet(second)) => answer(first.is_subset(
-            second,
-        )),
+        (Collection::SignedSet(first), Collection::SignedSet(second)) => {
+            answer(first.is_subset(second))
+        }
         (_, _) => OTHER_KIND,
     }
 }
@@ -173,9 +173,9 @@ pub fn is_disjoint(collection: &Collection, other: &Collection) -> u32
 {
     match (collection, other) {
         (Collection::Set(first), Collection::Set(second)) => answer(first.is_disjoint(second)),
-        (Collection::SignedSet(first), Collection::SignedSet(second)) => answer(first.is_disjoint(
-            second,
-        )),
+        (Collection::SignedSet(first), Collection::SignedSet(second)) => {
+            answer(first.is_disjoint(second))
+        }
         (_, _) => OTHER_KIND,
     }
 }
