@@ -10,9 +10,9 @@
 #include <stdint.h>
 
 #define BRM_VERSION_MAJOR 0
-#define BRM_VERSION_MINOR 3
-#define BRM_VERSION_PATCH 3
-#define BRM_VERSION "0.3.3"
+#define BRM_VERSION_MINOR 4
+#define BRM_VERSION_PATCH 0
+#define BRM_VERSION "0.4.0"
 
 #ifdef __cplusplus
 extern "C" {
@@ -208,6 +208,30 @@ brm_status brm_set_u64_gaps(const brm_handle *set, const brm_range_u64 *range, b
 /* Adds the keys of each of so many ranges, one after the other, and tells of how many, also with BRM_NO_MEMORY. */
 brm_status brm_set_u64_insert_many(brm_handle *set, const brm_range_u64 *ranges, size_t size, size_t *count);
 
+/* Sets of int64_t keys. */
+brm_status brm_set_i64_create(brm_handle *set);
+brm_status brm_set_i64_insert(brm_handle *set, const brm_range_i64 *range);
+brm_status brm_set_i64_remove(brm_handle *set, const brm_range_i64 *range);
+brm_status brm_set_i64_get(const brm_handle *set, int64_t key, brm_range_i64 *range);
+brm_status brm_set_i64_contains(const brm_handle *set, int64_t key);
+brm_status brm_set_i64_intersects(const brm_handle *set, const brm_range_i64 *range);
+brm_status brm_set_i64_len(const brm_handle *set, brm_key_count *count);
+brm_status brm_set_i64_first(const brm_handle *set, brm_range_i64 *range);
+brm_status brm_set_i64_last(const brm_handle *set, brm_range_i64 *range);
+brm_status brm_set_i64_next(const brm_handle *set, int64_t key, brm_range_i64 *range);
+brm_status brm_set_i64_previous(const brm_handle *set, int64_t key, brm_range_i64 *range);
+brm_status brm_set_i64_pop_first(brm_handle *set, brm_range_i64 *range);
+brm_status brm_set_i64_pop_last(brm_handle *set, brm_range_i64 *range);
+/* Write the stored ranges from the key on in ascending order, or those up to it in descending order, as many as the array
+ * takes. Fewer than that are written where there are no more. */
+brm_status brm_set_i64_read(const brm_handle *set, int64_t from, brm_range_i64 *entries, size_t capacity, size_t *count);
+brm_status brm_set_i64_read_back(const brm_handle *set, int64_t upto, brm_range_i64 *entries, size_t capacity, size_t *count);
+/* Write the stored ranges that meet the range, whole, or the parts of it that hold no key of the set, in the same way. */
+brm_status brm_set_i64_overlapping(const brm_handle *set, const brm_range_i64 *range, brm_range_i64 *entries, size_t capacity, size_t *count);
+brm_status brm_set_i64_gaps(const brm_handle *set, const brm_range_i64 *range, brm_range_i64 *ranges, size_t capacity, size_t *count);
+/* Adds the keys of each of so many ranges, one after the other, and tells of how many, also with BRM_NO_MEMORY. */
+brm_status brm_set_i64_insert_many(brm_handle *set, const brm_range_i64 *ranges, size_t size, size_t *count);
+
 /* The calls that the functions below are made of. They owe that no pointer is NULL, and that no handle is given twice. */
 void brm_raw_destroy(brm_handle *handle);
 brm_status brm_raw_clone(const brm_handle *handle, brm_handle *made);
@@ -221,13 +245,13 @@ brm_status brm_raw_map_i64_append(brm_handle *map, brm_handle *other);
 brm_status brm_raw_overlay(const brm_handle *map, const brm_handle *other, brm_handle *made);
 brm_status brm_raw_restrict(const brm_handle *map, const brm_handle *keys, brm_handle *made);
 brm_status brm_raw_without(const brm_handle *map, const brm_handle *keys, brm_handle *made);
-brm_status brm_raw_set_u64_union(const brm_handle *set, const brm_handle *other, brm_handle *made);
-brm_status brm_raw_set_u64_intersection(const brm_handle *set, const brm_handle *other, brm_handle *made);
-brm_status brm_raw_set_u64_difference(const brm_handle *set, const brm_handle *other, brm_handle *made);
-brm_status brm_raw_set_u64_symmetric_difference(const brm_handle *set, const brm_handle *other, brm_handle *made);
-brm_status brm_raw_set_u64_complement(const brm_handle *set, brm_handle *made);
-brm_status brm_raw_set_u64_is_subset(const brm_handle *set, const brm_handle *other);
-brm_status brm_raw_set_u64_is_disjoint(const brm_handle *set, const brm_handle *other);
+brm_status brm_raw_set_union(const brm_handle *set, const brm_handle *other, brm_handle *made);
+brm_status brm_raw_set_intersection(const brm_handle *set, const brm_handle *other, brm_handle *made);
+brm_status brm_raw_set_difference(const brm_handle *set, const brm_handle *other, brm_handle *made);
+brm_status brm_raw_set_symmetric_difference(const brm_handle *set, const brm_handle *other, brm_handle *made);
+brm_status brm_raw_set_complement(const brm_handle *set, brm_handle *made);
+brm_status brm_raw_set_is_subset(const brm_handle *set, const brm_handle *other);
+brm_status brm_raw_set_is_disjoint(const brm_handle *set, const brm_handle *other);
 
 /* Frees what any handle holds and closes it. Does nothing to a closed one, or to NULL. */
 static inline void brm_destroy(brm_handle *handle) {
@@ -309,7 +333,7 @@ static inline brm_status brm_overlay(const brm_handle *map, const brm_handle *ot
 }
 
 /* Open the closed handle `made` on a map of those bindings of the map whose keys the other has, or has not. The other is a
- * map of the same kind or, of uint64_t keys, a set. */
+ * map of the same kind, or a set of the same keys. */
 static inline brm_status brm_restrict(const brm_handle *map, const brm_handle *keys, brm_handle *made) {
     if (map == keys) return brm_overlay(map, keys, made);
     if (made->is_open) return BRM_OPEN;
@@ -325,57 +349,102 @@ static inline brm_status brm_without(const brm_handle *map, const brm_handle *ke
     return found == BRM_DONE ? brm_clear(made) : found;
 }
 
-/* What is wrong with a set that is given twice, or BRM_DONE. */
-static inline brm_status brm_twice(const brm_handle *set) {
-    brm_status found = brm_set_u64_contains(set, 0);
+/* What is wrong with two sets that a call of one kind is given, or BRM_DONE. `found` is what `contains` of that kind answers
+ * of the first. */
+static inline brm_status brm_sets_asked(brm_status found, const brm_handle *set, const brm_handle *other) {
+    if (!set->is_open || !other->is_open) return BRM_CLOSED;
     return found == BRM_NONE ? BRM_DONE : found;
 }
 
+/* The same where the call opens the handle `made`. */
+static inline brm_status brm_sets_put_together(brm_status found, const brm_handle *set, const brm_handle *other, const brm_handle *made) {
+    return made->is_open ? BRM_OPEN : brm_sets_asked(found, set, other);
+}
+
 /* Open the closed handle `made` on the keys of either set, of both, of the first alone, or of just one of them. The sets
- * may be one. */
+ * have keys of one kind, and may be one. */
 static inline brm_status brm_set_u64_union(const brm_handle *set, const brm_handle *other, brm_handle *made) {
-    if (made->is_open) return BRM_OPEN;
-    if (made == set || made == other) return BRM_CLOSED;
-    if (set != other) return brm_raw_set_u64_union(set, other, made);
-    brm_status found = brm_twice(set);
-    return found == BRM_DONE ? brm_raw_clone(set, made) : found;
+    brm_status status = brm_sets_put_together(brm_set_u64_contains(set, 0), set, other, made);
+    if (status != BRM_DONE) return status;
+    return set == other ? brm_raw_clone(set, made) : brm_raw_set_union(set, other, made);
 }
 
 static inline brm_status brm_set_u64_intersection(const brm_handle *set, const brm_handle *other, brm_handle *made) {
-    if (made->is_open) return BRM_OPEN;
-    if (made == set || made == other) return BRM_CLOSED;
-    return set == other ? brm_set_u64_union(set, other, made) : brm_raw_set_u64_intersection(set, other, made);
+    brm_status status = brm_sets_put_together(brm_set_u64_contains(set, 0), set, other, made);
+    if (status != BRM_DONE) return status;
+    return set == other ? brm_raw_clone(set, made) : brm_raw_set_intersection(set, other, made);
 }
 
 static inline brm_status brm_set_u64_difference(const brm_handle *set, const brm_handle *other, brm_handle *made) {
-    if (made->is_open) return BRM_OPEN;
-    if (made == set || made == other) return BRM_CLOSED;
-    if (set != other) return brm_raw_set_u64_difference(set, other, made);
-    brm_status found = brm_twice(set);
-    return found == BRM_DONE ? brm_set_u64_create(made) : found;
+    brm_status status = brm_sets_put_together(brm_set_u64_contains(set, 0), set, other, made);
+    if (status != BRM_DONE) return status;
+    return set == other ? brm_set_u64_create(made) : brm_raw_set_difference(set, other, made);
 }
 
 static inline brm_status brm_set_u64_symmetric_difference(const brm_handle *set, const brm_handle *other, brm_handle *made) {
-    if (made->is_open) return BRM_OPEN;
-    if (made == set || made == other) return BRM_CLOSED;
-    return set == other ? brm_set_u64_difference(set, other, made) : brm_raw_set_u64_symmetric_difference(set, other, made);
+    brm_status status = brm_sets_put_together(brm_set_u64_contains(set, 0), set, other, made);
+    if (status != BRM_DONE) return status;
+    return set == other ? brm_set_u64_create(made) : brm_raw_set_symmetric_difference(set, other, made);
 }
 
-/* Opens the closed handle `made` on the keys that the set does not hold. */
+static inline brm_status brm_set_i64_union(const brm_handle *set, const brm_handle *other, brm_handle *made) {
+    brm_status status = brm_sets_put_together(brm_set_i64_contains(set, 0), set, other, made);
+    if (status != BRM_DONE) return status;
+    return set == other ? brm_raw_clone(set, made) : brm_raw_set_union(set, other, made);
+}
+
+static inline brm_status brm_set_i64_intersection(const brm_handle *set, const brm_handle *other, brm_handle *made) {
+    brm_status status = brm_sets_put_together(brm_set_i64_contains(set, 0), set, other, made);
+    if (status != BRM_DONE) return status;
+    return set == other ? brm_raw_clone(set, made) : brm_raw_set_intersection(set, other, made);
+}
+
+static inline brm_status brm_set_i64_difference(const brm_handle *set, const brm_handle *other, brm_handle *made) {
+    brm_status status = brm_sets_put_together(brm_set_i64_contains(set, 0), set, other, made);
+    if (status != BRM_DONE) return status;
+    return set == other ? brm_set_i64_create(made) : brm_raw_set_difference(set, other, made);
+}
+
+static inline brm_status brm_set_i64_symmetric_difference(const brm_handle *set, const brm_handle *other, brm_handle *made) {
+    brm_status status = brm_sets_put_together(brm_set_i64_contains(set, 0), set, other, made);
+    if (status != BRM_DONE) return status;
+    return set == other ? brm_set_i64_create(made) : brm_raw_set_symmetric_difference(set, other, made);
+}
+
+/* Open the closed handle `made` on the keys that the set does not hold. */
 static inline brm_status brm_set_u64_complement(const brm_handle *set, brm_handle *made) {
-    if (made->is_open) return BRM_OPEN;
-    return made == set ? BRM_CLOSED : brm_raw_set_u64_complement(set, made);
+    brm_status status = brm_sets_put_together(brm_set_u64_contains(set, 0), set, set, made);
+    return status == BRM_DONE ? brm_raw_set_complement(set, made) : status;
+}
+
+static inline brm_status brm_set_i64_complement(const brm_handle *set, brm_handle *made) {
+    brm_status status = brm_sets_put_together(brm_set_i64_contains(set, 0), set, set, made);
+    return status == BRM_DONE ? brm_raw_set_complement(set, made) : status;
 }
 
 /* Whether each key of the set is in the other; whether no key is in both. */
 static inline brm_status brm_set_u64_is_subset(const brm_handle *set, const brm_handle *other) {
-    return set == other ? brm_twice(set) : brm_raw_set_u64_is_subset(set, other);
+    brm_status status = brm_sets_asked(brm_set_u64_contains(set, 0), set, other);
+    return status == BRM_DONE && set != other ? brm_raw_set_is_subset(set, other) : status;
 }
 
 static inline brm_status brm_set_u64_is_disjoint(const brm_handle *set, const brm_handle *other) {
-    if (set != other) return brm_raw_set_u64_is_disjoint(set, other);
-    brm_status found = brm_twice(set);
-    return found == BRM_DONE && brm_count(set) > 0 ? BRM_NONE : found;
+    brm_status status = brm_sets_asked(brm_set_u64_contains(set, 0), set, other);
+    if (status != BRM_DONE) return status;
+    if (set != other) return brm_raw_set_is_disjoint(set, other);
+    return brm_count(set) > 0 ? BRM_NONE : BRM_DONE;
+}
+
+static inline brm_status brm_set_i64_is_subset(const brm_handle *set, const brm_handle *other) {
+    brm_status status = brm_sets_asked(brm_set_i64_contains(set, 0), set, other);
+    return status == BRM_DONE && set != other ? brm_raw_set_is_subset(set, other) : status;
+}
+
+static inline brm_status brm_set_i64_is_disjoint(const brm_handle *set, const brm_handle *other) {
+    brm_status status = brm_sets_asked(brm_set_i64_contains(set, 0), set, other);
+    if (status != BRM_DONE) return status;
+    if (set != other) return brm_raw_set_is_disjoint(set, other);
+    return brm_count(set) > 0 ? BRM_NONE : BRM_DONE;
 }
 
 #ifdef __cplusplus

@@ -386,6 +386,209 @@ static void batches(void) {
     brm_destroy(&set);
 }
 
+static brm_handle signed_set_of(const brm_range_i64 *ranges, size_t count) {
+    brm_handle set = BRM_HANDLE_CLOSED;
+    EXPECT(brm_set_i64_create(&set) == BRM_DONE);
+    for (size_t i = 0; i < count; i++) EXPECT(brm_set_i64_insert(&set, &ranges[i]) == BRM_DONE);
+    return set;
+}
+
+static bool is_signed_range(brm_range_i64 r, int64_t start, int64_t end, uint32_t flags) {
+    return r.start == start && r.end == end && r.flags == flags;
+}
+
+static void signed_sets(void) {
+    brm_handle set = BRM_HANDLE_CLOSED;
+    brm_range_i64 r = {-20, -10, BRM_END_EXCLUDED}, hole = {-18, -17, 0}, none = {8, 3, 0}, found = {0, 0, 0};
+    brm_key_count n = {0, 0};
+    EXPECT(brm_set_i64_insert(&set, &r) == BRM_CLOSED && brm_set_i64_first(&set, &found) == BRM_CLOSED);
+    EXPECT(brm_set_i64_create(&set) == BRM_DONE && brm_set_i64_create(&set) == BRM_OPEN);
+    EXPECT(brm_set_i64_first(&set, &found) == BRM_NONE && brm_set_i64_last(&set, &found) == BRM_NONE);
+    EXPECT(brm_set_i64_insert(&set, &none) == BRM_DONE && brm_count(&set) == 0);
+    EXPECT(brm_set_i64_insert(&set, &r) == BRM_DONE && brm_count(&set) == 1);
+    EXPECT(brm_set_i64_get(&set, -15, &found) == BRM_DONE && is_signed_range(found, -20, -10, BRM_END_EXCLUDED));
+    EXPECT(brm_set_i64_get(&set, 15, &found) == BRM_NONE && found.start == -20);
+    EXPECT(brm_set_i64_contains(&set, -20) == BRM_DONE && brm_set_i64_contains(&set, -10) == BRM_NONE);
+    EXPECT(brm_set_i64_remove(&set, &none) == BRM_DONE && brm_count(&set) == 1);
+    EXPECT(brm_set_i64_remove(&set, &hole) == BRM_DONE && brm_count(&set) == 2);
+    EXPECT(brm_set_i64_intersects(&set, &hole) == BRM_NONE && brm_set_i64_intersects(&set, &r) == BRM_DONE);
+    EXPECT(brm_set_i64_intersects(&set, &none) == BRM_NONE);
+    EXPECT(brm_set_i64_len(&set, &n) == BRM_DONE && n.low == 8 && n.high == 0);
+    EXPECT(brm_set_i64_first(&set, &found) == BRM_DONE && is_signed_range(found, -20, -18, BRM_END_EXCLUDED));
+    EXPECT(brm_set_i64_last(&set, &found) == BRM_DONE);
+    EXPECT(is_signed_range(found, -17, -10, BRM_START_EXCLUDED | BRM_END_EXCLUDED));
+    EXPECT(brm_set_i64_next(&set, -19, &found) == BRM_DONE && found.start == -20);
+    EXPECT(brm_set_i64_next(&set, -18, &found) == BRM_DONE && found.start == -17);
+    EXPECT(brm_set_i64_next(&set, -10, &found) == BRM_NONE && found.start == -17);
+    EXPECT(brm_set_i64_previous(&set, -17, &found) == BRM_DONE && found.start == -20);
+    EXPECT(brm_set_i64_previous(&set, -16, &found) == BRM_DONE && found.start == -17);
+    EXPECT(brm_set_i64_previous(&set, -21, &found) == BRM_NONE && found.start == -17);
+    EXPECT(brm_set_i64_pop_first(&set, &found) == BRM_DONE && found.start == -20);
+    EXPECT(brm_set_i64_pop_last(&set, &found) == BRM_DONE && found.start == -17);
+    EXPECT(brm_set_i64_pop_first(&set, &found) == BRM_NONE && brm_set_i64_pop_last(&set, &found) == BRM_NONE);
+    EXPECT(found.start == -17 && brm_count(&set) == 0);
+    brm_destroy(&set);
+    granted = 0;
+    EXPECT(brm_set_i64_create(&set) == BRM_NO_MEMORY && !set.is_open);
+    granted = -1;
+}
+
+/* The least and the greatest of the signed keys, and all of them. */
+static void ends_of_signed_keys(void) {
+    brm_range_i64 ends[] = {{INT64_MIN, INT64_MIN, 0}, {INT64_MAX, INT64_MAX, 0}}, found = {0, 0, 0};
+    brm_range_i64 all = {5, -5, BRM_START_UNBOUNDED | BRM_END_UNBOUNDED}, below = {0, INT64_MIN, BRM_START_UNBOUNDED | BRM_END_EXCLUDED};
+    brm_handle set = signed_set_of(ends, 2);
+    brm_key_count n = {0, 0};
+    EXPECT(brm_set_i64_insert(&set, &below) == BRM_DONE && brm_count(&set) == 2);
+    EXPECT(brm_set_i64_contains(&set, INT64_MIN) == BRM_DONE && brm_set_i64_contains(&set, INT64_MAX) == BRM_DONE);
+    EXPECT(brm_set_i64_contains(&set, INT64_MIN + 1) == BRM_NONE && brm_set_i64_contains(&set, 0) == BRM_NONE);
+    EXPECT(brm_set_i64_previous(&set, INT64_MIN, &found) == BRM_DONE && found.start == INT64_MIN);
+    EXPECT(brm_set_i64_next(&set, INT64_MIN + 1, &found) == BRM_DONE && found.start == INT64_MAX);
+    EXPECT(brm_set_i64_previous(&set, INT64_MAX - 1, &found) == BRM_DONE && found.start == INT64_MIN);
+    EXPECT(brm_set_i64_next(&set, INT64_MAX, &found) == BRM_DONE && is_signed_range(found, INT64_MAX, INT64_MAX, 0));
+    EXPECT(brm_set_i64_insert(&set, &all) == BRM_DONE && brm_count(&set) == 1);
+    EXPECT(brm_set_i64_len(&set, &n) == BRM_DONE && n.high == 1 && n.low == 0);
+    EXPECT(brm_set_i64_remove(&set, &ends[0]) == BRM_DONE && brm_set_i64_remove(&set, &ends[1]) == BRM_DONE);
+    EXPECT(brm_set_i64_len(&set, &n) == BRM_DONE && n.high == 0 && n.low == UINT64_MAX - 1);
+    EXPECT(brm_set_i64_remove(&set, &all) == BRM_DONE && brm_count(&set) == 0);
+    brm_destroy(&set);
+}
+
+/* Each call on a set of signed keys that reads from an array, or writes to one. */
+static void signed_batches(void) {
+    enum { RANGES = 50, ROOM = 7 };
+    static brm_range_i64 apart[RANGES];
+    brm_handle set = BRM_HANDLE_CLOSED;
+    brm_range_i64 ranges[ROOM], within = {-17, 12, 0}, none = {8, 3, 0};
+    size_t n = 77;
+    memset(ranges, 0, sizeof ranges);
+    for (int64_t i = 0; i < RANGES; i++) apart[i] = (brm_range_i64){10 * i - 250, 10 * i - 245, BRM_END_EXCLUDED};
+    EXPECT(brm_set_i64_read(&set, 0, ranges, ROOM, &n) == BRM_CLOSED && brm_set_i64_read_back(&set, 0, ranges, ROOM, &n) == BRM_CLOSED);
+    EXPECT(brm_set_i64_insert_many(&set, apart, RANGES, &n) == BRM_CLOSED && n == 77);
+    EXPECT(brm_set_i64_create(&set) == BRM_DONE);
+    EXPECT(brm_set_i64_read(&set, INT64_MIN, ranges, ROOM, &n) == BRM_DONE && n == 0);
+    EXPECT(brm_set_i64_insert_many(&set, apart, 0, &n) == BRM_DONE && n == 0 && brm_count(&set) == 0);
+    EXPECT(brm_set_i64_insert_many(&set, apart, RANGES, &n) == BRM_DONE && n == RANGES && brm_count(&set) == RANGES);
+    EXPECT(brm_set_i64_read(&set, INT64_MIN, ranges, ROOM, &n) == BRM_DONE && n == ROOM);
+    for (size_t i = 0; i < ROOM; i++) EXPECT(is_signed_range(ranges[i], apart[i].start, apart[i].end, BRM_END_EXCLUDED));
+    EXPECT(brm_set_i64_read_back(&set, INT64_MAX, ranges, ROOM, &n) == BRM_DONE && n == ROOM);
+    for (size_t i = 0; i < ROOM; i++) EXPECT(ranges[i].start == apart[RANGES - 1 - i].start);
+    EXPECT(brm_set_i64_read(&set, 226, ranges, ROOM, &n) == BRM_DONE && n == 2 && ranges[0].start == 230 && ranges[1].start == 240);
+    EXPECT(brm_set_i64_read_back(&set, -240, ranges, ROOM, &n) == BRM_DONE && n == 2 && ranges[1].start == -250);
+    EXPECT(ranges[2].start == apart[RANGES - 3].start);
+    EXPECT(brm_set_i64_overlapping(&set, &within, ranges, ROOM, &n) == BRM_DONE && n == 4);
+    EXPECT(ranges[0].start == -20 && ranges[1].start == -10 && ranges[2].start == 0);
+    EXPECT(is_signed_range(ranges[3], 10, 15, BRM_END_EXCLUDED));
+    EXPECT(brm_set_i64_overlapping(&set, &none, ranges, ROOM, &n) == BRM_DONE && n == 0);
+    EXPECT(brm_set_i64_gaps(&set, &within, ranges, ROOM, &n) == BRM_DONE && n == 3);
+    EXPECT(is_signed_range(ranges[0], -15, -10, BRM_END_EXCLUDED) && ranges[1].start == -5 && ranges[1].end == 0 && ranges[2].start == 5 && ranges[2].end == 10);
+    EXPECT(brm_set_i64_gaps(&set, &none, ranges, ROOM, &n) == BRM_DONE && n == 0);
+    for (long wanted = 0;; wanted++) {
+        brm_handle made = signed_set_of(apart, 0);
+        granted = wanted;
+        brm_status status = brm_set_i64_insert_many(&made, apart, RANGES, &n);
+        granted = -1;
+        EXPECT(brm_count(&made) == n && (n == 0 || brm_set_i64_contains(&made, apart[n - 1].start) == BRM_DONE));
+        brm_destroy(&made);
+        if (status == BRM_DONE) break;
+        EXPECT(status == BRM_NO_MEMORY && n < RANGES);
+    }
+    EXPECT(n == RANGES);
+    brm_destroy(&set);
+}
+
+/* Compares each call on two sets of signed keys with what it makes of each key by itself; one may be given twice. */
+static void keys_of_two_signed_sets(void) {
+    brm_range_i64 some[] = {{-30, -20, 0}, {-5, 5, 0}, {20, 30, 0}}, more[] = {{-25, 0, 0}, {31, 31, 0}}, few[] = {{-4, 4, 0}};
+    brm_handle set = signed_set_of(some, 3), other = signed_set_of(more, 2), part = signed_set_of(few, 1), none = signed_set_of(few, 0);
+    brm_handle closed = BRM_HANDLE_CLOSED, made[6];
+    for (int i = 0; i < 6; i++) made[i] = BRM_HANDLE_CLOSED;
+    for (long wanted = 0;; wanted++) {
+        granted = wanted;
+        brm_status status = brm_set_i64_union(&set, &other, &made[0]);
+        granted = -1;
+        if (status == BRM_DONE) break;
+        EXPECT(status == BRM_NO_MEMORY && !made[0].is_open);
+    }
+    EXPECT(brm_set_i64_intersection(&set, &other, &made[1]) == BRM_DONE);
+    EXPECT(brm_set_i64_difference(&set, &other, &made[2]) == BRM_DONE);
+    EXPECT(brm_set_i64_difference(&other, &set, &made[3]) == BRM_DONE);
+    EXPECT(brm_set_i64_symmetric_difference(&set, &other, &made[4]) == BRM_DONE);
+    EXPECT(brm_set_i64_complement(&set, &made[5]) == BRM_DONE);
+    for (int64_t key = -40; key < 40; key++) {
+        bool first = brm_set_i64_contains(&set, key) == BRM_DONE, second = brm_set_i64_contains(&other, key) == BRM_DONE;
+        bool wanted[] = {first || second, first && second, first && !second, second && !first, first != second, !first};
+        for (int i = 0; i < 6; i++) EXPECT((brm_set_i64_contains(&made[i], key) == BRM_DONE) == wanted[i]);
+    }
+    EXPECT(brm_set_i64_contains(&made[5], INT64_MIN) == BRM_DONE && brm_set_i64_contains(&made[5], INT64_MAX) == BRM_DONE);
+    EXPECT(brm_set_i64_is_subset(&part, &set) == BRM_DONE && brm_set_i64_is_subset(&set, &part) == BRM_NONE);
+    EXPECT(brm_set_i64_is_disjoint(&set, &made[5]) == BRM_DONE && brm_set_i64_is_disjoint(&set, &part) == BRM_NONE);
+    EXPECT(brm_set_i64_is_subset(&set, &closed) == BRM_CLOSED && brm_set_i64_is_disjoint(&closed, &set) == BRM_CLOSED);
+    EXPECT(brm_set_i64_union(&set, &other, &made[0]) == BRM_OPEN && brm_set_i64_complement(&closed, &made[0]) == BRM_OPEN);
+    for (int i = 0; i < 6; i++) brm_destroy(&made[i]);
+    EXPECT(brm_set_i64_union(&set, &closed, &made[0]) == BRM_CLOSED && brm_set_i64_difference(&closed, &set, &made[0]) == BRM_CLOSED);
+    EXPECT(brm_set_i64_complement(&closed, &made[0]) == BRM_CLOSED && brm_set_i64_complement(&made[0], &made[0]) == BRM_CLOSED);
+    EXPECT(brm_set_i64_union(&set, &made[0], &made[0]) == BRM_CLOSED && brm_set_i64_union(&set, &other, &set) == BRM_OPEN);
+    EXPECT(brm_set_i64_union(&set, &set, &made[0]) == BRM_DONE && brm_equal(&set, &made[0]) == BRM_DONE);
+    EXPECT(brm_set_i64_intersection(&set, &set, &made[1]) == BRM_DONE && brm_equal(&set, &made[1]) == BRM_DONE);
+    EXPECT(brm_set_i64_difference(&set, &set, &made[2]) == BRM_DONE && brm_equal(&made[2], &none) == BRM_DONE);
+    EXPECT(brm_set_i64_symmetric_difference(&set, &set, &made[3]) == BRM_DONE && brm_equal(&made[3], &none) == BRM_DONE);
+    EXPECT(brm_set_i64_is_subset(&set, &set) == BRM_DONE && brm_set_i64_is_disjoint(&set, &set) == BRM_NONE);
+    EXPECT(brm_set_i64_is_disjoint(&none, &none) == BRM_DONE && brm_set_i64_is_subset(&closed, &closed) == BRM_CLOSED);
+    for (int i = 0; i < 4; i++) brm_destroy(&made[i]);
+    brm_destroy(&set);
+    brm_destroy(&other);
+    brm_destroy(&part);
+    brm_destroy(&none);
+}
+
+/* A set of one kind of keys is refused by each call on the other kind, and so are the two kinds together. */
+static void sets_of_two_kinds(void) {
+    brm_range_u64 r = through(3, 5), ranges[2] = {{0, 0, 0}, {0, 0, 0}};
+    brm_range_i64 q = {-5, -3, 0}, signed_ranges[2] = {{0, 0, 0}, {0, 0, 0}};
+    brm_handle set = set_of(&r, 1), keys = signed_set_of(&q, 1), made = BRM_HANDLE_CLOSED, map = BRM_HANDLE_CLOSED;
+    brm_key_count count = {7, 7};
+    size_t n = 77;
+    EXPECT(brm_map_i64_create(&map) == BRM_DONE && brm_map_i64_insert(&map, &q, 1) == BRM_DONE);
+    brm_handle *others[] = {&set, &map};
+    for (int i = 0; i < 2; i++) {
+        EXPECT(brm_set_i64_create(others[i]) == BRM_OPEN && brm_set_i64_contains(others[i], -4) == BRM_OTHER_KIND);
+        EXPECT(brm_set_i64_insert(others[i], &q) == BRM_OTHER_KIND && brm_set_i64_remove(others[i], &q) == BRM_OTHER_KIND);
+        EXPECT(brm_set_i64_get(others[i], -4, &q) == BRM_OTHER_KIND && brm_set_i64_intersects(others[i], &q) == BRM_OTHER_KIND);
+        EXPECT(brm_set_i64_first(others[i], &q) == BRM_OTHER_KIND && brm_set_i64_last(others[i], &q) == BRM_OTHER_KIND);
+        EXPECT(brm_set_i64_next(others[i], -9, &q) == BRM_OTHER_KIND && brm_set_i64_previous(others[i], 9, &q) == BRM_OTHER_KIND);
+        EXPECT(brm_set_i64_pop_first(others[i], &q) == BRM_OTHER_KIND && brm_set_i64_pop_last(others[i], &q) == BRM_OTHER_KIND);
+        EXPECT(brm_set_i64_len(others[i], &count) == BRM_OTHER_KIND && count.low == 7);
+        EXPECT(brm_set_i64_read(others[i], -9, signed_ranges, 2, &n) == BRM_OTHER_KIND);
+        EXPECT(brm_set_i64_read_back(others[i], 9, signed_ranges, 2, &n) == BRM_OTHER_KIND);
+        EXPECT(brm_set_i64_overlapping(others[i], &q, signed_ranges, 2, &n) == BRM_OTHER_KIND);
+        EXPECT(brm_set_i64_gaps(others[i], &q, signed_ranges, 2, &n) == BRM_OTHER_KIND);
+        EXPECT(brm_set_i64_insert_many(others[i], &q, 1, &n) == BRM_OTHER_KIND && n == 77 && brm_count(others[i]) == 1);
+    }
+    EXPECT(is_signed_range(q, -5, -3, 0) && signed_ranges[0].start == 0);
+    EXPECT(brm_set_u64_insert(&keys, &r) == BRM_OTHER_KIND && brm_set_u64_contains(&keys, 4) == BRM_OTHER_KIND);
+    EXPECT(brm_set_u64_read(&keys, 0, ranges, 2, &n) == BRM_OTHER_KIND && brm_map_i64_contains(&keys, -4) == BRM_OTHER_KIND);
+    EXPECT(brm_set_u64_union(&set, &keys, &made) == BRM_OTHER_KIND && brm_set_u64_union(&keys, &keys, &made) == BRM_OTHER_KIND);
+    EXPECT(brm_set_i64_union(&keys, &set, &made) == BRM_OTHER_KIND && brm_set_i64_union(&set, &set, &made) == BRM_OTHER_KIND);
+    EXPECT(brm_raw_set_union(&set, &keys, &made) == BRM_OTHER_KIND && brm_raw_set_union(&keys, &map, &made) == BRM_OTHER_KIND);
+    EXPECT(brm_set_i64_intersection(&keys, &set, &made) == BRM_OTHER_KIND && brm_set_u64_intersection(&keys, &set, &made) == BRM_OTHER_KIND);
+    EXPECT(brm_set_i64_difference(&set, &keys, &made) == BRM_OTHER_KIND && brm_set_u64_difference(&set, &keys, &made) == BRM_OTHER_KIND);
+    EXPECT(brm_set_i64_symmetric_difference(&map, &keys, &made) == BRM_OTHER_KIND);
+    EXPECT(brm_set_u64_symmetric_difference(&keys, &keys, &made) == BRM_OTHER_KIND);
+    EXPECT(brm_set_i64_complement(&set, &made) == BRM_OTHER_KIND && brm_set_u64_complement(&keys, &made) == BRM_OTHER_KIND);
+    EXPECT(brm_raw_set_complement(&map, &made) == BRM_OTHER_KIND && !made.is_open);
+    EXPECT(brm_set_i64_is_subset(&keys, &set) == BRM_OTHER_KIND && brm_set_u64_is_subset(&keys, &keys) == BRM_OTHER_KIND);
+    EXPECT(brm_set_i64_is_disjoint(&set, &keys) == BRM_OTHER_KIND && brm_set_u64_is_disjoint(&set, &keys) == BRM_OTHER_KIND);
+    EXPECT(brm_equal(&set, &keys) == BRM_OTHER_KIND && brm_equal(&keys, &map) == BRM_OTHER_KIND);
+    EXPECT(brm_clone(&keys, &made) == BRM_DONE && brm_equal(&made, &keys) == BRM_DONE);
+    EXPECT(brm_set_i64_pop_first(&made, &signed_ranges[0]) == BRM_DONE && is_signed_range(signed_ranges[0], -5, -3, 0));
+    EXPECT(brm_equal(&made, &keys) == BRM_NONE && brm_clear(&keys) == BRM_DONE && brm_equal(&made, &keys) == BRM_DONE);
+    brm_destroy(&made);
+    brm_destroy(&map);
+    brm_destroy(&keys);
+    brm_destroy(&set);
+}
+
 static void status_texts(void) {
     for (int i = BRM_DONE; i <= BRM_OUT_OF_ORDER; i++) EXPECT(strlen(brm_status_text((brm_status)i)) > 3);
     EXPECT(strcmp(brm_status_text(BRM_NO_ROOM), "the buffer is too short") == 0);
@@ -411,21 +614,27 @@ static void texts(void) {
                          "[[{\"Included\":7},\"Unbounded\"],2]],\"version\":2}";
     const char *of_signed = "{\"items\":[[[\"Unbounded\",{\"Included\":-3}],18446744073709551615]],\"version\":2}";
     const char *of_set = "[[{\"Included\":1},{\"Included\":18446744073709551615}]]";
-    brm_handle map = BRM_HANDLE_CLOSED, keys = BRM_HANDLE_CLOSED, set = BRM_HANDLE_CLOSED;
+    const char *of_signed_set = "[[{\"Included\":-9223372036854775808},{\"Excluded\":-1}],[{\"Included\":9223372036854775807},\"Unbounded\"]]";
+    brm_handle map = BRM_HANDLE_CLOSED, keys = BRM_HANDLE_CLOSED, set = BRM_HANDLE_CLOSED, signed_set = BRM_HANDLE_CLOSED;
     brm_entry_u64 e = {{0, 0, 0}, 0};
     size_t size = 7;
     uint8_t buffer[1] = {'x'};
     EXPECT(load(&map, of_map) == BRM_CLOSED);
     EXPECT(brm_save(&map, buffer, 1, &size) == BRM_CLOSED && size == 7);
     EXPECT(brm_map_u64_create(&map) == BRM_DONE && brm_map_i64_create(&keys) == BRM_DONE);
-    EXPECT(brm_set_u64_create(&set) == BRM_DONE);
+    EXPECT(brm_set_u64_create(&set) == BRM_DONE && brm_set_i64_create(&signed_set) == BRM_DONE);
     expect_text(&set, "[]");
+    expect_text(&signed_set, "[]");
     EXPECT(load(&map, of_map) == BRM_DONE && brm_count(&map) == 2);
     EXPECT(brm_map_u64_get(&map, 4, &e) == BRM_DONE && is_entry(e, upto(0, 5), 1));
     EXPECT(load(&keys, of_signed) == BRM_DONE && load(&set, of_set) == BRM_DONE);
     expect_text(&map, of_map);
     expect_text(&keys, of_signed);
     expect_text(&set, of_set);
+    EXPECT(load(&signed_set, of_signed_set) == BRM_DONE && brm_count(&signed_set) == 2);
+    expect_text(&signed_set, of_signed_set);
+    EXPECT(load(&signed_set, of_set) == BRM_NOT_READ && load(&set, of_signed_set) == BRM_NOT_READ);
+    brm_destroy(&signed_set);
     EXPECT(load(&map, "[") == BRM_NOT_JSON && load(&map, "") == BRM_NOT_JSON);
     EXPECT(load(&map, "[\"\xff\"]") == BRM_NOT_JSON);
     EXPECT(load(&map, of_signed) == BRM_NOT_READ && load(&map, of_set) == BRM_NOT_READ);
@@ -644,8 +853,9 @@ static void in_signed_ranges(void) {
 /* Maps of two maps, and of a map and a set; refused allocations leave no handle open. */
 static void maps_of_two(void) {
     brm_handle map = BRM_HANDLE_CLOSED, other = BRM_HANDLE_CLOSED, set = BRM_HANDLE_CLOSED, made = BRM_HANDLE_CLOSED;
-    brm_handle low = BRM_HANDLE_CLOSED, high = BRM_HANDLE_CLOSED;
+    brm_handle low = BRM_HANDLE_CLOSED, high = BRM_HANDLE_CLOSED, signed_set = BRM_HANDLE_CLOSED;
     brm_entry_u64 e = {{0, 0, 0}, 0};
+    brm_entry_i64 found = {{0, 0, 0}, 0};
     brm_key_count n = {0, 0};
     brm_range_u64 keys = upto(4, 8);
     brm_range_i64 below = {-8, -4, 0}, above = {-4, 8, 0};
@@ -686,6 +896,17 @@ static void maps_of_two(void) {
     brm_destroy(&made);
     EXPECT(brm_without(&low, &high, &made) == BRM_DONE && brm_map_i64_len(&made, &n) == BRM_DONE && n.low == 4);
     brm_destroy(&made);
+    signed_set = signed_set_of(&above, 1);
+    EXPECT(brm_restrict(&low, &signed_set, &made) == BRM_DONE && brm_map_i64_get(&made, -4, &found) == BRM_DONE);
+    EXPECT(brm_count(&made) == 1 && is_signed_range(found.range, -4, -4, 0) && found.value == 1);
+    brm_destroy(&made);
+    EXPECT(brm_without(&low, &signed_set, &made) == BRM_DONE && brm_map_i64_first(&made, &found) == BRM_DONE);
+    EXPECT(brm_count(&made) == 1 && is_signed_range(found.range, -8, -4, BRM_END_EXCLUDED) && found.value == 1);
+    brm_destroy(&made);
+    EXPECT(brm_restrict(&map, &signed_set, &made) == BRM_OTHER_KIND && brm_without(&map, &signed_set, &made) == BRM_OTHER_KIND);
+    EXPECT(brm_overlay(&low, &signed_set, &made) == BRM_OTHER_KIND && brm_without(&signed_set, &low, &made) == BRM_OTHER_KIND);
+    EXPECT(brm_restrict(&signed_set, &signed_set, &made) == BRM_OTHER_KIND && !made.is_open);
+    brm_destroy(&signed_set);
     EXPECT(brm_overlay(&low, &map, &made) == BRM_OTHER_KIND && brm_overlay(&map, &set, &made) == BRM_OTHER_KIND);
     EXPECT(brm_restrict(&low, &set, &made) == BRM_OTHER_KIND && brm_without(&set, &map, &made) == BRM_OTHER_KIND);
     EXPECT(brm_overlay(&set, &set, &made) == BRM_OTHER_KIND && brm_without(&set, &set, &made) == BRM_OTHER_KIND);
@@ -714,6 +935,11 @@ int main(void) {
     many_at_once();
     many_in_order();
     many_signed();
+    signed_sets();
+    ends_of_signed_keys();
+    signed_batches();
+    keys_of_two_signed_sets();
+    sets_of_two_kinds();
     maps_of_two();
     status_texts();
     texts();

@@ -1,4 +1,4 @@
-/* Several threads read one map of each kind of keys and one set at once, and each has maps of its own that move to it. Run
+/* Several threads read one map and one set of each kind of keys at once, and each has maps of its own that move to it. Run
  * under helgrind, which tells of a read beside a write that nothing orders. */
 #include "btree_range_map.h"
 
@@ -9,7 +9,7 @@
 enum { THREADS = 4, RANGES = 300 };
 
 typedef struct {
-    const brm_handle *shared, *shared_signed, *shared_keys;
+    const brm_handle *shared, *shared_signed, *shared_keys, *shared_signed_keys;
     brm_handle own, own_signed;
     unsigned long wrong;
 } job;
@@ -35,6 +35,13 @@ static void fill_keys(brm_handle *set, job *it) {
     for (uint64_t i = 0; i < RANGES; i++) {
         brm_range_u64 range = {10 * i, 10 * i + 5, BRM_END_EXCLUDED};
         it->wrong += brm_set_u64_insert(set, &range) != BRM_DONE;
+    }
+}
+
+static void fill_signed_keys(brm_handle *set, job *it) {
+    for (int64_t i = 0; i < RANGES; i++) {
+        brm_range_i64 range = {LEAST + 10 * i, LEAST + 10 * i + 5, BRM_END_EXCLUDED};
+        it->wrong += brm_set_i64_insert(set, &range) != BRM_DONE;
     }
 }
 
@@ -131,21 +138,62 @@ static void read_keys(const brm_handle *set, job *it) {
     it->wrong += brm_save(set, text, sizeof text, &size) != BRM_NO_ROOM;
 }
 
+/* The same of a set of signed keys. */
+static void read_signed_keys(const brm_handle *set, job *it) {
+    brm_range_i64 every = {0, 0, BRM_START_UNBOUNDED | BRM_END_UNBOUNDED};
+    brm_range_i64 range = {0, 0, 0}, ranges[10];
+    brm_key_count count = {0, 0};
+    uint8_t text[8];
+    size_t read = 0, size = 0;
+    for (int64_t i = 0; i < RANGES; i++) {
+        int64_t key = LEAST + 10 * i;
+        it->wrong += brm_set_i64_get(set, key + 4, &range) != BRM_DONE || range.start != key;
+        it->wrong += brm_set_i64_contains(set, key + 5) != BRM_NONE;
+        it->wrong += brm_set_i64_next(set, key, &range) != BRM_DONE || range.start != key;
+        it->wrong += brm_set_i64_previous(set, key, &range) != BRM_DONE || range.start != key;
+    }
+    it->wrong += brm_set_i64_intersects(set, &every) != BRM_DONE || brm_count(set) != RANGES;
+    it->wrong += brm_set_i64_len(set, &count) != BRM_DONE || count.low != 5 * RANGES;
+    it->wrong += brm_set_i64_first(set, &range) != BRM_DONE || brm_set_i64_last(set, &range) != BRM_DONE;
+    memset(ranges, 0, sizeof ranges);
+    it->wrong += brm_set_i64_read(set, LEAST, ranges, 10, &read) != BRM_DONE || ranges[9].start != LEAST + 90;
+    it->wrong += brm_set_i64_read_back(set, LEAST + 99, ranges, 10, &read) != BRM_DONE || ranges[9].start != LEAST;
+    it->wrong += brm_set_i64_overlapping(set, &every, ranges, 10, &read) != BRM_DONE || ranges[9].start != LEAST + 90;
+    it->wrong += brm_set_i64_gaps(set, &every, ranges, 10, &read) != BRM_DONE || ranges[9].start != LEAST + 85;
+    it->wrong += brm_save(set, text, sizeof text, &size) != BRM_NO_ROOM;
+}
+
+typedef brm_status of_one(const brm_handle *set, brm_handle *made);
 typedef brm_status of_two(const brm_handle *set, const brm_handle *other, brm_handle *made);
+typedef brm_status about_two(const brm_handle *set, const brm_handle *other);
+
+/* The calls on sets of one kind of keys that make a set of two or of one, or ask about two. */
+typedef struct {
+    of_two *made[4];
+    of_one *complement;
+    about_two *is_subset, *is_disjoint;
+} set_calls;
+
+static const set_calls UNSIGNED = {
+    {brm_set_u64_union, brm_set_u64_intersection, brm_set_u64_difference, brm_set_u64_symmetric_difference},
+    brm_set_u64_complement, brm_set_u64_is_subset, brm_set_u64_is_disjoint};
+
+static const set_calls SIGNED = {
+    {brm_set_i64_union, brm_set_i64_intersection, brm_set_i64_difference, brm_set_i64_symmetric_difference},
+    brm_set_i64_complement, brm_set_i64_is_subset, brm_set_i64_is_disjoint};
 
 /* Each call that makes a set of two that others read too, and each that asks about two. */
-static void put_together(const brm_handle *set, job *it) {
-    of_two *calls[] = {brm_set_u64_union, brm_set_u64_intersection, brm_set_u64_difference, brm_set_u64_symmetric_difference};
+static void put_together(const brm_handle *set, const set_calls *calls, size_t others, job *it) {
     size_t made[] = {RANGES, RANGES, 0, 0};
     brm_handle copy = BRM_HANDLE_CLOSED, result = BRM_HANDLE_CLOSED;
     it->wrong += brm_clone(set, &copy) != BRM_DONE || brm_equal(set, &copy) != BRM_DONE;
     for (size_t i = 0; i < 4; i++) {
-        it->wrong += calls[i](set, &copy, &result) != BRM_DONE || brm_count(&result) != made[i];
+        it->wrong += calls->made[i](set, &copy, &result) != BRM_DONE || brm_count(&result) != made[i];
         brm_destroy(&result);
     }
-    it->wrong += brm_set_u64_is_subset(set, &copy) != BRM_DONE || brm_set_u64_is_disjoint(set, &copy) != BRM_NONE;
+    it->wrong += calls->is_subset(set, &copy) != BRM_DONE || calls->is_disjoint(set, &copy) != BRM_NONE;
     brm_destroy(&copy);
-    it->wrong += brm_set_u64_complement(set, &result) != BRM_DONE || brm_count(&result) != RANGES;
+    it->wrong += calls->complement(set, &result) != BRM_DONE || brm_count(&result) != others;
     brm_destroy(&result);
 }
 
@@ -169,7 +217,9 @@ static void *work(void *given) {
     read_all(it->shared, it);
     read_signed(it->shared_signed, it);
     read_keys(it->shared_keys, it);
-    put_together(it->shared_keys, it);
+    read_signed_keys(it->shared_signed_keys, it);
+    put_together(it->shared_keys, &UNSIGNED, RANGES, it);
+    put_together(it->shared_signed_keys, &SIGNED, RANGES + 1, it);
     fill(&it->own, it);
     put_beside(it->shared, &it->own, it);
     fill_signed(&it->own_signed, it);
@@ -178,22 +228,29 @@ static void *work(void *given) {
     brm_destroy(&copy);
     it->wrong += brm_without(it->shared, it->shared_keys, &copy) != BRM_DONE || brm_count(&copy) != 0;
     brm_destroy(&copy);
+    it->wrong += brm_restrict(it->shared_signed, it->shared_signed_keys, &copy) != BRM_DONE || brm_count(&copy) != RANGES;
+    brm_destroy(&copy);
+    it->wrong += brm_without(it->shared_signed, it->shared_signed_keys, &copy) != BRM_DONE || brm_count(&copy) != 0;
+    brm_destroy(&copy);
     return NULL;
 }
 
 int main(void) {
-    brm_handle map = BRM_HANDLE_CLOSED, of_signed = BRM_HANDLE_CLOSED, set = BRM_HANDLE_CLOSED;
+    brm_handle map = BRM_HANDLE_CLOSED, of_signed = BRM_HANDLE_CLOSED;
+    brm_handle set = BRM_HANDLE_CLOSED, signed_set = BRM_HANDLE_CLOSED;
     pthread_t threads[THREADS];
-    job jobs[THREADS] = {{&map, &of_signed, &set, BRM_HANDLE_CLOSED, BRM_HANDLE_CLOSED, 0}};
+    job jobs[THREADS] = {{&map, &of_signed, &set, &signed_set, BRM_HANDLE_CLOSED, BRM_HANDLE_CLOSED, 0}};
     unsigned long wrong = brm_map_u64_create(&map) != BRM_DONE || brm_set_u64_create(&set) != BRM_DONE;
-    wrong += brm_map_i64_create(&of_signed) != BRM_DONE;
+    wrong += brm_map_i64_create(&of_signed) != BRM_DONE || brm_set_i64_create(&signed_set) != BRM_DONE;
     fill(&map, &jobs[0]);
     fill_signed(&of_signed, &jobs[0]);
     fill_keys(&set, &jobs[0]);
+    fill_signed_keys(&signed_set, &jobs[0]);
     for (int i = 0; i < THREADS; i++) {
         jobs[i].shared = &map;
         jobs[i].shared_signed = &of_signed;
         jobs[i].shared_keys = &set;
+        jobs[i].shared_signed_keys = &signed_set;
         wrong += brm_map_u64_create(&jobs[i].own) != BRM_DONE || brm_map_i64_create(&jobs[i].own_signed) != BRM_DONE;
         wrong += pthread_create(&threads[i], NULL, work, &jobs[i]) != 0;
     }
@@ -209,6 +266,7 @@ int main(void) {
     brm_destroy(&map);
     brm_destroy(&of_signed);
     brm_destroy(&set);
+    brm_destroy(&signed_set);
     printf("threads: %s\n", wrong ? "FAILED" : "passed");
     return wrong != 0;
 }

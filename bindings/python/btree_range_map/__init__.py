@@ -37,7 +37,7 @@ from ._keys import KEYS, Keys, Range
 from ._library import library as _calls
 
 __all__ = ["Connected", "NotLoaded", "Range", "RangeMap", "RangeSet"]
-__version__ = "0.3.3"
+__version__ = "0.4.0"
 
 V = TypeVar("V")
 

@@ -91,10 +91,12 @@ class Kind:
             for call in ("union", "intersection", "difference", "symmetric_difference"):
                 parameters[call] = [handle, handle, handle]
             parameters |= {"complement": [handle, handle], "is_subset": [handle, handle], "is_disjoint": [handle, handle]}
-        raw = {"union", "intersection", "difference", "symmetric_difference", "complement", "is_subset", "is_disjoint"}
-        raw |= {"split_off", "get_many"}
+        # the calls on sets of any keys, and those of one kind that stand under another name in the header
+        of_sets = {"union", "intersection", "difference", "symmetric_difference", "complement", "is_subset", "is_disjoint"}
+        raw = {"split_off", "get_many"}
         for call, kinds in parameters.items():
-            function = getattr(library, f"brm_{'raw_' if call in raw else ''}{name}_{call}")
+            of_kind = f"{'raw_' if call in raw else ''}{name}_{call}"
+            function = getattr(library, f"brm_raw_set_{call}" if call in of_sets else f"brm_{of_kind}")
             function.argtypes, function.restype = kinds, ctypes.c_uint32
             setattr(self, call, function)
 

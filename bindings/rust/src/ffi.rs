@@ -186,26 +186,25 @@ unsafe extern "C" {
     pub fn brm_raw_overlay(map: *const RawHandle, other: *const RawHandle, made: *mut RawHandle) -> u32;
     pub fn brm_raw_restrict(map: *const RawHandle, keys: *const RawHandle, made: *mut RawHandle) -> u32;
     pub fn brm_raw_without(map: *const RawHandle, keys: *const RawHandle, made: *mut RawHandle) -> u32;
-    pub fn brm_raw_set_u64_union(set: *const RawHandle, other: *const RawHandle, made: *mut RawHandle)
-    -> u32;
-    pub fn brm_raw_set_u64_intersection(
+    pub fn brm_raw_set_union(set: *const RawHandle, other: *const RawHandle, made: *mut RawHandle) -> u32;
+    pub fn brm_raw_set_intersection(
         set: *const RawHandle,
         other: *const RawHandle,
         made: *mut RawHandle,
     ) -> u32;
-    pub fn brm_raw_set_u64_difference(
+    pub fn brm_raw_set_difference(
         set: *const RawHandle,
         other: *const RawHandle,
         made: *mut RawHandle,
     ) -> u32;
-    pub fn brm_raw_set_u64_symmetric_difference(
+    pub fn brm_raw_set_symmetric_difference(
         set: *const RawHandle,
         other: *const RawHandle,
         made: *mut RawHandle,
     ) -> u32;
-    pub fn brm_raw_set_u64_complement(set: *const RawHandle, made: *mut RawHandle) -> u32;
-    pub fn brm_raw_set_u64_is_subset(set: *const RawHandle, other: *const RawHandle) -> u32;
-    pub fn brm_raw_set_u64_is_disjoint(set: *const RawHandle, other: *const RawHandle) -> u32;
+    pub fn brm_raw_set_complement(set: *const RawHandle, made: *mut RawHandle) -> u32;
+    pub fn brm_raw_set_is_subset(set: *const RawHandle, other: *const RawHandle) -> u32;
+    pub fn brm_raw_set_is_disjoint(set: *const RawHandle, other: *const RawHandle) -> u32;
 }
 
 /// `Ok` of a status that says that the call is done.

@@ -156,7 +156,7 @@ impl<K: Key> RangeSet<K> {
 
     /// A set of the keys that are in either set.
     pub fn union(&self, other: &RangeSet<K>) -> RangeSet<K> {
-        if std::ptr::eq(self, other) { self.clone() } else { self.with(other, ffi::brm_raw_set_u64_union) }
+        if std::ptr::eq(self, other) { self.clone() } else { self.with(other, ffi::brm_raw_set_union) }
     }
 
     /// A set of the keys that are in both sets.
@@ -164,7 +164,7 @@ impl<K: Key> RangeSet<K> {
         if std::ptr::eq(self, other) {
             self.clone()
         } else {
-            self.with(other, ffi::brm_raw_set_u64_intersection)
+            self.with(other, ffi::brm_raw_set_intersection)
         }
     }
 
@@ -173,7 +173,7 @@ impl<K: Key> RangeSet<K> {
         if std::ptr::eq(self, other) {
             RangeSet::new()
         } else {
-            self.with(other, ffi::brm_raw_set_u64_difference)
+            self.with(other, ffi::brm_raw_set_difference)
         }
     }
 
@@ -182,7 +182,7 @@ impl<K: Key> RangeSet<K> {
         if std::ptr::eq(self, other) {
             RangeSet::new()
         } else {
-            self.with(other, ffi::brm_raw_set_u64_symmetric_difference)
+            self.with(other, ffi::brm_raw_set_symmetric_difference)
         }
     }
 
@@ -201,7 +201,7 @@ impl<K: Key> RangeSet<K> {
     /// ```
     pub fn complement(&self) -> RangeSet<K> {
         let mut others: RangeSet<K> =
-            RangeSet::opened(|made| unsafe { ffi::brm_raw_set_u64_complement(self.handle.get(), made) })
+            RangeSet::opened(|made| unsafe { ffi::brm_raw_set_complement(self.handle.get(), made) })
                 .expect(NO_MEMORY);
         if !K::IS_NATIVE {
             // of keys that are fewer than those of the library
@@ -228,7 +228,7 @@ impl<K: Key> RangeSet<K> {
 
     /// Whether each key of this set is in the other.
     pub fn is_subset(&self, other: &RangeSet<K>) -> bool {
-        self.handle.answers(&other.handle, ffi::brm_raw_set_u64_is_subset, true)
+        self.handle.answers(&other.handle, ffi::brm_raw_set_is_subset, true)
     }
 
     /// Whether each key of the other set is in this one.
@@ -238,7 +238,7 @@ impl<K: Key> RangeSet<K> {
 
     /// Whether no key is in both sets.
     pub fn is_disjoint(&self, other: &RangeSet<K>) -> bool {
-        self.handle.answers(&other.handle, ffi::brm_raw_set_u64_is_disjoint, self.is_empty())
+        self.handle.answers(&other.handle, ffi::brm_raw_set_is_disjoint, self.is_empty())
     }
 }
 

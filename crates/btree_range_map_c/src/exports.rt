@@ -4,5 +4,6 @@ mod any;
 mod map_algebra;
 mod set_algebra;
 mod signed_map;
+mod signed_set;
 mod unsigned_map;
 mod unsigned_set;

@@ -120,3 +120,14 @@ impl Told<u64, ()> for Bounds {
         }
     }
 }
+
+impl Told<i64, ()> for SignedBounds {
+    ghost told = { signed_bounds_item };
+
+    fn item(&self) -> Item<AnyRange<i64>, ()> {
+        Item {
+            key: self.range(),
+            value: (),
+        }
+    }
+}

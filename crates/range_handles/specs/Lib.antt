@@ -5,4 +5,5 @@ pub mod Lending
 pub mod Lists
 pub mod MapKinds
 pub mod Seals
+pub mod SetKinds
 pub mod Texts

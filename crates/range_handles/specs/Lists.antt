@@ -29,3 +29,6 @@ SignedPieces = List (Item (AnyRange ℤ) (Option ℕ))
 -- ranges of a set
 abbrev pub KeyRanges : Type 0
 KeyRanges = List (Item (AnyRange ℕ) (Unit {0}))
+
+abbrev pub SignedKeyRanges : Type 0
+SignedKeyRanges = List (Item (AnyRange ℤ) (Unit {0}))

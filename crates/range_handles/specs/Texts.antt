@@ -8,9 +8,9 @@ use Rattle.btree_range_map.specs.JsonError.{JsonError}
 use Rattle.btree_range_map.specs.Keys.{unsigned_of, signed_of, unsigned_shape, signed_shape}
 use Rattle.btree_range_map.specs.MapFaults.{IsMapRead, IsMapFault}
 use Rattle.btree_range_map.specs.Shapes.{map_shape, set_shape}
-use Rattle.range_handles.specs.Lists.{Ranges, SignedRanges, KeyRanges, unsigned_keys, signed_keys}
+use Rattle.range_handles.specs.Lists.{Ranges, SignedRanges, KeyRanges, SignedKeyRanges, unsigned_keys, signed_keys}
 use Rattle.range_handles.specs.declared.collection.Collection.{Collection}
-use Rattle.range_handles.specs.declared.collection.Collection.TheVariants.{Unsigned, Signed, Set}
+use Rattle.range_handles.specs.declared.collection.Collection.TheVariants.{Unsigned, Signed, Set, SignedSet}
 
 -- a `u64`, and an `i64`, is read of the JSON value
 abbrev pub reads_unsigned : Data → Bool
@@ -35,10 +35,14 @@ signed_data items = map_shape signed_shape unsigned_shape items
 abbrev pub set_data : KeyRanges → Data
 set_data items = set_shape unsigned_shape items
 
+abbrev pub signed_set_data : SignedKeyRanges → Data
+signed_set_data items = set_shape signed_shape items
+
 abbrev pub data_of : Collection → Data
 data_of (Unsigned items) = unsigned_data items
 data_of (Signed items) = signed_data items
 data_of (Set items) = set_data items
+data_of (SignedSet items) = signed_set_data items
 
 -- what the JSON value is read as, and a fault for which it is not read
 abbrev pub IsUnsignedMapRead : Data → Ranges → Type 0
@@ -64,16 +68,24 @@ IsUnsignedSetRead d items = IsSetRead IsUnsignedRead unsigned_keys d items
 abbrev pub IsSetFault : Data → JsonError → Type 0
 IsSetFault d e = set_fault reads_unsigned d ≡ Some e
 
+abbrev pub IsSignedSetRead : Data → SignedKeyRanges → Type 0
+IsSignedSetRead d items = IsSetRead IsSignedRead signed_keys d items
+
+abbrev pub IsSignedSetFault : Data → JsonError → Type 0
+IsSignedSetFault d e = set_fault reads_signed d ≡ Some e
+
 abbrev pub IsDataRead : Data → Collection → Type 0
 IsDataRead d (Unsigned items) = IsUnsignedMapRead d items
 IsDataRead d (Signed items) = IsSignedMapRead d items
 IsDataRead d (Set items) = IsUnsignedSetRead d items
+IsDataRead d (SignedSet items) = IsSignedSetRead d items
 
 -- a fault of the value as one of the collection's kind
 abbrev pub IsDataFault : Collection → Data → JsonError → Type 0
 IsDataFault (Unsigned items) d e = IsUnsignedFault d e
 IsDataFault (Signed items) d e = IsSignedFault d e
 IsDataFault (Set items) d e = IsSetFault d e
+IsDataFault (SignedSet items) d e = IsSignedSetFault d e
 
 -- the text that what is held is saved as
 abbrev pub IsTextOf : Option Collection → List ℕ → Type 0

@@ -22,6 +22,7 @@ pub enum Collection {
     Unsigned(KeptMap<u64>),
     Signed(KeptMap<i64>),
     Set(KeptSet<u64>),
+    SignedSet(KeptSet<i64>),
 }
 
 impl Collection {
@@ -34,6 +35,7 @@ impl Collection {
             Collection::Unsigned(map) => map.range_count(),
             Collection::Signed(map) => map.range_count(),
             Collection::Set(set) => set.range_count(),
+            Collection::SignedSet(set) => set.range_count(),
         }
     }
 
@@ -45,6 +47,7 @@ impl Collection {
             Collection::Unsigned(map) => map.clear(),
             Collection::Signed(map) => map.clear(),
             Collection::Set(set) => set.clear(),
+            Collection::SignedSet(set) => set.clear(),
         }
     }
 
@@ -56,6 +59,7 @@ impl Collection {
             Collection::Unsigned(map) => Ok(Collection::Unsigned(map.copied()?)),
             Collection::Signed(map) => Ok(Collection::Signed(map.copied()?)),
             Collection::Set(set) => Ok(Collection::Set(set.copied()?)),
+            Collection::SignedSet(set) => Ok(Collection::SignedSet(set.copied()?)),
         }
     }
 
@@ -72,6 +76,9 @@ impl Collection {
             (Collection::Unsigned(map), Collection::Unsigned(second)) => answer(map.equals(second)),
             (Collection::Signed(map), Collection::Signed(second)) => answer(map.equals(second)),
             (Collection::Set(set), Collection::Set(second)) => answer(set.equals(second)),
+            (Collection::SignedSet(set), Collection::SignedSet(second)) => {
+                answer(set.equals(second))
+            }
             (_, _) => OTHER_KIND,
         }
     }
@@ -84,6 +91,7 @@ impl Collection {
             Collection::Unsigned(map) => map.text(alloc),
             Collection::Signed(map) => map.text(alloc),
             Collection::Set(set) => set.text(alloc),
+            Collection::SignedSet(set) => set.text(alloc),
         }
     }
 
@@ -98,6 +106,7 @@ impl Collection {
             Collection::Unsigned(_) => Ok(Collection::Unsigned(KeptMap::read(alloc, value)?)),
             Collection::Signed(_) => Ok(Collection::Signed(KeptMap::read(alloc, value)?)),
             Collection::Set(_) => Ok(Collection::Set(KeptSet::read(alloc, value)?)),
+            Collection::SignedSet(_) => Ok(Collection::SignedSet(KeptSet::read(alloc, value)?)),
         }
     }
 

@@ -4,10 +4,12 @@ ghost use Rattle.btree_range_map.specs.Faults.{IsSetRead, set_fault};
 ghost use Rattle.btree_range_map.specs.FreeRanges.{item_ranges};
 ghost use Rattle.btree_range_map.specs.Holding.{box_items};
 ghost use Rattle.btree_range_map.specs.JsonError.TheVariants.{Memory};
-ghost use Rattle.btree_range_map.specs.KeySets.{HoldAlike, HoldsAllAlso, HoldsAlso, HoldsWithout, IsLeastCount};
+ghost use Rattle.btree_range_map.specs.KeySets.{HoldAlike, HoldsAllAlso, HoldsAlso, HoldsTheOthers, HoldsWithout, IsLeastCount};
 ghost use Rattle.btree_range_map.specs.ListOrder.{IsCopyOf};
 ghost use Rattle.btree_range_map.specs.Range.{IsEmptyRange, ClonesAreEqual};
 ghost use Rattle.btree_range_map.specs.Shapes.{set_shape};
+ghost use Rattle.btree_range_map.specs.Together.{BindKeysOf, ShareNoKey};
+ghost use Rattle.btree_range_map.specs.TwoSets.{HoldsEither, HoldsBoth, HoldsFirstAlone, HoldsJustOne};
 ghost use Rattle.serde_json.specs.View.{view};
 ghost use Rattle.serde_json.specs.Written.{compact_text, has_float};
 ghost use Rattle.range_ffi.specs.Flags.{said_range};
@@ -19,7 +21,7 @@ use crate::reads;
 use btree_range_map::json::{Json, JsonError, set_from_json, set_to_json};
 use btree_range_map::range::traits::PartialEnum;
 use btree_range_map::storage::Item;
-use btree_range_map::{AnyRange, RangeMap, RangeSet};
+use btree_range_map::{AnyRange, MapError, RangeMap, RangeSet};
 use range_ffi::items::{Shown, Told};
 use range_ffi::status::{DONE, NO_MEMORY, NONE};
 use serde_json::Value;
@@ -92,6 +94,70 @@ impl<K: Key> KeptSet<K> {
         let first = self.as_map();
         let second = other.as_map();
         reads::equal(first, second)
+    }
+
+    /// A set of the keys that are in this set or in the other.
+    pub fn union(&self, other: &KeptSet<K>) -> Result<KeptSet<K>, MapError>
+        requires keys { ClonesAreEqual K.is_clone K.eq }
+        ensures { IfOk result (λ new. HoldsEither K.order self.now other.now new) }
+    {
+        Ok(KeptSet {
+            set: self.set.union(&other.set)?,
+        })
+    }
+
+    /// A set of the keys that are in this set and in the other.
+    pub fn intersection(&self, other: &KeptSet<K>) -> Result<KeptSet<K>, MapError>
+        requires keys { ClonesAreEqual K.is_clone K.eq }
+        ensures { IfOk result (λ new. HoldsBoth K.order self.now other.now new) }
+    {
+        Ok(KeptSet {
+            set: self.set.intersection(&other.set)?,
+        })
+    }
+
+    /// A set of the keys of this set that are not in the other.
+    pub fn difference(&self, other: &KeptSet<K>) -> Result<KeptSet<K>, MapError>
+        requires keys { ClonesAreEqual K.is_clone K.eq }
+        ensures { IfOk result (λ new. HoldsFirstAlone K.order self.now other.now new) }
+    {
+        Ok(KeptSet {
+            set: self.set.difference(&other.set)?,
+        })
+    }
+
+    /// A set of the keys that are in just one of the two sets.
+    pub fn symmetric_difference(&self, other: &KeptSet<K>) -> Result<KeptSet<K>, MapError>
+        requires keys { ClonesAreEqual K.is_clone K.eq }
+        ensures { IfOk result (λ new. HoldsJustOne K.order self.now other.now new) }
+    {
+        Ok(KeptSet {
+            set: self.set.symmetric_difference(&other.set)?,
+        })
+    }
+
+    /// A set of just the keys that are not in this set.
+    pub fn complement(&self) -> Result<KeptSet<K>, MapError>
+        requires keys { ClonesAreEqual K.is_clone K.eq }
+        ensures { IfOk result (λ new. HoldsTheOthers K.order self.now new) }
+    {
+        Ok(KeptSet {
+            set: self.set.complement()?,
+        })
+    }
+
+    /// Whether each key of this set is in the other.
+    pub fn is_subset(&self, other: &KeptSet<K>) -> bool
+        ensures { IsTrue result ↔ BindKeysOf K.order self.now other.now }
+    {
+        self.set.is_subset(&other.set)
+    }
+
+    /// Whether no key is in both sets.
+    pub fn is_disjoint(&self, other: &KeptSet<K>) -> bool
+        ensures { IsTrue result ↔ ShareNoKey K.order self.now other.now }
+    {
+        self.set.is_disjoint(&other.set)
     }
 
     /// Adds each key of the range.

@@ -17,7 +17,7 @@
 //!   `src/{kept_map,kept_set}.rt`, `proofs/Many.antt`; a map made at once of ranges in order:
 //!   `src/in_order.rt`, `proofs/InOrder.antt`; what is made of two maps in
 //!   `src/kept_map/together.rt`, `specs/MapKinds.antt`; what two sets are asked in
-//!   `src/kept_set/algebra.rt`
+//!   `src/kept_set/algebra.rt`, `specs/SetKinds.antt`
 //! - what a handle of any kind is saved as and loaded from: `src/collection.rt`,
 //!   `specs/Texts.antt`, `btree_range_map_c/src/exports/any.rt`; that such a text has no float in
 //!   `proofs/Floats.antt`

@@ -1,9 +1,6 @@
 //! The calls that make a map of two, or of a map and a set.
-ghost use Rattle.std.specs.Prelude.{◌≡◌, ◌≢◌, ◌⊎◌, true, false, nat_eq};
-ghost use Rattle.btree_range_map.specs.Overlays.{IsOverlaid, IsRestricted, IsWithout};
-ghost use Rattle.range_handles.specs.Held.{HoldsMap, HoldsSet, HoldsSignedMap, map_items, set_items, signed_items};
-ghost use Rattle.range_handles.specs.Lists.{unsigned_keys, signed_keys};
-ghost use Rattle.range_handles.specs.MapKinds.{AreMapAndKeys, AreMapsOfOneKind};
+ghost use Rattle.std.specs.Prelude.{◌≡◌, ◌≢◌, ◌⊎◌, true, false};
+ghost use Rattle.range_handles.specs.MapKinds.{AreMapAndKeys, AreMapsOfOneKind, IsOverlayOf, IsRemainderOf, IsRestrictionOf};
 
 use range_ffi::status::{CLOSED, DONE, NO_MEMORY, OPEN, OTHER_KIND};
 use range_handles::handle::Handle;
@@ -23,16 +20,8 @@ pub extern "C" fn brm_raw_overlay(
 ) -> u32
     ensures unchanged { (handle.new.seal.held ≡ handle.old.seal.held)
         × (other.new.seal.held ≡ other.old.seal.held) }
-    ensures unsigned { result ≡ DONE
-        → HoldsMap handle.old.seal.held → HoldsMap other.old.seal.held
-        → HoldsMap made.new.seal.held
-        × IsOverlaid unsigned_keys nat_eq (map_items handle.old.seal.held)
-        (map_items other.old.seal.held) (map_items made.new.seal.held) }
-    ensures signed { result ≡ DONE
-        → HoldsSignedMap handle.old.seal.held → HoldsSignedMap other.old.seal.held
-        → HoldsSignedMap made.new.seal.held
-        × IsOverlaid signed_keys nat_eq (signed_items handle.old.seal.held)
-        (signed_items other.old.seal.held) (signed_items made.new.seal.held) }
+    ensures made { result ≡ DONE
+        → IsOverlayOf handle.old.seal.held other.old.seal.held made.new.seal.held }
     ensures refused { result ≢ DONE → made.new.seal.held ≡ made.old.seal.held }
     ensures open { made.old.is_open ≡ true → result ≡ OPEN }
     ensures closed { made.old.is_open ≡ false
@@ -54,7 +43,7 @@ pub extern "C" fn brm_raw_overlay(
 }
 
 /// Opens a closed handle on a map of those bindings of the first map whose keys the other has too,
-/// a map of the same kind or, of `u64` keys, a set. Both stay as they are.
+/// a map of the same kind or a set of the same keys. Both stay as they are.
 ///
 /// Allocates its ranges, a list of them before, and one block more. Goes once over both.
 #[unsafe(no_mangle)]
@@ -66,21 +55,8 @@ pub extern "C" fn brm_raw_restrict(
 ) -> u32
     ensures unchanged { (handle.new.seal.held ≡ handle.old.seal.held)
         × (other.new.seal.held ≡ other.old.seal.held) }
-    ensures unsigned { result ≡ DONE
-        → HoldsMap handle.old.seal.held → HoldsMap other.old.seal.held
-        → HoldsMap made.new.seal.held
-        × IsRestricted unsigned_keys nat_eq (map_items handle.old.seal.held)
-        (map_items other.old.seal.held) (map_items made.new.seal.held) }
-    ensures signed { result ≡ DONE
-        → HoldsSignedMap handle.old.seal.held → HoldsSignedMap other.old.seal.held
-        → HoldsSignedMap made.new.seal.held
-        × IsRestricted signed_keys nat_eq (signed_items handle.old.seal.held)
-        (signed_items other.old.seal.held) (signed_items made.new.seal.held) }
-    ensures of_set { result ≡ DONE
-        → HoldsMap handle.old.seal.held → HoldsSet other.old.seal.held
-        → HoldsMap made.new.seal.held
-        × IsRestricted unsigned_keys nat_eq (map_items handle.old.seal.held)
-        (set_items other.old.seal.held) (map_items made.new.seal.held) }
+    ensures made { result ≡ DONE
+        → IsRestrictionOf handle.old.seal.held other.old.seal.held made.new.seal.held }
     ensures refused { result ≢ DONE → made.new.seal.held ≡ made.old.seal.held }
     ensures open { made.old.is_open ≡ true → result ≡ OPEN }
     ensures closed { made.old.is_open ≡ false
@@ -102,7 +78,7 @@ pub extern "C" fn brm_raw_restrict(
 }
 
 /// Opens a closed handle on a map of those bindings of the first map whose keys the other has not,
-/// a map of the same kind or, of `u64` keys, a set. Both stay as they are.
+/// a map of the same kind or a set of the same keys. Both stay as they are.
 ///
 /// Allocates its ranges, a list of them before, and one block more. Goes once over both.
 #[unsafe(no_mangle)]
@@ -114,21 +90,8 @@ pub extern "C" fn brm_raw_without(
 ) -> u32
     ensures unchanged { (handle.new.seal.held ≡ handle.old.seal.held)
         × (other.new.seal.held ≡ other.old.seal.held) }
-    ensures unsigned { result ≡ DONE
-        → HoldsMap handle.old.seal.held → HoldsMap other.old.seal.held
-        → HoldsMap made.new.seal.held
-        × IsWithout unsigned_keys nat_eq (map_items handle.old.seal.held)
-        (map_items other.old.seal.held) (map_items made.new.seal.held) }
-    ensures signed { result ≡ DONE
-        → HoldsSignedMap handle.old.seal.held → HoldsSignedMap other.old.seal.held
-        → HoldsSignedMap made.new.seal.held
-        × IsWithout signed_keys nat_eq (signed_items handle.old.seal.held)
-        (signed_items other.old.seal.held) (signed_items made.new.seal.held) }
-    ensures of_set { result ≡ DONE
-        → HoldsMap handle.old.seal.held → HoldsSet other.old.seal.held
-        → HoldsMap made.new.seal.held
-        × IsWithout unsigned_keys nat_eq (map_items handle.old.seal.held)
-        (set_items other.old.seal.held) (map_items made.new.seal.held) }
+    ensures made { result ≡ DONE
+        → IsRemainderOf handle.old.seal.held other.old.seal.held made.new.seal.held }
     ensures refused { result ≢ DONE → made.new.seal.held ≡ made.old.seal.held }
     ensures open { made.old.is_open ≡ true → result ≡ OPEN }
     ensures closed { made.old.is_open ≡ false

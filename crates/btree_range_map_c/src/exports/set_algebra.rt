@@ -1,10 +1,6 @@
-//! The calls on two sets of `u64` keys, and the complement of one.
+//! The calls on two sets of one kind of keys, and the complement of one.
 ghost use Rattle.std.specs.Prelude.{◌≡◌, ◌≢◌, ◌⊎◌, true, false};
-ghost use Rattle.btree_range_map.specs.KeySets.{HoldsTheOthers};
-ghost use Rattle.btree_range_map.specs.Together.{BindKeysOf, ShareNoKey};
-ghost use Rattle.btree_range_map.specs.TwoSets.{HoldsEither, HoldsBoth, HoldsFirstAlone, HoldsJustOne};
-ghost use Rattle.range_handles.specs.Held.{HoldsSet, set_items};
-ghost use Rattle.range_handles.specs.Lists.{unsigned_keys};
+ghost use Rattle.range_handles.specs.SetKinds.{AreDisjoint, AreSetsOfOneKind, HoldsAnySet, IsComplementOf, IsDifferenceOf, IsIntersectionOf, IsSubsetOf, IsSymmetricDifferenceOf, IsUnionOf};
 
 use range_ffi::status::{CLOSED, DONE, NO_MEMORY, NONE, OPEN, OTHER_KIND};
 use range_handles::handle::Handle;
@@ -15,7 +11,7 @@ use std::alloc::Global;
 ///
 /// Allocates its ranges, a list of them before, and one block more. Goes once over both sets.
 #[unsafe(no_mangle)]
-pub extern "C" fn brm_raw_set_u64_union(
+pub extern "C" fn brm_raw_set_union(
     alloc: Global,
     handle: &mut Handle,
     other: &mut Handle,
@@ -23,20 +19,18 @@ pub extern "C" fn brm_raw_set_u64_union(
 ) -> u32
     ensures unchanged { (handle.new.seal.held ≡ handle.old.seal.held)
         × (other.new.seal.held ≡ other.old.seal.held) }
-    ensures made { result ≡ DONE → HoldsSet made.new.seal.held × HoldsEither unsigned_keys
-        (set_items handle.old.seal.held) (set_items other.old.seal.held)
-        (set_items made.new.seal.held) }
+    ensures made { result ≡ DONE
+        → IsUnionOf handle.old.seal.held other.old.seal.held made.new.seal.held }
     ensures refused { result ≢ DONE → made.new.seal.held ≡ made.old.seal.held }
     ensures open { made.old.is_open ≡ true → result ≡ OPEN }
     ensures closed { made.old.is_open ≡ false
         → (handle.old.is_open ≡ false) ⊎ (other.old.is_open ≡ false) → result ≡ CLOSED }
     ensures answer { made.old.is_open ≡ false
-        → HoldsSet handle.old.seal.held → HoldsSet other.old.seal.held
+        → AreSetsOfOneKind handle.old.seal.held other.old.seal.held
         → (result ≡ DONE) ⊎ (result ≡ NO_MEMORY) }
     ensures other { made.old.is_open ≡ false
         → handle.old.is_open ≡ true → other.old.is_open ≡ true
-        → (¬ HoldsSet handle.old.seal.held) ⊎ (¬ HoldsSet other.old.seal.held)
-        → result ≡ OTHER_KIND }
+        → (¬ AreSetsOfOneKind handle.old.seal.held other.old.seal.held) → result ≡ OTHER_KIND }
 {
     if made.is_open {
         return OPEN;
@@ -51,7 +45,7 @@ pub extern "C" fn brm_raw_set_u64_union(
 ///
 /// Allocates its ranges, a list of them before, and one block more. Goes once over both sets.
 #[unsafe(no_mangle)]
-pub extern "C" fn brm_raw_set_u64_intersection(
+pub extern "C" fn brm_raw_set_intersection(
     alloc: Global,
     handle: &mut Handle,
     other: &mut Handle,
@@ -59,20 +53,18 @@ pub extern "C" fn brm_raw_set_u64_intersection(
 ) -> u32
     ensures unchanged { (handle.new.seal.held ≡ handle.old.seal.held)
         × (other.new.seal.held ≡ other.old.seal.held) }
-    ensures made { result ≡ DONE → HoldsSet made.new.seal.held × HoldsBoth unsigned_keys
-        (set_items handle.old.seal.held) (set_items other.old.seal.held)
-        (set_items made.new.seal.held) }
+    ensures made { result ≡ DONE
+        → IsIntersectionOf handle.old.seal.held other.old.seal.held made.new.seal.held }
     ensures refused { result ≢ DONE → made.new.seal.held ≡ made.old.seal.held }
     ensures open { made.old.is_open ≡ true → result ≡ OPEN }
     ensures closed { made.old.is_open ≡ false
         → (handle.old.is_open ≡ false) ⊎ (other.old.is_open ≡ false) → result ≡ CLOSED }
     ensures answer { made.old.is_open ≡ false
-        → HoldsSet handle.old.seal.held → HoldsSet other.old.seal.held
+        → AreSetsOfOneKind handle.old.seal.held other.old.seal.held
         → (result ≡ DONE) ⊎ (result ≡ NO_MEMORY) }
     ensures other { made.old.is_open ≡ false
         → handle.old.is_open ≡ true → other.old.is_open ≡ true
-        → (¬ HoldsSet handle.old.seal.held) ⊎ (¬ HoldsSet other.old.seal.held)
-        → result ≡ OTHER_KIND }
+        → (¬ AreSetsOfOneKind handle.old.seal.held other.old.seal.held) → result ≡ OTHER_KIND }
 {
     if made.is_open {
         return OPEN;
@@ -88,7 +80,7 @@ pub extern "C" fn brm_raw_set_u64_intersection(
 ///
 /// Allocates its ranges, a list of them before, and one block more. Goes once over both sets.
 #[unsafe(no_mangle)]
-pub extern "C" fn brm_raw_set_u64_difference(
+pub extern "C" fn brm_raw_set_difference(
     alloc: Global,
     handle: &mut Handle,
     other: &mut Handle,
@@ -96,20 +88,18 @@ pub extern "C" fn brm_raw_set_u64_difference(
 ) -> u32
     ensures unchanged { (handle.new.seal.held ≡ handle.old.seal.held)
         × (other.new.seal.held ≡ other.old.seal.held) }
-    ensures made { result ≡ DONE → HoldsSet made.new.seal.held × HoldsFirstAlone unsigned_keys
-        (set_items handle.old.seal.held) (set_items other.old.seal.held)
-        (set_items made.new.seal.held) }
+    ensures made { result ≡ DONE
+        → IsDifferenceOf handle.old.seal.held other.old.seal.held made.new.seal.held }
     ensures refused { result ≢ DONE → made.new.seal.held ≡ made.old.seal.held }
     ensures open { made.old.is_open ≡ true → result ≡ OPEN }
     ensures closed { made.old.is_open ≡ false
         → (handle.old.is_open ≡ false) ⊎ (other.old.is_open ≡ false) → result ≡ CLOSED }
     ensures answer { made.old.is_open ≡ false
-        → HoldsSet handle.old.seal.held → HoldsSet other.old.seal.held
+        → AreSetsOfOneKind handle.old.seal.held other.old.seal.held
         → (result ≡ DONE) ⊎ (result ≡ NO_MEMORY) }
     ensures other { made.old.is_open ≡ false
         → handle.old.is_open ≡ true → other.old.is_open ≡ true
-        → (¬ HoldsSet handle.old.seal.held) ⊎ (¬ HoldsSet other.old.seal.held)
-        → result ≡ OTHER_KIND }
+        → (¬ AreSetsOfOneKind handle.old.seal.held other.old.seal.held) → result ≡ OTHER_KIND }
 {
     if made.is_open {
         return OPEN;
@@ -125,7 +115,7 @@ pub extern "C" fn brm_raw_set_u64_difference(
 ///
 /// Allocates its ranges, a list of them before, and one block more. Goes once over both sets.
 #[unsafe(no_mangle)]
-pub extern "C" fn brm_raw_set_u64_symmetric_difference(
+pub extern "C" fn brm_raw_set_symmetric_difference(
     alloc: Global,
     handle: &mut Handle,
     other: &mut Handle,
@@ -133,20 +123,18 @@ pub extern "C" fn brm_raw_set_u64_symmetric_difference(
 ) -> u32
     ensures unchanged { (handle.new.seal.held ≡ handle.old.seal.held)
         × (other.new.seal.held ≡ other.old.seal.held) }
-    ensures made { result ≡ DONE → HoldsSet made.new.seal.held × HoldsJustOne unsigned_keys
-        (set_items handle.old.seal.held) (set_items other.old.seal.held)
-        (set_items made.new.seal.held) }
+    ensures made { result ≡ DONE
+        → IsSymmetricDifferenceOf handle.old.seal.held other.old.seal.held made.new.seal.held }
     ensures refused { result ≢ DONE → made.new.seal.held ≡ made.old.seal.held }
     ensures open { made.old.is_open ≡ true → result ≡ OPEN }
     ensures closed { made.old.is_open ≡ false
         → (handle.old.is_open ≡ false) ⊎ (other.old.is_open ≡ false) → result ≡ CLOSED }
     ensures answer { made.old.is_open ≡ false
-        → HoldsSet handle.old.seal.held → HoldsSet other.old.seal.held
+        → AreSetsOfOneKind handle.old.seal.held other.old.seal.held
         → (result ≡ DONE) ⊎ (result ≡ NO_MEMORY) }
     ensures other { made.old.is_open ≡ false
         → handle.old.is_open ≡ true → other.old.is_open ≡ true
-        → (¬ HoldsSet handle.old.seal.held) ⊎ (¬ HoldsSet other.old.seal.held)
-        → result ≡ OTHER_KIND }
+        → (¬ AreSetsOfOneKind handle.old.seal.held other.old.seal.held) → result ≡ OTHER_KIND }
 {
     if made.is_open {
         return OPEN;
@@ -161,21 +149,20 @@ pub extern "C" fn brm_raw_set_u64_symmetric_difference(
 ///
 /// Allocates its ranges, and one block more. Goes once over the set.
 #[unsafe(no_mangle)]
-pub extern "C" fn brm_raw_set_u64_complement(
+pub extern "C" fn brm_raw_set_complement(
     alloc: Global,
     handle: &mut Handle,
     made: &mut Handle,
 ) -> u32
     ensures unchanged { handle.new.seal.held ≡ handle.old.seal.held }
-    ensures made { result ≡ DONE → HoldsSet made.new.seal.held × HoldsTheOthers unsigned_keys
-        (set_items handle.old.seal.held) (set_items made.new.seal.held) }
+    ensures made { result ≡ DONE → IsComplementOf handle.old.seal.held made.new.seal.held }
     ensures refused { result ≢ DONE → made.new.seal.held ≡ made.old.seal.held }
     ensures open { made.old.is_open ≡ true → result ≡ OPEN }
     ensures closed { made.old.is_open ≡ false → handle.old.is_open ≡ false → result ≡ CLOSED }
-    ensures answer { made.old.is_open ≡ false → HoldsSet handle.old.seal.held
+    ensures answer { made.old.is_open ≡ false → HoldsAnySet handle.old.seal.held
         → (result ≡ DONE) ⊎ (result ≡ NO_MEMORY) }
     ensures other { made.old.is_open ≡ false
-        → handle.old.is_open ≡ true → (¬ HoldsSet handle.old.seal.held) → result ≡ OTHER_KIND }
+        → handle.old.is_open ≡ true → (¬ HoldsAnySet handle.old.seal.held) → result ≡ OTHER_KIND }
 {
     if made.is_open {
         return OPEN;
@@ -190,20 +177,17 @@ pub extern "C" fn brm_raw_set_u64_complement(
 ///
 /// Goes once over both sets.
 #[unsafe(no_mangle)]
-pub extern "C" fn brm_raw_set_u64_is_subset(handle: &mut Handle, other: &mut Handle) -> u32
+pub extern "C" fn brm_raw_set_is_subset(handle: &mut Handle, other: &mut Handle) -> u32
     ensures unchanged { (handle.new.seal.held ≡ handle.old.seal.held)
         × (other.new.seal.held ≡ other.old.seal.held) }
-    ensures yes { result ≡ DONE → BindKeysOf unsigned_keys
-        (set_items handle.old.seal.held) (set_items other.old.seal.held) }
-    ensures no { result ≡ NONE → ¬ BindKeysOf unsigned_keys
-        (set_items handle.old.seal.held) (set_items other.old.seal.held) }
+    ensures yes { result ≡ DONE → IsSubsetOf handle.old.seal.held other.old.seal.held }
+    ensures no { result ≡ NONE → ¬ IsSubsetOf handle.old.seal.held other.old.seal.held }
     ensures closed { (handle.old.is_open ≡ false) ⊎ (other.old.is_open ≡ false)
         → result ≡ CLOSED }
-    ensures answer { HoldsSet handle.old.seal.held → HoldsSet other.old.seal.held
+    ensures answer { AreSetsOfOneKind handle.old.seal.held other.old.seal.held
         → (result ≡ DONE) ⊎ (result ≡ NONE) }
     ensures other { handle.old.is_open ≡ true → other.old.is_open ≡ true
-        → (¬ HoldsSet handle.old.seal.held) ⊎ (¬ HoldsSet other.old.seal.held)
-        → result ≡ OTHER_KIND }
+        → (¬ AreSetsOfOneKind handle.old.seal.held other.old.seal.held) → result ≡ OTHER_KIND }
 {
     if !handle.is_open || !other.is_open {
         return CLOSED;
@@ -215,20 +199,17 @@ pub extern "C" fn brm_raw_set_u64_is_subset(handle: &mut Handle, other: &mut Han
 ///
 /// Goes once over both sets.
 #[unsafe(no_mangle)]
-pub extern "C" fn brm_raw_set_u64_is_disjoint(handle: &mut Handle, other: &mut Handle) -> u32
+pub extern "C" fn brm_raw_set_is_disjoint(handle: &mut Handle, other: &mut Handle) -> u32
     ensures unchanged { (handle.new.seal.held ≡ handle.old.seal.held)
         × (other.new.seal.held ≡ other.old.seal.held) }
-    ensures yes { result ≡ DONE → ShareNoKey unsigned_keys
-        (set_items handle.old.seal.held) (set_items other.old.seal.held) }
-    ensures no { result ≡ NONE → ¬ ShareNoKey unsigned_keys
-        (set_items handle.old.seal.held) (set_items other.old.seal.held) }
+    ensures yes { result ≡ DONE → AreDisjoint handle.old.seal.held other.old.seal.held }
+    ensures no { result ≡ NONE → ¬ AreDisjoint handle.old.seal.held other.old.seal.held }
     ensures closed { (handle.old.is_open ≡ false) ⊎ (other.old.is_open ≡ false)
         → result ≡ CLOSED }
-    ensures answer { HoldsSet handle.old.seal.held → HoldsSet other.old.seal.held
+    ensures answer { AreSetsOfOneKind handle.old.seal.held other.old.seal.held
         → (result ≡ DONE) ⊎ (result ≡ NONE) }
     ensures other { handle.old.is_open ≡ true → other.old.is_open ≡ true
-        → (¬ HoldsSet handle.old.seal.held) ⊎ (¬ HoldsSet other.old.seal.held)
-        → result ≡ OTHER_KIND }
+        → (¬ AreSetsOfOneKind handle.old.seal.held other.old.seal.held) → result ≡ OTHER_KIND }
 {
     if !handle.is_open || !other.is_open {
         return CLOSED;

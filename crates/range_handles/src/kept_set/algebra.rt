@@ -1,32 +1,30 @@
-//! The calls on two sets, and the complement of one.
+//! The calls on two sets of one kind of keys, and the complement of one.
 ghost use Rattle.std.specs.Prelude.{◌≡◌, ◌≢◌, ◌⊎◌, Some};
-ghost use Rattle.btree_range_map.specs.KeySets.{HoldsTheOthers};
-ghost use Rattle.btree_range_map.specs.Together.{BindKeysOf, ShareNoKey};
-ghost use Rattle.btree_range_map.specs.TwoSets.{HoldsEither, HoldsBoth, HoldsFirstAlone, HoldsJustOne};
-ghost use Rattle.range_handles.specs.Held.{HoldsSet, set_items};
-ghost use Rattle.range_handles.specs.Lists.{unsigned_keys};
+ghost use Rattle.range_handles.specs.SetKinds.{AreDisjoint, AreSetsOfOneKind, HoldsAnySet, IsComplementOf, IsDifferenceOf, IsIntersectionOf, IsSubsetOf, IsSymmetricDifferenceOf, IsUnionOf};
 
 use crate::collection::Collection;
 use crate::handle::Handle;
-use crate::kept_set::KeptSet;
 use range_ffi::status::{DONE, NO_MEMORY, NONE, OTHER_KIND, answer};
 use std::alloc::Global;
 
 /// Opens a closed handle on a set of the keys that are in either set.
 pub fn union(alloc: Global, collection: &Collection, other: &Collection, made: &mut Handle) -> u32
-    ensures made { result ≡ DONE → HoldsSet made.new.seal.held × HoldsEither unsigned_keys
-        (set_items (Some collection.now)) (set_items (Some other.now))
-        (set_items made.new.seal.held) }
+    ensures made { result ≡ DONE
+        → IsUnionOf (Some collection.now) (Some other.now) made.new.seal.held }
     ensures refused { result ≢ DONE → made.new.seal.held ≡ made.old.seal.held }
-    ensures answer { HoldsSet (Some collection.now) → HoldsSet (Some other.now)
+    ensures answer { AreSetsOfOneKind (Some collection.now) (Some other.now)
         → (result ≡ DONE) ⊎ (result ≡ NO_MEMORY) }
-    ensures other { (¬ HoldsSet (Some collection.now)) ⊎ (¬ HoldsSet (Some other.now))
+    ensures other { (¬ AreSetsOfOneKind (Some collection.now) (Some other.now))
         → result ≡ OTHER_KIND }
 {
     match (collection, other) {
-        (Collection::Set(first), Collection::Set(second)) => {
-            match first.set.union(&second.set) {
-                Ok(set) => made.fill(alloc, Collection::Set(KeptSet { set })),
+        (Collection::Set(first), Collection::Set(second)) => match first.union(second) {
+            Ok(set) => made.fill(alloc, Collection::Set(set)),
+            Err(_) => NO_MEMORY,
+        },
+        (Collection::SignedSet(first), Collection::SignedSet(second)) => {
+            match first.union(second) {
+                Ok(set) => made.fill(alloc, Collection::SignedSet(set)),
                 Err(_) => NO_MEMORY,
             }
         }
@@ -41,19 +39,22 @@ pub fn intersection(
     other: &Collection,
     made: &mut Handle,
 ) -> u32
-    ensures made { result ≡ DONE → HoldsSet made.new.seal.held × HoldsBoth unsigned_keys
-        (set_items (Some collection.now)) (set_items (Some other.now))
-        (set_items made.new.seal.held) }
+    ensures made { result ≡ DONE
+        → IsIntersectionOf (Some collection.now) (Some other.now) made.new.seal.held }
     ensures refused { result ≢ DONE → made.new.seal.held ≡ made.old.seal.held }
-    ensures answer { HoldsSet (Some collection.now) → HoldsSet (Some other.now)
+    ensures answer { AreSetsOfOneKind (Some collection.now) (Some other.now)
         → (result ≡ DONE) ⊎ (result ≡ NO_MEMORY) }
-    ensures other { (¬ HoldsSet (Some collection.now)) ⊎ (¬ HoldsSet (Some other.now))
+    ensures other { (¬ AreSetsOfOneKind (Some collection.now) (Some other.now))
         → result ≡ OTHER_KIND }
 {
     match (collection, other) {
-        (Collection::Set(first), Collection::Set(second)) => {
-            match first.set.intersection(&second.set) {
-                Ok(set) => made.fill(alloc, Collection::Set(KeptSet { set })),
+        (Collection::Set(first), Collection::Set(second)) => match first.intersection(second) {
+            Ok(set) => made.fill(alloc, Collection::Set(set)),
+            Err(_) => NO_MEMORY,
+        },
+        (Collection::SignedSet(first), Collection::SignedSet(second)) => {
+            match first.intersection(second) {
+                Ok(set) => made.fill(alloc, Collection::SignedSet(set)),
                 Err(_) => NO_MEMORY,
             }
         }
@@ -68,19 +69,22 @@ pub fn difference(
     other: &Collection,
     made: &mut Handle,
 ) -> u32
-    ensures made { result ≡ DONE → HoldsSet made.new.seal.held × HoldsFirstAlone unsigned_keys
-        (set_items (Some collection.now)) (set_items (Some other.now))
-        (set_items made.new.seal.held) }
+    ensures made { result ≡ DONE
+        → IsDifferenceOf (Some collection.now) (Some other.now) made.new.seal.held }
     ensures refused { result ≢ DONE → made.new.seal.held ≡ made.old.seal.held }
-    ensures answer { HoldsSet (Some collection.now) → HoldsSet (Some other.now)
+    ensures answer { AreSetsOfOneKind (Some collection.now) (Some other.now)
         → (result ≡ DONE) ⊎ (result ≡ NO_MEMORY) }
-    ensures other { (¬ HoldsSet (Some collection.now)) ⊎ (¬ HoldsSet (Some other.now))
+    ensures other { (¬ AreSetsOfOneKind (Some collection.now) (Some other.now))
         → result ≡ OTHER_KIND }
 {
     match (collection, other) {
-        (Collection::Set(first), Collection::Set(second)) => {
-            match first.set.difference(&second.set) {
-                Ok(set) => made.fill(alloc, Collection::Set(KeptSet { set })),
+        (Collection::Set(first), Collection::Set(second)) => match first.difference(second) {
+            Ok(set) => made.fill(alloc, Collection::Set(set)),
+            Err(_) => NO_MEMORY,
+        },
+        (Collection::SignedSet(first), Collection::SignedSet(second)) => {
+            match first.difference(second) {
+                Ok(set) => made.fill(alloc, Collection::SignedSet(set)),
                 Err(_) => NO_MEMORY,
             }
         }
@@ -95,19 +99,24 @@ pub fn symmetric_difference(
     other: &Collection,
     made: &mut Handle,
 ) -> u32
-    ensures made { result ≡ DONE → HoldsSet made.new.seal.held × HoldsJustOne unsigned_keys
-        (set_items (Some collection.now)) (set_items (Some other.now))
-        (set_items made.new.seal.held) }
+    ensures made { result ≡ DONE
+        → IsSymmetricDifferenceOf (Some collection.now) (Some other.now) made.new.seal.held }
     ensures refused { result ≢ DONE → made.new.seal.held ≡ made.old.seal.held }
-    ensures answer { HoldsSet (Some collection.now) → HoldsSet (Some other.now)
+    ensures answer { AreSetsOfOneKind (Some collection.now) (Some other.now)
         → (result ≡ DONE) ⊎ (result ≡ NO_MEMORY) }
-    ensures other { (¬ HoldsSet (Some collection.now)) ⊎ (¬ HoldsSet (Some other.now))
+    ensures other { (¬ AreSetsOfOneKind (Some collection.now) (Some other.now))
         → result ≡ OTHER_KIND }
 {
     match (collection, other) {
         (Collection::Set(first), Collection::Set(second)) => {
-            match first.set.symmetric_difference(&second.set) {
-                Ok(set) => made.fill(alloc, Collection::Set(KeptSet { set })),
+            match first.symmetric_difference(second) {
+                Ok(set) => made.fill(alloc, Collection::Set(set)),
+                Err(_) => NO_MEMORY,
+            }
+        }
+        (Collection::SignedSet(first), Collection::SignedSet(second)) => {
+            match first.symmetric_difference(second) {
+                Ok(set) => made.fill(alloc, Collection::SignedSet(set)),
                 Err(_) => NO_MEMORY,
             }
         }
@@ -117,15 +126,18 @@ pub fn symmetric_difference(
 
 /// Opens a closed handle on a set of just the keys that are not in the set.
 pub fn complement(alloc: Global, collection: &Collection, made: &mut Handle) -> u32
-    ensures made { result ≡ DONE → HoldsSet made.new.seal.held × HoldsTheOthers unsigned_keys
-        (set_items (Some collection.now)) (set_items made.new.seal.held) }
+    ensures made { result ≡ DONE → IsComplementOf (Some collection.now) made.new.seal.held }
     ensures refused { result ≢ DONE → made.new.seal.held ≡ made.old.seal.held }
-    ensures answer { HoldsSet (Some collection.now) → (result ≡ DONE) ⊎ (result ≡ NO_MEMORY) }
-    ensures other { (¬ HoldsSet (Some collection.now)) → result ≡ OTHER_KIND }
+    ensures answer { HoldsAnySet (Some collection.now) → (result ≡ DONE) ⊎ (result ≡ NO_MEMORY) }
+    ensures other { (¬ HoldsAnySet (Some collection.now)) → result ≡ OTHER_KIND }
 {
     match collection {
-        Collection::Set(kept) => match kept.set.complement() {
-            Ok(set) => made.fill(alloc, Collection::Set(KeptSet { set })),
+        Collection::Set(kept) => match kept.complement() {
+            Ok(set) => made.fill(alloc, Collection::Set(set)),
+            Err(_) => NO_MEMORY,
+        },
+        Collection::SignedSet(kept) => match kept.complement() {
+            Ok(set) => made.fill(alloc, Collection::SignedSet(set)),
             Err(_) => NO_MEMORY,
         },
         _ => OTHER_KIND,
@@ -134,38 +146,36 @@ pub fn complement(alloc: Global, collection: &Collection, made: &mut Handle) -> 
 
 /// Whether each key of the set is in the other.
 pub fn is_subset(collection: &Collection, other: &Collection) -> u32
-    ensures yes { result ≡ DONE → BindKeysOf unsigned_keys
-        (set_items (Some collection.now)) (set_items (Some other.now)) }
-    ensures no { result ≡ NONE → ¬ BindKeysOf unsigned_keys
-        (set_items (Some collection.now)) (set_items (Some other.now)) }
-    ensures answer { HoldsSet (Some collection.now) → HoldsSet (Some other.now)
+    ensures yes { result ≡ DONE → IsSubsetOf (Some collection.now) (Some other.now) }
+    ensures no { result ≡ NONE → ¬ IsSubsetOf (Some collection.now) (Some other.now) }
+    ensures answer { AreSetsOfOneKind (Some collection.now) (Some other.now)
         → (result ≡ DONE) ⊎ (result ≡ NONE) }
-    ensures other { (¬ HoldsSet (Some collection.now)) ⊎ (¬ HoldsSet (Some other.now))
+    ensures other { (¬ AreSetsOfOneKind (Some collection.now) (Some other.now))
         → result ≡ OTHER_KIND }
 {
     match (collection, other) {
-        (Collection::Set(first), Collection::Set(second)) => answer(
-            first.set.is_subset(&second.set),
-        ),
+        (Collection::Set(first), Collection::Set(second)) => answer(first.is_subset(second)),
+        (Collection::SignedSet(first), Collection::SignedSet(second)) => {
+            answer(first.is_subset(second))
+        }
         (_, _) => OTHER_KIND,
     }
 }
 
 /// Whether no key is in both sets.
 pub fn is_disjoint(collection: &Collection, other: &Collection) -> u32
-    ensures yes { result ≡ DONE → ShareNoKey unsigned_keys
-        (set_items (Some collection.now)) (set_items (Some other.now)) }
-    ensures no { result ≡ NONE → ¬ ShareNoKey unsigned_keys
-        (set_items (Some collection.now)) (set_items (Some other.now)) }
-    ensures answer { HoldsSet (Some collection.now) → HoldsSet (Some other.now)
+    ensures yes { result ≡ DONE → AreDisjoint (Some collection.now) (Some other.now) }
+    ensures no { result ≡ NONE → ¬ AreDisjoint (Some collection.now) (Some other.now) }
+    ensures answer { AreSetsOfOneKind (Some collection.now) (Some other.now)
         → (result ≡ DONE) ⊎ (result ≡ NONE) }
-    ensures other { (¬ HoldsSet (Some collection.now)) ⊎ (¬ HoldsSet (Some other.now))
+    ensures other { (¬ AreSetsOfOneKind (Some collection.now) (Some other.now))
         → result ≡ OTHER_KIND }
 {
     match (collection, other) {
-        (Collection::Set(first), Collection::Set(second)) => answer(
-            first.set.is_disjoint(&second.set),
-        ),
+        (Collection::Set(first), Collection::Set(second)) => answer(first.is_disjoint(second)),
+        (Collection::SignedSet(first), Collection::SignedSet(second)) => {
+            answer(first.is_disjoint(second))
+        }
         (_, _) => OTHER_KIND,
     }
 }
