@@ -19,9 +19,10 @@ import tempfile
 from tools.repository import CRATES, TOP, Counts, below, crates, run
 
 FUNCTION = re.compile(r"( *)(?:pub(?:\([a-z]+\))? )?(?:final |const |unsafe |extern \"C\" )*fn (\w+)")
-IMPL = re.compile(r"(?:unsafe )?(?:impl|trait)\b")
+IMPL = re.compile(r"(?:pub(?:\([a-z]+\))? )?(?:unsafe )?(?:impl|trait)\b")
 GOAL = re.compile(r"(?:note: |\./)*(src|proofs)/(\S+?)\.(?:rt|antt):(\d+):\d+: (?:error: `([^`]+)`|.*\(`([^`]+)`\))")
 UNREAD = re.compile(r"\berror\[[\w-]+\]|^(\./)?src/\S+: error: [^`]", re.M)
+IMPORT = re.compile(r"^ *(?:ghost )?use ([^{\n]*?)(?:\{(.*)\}|([^\s.:;{}]+));?$", re.M)
 HEAD = "# What ./check mutants saw; sum of the files and of the contracts below: "
 
 
@@ -55,7 +56,20 @@ def heading(lines):
     for before, letter in zip(" " + text, text):
         depth += (letter == "<") - (letter == ">" and before != "-")
         bare += letter if depth == 0 and letter != ">" else ""
-    return " ".join(word for word in bare.split() if word not in ("unsafe", "impl", "trait"))
+    bare = re.split(r":\s", bare)[0]
+    return " ".join(word for word in bare.split() if word not in ("pub", "unsafe", "impl", "trait"))
+
+
+def last_line(lines, number, indent):
+    """Returns the last line of a function that begins on the line of this number; in a trait it may have no body."""
+    has_body = False
+    for at, line in enumerate(lines[number - 1 :], number):
+        is_head = at == number or line.startswith(indent + ")")
+        has_body = has_body or line == indent + "{" or is_head and line.endswith("{")
+        is_end = line.startswith((indent + "}", indent + "{ "))
+        if is_end or not has_body and line.endswith(("};", ";" if is_head else "};")):
+            return at
+    return number
 
 
 def functions(path, text):
@@ -68,9 +82,7 @@ def functions(path, text):
             owner = ""
         head = FUNCTION.match(line)
         if head:
-            ends = (head[1] + "}", head[1] + "{ ")
-            rest = enumerate(lines[number - 1 :], number)
-            last = next((at for at, it in rest if it.startswith(ends) or it.endswith(";") and at == number), number)
+            last = last_line(lines, number, head[1])
             first = number
             while first > 1 and lines[first - 2].lstrip().startswith("#["):
                 first -= 1
@@ -215,9 +227,22 @@ def try_edit(crate, edit):
     return goals, {function: len(of) for function, of in turned.items()}
 
 
+def without_imports(text):
+    """Returns the text with those imports alone whose names it uses, each on a line, in their order by name."""
+    rest, kept = IMPORT.sub("", text), set()
+    words = set(re.findall(r"\w+|[^\w\s]", re.sub(r"^ *(?://|--).*", "", rest, flags=re.M)))
+    for path, names, last in IMPORT.findall(text):
+        for name in (names or last).split(","):
+            bound = path.rstrip(".:") if name.strip() == "self" else name
+            bound = re.split(r"\bas\b|[\s.:]+", bound)[-1]
+            if words.issuperset(re.findall(r"\w+|[^\w\s◌]", bound)):
+                kept.add(f"{path}{name.strip()}")
+    return "\n".join([*sorted(kept), rest])
+
+
 def seen_above(text):
     """Returns the lines of a file on which crates above may rest, as `rt fmt` lays it out: not the bodies of functions,
-    nor a private function beside the types, nor hints on inlining."""
+    nor a private function beside the types, hints on inlining, or imports that only these use."""
     lines = text.split("\n")
     left_out = {number for number, line in enumerate(lines, 1) if line.lstrip().startswith("#[inline")}
     for it in functions("", text):
@@ -229,7 +254,8 @@ def seen_above(text):
         start = next((at for at in opens if lines[at - 1] == indent + "{"), None)
         start = start or next((at for at in opens if lines[at - 1].endswith("{")), it.last)
         left_out.update(range(start + 1, it.last))
-    return "\n".join(line for number, line in enumerate(lines, 1) if number not in left_out)
+    seen = "\n".join(line for number, line in enumerate(lines, 1) if number not in left_out)
+    return without_imports(seen)
 
 
 def sum_of(crate, every):
