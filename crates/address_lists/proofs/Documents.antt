@@ -9,7 +9,7 @@ use Rattle.btree_range_map.specs.AnyRange.{AnyRange}
 use Rattle.btree_range_map.specs.Holding.{box_items}
 use Rattle.btree_range_map.specs.Item.{Item}
 use Rattle.btree_range_map.specs.Shapes.{bound_shape, range_shape, set_shape}
-use Rattle.address_sets.specs.Json.{ipv4_shape, ipv6_shape, reads_ipv4, reads_ipv6}
+use Rattle.address_keys.specs.Json.{ipv4_shape, ipv6_shape, reads_ipv4, reads_ipv6}
 use Rattle.address_text.specs.declared.family.Family.TheVariants.{V4, V6}
 use Rattle.address_lists.specs.Json.{IsDocument, IsJsonReason, IsListRead, IsValueReason, list_shape, member_of, IsSetReason}
 use Rattle.address_lists.specs.declared.addresses.Addresses.{Addresses}

@@ -5,7 +5,7 @@ use Rattle.std.proofs.lemmas.Bool.{false≢true}
 use Rattle.btree_range_map.specs.Holding.{box_items}
 use Rattle.btree_range_map.specs.KeySets.{HoldsTheOthers}
 use Rattle.btree_range_map.specs.Together.{BindKeysOf, ShareNoKey}
-use Rattle.address_sets.specs.Addresses.{ipv4_at, ipv4_number, ipv4_order, ipv6_at, ipv6_number, ipv6_order}
+use Rattle.address_keys.specs.Addresses.{ipv4_at, ipv4_number, ipv4_order, ipv6_at, ipv6_number, ipv6_order}
 use Rattle.address_text.specs.declared.family.Family.TheVariants.{V4, V6}
 use Rattle.address_lists.specs.Lists.{Has, HasAllOf, HasJust, ShareNone}
 use Rattle.address_lists.specs.declared.addresses.Addresses.{Addresses}

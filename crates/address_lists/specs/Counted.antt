@@ -6,7 +6,7 @@ use Rattle.btree_range_map.specs.Item.{Item}
 use Rattle.btree_range_map.specs.KeySets.{HoldsKey}
 use Rattle.btree_range_map.specs.Numbers.{IsNumberOfKeys}
 use Rattle.btree_range_map.specs.Order.{KeyOrder}
-use Rattle.address_sets.specs.Addresses.{ipv4_order, ipv6_order}
+use Rattle.address_keys.specs.Addresses.{ipv4_order, ipv6_order}
 use Rattle.address_lists.specs.declared.addresses.Addresses.{Addresses}
 
 -- a text, a family and a number

@@ -9,8 +9,8 @@ use Rattle.btree_range_map.specs.Faults.{IsSetRead, set_fault}
 use Rattle.btree_range_map.specs.Holding.{box_items}
 use Rattle.btree_range_map.specs.JsonError.{JsonError}
 use Rattle.btree_range_map.specs.Shapes.{set_shape}
-use Rattle.address_sets.specs.Addresses.{ipv4_order, ipv6_order}
-use Rattle.address_sets.specs.Json.{IsIpv4Read, IsIpv6Read, ipv4_shape, ipv6_shape, reads_ipv4, reads_ipv6}
+use Rattle.address_keys.specs.Addresses.{ipv4_order, ipv6_order}
+use Rattle.address_keys.specs.Json.{IsIpv4Read, IsIpv6Read, ipv4_shape, ipv6_shape, reads_ipv4, reads_ipv6}
 use Rattle.address_text.specs.declared.family.Family.{Family}
 use Rattle.address_text.specs.declared.family.Family.TheVariants.{V4, V6}
 use Rattle.address_lists.specs.declared.addresses.Addresses.{Addresses}

@@ -4,7 +4,7 @@ use Rattle.std.specs.Io.BufRead.{drop_through, take_through}
 use Rattle.btree_range_map.specs.Holding.{box_items}
 use Rattle.btree_range_map.specs.Intervals.{Any}
 use Rattle.btree_range_map.specs.KeySets.{HoldsKey}
-use Rattle.address_sets.specs.Addresses.{ipv4_at, ipv4_order, ipv6_at, ipv6_order}
+use Rattle.address_keys.specs.Addresses.{ipv4_at, ipv4_order, ipv6_at, ipv6_order}
 use Rattle.address_text.specs.Lines.{Says, SaysAddress}
 use Rattle.address_text.specs.Texts.{width}
 use Rattle.address_text.specs.declared.family.Family.{Family}

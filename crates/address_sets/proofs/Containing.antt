@@ -1,7 +1,7 @@
 -- The prefix of so many bits that has an address.
 use Rattle.std.proofs.Common.{◌≡◌, ℕ, ◌+◌, ◌-◌, ◌^◌, ◌≤◌, bit_and, ap, subst, sym, refl, ◌∙◌, arith}
 use Rattle.btree_range_map.specs.Order.{KeyOrder}
-use Rattle.address_sets.specs.Families.{IsFamily}
+use Rattle.address_keys.specs.Families.{IsFamily}
 use Rattle.address_sets.specs.Prefixes.{IsAligned, IsPrefix}
 use Rattle.address_sets.proofs.Powers.{IsBlock, block_is}
 

@@ -13,7 +13,7 @@ use Rattle.btree_range_map.specs.KeySets.{HoldsKey}
 use Rattle.btree_range_map.specs.Numbers.{AreRising, IsNumberOfKeys, Lists}
 use Rattle.btree_range_map.specs.Order.{Below, KeyOrder}
 use Rattle.address_sets.specs.Counts.{total}
-use Rattle.address_sets.specs.Families.{IsFamily}
+use Rattle.address_keys.specs.Families.{IsFamily}
 use Rattle.address_sets.proofs.Sets.{Coarse, Known, Stored, below_number, coarse_rest, first_held, from_of, holds_is, last_held, number_below, past_of, some_by, top_by}
 
 all_append : {X : Type 0} (P : X → Type 0) (xs ys : List X) → AllByRecursion P xs

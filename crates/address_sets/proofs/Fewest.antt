@@ -4,7 +4,7 @@ use Rattle.std.proofs.lemmas.Bool.{cases_lt}
 use Rattle.std.proofs.Math.Pow.{pow_pos, pow_mono}
 use Rattle.std.specs.List.{AllByRecursion}
 use Rattle.btree_range_map.specs.Order.{KeyOrder}
-use Rattle.address_sets.specs.Families.{IsFamily}
+use Rattle.address_keys.specs.Families.{IsFamily}
 use Rattle.address_sets.specs.Prefixes.{HasAddress, IsAligned, IsPrefix, SomeHasAddress, size}
 use Rattle.address_sets.specs.declared.prefix.Prefix.{Prefix}
 use Rattle.address_sets.proofs.Powers.{next_multiple, power_split}

@@ -4,7 +4,6 @@ pub mod Containing
 pub mod Counts
 pub mod Fewest
 pub mod Powers
-pub mod Reading
 pub mod Sets
 pub mod Steps
 pub mod StoredRuns

@@ -19,7 +19,7 @@ use Rattle.btree_range_map.specs.KeySets.{HoldsKey}
 use Rattle.btree_range_map.specs.Neighbours.{BeforeFirst}
 use Rattle.btree_range_map.specs.Order.{Below, KeyOrder, NotAbove}
 use Rattle.btree_range_map.specs.Range.{EndHolds, Holds, IsKeyless, IsKnownBound, IsKnownRange, StartHolds}
-use Rattle.address_sets.specs.Families.{IsFamily}
+use Rattle.address_keys.specs.Families.{IsFamily}
 use Rattle.address_sets.specs.Left.{AreTileable}
 use Rattle.address_sets.specs.Prefixes.{AreAscending, AreFewest, HasAddress, HaveJust, IsPrefix, SomeHasAddress, size}
 use Rattle.address_sets.specs.Tiles.{past_number, range_tiles, set_tiles, start_number}

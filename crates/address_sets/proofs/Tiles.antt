@@ -4,7 +4,7 @@ use Rattle.std.proofs.Math.Pow.{pow_pos, pow_mono, pow-add}
 use Rattle.std.proofs.lemmas.Bool.{cases_lt}
 use Rattle.std.proofs.lemmas.Bool.Decides.{nat_tests}
 use Rattle.btree_range_map.specs.Order.{KeyOrder}
-use Rattle.address_sets.specs.Families.{IsFamily}
+use Rattle.address_keys.specs.Families.{IsFamily}
 use Rattle.address_sets.specs.Prefixes.{IsAligned, IsPrefix, SomeHasAddress, size}
 use Rattle.address_sets.specs.Tiles.{all_tiles, prefix_at, tiles, widest}
 use Rattle.address_sets.specs.declared.prefix.Prefix.{Prefix}

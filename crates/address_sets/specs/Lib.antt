@@ -1,8 +1,5 @@
--- Address families, prefixes, and the prefixes that a set has.
-pub mod Addresses
+-- Prefixes, and what a set of addresses has.
 pub mod Counts
-pub mod Families
-pub mod Json
 pub mod Left
 pub mod Prefixes
 pub mod Runs

@@ -6,8 +6,8 @@ ghost use Rattle.btree_range_map.specs.Numbers.{IsNumberOfKeys};
 ghost use Rattle.address_sets.specs.Counts.{total};
 ghost use Rattle.address_sets.specs.Left.{AreTileable};
 
-use crate::address::Address;
 use crate::prefixes::{first_number, last_number};
+use address_keys::Address;
 use btree_range_map::AnyRange;
 use btree_range_map::generic::{RangeSet, set};
 use btree_range_map::storage::{Item, Storage};

@@ -6,7 +6,7 @@ ghost use Rattle.btree_range_map.specs.Range.{ClonesAreEqual};
 ghost use Rattle.btree_range_map.specs.TwoSets.{HoldsFirstAlone};
 
 use crate::AddressSet;
-use crate::address::Address;
+use address_keys::Address;
 use btree_range_map::MapError;
 
 /// Takes exceptions out of a set: it keeps just the addresses that they do not have.

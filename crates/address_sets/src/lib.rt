@@ -1,36 +1,28 @@
 //! Sets of IP addresses, and the prefixes that they have.
 //!
-//! [`Ipv4`] and [`Ipv6`] are key types of `btree_range_map`, and an [`AddressSet`] is a set of such
+//! [`Ipv4`] and [`Ipv6`] are the keys of `address_keys`, and an [`AddressSet`] is a set of such
 //! keys. [`PrefixSet::prefixes`] goes over the prefixes that have just the addresses of a set, as
 //! few as can be.
 //!
 //! Where to find what:
 //!
-//! - keys too many to be counted: `src/ipv6.rt`, `specs/Addresses.antt`
 //! - the prefixes of a set of addresses: `src/{prefix,prefixes}.rt`,
 //!   `specs/{Prefixes,Tiles}.antt`; that no fewer have its addresses, `proofs/{Fewest,Sets}.antt`
 //! - how many addresses a set has: `src/count.rt`, `proofs/Counts.antt`; those that follow each
 //!   other: `src/runs.rt`, `specs/Runs.antt`
 //! - a set but for some exceptions: `src/except.rt`
-//! - addresses as JSON: `src/json.rt`, `specs/Json.antt`
 #![tactic(auto)]
 
-pub mod address;
 pub mod count;
 pub mod except;
-pub mod ipv4;
-pub mod ipv6;
-mod json;
 pub mod prefix;
 pub mod prefixes;
 pub mod runs;
 
-pub use address::Address;
+pub use address_keys::{Address, Ipv4, Ipv6};
 use btree_range_map::RangeSet;
 pub use count::address_count;
 pub use except::take_out;
-pub use ipv4::Ipv4;
-pub use ipv6::Ipv6;
 pub use prefix::Prefix;
 pub use prefixes::{PrefixSet, Prefixes};
 pub use runs::{Runs, run_around, runs_of};

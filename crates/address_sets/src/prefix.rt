@@ -5,7 +5,7 @@ ghost use Rattle.btree_range_map.specs.Names.{range_inclusive};
 ghost use Rattle.address_sets.specs.Prefixes.{HasAddress, IsPrefix};
 ghost use Rattle.address_sets.specs.Tiles.{widest};
 
-use crate::address::Address;
+use address_keys::Address;
 use btree_range_map::{AnyRange, AsRange, IntoRange};
 use std::ops::Bound;
 

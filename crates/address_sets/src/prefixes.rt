@@ -9,8 +9,8 @@ ghost use Rattle.address_sets.specs.Left.{AreTileable, IsPart, part_tiles};
 ghost use Rattle.address_sets.specs.Prefixes.{AreAscending, AreFewest, HaveJust, IsPrefix};
 ghost use Rattle.address_sets.specs.Tiles.{all_tiles, past_number, set_tiles, start_number};
 
-use crate::address::Address;
 use crate::prefix::{Prefix, free_bits, greatest_of};
+use address_keys::Address;
 use btree_range_map::generic::set;
 use btree_range_map::storage::Item;
 use btree_range_map::{AnyRange, DefaultSetContainer, RangeSet};

@@ -8,8 +8,8 @@ ghost use Rattle.address_sets.specs.Left.{AreTileable};
 ghost use Rattle.address_sets.specs.Runs.{AreRuns, IsRunAround, range_runs};
 
 use crate::AddressSet;
-use crate::address::Address;
 use crate::prefixes::{first_number, last_number};
+use address_keys::Address;
 use btree_range_map::generic::set;
 use btree_range_map::storage::Item;
 use btree_range_map::{AnyRange, DefaultSetContainer};

@@ -5,7 +5,7 @@ use Rattle.std.specs.Prelude.{String}
 use Rattle.std.specs.declared.alloc.Global.{Global}
 use Rattle.btree_range_map.specs.Holding.{box_items}
 use Rattle.btree_range_map.specs.KeySets.{HoldsKey}
-use Rattle.address_sets.specs.Addresses.{ipv4_at, ipv4_order, ipv6_at, ipv6_order}
+use Rattle.address_keys.specs.Addresses.{ipv4_at, ipv4_order, ipv6_at, ipv6_order}
 use Rattle.address_text.specs.declared.family.Family.{Family}
 use Rattle.address_text.specs.declared.family.Family.TheVariants.{V4, V6}
 use Rattle.address_lists.specs.Files.{IsFileReason}

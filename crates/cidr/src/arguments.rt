@@ -4,7 +4,7 @@ use crate::serve::{Command, Form, Lines, Output, Reading};
 use address_lists::BadLines;
 use address_text::Family;
 use clap::error::ErrorKind;
-use clap::{self, Arg, ArgAction, ArgGroup, ArgMatches, value_parser};
+use clap::{self, Arg, ArgAction, ArgMatches, value_parser};
 use std::alloc::{AllocError, Global};
 use std::net::IpAddr;
 
@@ -22,64 +22,138 @@ Examples:
   cidr split --at 24 --v4 blocked.txt
   cidr has blocked.txt 10.1.2.3 2001:db8::1";
 
-/// A flag or a command, and what it does.
-type Named = (&'static str, &'static str);
+/// What a command takes.
+#[derive(Clone, Copy)]
+enum Kind {
+    /// At least so many words, and at most so many.
+    Words(usize, usize),
+    /// A flag. Of those of a group at most one may be given.
+    Flag(&'static [&'static str]),
+    /// An option that must be given, with the name of a list.
+    List,
+    /// An option that must be given, with the length of a prefix.
+    Length,
+}
 
-const READING: [Named; 2] = [
-    (
-        "strict",
-        "Refuse a prefix that has bits of 1 after its length",
-    ),
-    (
-        "skip-bad",
-        "Leave bad lines out, and count them on standard error",
-    ),
+/// The name of what a command takes, its kind, and its help.
+type Taken = (&'static str, Kind, &'static str);
+
+/// A command.
+struct Usage {
+    name: &'static str,
+    about: &'static str,
+    takes: &'static [Taken],
+}
+
+const ONE_LIST: Taken = ("FILE", Kind::Words(1, 1), LIST_HELP);
+
+const TWO_LISTS: Taken = ("FILE", Kind::Words(2, 2), LIST_HELP);
+
+const LISTS: Taken = ("FILE", Kind::Words(1, usize::MAX), LIST_HELP);
+
+const LIST_HELP: &str = "A list of addresses; - is standard input";
+
+const STRICT: Taken = (
+    "strict",
+    Kind::Flag(&[]),
+    "Refuse a prefix that has bits of 1 after its length",
+);
+
+const SKIP_BAD: Taken = (
+    "skip-bad",
+    Kind::Flag(&[]),
+    "Leave bad lines out, and count them on standard error",
+);
+
+const V4: Taken = ("v4", Kind::Flag(&["family"]), "Print IPv4 alone");
+
+const V6: Taken = ("v6", Kind::Flag(&["family"]), "Print IPv6 alone");
+
+const RANGES: Taken = (
+    "ranges",
+    Kind::Flag(&["form"]),
+    "Print ranges in place of prefixes",
+);
+
+const SINGLE: Taken = (
+    "single",
+    Kind::Flag(&["form"]),
+    "Print each address on a line",
+);
+
+const JSON: Taken = (
+    "json",
+    Kind::Flag(&["form"]),
+    "Print a JSON object: the set of each family, as an array of ranges",
+);
+
+const FROM: Taken = (
+    "from",
+    Kind::List,
+    "The list from which the others are taken",
+);
+
+const AT: Taken = (
+    "at",
+    Kind::Length,
+    "The length of the prefixes that shorter ones are divided into",
+);
+
+const ADDRESSES: Taken = (
+    "ADDRESS",
+    Kind::Words(1, usize::MAX),
+    "An address that is looked up",
+);
+
+const HAS: Usage = Usage {
+    name: "has",
+    about: "Print each address, and the range around it in the list, or - and exit with 1",
+    takes: &[ONE_LIST, STRICT, SKIP_BAD, ADDRESSES],
+};
+
+const COMMANDS: [Usage; 9] = [
+    Usage {
+        name: "merge",
+        about: "Print the addresses that are in any list",
+        takes: &[LISTS, STRICT, SKIP_BAD, V4, V6, RANGES, SINGLE, JSON],
+    },
+    Usage {
+        name: "common",
+        about: "Print those that are in all lists",
+        takes: &[LISTS, STRICT, SKIP_BAD, V4, V6, RANGES, SINGLE, JSON],
+    },
+    Usage {
+        name: "invert",
+        about: "Print those of both families that are in no list",
+        takes: &[LISTS, STRICT, SKIP_BAD, V4, V6, RANGES, SINGLE, JSON],
+    },
+    Usage {
+        name: "except",
+        about: "Print those of the list after --from that are in no other list",
+        takes: &[LISTS, STRICT, SKIP_BAD, V4, V6, RANGES, SINGLE, JSON, FROM],
+    },
+    Usage {
+        name: "diff",
+        about: "Print those that are in just one of two lists",
+        takes: &[TWO_LISTS, STRICT, SKIP_BAD, V4, V6, RANGES, SINGLE, JSON],
+    },
+    Usage {
+        name: "count",
+        about: "Print how many addresses of each family are in any list",
+        takes: &[LISTS, STRICT, SKIP_BAD, V4, V6],
+    },
+    Usage {
+        name: "split",
+        about: "Print those that are in any list, in prefixes of LENGTH where they would be shorter",
+        takes: &[LISTS, STRICT, SKIP_BAD, V4, V6, AT],
+    },
+    Usage {
+        name: "compare",
+        about: "Print how the first of two lists lies to the second, and how many addresses each has",
+        takes: &[TWO_LISTS, STRICT, SKIP_BAD],
+    },
+    HAS,
 ];
-
-const FAMILIES: [Named; 2] = [("v4", "Print IPv4 alone"), ("v6", "Print IPv6 alone")];
-
-const FORMS: [Named; 3] = [
-    ("ranges", "Print ranges in place of prefixes"),
-    ("single", "Print each address on a line"),
-    (
-        "json",
-        "Print a JSON object: the set of each family, as an array of ranges",
-    ),
-];
-
-/// The commands that print what comes of any number of lists.
-const COMBINING: [Named; 3] = [
-    ("merge", "Print the addresses that are in any list"),
-    ("common", "Print those that are in all lists"),
-    ("invert", "Print those of both families that are in no list"),
-];
-
-const EXCEPT: Named = (
-    "except",
-    "Print those of the list after --from that are in no other list",
-);
-
-const DIFF: Named = ("diff", "Print those that are in just one of two lists");
-
-const COUNT: Named = (
-    "count",
-    "Print how many addresses of each family are in any list",
-);
-
-const SPLIT: Named = (
-    "split",
-    "Print those that are in any list, in prefixes of LENGTH where they would be shorter",
-);
-
-const COMPARE: Named = (
-    "compare",
-    "Print how the first of two lists lies to the second, and how many addresses each has",
-);
-
-const HAS: Named = (
-    "has",
-    "Print each address, and the range around it in the list, or - and exit with 1",
-);
 
 /// What is to be done with the lists of these names.
 #[derive(Drop)]
@@ -112,139 +186,46 @@ pub struct Request<'a> {
     pub reading: Reading,
 }
 
-fn flag<'a>((name, help): Named, alloc: Global) -> Arg<'a> {
-    Arg::new(alloc, name)
-        .long(name)
-        .action(ArgAction::SetTrue)
-        .help(help)
+fn argument<'a>((name, kind, help): Taken, alloc: Global) -> Result<Arg<'a>, AllocError> {
+    let arg = Arg::new(alloc, name).help(help);
+    match kind {
+        Kind::Words(least, most) => Ok(arg.required(true).num_args(least..=most)),
+        Kind::Flag(groups) => arg.long(name).action(ArgAction::SetTrue).groups(groups),
+        Kind::List => Ok(arg.long(name).required(true).value_name("FILE")),
+        Kind::Length => Ok(
+            arg.long(name)
+                .required(true)
+                .value_name("LENGTH")
+                .value_parser(value_parser!(u8).range(0..=128)),
+        ),
+    }
 }
 
-/// The command with these flags.
-fn with_flags<'a>(
-    alloc: Global,
-    command: clap::Command<'a>,
-    flags: &[Named],
-) -> Result<clap::Command<'a>, AllocError> {
-    let mut command = command;
-    for named in flags {
-        command = command.arg(flag(*named, alloc))?;
+fn command<'a>(usage: &Usage, alloc: Global) -> Result<clap::Command<'a>, AllocError> {
+    let mut command = clap::Command::new(alloc, usage.name).about(usage.about);
+    for taken in usage.takes {
+        command = command.arg(argument(*taken, alloc)?)?;
     }
     Ok(command)
 }
 
-/// The command with these flags, of which at most one may be given.
-fn with_one_of<'a>(
-    alloc: Global,
-    command: clap::Command<'a>,
-    group: &'static str,
-    flags: &[Named],
-) -> Result<clap::Command<'a>, AllocError> {
-    let mut choice = ArgGroup::new(alloc, group);
-    for (name, _) in flags {
-        choice = choice.arg(*name)?;
-    }
-    with_flags(alloc, command, flags)?.group(choice)
-}
-
-/// A command over at least so many lists and at most so many.
-fn over_lists<'a>(
-    alloc: Global,
-    (name, about): Named,
-    least: usize,
-    most: usize,
-) -> Result<clap::Command<'a>, AllocError> {
-    let lists = Arg::new(alloc, "FILE")
-        .required(true)
-        .num_args(least..=most)
-        .help("A list of addresses; - is standard input");
-    let command = clap::Command::new(alloc, name).about(about).arg(lists)?;
-    with_flags(alloc, command, &READING)
-}
-
-/// A command over lists that prints what is of one family alone where that is asked for.
-fn of_families<'a>(
-    alloc: Global,
-    named: Named,
-    least: usize,
-    most: usize,
-) -> Result<clap::Command<'a>, AllocError> {
-    let command = over_lists(alloc, named, least, most)?;
-    with_one_of(alloc, command, "family", &FAMILIES)
-}
-
-/// A command over lists that prints addresses in any form.
-fn printing<'a>(
-    alloc: Global,
-    named: Named,
-    least: usize,
-    most: usize,
-) -> Result<clap::Command<'a>, AllocError> {
-    let command = of_families(alloc, named, least, most)?;
-    with_one_of(alloc, command, "form", &FORMS)
-}
-
-fn except<'a>(alloc: Global) -> Result<clap::Command<'a>, AllocError> {
-    let from = Arg::new(alloc, "from")
-        .long("from")
-        .value_name("FILE")
-        .required(true)
-        .help("The list from which the others are taken");
-    printing(alloc, EXCEPT, 1, usize::MAX)?.arg(from)
-}
-
-fn split<'a>(alloc: Global) -> Result<clap::Command<'a>, AllocError> {
-    let at = Arg::new(alloc, "at")
-        .long("at")
-        .value_name("LENGTH")
-        .required(true)
-        .value_parser(value_parser!(u8).range(0..=128))
-        .help("The length of the prefixes that shorter ones are divided into");
-    of_families(alloc, SPLIT, 1, usize::MAX)?.arg(at)
-}
-
-fn has<'a>(alloc: Global) -> Result<clap::Command<'a>, AllocError> {
-    let addresses = Arg::new(alloc, "ADDRESS")
-        .required(true)
-        .num_args(1..)
-        .help("An address that is looked up");
-    over_lists(alloc, HAS, 1, 1)?.arg(addresses)
-}
-
-/// The program with the commands that print what comes of any number of lists.
-fn with_combining<'a>(
-    alloc: Global,
-    program: clap::Command<'a>,
-) -> Result<clap::Command<'a>, AllocError> {
-    let mut program = program;
-    for named in &COMBINING {
-        program = program.subcommand(printing(alloc, *named, 1, usize::MAX)?)?;
-    }
-    Ok(program)
-}
-
 /// What the program can be asked.
 fn program<'a>(alloc: Global) -> Result<clap::Command<'a>, AllocError> {
-    let program = clap::Command::new(alloc, "cidr")
+    let mut program = clap::Command::new(alloc, "cidr")
         .about(ABOUT)
         .after_help(EXAMPLES)
         .subcommand_required(true);
-    with_combining(alloc, program)?
-        .subcommand(except(alloc)?)?
-        .subcommand(printing(alloc, DIFF, 2, 2)?)?
-        .subcommand(of_families(alloc, COUNT, 1, usize::MAX)?)?
-        .subcommand(split(alloc)?)?
-        .subcommand(over_lists(alloc, COMPARE, 2, 2)?)?
-        .subcommand(has(alloc)?)
+    for usage in &COMMANDS {
+        program = program.subcommand(command(usage, alloc)?)?;
+    }
+    Ok(program)
 }
 
 /// The names of the lists, that of `--from` first.
 fn names_of<'a>(alloc: Global, found: &ArgMatches<'a>) -> Result<Vec<&'a str>, AllocError> {
     let mut names = Vec::new(alloc);
-    if let Some(from) = found.get_str("from") {
-        names.push(from)?;
-    }
-    if let Some(files) = found.get_strs("FILE") {
-        names.extend_from_slice(files)?;
+    for id in ["from", "FILE"] {
+        names.extend_from_slice(found.get_strs(id).unwrap_or(&[]))?;
     }
     Ok(names)
 }
@@ -292,64 +273,60 @@ fn command_of(name: &str) -> Command {
     }
 }
 
-/// The addresses that the words are, or a word that is none.
-fn addresses_of<'a>(
-    alloc: Global,
-    words: &[&'a str],
-) -> Result<Result<Vec<IpAddr>, &'a str>, AllocError> {
+fn invalid_value(alloc: Global, message: &str) -> Result<clap::Error, AllocError> {
+    let mut has = command(&HAS, alloc)?.bin_name("cidr has")?;
+    has.error(ErrorKind::ValueValidation, message)
+}
+
+/// Tells that a word is no address.
+fn no_address(alloc: Global, word: &str) -> Result<clap::Error, AllocError> {
+    let message = format!(in alloc;
+        "invalid value '{word}' for '<ADDRESS>...': expected an address"
+    )?;
+    invalid_value(alloc, message.as_str())
+}
+
+/// The addresses that the words are.
+fn addresses_of(alloc: Global, words: &[&str]) -> Result<Vec<IpAddr>, clap::Error> {
     let mut addresses = Vec::new(alloc);
     for word in words {
         match word.parse::<IpAddr>() {
             Ok(address) => addresses.push(address)?,
-            Err(_) => return Ok(Err(*word)),
+            Err(_) => return Err(no_address(alloc, word)?),
         }
     }
-    Ok(Ok(addresses))
+    Ok(addresses)
 }
 
-/// The task of a command, or a word that is no address.
-fn task_of<'a>(
-    alloc: Global,
-    name: &str,
-    found: &ArgMatches<'a>,
-) -> Result<Result<Task<'a>, &'a str>, AllocError> {
-    let names = names_of(alloc, found)?;
-    match (name, names.as_slice()) {
-        ("compare", [first, second]) => Ok(Ok(Task::Compare(*first, *second))),
+fn task_of<'a>(alloc: Global, name: &str, found: &ArgMatches<'a>) -> Result<Task<'a>, clap::Error> {
+    match (name, found.get_strs("FILE").unwrap_or(&[])) {
+        ("compare", [first, second]) => Ok(Task::Compare(*first, *second)),
         ("has", [list]) => {
             let words = found.get_strs("ADDRESS").unwrap_or(&[]);
-            let addresses = addresses_of(alloc, words)?;
-            Ok(addresses.map(|addresses| Task::LookUp(*list, addresses)))
+            Ok(Task::LookUp(*list, addresses_of(alloc, words)?))
         }
         _ => {
             let output = Output {
                 only: family_of(found),
                 form: form_of(name, found),
             };
-            Ok(Ok(Task::Combine(command_of(name), names, output)))
+            Ok(Task::Combine(command_of(name), names_of(alloc, found)?, output))
         }
     }
+}
+
+fn matches_of<'a>(alloc: Global, words: &'a [String]) -> Result<ArgMatches<'a>, clap::Error> {
+    program(alloc)?.try_get_matches_from(words)
 }
 
 /// What the words ask for, which begin with the program's name. An error has the text and the exit
 /// status of a wrong command line, or of one that asks for help.
 pub fn read_request<'a>(alloc: Global, words: &'a [String]) -> Result<Request<'a>, clap::Error> {
-    let mut program = program(alloc)?;
-    let matches = program.try_get_matches_from_mut(words)?;
-    let (name, found) = match matches.subcommand() {
-        Some(command) => command,
-        None => return Err(program.error(ErrorKind::MissingSubcommand, "a command is missing")?),
-    };
-    match task_of(alloc, name, found)? {
-        Ok(task) => Ok(Request {
-            task,
-            reading: reading_of(found),
-        }),
-        Err(word) => {
-            let message = format!(in alloc;
-                "invalid value '{word}' for '<ADDRESS>...': expected an address"
-            )?;
-            Err(program.error(ErrorKind::ValueValidation, message.as_str())?)
-        }
-    }
+    let matches = matches_of(alloc, words)?;
+    // There is a command, since one is required.
+    let (name, found) = matches.subcommand().unwrap_or(("merge", &matches));
+    Ok(Request {
+        task: task_of(alloc, name, found)?,
+        reading: reading_of(found),
+    })
 }

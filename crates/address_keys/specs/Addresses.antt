@@ -4,9 +4,9 @@ use Rattle.std.proofs.Common.{lit<, lit≤}
 use Rattle.btree_range_map.specs.Counted.{IsCounted}
 use Rattle.btree_range_map.specs.Indexed.{indexed_counted, indexed_order}
 use Rattle.btree_range_map.specs.Order.{KeyOrder}
-use Rattle.address_sets.specs.Families.{IsFamily}
-use Rattle.address_sets.specs.declared.ipv4.Ipv4.{Ipv4}
-use Rattle.address_sets.specs.declared.ipv6.Ipv6.{Ipv6}
+use Rattle.address_keys.specs.Families.{IsFamily}
+use Rattle.address_keys.specs.declared.ipv4.Ipv4.{Ipv4}
+use Rattle.address_keys.specs.declared.ipv6.Ipv6.{Ipv6}
 
 abbrev pub ipv4_number : Ipv4 → ℕ
 ipv4_number address = address.0

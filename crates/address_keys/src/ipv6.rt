@@ -4,7 +4,7 @@ ghost use Rattle.std.specs.Prelude.{◌≡◌, refl};
 ghost use Rattle.std.specs.Net.Addr.{IsIpv6OfBits, ipv6_bits};
 ghost use Rattle.std.specs.declared.ops.Bound.TheVariants.{Included};
 ghost use Rattle.btree_range_map.specs.Counted.{counted_complete, counted_lawful};
-ghost use Rattle.address_sets.specs.Addresses.{ipv6_at, ipv6_counted, ipv6_family, ipv6_number, ipv6_order};
+ghost use Rattle.address_keys.specs.Addresses.{ipv6_at, ipv6_counted, ipv6_family, ipv6_number, ipv6_order};
 ghost use Rattle.btree_range_map.specs.KeyLaws.{zero_measure};
 
 use crate::address::Address;

@@ -7,7 +7,7 @@ use Rattle.std.proofs.NetLemmas.Ipv4.{read_ipv4_complete, read_ipv4_sound}
 use Rattle.std.proofs.NetLemmas.Ipv6.{read_ipv6_complete, read_ipv6_sound, EndsGroups-nil}
 use Rattle.serde_json.specs.Data.{Data}
 use Rattle.serde_json.specs.Find.{as_str}
-use Rattle.address_sets.specs.Json.{reads_whole}
+use Rattle.address_keys.specs.Json.{reads_whole}
 
 module _ (read : List ℕ → Read (List ℕ)) (Spells : List ℕ → List ℕ → Type 0)
     (complete : (text numbers rest : List ℕ) → rest ≡ [] → Spells text numbers

@@ -4,7 +4,7 @@ ghost use Rattle.std.specs.Prelude.{◌≡◌, ◌-◌, refl};
 ghost use Rattle.std.specs.Net.Addr.{IsIpv4OfBits, ipv4_bits};
 ghost use Rattle.std.specs.declared.ops.Bound.TheVariants.{Included};
 ghost use Rattle.btree_range_map.specs.Counted.{counted_complete, counted_lawful, counted_measure, measure_counts_keys};
-ghost use Rattle.address_sets.specs.Addresses.{ipv4_at, ipv4_counted, ipv4_family, ipv4_number, ipv4_order};
+ghost use Rattle.address_keys.specs.Addresses.{ipv4_at, ipv4_counted, ipv4_family, ipv4_number, ipv4_order};
 ghost use Rattle.std.proofs.Common.{lit<};
 
 use crate::address::Address;

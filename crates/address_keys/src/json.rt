@@ -2,7 +2,7 @@
 
 ghost use Rattle.std.specs.Prelude.{◌≡◌, ⊤, false, IsTrue, MatchOption};
 ghost use Rattle.serde_json.specs.View.{view};
-ghost use Rattle.address_sets.specs.Json.{IsIpv4Read, IsIpv4Value, IsIpv6Read, IsIpv6Value, ipv4_shape, ipv6_shape, reads_ipv4, reads_ipv6};
+ghost use Rattle.address_keys.specs.Json.{IsIpv4Read, IsIpv4Value, IsIpv6Read, IsIpv6Value, ipv4_shape, ipv6_shape, reads_ipv4, reads_ipv6};
 
 use crate::ipv4::Ipv4;
 use crate::ipv6::Ipv6;

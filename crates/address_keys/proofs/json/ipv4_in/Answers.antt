@@ -5,8 +5,8 @@ use Rattle.std.specs.Net.Reader.{read_ipv4}
 use Rattle.std.proofs.NetLemmas.Ipv4.{read_ipv4_sound}
 use Rattle.serde_json.specs.Find.{as_str}
 use Rattle.serde_json.specs.View.{view}
-use Rattle.address_sets.proofs.Reading.{ipv4_complete, reads_none, reads_some}
-use Rattle.address_sets.proofs.json.ipv4_in.Goals as goal
+use Rattle.address_keys.proofs.Reading.{ipv4_complete, reads_none, reads_some}
+use Rattle.address_keys.proofs.json.ipv4_in.Goals as goal
 
 pub returns-in-Ok : goal.returns-in-Ok
 returns-in-Ok c =

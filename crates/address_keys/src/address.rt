@@ -1,7 +1,7 @@
 //! What an address family is.
 
 ghost use Rattle.std.specs.Prelude.{◌≡◌, ℕ, ◌<◌, ◌^◌};
-ghost use Rattle.address_sets.specs.Families.{IsFamily};
+ghost use Rattle.address_keys.specs.Families.{IsFamily};
 
 use btree_range_map::range::traits::{Bounded, Complete, Measure};
 

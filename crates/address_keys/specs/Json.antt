@@ -9,8 +9,8 @@ use Rattle.std.specs.declared.net.ipv4_addr.Ipv4Addr.{Ipv4Addr}
 use Rattle.std.specs.declared.net.ipv6_addr.Ipv6Addr.{Ipv6Addr}
 use Rattle.serde_json.specs.Data.{Data, string}
 use Rattle.serde_json.specs.Find.{as_str}
-use Rattle.address_sets.specs.declared.ipv4.Ipv4.{Ipv4}
-use Rattle.address_sets.specs.declared.ipv6.Ipv6.{Ipv6}
+use Rattle.address_keys.specs.declared.ipv4.Ipv4.{Ipv4}
+use Rattle.address_keys.specs.declared.ipv6.Ipv6.{Ipv6}
 
 abbrev pub ipv4_shape : Ipv4 → Data
 ipv4_shape address = string (ipv4_text (to_be_bytes w32 address.0))

@@ -1,0 +1,2 @@
+-- Addresses that are read from JSON.
+pub mod Reading
