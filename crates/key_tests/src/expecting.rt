@@ -1,24 +1,23 @@
 //! Rows of tables, and what fails a test.
 
 use range_algebra::any::AnyRange;
-use std::alloc::AllocError;
 use std::fmt::Debug;
 use std::process::Abort;
 
 /// A row of a table, with its answer.
 pub trait Row {
     /// Whether the answer is the one that the row says.
-    fn holds(&self) -> Result<bool, AllocError>;
+    fn holds(&self) -> bool;
 }
 
 /// The index of the first row that does not hold.
-pub fn first_wrong<R: Row>(rows: &[R]) -> Result<Option<usize>, AllocError> {
+pub fn first_wrong<R: Row>(rows: &[R]) -> Option<usize> {
     for (place, row) in rows.iter().enumerate() {
-        if !row.holds()? {
-            return Ok(Some(place));
+        if !row.holds() {
+            return Some(place);
         }
     }
-    Ok(None)
+    None
 }
 
 /// An answer is the one that was expected.

@@ -1,7 +1,6 @@
-//! Callers at one type of calls that no example and no program calls so. Their proofs show that
-//! what the calls require can be met.
+//! Callers, at one type of keys and values, of calls that no other crate calls so. Their proofs show
+//! that what the calls require can be met.
 
-mod bounds;
 mod commands;
 mod containers;
 mod json;

@@ -1,9 +1,10 @@
-use crate::expecting::{expect_length, expect_range};
+ghost use Rattle.range_algebra.specs.Range.{ClonesAreEqual};
+
+use crate::expecting::expect_length;
 use range_algebra::any::AnyRange;
 use range_algebra::range::{IntoRange, RangeFromExcluded, RangeFromExcludedTo};
-use std::alloc::AllocError;
+use range_keys::traits::{Bounded, PartialEnum};
 use std::ops::Bound;
-use std::test::Fail;
 
 #[test]
 fn counts_keys(rt: HostRuntime) {
@@ -22,59 +23,45 @@ fn counts_all_keys(rt: HostRuntime) {
     expect_length(&rt, "all numbers", longest.len(), 18446744073709551616);
 }
 
-fn ends_of_numbers(range: &AnyRange<u32>) -> Result<[Option<u32>; 3], AllocError> {
-    Ok([range.first()?, range.last()?, range.pick()?])
-}
-
-fn ends_of_integers(range: &AnyRange<i32>) -> Result<[Option<i32>; 3], AllocError> {
-    Ok([range.first()?, range.last()?, range.pick()?])
-}
-
-fn above() -> AnyRange<u32> {
-    RangeFromExcluded::new(0u32).into_range()
-}
-
-fn past() -> AnyRange<i32> {
-    RangeFromExcluded::new(2147483647i32).into_range()
-}
-
-#[test]
-fn names_the_ends(rt: HostRuntime) -> Result<(), Fail> {
-    assert!(rt; above() == AnyRange::new(Bound::Included(1), Bound::Unbounded));
-    assert!(rt; ends_of_numbers(&above())? == [Some(1), Some(4294967295), Some(1)]);
-    assert!(rt; above().first_and_last()? == Some((1, 4294967295)));
-    expect_length(&rt, "above", above().len(), 4294967295);
-    Ok(())
+/// Whether these are the first, the last and some key of a range, and its first and last in one.
+fn has_ends<T: PartialEnum + Bounded + Copy>(
+    range: &AnyRange<T>,
+    ends: [Option<T>; 3],
+    both: Option<(T, T)>,
+) -> bool
+    requires { ClonesAreEqual T.is_clone T.eq }
+{
+    let [first, last, picked] = ends;
+    range.first() == Ok(first)
+        && range.last() == Ok(last)
+        && range.pick() == Ok(picked)
+        && range.first_and_last() == Ok(both)
 }
 
 #[test]
-fn names_no_ends_where_there_are_none(rt: HostRuntime) -> Result<(), Fail> {
-    assert!(rt; past().is_empty());
-    assert!(rt; ends_of_integers(&past())? == [None, None, None]);
-    assert!(rt; past().first_and_last()?.is_none());
-    expect_length(&rt, "past", past().len(), 0);
-    Ok(())
+fn names_the_ends(rt: HostRuntime) {
+    let above = RangeFromExcluded::new(0u32).into_range();
+    assert!(rt; above == AnyRange::new(Bound::Included(1), Bound::Unbounded));
+    let ends = [Some(1), Some(4294967295), Some(1)];
+    assert!(rt; has_ends(&above, ends, Some((1, 4294967295))));
+    expect_length(&rt, "above", above.len(), 4294967295);
 }
 
-/// The hull of two ranges with a hole between.
-fn with_hole() -> Result<AnyRange<i32>, AllocError> {
+#[test]
+fn names_no_ends_where_there_are_none(rt: HostRuntime) {
+    let past = RangeFromExcluded::new(2147483647i32).into_range();
+    assert!(rt; past.is_empty());
+    assert!(rt; has_ends(&past, [None, None, None], None));
+    expect_length(&rt, "past", past.len(), 0);
+}
+
+#[test]
+fn takes_in_the_hole(rt: HostRuntime) {
     let mut range: AnyRange<i32> = (0..3).into();
-    range.add(&(8..10))?;
-    Ok(range)
-}
-
-fn shared(range: &AnyRange<i32>) -> Result<AnyRange<i32>, AllocError> {
-    let others: AnyRange<i32> = (5..20).into();
-    range.intersection(&others)
-}
-
-#[test]
-fn takes_in_the_hole(rt: HostRuntime) -> Result<(), Fail> {
-    let range = with_hole()?;
+    assert!(rt; range.add(&(8..10)) == Ok(()));
     expect_length(&rt, "the hull", range.len(), 10);
     let told = AnyRange::new(Bound::Included(5), Bound::Excluded(10));
-    expect_range(&rt, "what is shared", shared(&range)?, told);
+    assert!(rt; range.intersection(&(5..20).into()) == Ok(told));
     assert!(rt; range.intersects(&(9..100)));
     assert!(rt; !range.intersects(&(10..100)));
-    Ok(())
 }

@@ -1,9 +1,7 @@
 use crate::expecting::{Row, expect_none, first_wrong};
 use range_algebra::any::AnyRange;
 use range_algebra::range::{AsRange, Difference, Product, ProductArg};
-use std::alloc::AllocError;
 use std::ops::{Bound, Range};
-use std::test::Fail;
 
 type Ends = (i32, i32);
 
@@ -20,39 +18,37 @@ enum Left {
     Empty,
 }
 
-fn is_range(part: AnyRange<&i32>, ends: Ends) -> Result<bool, AllocError> {
-    Ok(part.cloned()? == range(ends))
+fn is_range(part: AnyRange<&i32>, ends: Ends) -> bool {
+    part.cloned() == Ok(range(ends))
 }
 
-fn is_split(difference: &Difference<&i32>, first: Ends, second: Ends) -> Result<bool, AllocError> {
+fn is_split(difference: &Difference<&i32>, first: Ends, second: Ends) -> bool {
     match difference {
-        Difference::Split(before, after) => {
-            Ok(is_range(*before, first)? && is_range(*after, second)?)
-        }
-        _ => Ok(false),
+        Difference::Split(before, after) => is_range(*before, first) && is_range(*after, second),
+        _ => false,
     }
 }
 
-fn is_before(difference: &Difference<&i32>, ends: Ends, met: bool) -> Result<bool, AllocError> {
+fn is_before(difference: &Difference<&i32>, ends: Ends, met: bool) -> bool {
     match difference {
-        Difference::Before(part, flag) if *flag == met => is_range(*part, ends),
-        _ => Ok(false),
+        Difference::Before(part, flag) => *flag == met && is_range(*part, ends),
+        _ => false,
     }
 }
 
-fn is_after(difference: &Difference<&i32>, ends: Ends, met: bool) -> Result<bool, AllocError> {
+fn is_after(difference: &Difference<&i32>, ends: Ends, met: bool) -> bool {
     match difference {
-        Difference::After(part, flag) if *flag == met => is_range(*part, ends),
-        _ => Ok(false),
+        Difference::After(part, flag) => *flag == met && is_range(*part, ends),
+        _ => false,
     }
 }
 
-fn is_left(difference: &Difference<&i32>, left: Left) -> Result<bool, AllocError> {
+fn is_left(difference: &Difference<&i32>, left: Left) -> bool {
     match left {
         Left::Before(ends, met) => is_before(difference, ends, met),
         Left::After(ends, met) => is_after(difference, ends, met),
         Left::Split(first, second) => is_split(difference, first, second),
-        Left::Empty => Ok(matches!(difference, Difference::Empty)),
+        Left::Empty => matches!(difference, Difference::Empty),
     }
 }
 
@@ -60,7 +56,7 @@ fn is_left(difference: &Difference<&i32>, left: Left) -> Result<bool, AllocError
 struct Leaving(Ends, Ends, Left);
 
 impl Row for Leaving {
-    fn holds(&self) -> Result<bool, AllocError> {
+    fn holds(&self) -> bool {
         let (own, other) = (self.0.0..self.0.1, self.1.0..self.1.1);
         is_left(&own.without(&other), self.2)
     }
@@ -77,9 +73,8 @@ static LEFT: &[Leaving] = &[
 ];
 
 #[test]
-fn leaves_parts(rt: HostRuntime) -> Result<(), Fail> {
-    expect_none(&rt, "what is left", first_wrong(LEFT)?);
-    Ok(())
+fn leaves_parts(rt: HostRuntime) {
+    expect_none(&rt, "what is left", first_wrong(LEFT));
 }
 
 /// A part of a product, as a row says it.
@@ -131,9 +126,11 @@ fn is_product(product: &Product<i32>, wanted: &Parts) -> bool {
 struct Making(Ends, Ends, Parts);
 
 impl Row for Making {
-    fn holds(&self) -> Result<bool, AllocError> {
-        let product = range(self.0).product(&range(self.1)).cloned()?;
-        Ok(is_product(&product, &self.2))
+    fn holds(&self) -> bool {
+        match range(self.0).product(&range(self.1)).cloned() {
+            Ok(product) => is_product(&product, &self.2),
+            Err(_) => false,
+        }
     }
 }
 
@@ -170,19 +167,17 @@ static PRODUCTS: &[Making] = &[
 ];
 
 #[test]
-fn makes_products(rt: HostRuntime) -> Result<(), Fail> {
-    expect_none(&rt, "the products", first_wrong(PRODUCTS)?);
-    Ok(())
+fn makes_products(rt: HostRuntime) {
+    expect_none(&rt, "the products", first_wrong(PRODUCTS));
 }
 
-fn shared(own: Range<i32>, other: Range<i32>) -> Result<bool, AllocError> {
+fn shared(own: Range<i32>, other: Range<i32>) -> bool {
     let shared = own.intersected_with(&other);
-    Ok(!shared.ref_is_empty() && is_range(shared, (5, 10))?)
+    !shared.ref_is_empty() && is_range(shared, (5, 10))
 }
 
 #[test]
-fn refers_to_what_is_shared(rt: HostRuntime) -> Result<(), Fail> {
-    assert!(rt; shared(0..10, 5..15)?);
+fn refers_to_what_is_shared(rt: HostRuntime) {
+    assert!(rt; shared(0..10, 5..15));
     assert!(rt; (0i32..10).intersected_with(&(20..30)).ref_is_empty());
-    Ok(())
 }

@@ -3,9 +3,7 @@ use range_algebra::any::AnyRange;
 use range_algebra::range::{
     AsRange, IntoRange, RangeFromExcluded, RangeFromExcludedTo, RangeFromExcludedToIncluded,
 };
-use std::alloc::AllocError;
 use std::ops::{Bound, RangeBounds};
-use std::test::Fail;
 
 fn between(first: i32, end: i32) -> AnyRange<i32> {
     AnyRange::new(Bound::Included(first), Bound::Excluded(end))
@@ -81,14 +79,9 @@ fn converts_ranges(rt: HostRuntime) {
     assert!(rt; has_bounds((3..5).into(), Bound::Included(3), Bound::Excluded(5)));
 }
 
-fn copied() -> Result<AnyRange<i32>, AllocError> {
-    AnyRange::<i32>::from(3..5)
-}
-
 #[test]
-fn copies_ranges(rt: HostRuntime) -> Result<(), Fail> {
-    expect_range(&rt, "a copy of bounds", copied()?, (3..5).into());
-    let given: AnyRange<i32> = (3..5).into();
-    expect_range(&rt, "a clone", given.clone()?, given);
-    Ok(())
+fn copies_ranges(rt: HostRuntime) {
+    assert!(rt; AnyRange::<i32>::from(3..5) == Ok(between(3, 5)));
+    let cloned: Result<_, _> = between(3, 5).clone();
+    assert!(rt; cloned == Ok(between(3, 5)));
 }

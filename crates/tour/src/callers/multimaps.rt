@@ -11,20 +11,12 @@ fn new(alloc: Global) -> Classes {
     RangeMultiMap::default(alloc)
 }
 
-fn add(classes: &mut Classes) -> Result<(), MapError> {
-    classes.insert('0'..='9', 1)
-}
-
 fn take(classes: &mut Classes) -> Result<(), MapError> {
     classes.remove('4'..='6', &1)
 }
 
 fn has(classes: &Classes) -> bool {
     classes.contains('5', &1)
-}
-
-fn is_bound(classes: &Classes) -> bool {
-    classes.get('5').is_some()
 }
 
 fn copied(classes: &Classes) -> Result<Classes, MapError> {
