@@ -1,5 +1,5 @@
 -- Whether one of the states accepts, and what texts lead to.
-use Rattle.std.proofs.Common.{◌≡◌, ◌↔◌, ◌⊎◌, ℕ, Bool, true, false, not, IsTrue, List, [], ◌∷◌, ◌++◌, BTreeSet, arith}
+use Rattle.std.proofs.Common.{◌≡◌, ◌↔◌, ◌⊎◌, ℕ, Bool, false, not, IsTrue, List, [], ◌∷◌, ◌++◌, BTreeSet, arith}
 use Rattle.std.specs.Ordering.{nat_cmp}
 use Rattle.std.specs.BTreeSet.{contains, IsDisjoint}
 use Rattle.std.proofs.lemmas.Bool.{cases_Bool}

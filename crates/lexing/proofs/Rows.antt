@@ -1,5 +1,5 @@
 -- The row of a set in the making, one range of its characters after the other.
-use Rattle.std.proofs.Common.{◌≡◌, refl, sym, subst, ◌∙◌, ◌↔◌, ◌⊎◌, inl, inr, ℕ, nat_eq, IsTrue, List, [], ◌∷◌, Option, Some, None, BTreeSet, arith}
+use Rattle.std.proofs.Common.{◌≡◌, refl, ◌↔◌, ◌⊎◌, inl, inr, ℕ, nat_eq, IsTrue, List, [], ◌∷◌, Some, None, BTreeSet, arith}
 use Rattle.std.specs.List.{AllByRecursion}
 use Rattle.std.specs.Ordering.{nat_cmp}
 use Rattle.std.specs.BTreeSet.{contains}
@@ -14,7 +14,7 @@ use Rattle.btree_range_map.specs.Names.{bindings_of}
 use Rattle.btree_range_map.specs.Pairs.{HasPair, AreValuesAt}
 use Rattle.charmoves.specs.declared.rules.Rules.{Rules}
 use Rattle.charmoves.specs.Automata.{Transitions, HasRule, AreReached, LeadsAmong}
-use Rattle.lexing.specs.Machines.{Row, RowBinds, IsRowOf, Goes}
+use Rattle.lexing.specs.Machines.{Row, IsRowOf}
 use Rattle.state_sets.specs.Listed.{KeepsAll, IsIndexOf}
 use Rattle.lexing.specs.Budgets.{IsReached}
 use Rattle.lexing.proofs.Meeting.{some_character, reached_more, held_or_not}

@@ -1,5 +1,5 @@
 -- Tokens of a text, one after the other.
-use Rattle.std.proofs.Common.{refl, sym, subst, ℕ, ◌<◌, ◌≤◌, List, [], ◌∷◌, ◌++◌, length, drop, arith}
+use Rattle.std.proofs.Common.{refl, ℕ, ◌<◌, ◌≤◌, List, [], ◌∷◌, ◌++◌, length, arith}
 use Rattle.std.specs.List.{AllByRecursion}
 use Rattle.std.specs.Str.{IsCharBoundary}
 use Rattle.std.proofs.lemmas.Str.{IsCharBoundary-from_rest}
@@ -8,7 +8,6 @@ use Rattle.lexing.specs.declared.token.Token.{Token}
 use Rattle.lexing.specs.Lexers.{IsSkipped}
 use Rattle.lexing.specs.declared.token.LexError.{LexError}
 use Rattle.lexing.specs.declared.token.LexError.TheVariants.{NoToken, Memory}
-use Rattle.lexing.specs.Tokens.{BeginsWithNone}
 use Rattle.lexing.specs.Runs.{IsTokenAt, AreTokens, AreSkipped, IsReasonAt, IsReason}
 
 module _ (lexer : Lexer) (text : List ℕ) where

@@ -1,4 +1,3 @@
-use Rattle.std.proofs.Common.{arith}
 use Rattle.std.specs.Str.{chars}
 use Rattle.charmoves.specs.Automata.{rules_of}
 use Rattle.charmoves.proofs.Paths.{accepted_among}
