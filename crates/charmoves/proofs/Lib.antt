@@ -1,4 +1,4 @@
 pub mod Adding
-pub mod Leads
+pub mod Gathering
+pub mod LongestFronts
 pub mod Paths
-pub mod Stepping

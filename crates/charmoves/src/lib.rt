@@ -21,9 +21,9 @@
 //!
 //! - rules, steps and accepted texts of an automaton: `src/{rules,moves}.rt`,
 //!   `specs/Automata.antt`, over `Steps` of the crate `state_sets`
-//! - one state after the other: `proofs/{Stepping,Leads}.antt`
+//! - one state after the other: `proofs/Gathering.antt`
 //! - whether a state accepts, and the longest beginning of a text that is accepted:
-//!   `src/longest.rt`, `proofs/Paths.antt`
+//!   `src/longest.rt`, `proofs/{Paths,LongestFronts}.antt`
 #![tactic(auto)]
 
 mod longest;

@@ -1,8 +1,6 @@
 -- Sets of states that texts lead to, one more after the other.
-use Rattle.std.proofs.Common.{◌≡◌, refl, sym, ap, subst, ◌∙◌, ◌⊎◌, inl, inr, ℕ, zero, suc, ◌<◌, List, [], ◌∷◌, ◌++◌, length, BTreeSet, arith}
-use Rattle.std.specs.Ordering.{nat_cmp}
-use Rattle.std.specs.BTreeSet.{contains}
-use Rattle.std.proofs.lemmas.Bool.{cases_lt}
+use Rattle.std.proofs.Common.{◌≡◌, refl, ◌⊎◌, inl, inr, ℕ, zero, suc, ◌<◌, List, [], ◌∷◌, ◌++◌, length, BTreeSet, arith}
+use Rattle.std.proofs.lemmas.Grind.{common_steps}
 use Rattle.std.proofs.lemmas.Option.{slice_get_within}
 use Rattle.btree_range_map.specs.AnyRange.{AnyRange}
 use Rattle.btree_range_map.specs.Characters.{IsCharacter, character_order, character_counted}
@@ -13,60 +11,50 @@ use Rattle.charmoves.specs.declared.rules.Rules.{Rules}
 use Rattle.charmoves.specs.Automata.{HasRule, IsStart, AreReached}
 use Rattle.state_sets.specs.Listed.{HaveSameStates, IsNewTo}
 use Rattle.state_sets.proofs.Leading.{after_none, after_more}
-use Rattle.state_sets.proofs.Lists.{pushed_into, pushed_length}
+use Rattle.state_sets.proofs.Lists.{slice_get-push}
 use Rattle.lexing.specs.declared.error.BuildError.TheVariants.{TooLarge}
 use Rattle.lexing.specs.Building.{AreFirst}
 use Rattle.lexing.specs.Budgets.{IsReached, AreMet, IsBuildReason}
 
 module _ (rules : Rules) where
   pub met_first : (sets : List (BTreeSet ℕ)) → AreFirst rules sets → AreMet rules sets
-  met_first sets (set, only, starts) = record {
-    reached = λ i s at. elim (pushed_into [] sets set i s only at) [
-      | inl none ↦ absurd cc
-      | inr (first, same) ↦ subst (IsReached rules) same ([], after_none (HasRule rules) (IsStart rules) set starts)
-    ];
-    unlike = λ i j s t below at later.
-        let within = slice_get_within sets j t later in
-        let one = ap length only in absurd (omega (arith, within, one, below));
-  }
+  met_first sets (set, only, starts) =
+      let start : IsReached rules set =
+      ([], after_none (HasRule rules) (IsStart rules) set starts) in
+      record {
+        reached = λ i s at. elim ((slice_get-push [] set i s).0 (rw only at at)) [
+          | inl none ↦ absurd cc
+          | inr (first, same) ↦ rw (← same) start
+        ];
+        unlike = λ i j s t below at later. absurd (grind (arith, slice_get_within sets j t));
+      }
 
   -- one more, which is none of those that were met
   pub met_more : (sets after : List (BTreeSet ℕ)) (set copy : BTreeSet ℕ) → AreMet rules sets
       → IsReached rules set → IsNewTo sets set → HaveSameStates copy set
       → after ≡ sets ++ copy ∷ [] → AreMet rules after
-  met_more sets after set copy met (text, by) new same pushed = record {
-    reached = λ i s at. elim (pushed_into sets after copy i s pushed at) [
-      | inl old ↦ met.reached i s old
-      | inr (last, is) ↦ subst (IsReached rules) is (
-        text,
-        λ q. (
-          λ h. (by q).0 (sym (same q) ∙ h),
-          λ h. same q ∙ (by q).1 h,
-        ),
-      )
-    ];
-    unlike = λ i j s t below at later alike. elim (pushed_into sets after copy j t pushed later) [
-      | inl old ↦ elim (pushed_into sets after copy i s pushed at) [
-        | inl here ↦ met.unlike i j s t below here old alike
-        | inr (last, is) ↦
-            let within = slice_get_within sets j t old in absurd (omega (arith, within, last, below))
-      ]
-      | inr (last, is) ↦ elim (pushed_into sets after copy i s pushed at) [
-        | inl here ↦
-            new i s here (λ q. alike q ∙ ap (λ x. contains nat_cmp x q) (sym is) ∙ same q)
-        | inr (end, other) ↦ absurd (omega (arith, last, end, below))
-      ]
-    ];
-  }
+  met_more sets after set copy met (text, by) new same pushed =
+      let copied : IsReached rules copy = (text, λ q. rw (same q) (by q)) in
+      record {
+        reached = λ i s at. elim ((slice_get-push sets copy i s).0 (rw pushed at at)) [
+          | inl old ↦ met.reached i s old
+          | inr (last, is) ↦ rw (← is) copied
+        ];
+        unlike = λ i j s t below at later alike.
+            let first = slice_get-push sets copy i s in
+            let second = slice_get-push sets copy j t in
+            grind (arith, slice_get_within sets j t, met.unlike i j s t, new i s, same);
+      }
 
   -- which would be beyond the budget
   pub met_beyond : (sets : List (BTreeSet ℕ)) (set : BTreeSet ℕ) (budget : ℕ) → AreMet rules sets
       → IsReached rules set → IsNewTo sets set → length sets ≡ budget
       → IsBuildReason rules budget TooLarge
-  met_beyond sets set budget met reached new full =
-      let after = sets ++ set ∷ [] in
-      let len = pushed_length sets after set refl in
-      (after, met_more sets after set set met reached new (λ q. refl) refl, omega (arith, len, full))
+  met_beyond sets set budget met reached new full = (
+    sets ++ set ∷ [],
+    met_more sets _ set set met reached new (λ q. refl) refl,
+    grind (arith, common_steps),
+  )
 
   -- what rules lead to from a set that texts lead to
   pub reached_more : (set next : BTreeSet ℕ) (c : ℕ) → IsReached rules set
@@ -77,36 +65,11 @@ module _ (rules : Rules) where
 -- one of the first numbers is such, or none is
 search_to : (P : ℕ → Type 0) → ((k : ℕ) → P k ⊎ (¬ P k)) → (n : ℕ)
     → ((k : ℕ) × P k) ⊎ ((k : ℕ) → k < n → ¬ P k)
-search_to P test zero = inr (λ k below. absurd (omega (arith, below)))
-search_to P test (suc n) =
-    elim (search_to P test n) [
-      | inl found ↦ inl found
-      | inr none ↦ elim (test n) [
-        | inl is ↦ inl (n, is)
-        | inr not ↦ inr (λ k below. elim (cases_lt k n) [
-          | inl less ↦ none k less
-          | inr most ↦
-              let same : n ≡ k = omega (arith, below, most) in
-              subst (λ m. ¬ P m) same not
-        ])
-      ]
-    ]
+search_to P test zero = grind arith
+search_to P test (suc n) = grind (arith, search_to P test n, test n)
 
 character_or_not : (c : ℕ) → IsCharacter c ⊎ (¬ IsCharacter c)
-character_or_not c =
-    elim (cases_lt c 0xD800) [
-      | inl low ↦ inl (omega (arith, low), inl low)
-      | inr high ↦ elim (cases_lt 0xDFFF c) [
-        | inr gap ↦ inr (λ h. elim h.1 [
-          | inl low ↦ absurd (omega (arith, low, high))
-          | inr above ↦ absurd (omega (arith, above, gap))
-        ])
-        | inl above ↦ elim (cases_lt c 0x11_0000) [
-          | inl within ↦ inl (within, inr above)
-          | inr out ↦ inr (λ h. let within = h.0 in absurd (omega (arith, within, out)))
-        ]
-      ]
-    ]
+character_or_not c = grind arith
 
 -- a range holds a character, or it does not
 pub held_or_not : (r : AnyRange ℕ) (c : ℕ) → Holds character_order r c

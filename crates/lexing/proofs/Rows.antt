@@ -1,5 +1,5 @@
 -- The row of a set in the making, one range of its characters after the other.
-use Rattle.std.proofs.Common.{◌≡◌, refl, sym, subst, ◌∙◌, ◌↔◌, ◌⊎◌, inl, inr, ℕ, nat_eq, IsTrue, List, [], ◌∷◌, Option, Some, None, BTreeSet, arith}
+use Rattle.std.proofs.Common.{◌≡◌, refl, ◌↔◌, ◌⊎◌, inl, inr, ℕ, nat_eq, IsTrue, List, [], ◌∷◌, Some, None, BTreeSet, arith}
 use Rattle.std.specs.List.{AllByRecursion}
 use Rattle.std.specs.Ordering.{nat_cmp}
 use Rattle.std.specs.BTreeSet.{contains}
@@ -14,7 +14,7 @@ use Rattle.btree_range_map.specs.Names.{bindings_of}
 use Rattle.btree_range_map.specs.Pairs.{HasPair, AreValuesAt}
 use Rattle.charmoves.specs.declared.rules.Rules.{Rules}
 use Rattle.charmoves.specs.Automata.{Transitions, HasRule, AreReached, LeadsAmong}
-use Rattle.lexing.specs.Machines.{Row, RowBinds, IsRowOf, Goes}
+use Rattle.lexing.specs.Machines.{Row, IsRowOf}
 use Rattle.state_sets.specs.Listed.{KeepsAll, IsIndexOf}
 use Rattle.lexing.specs.Budgets.{IsReached}
 use Rattle.lexing.proofs.Meeting.{some_character, reached_more, held_or_not}
@@ -26,16 +26,10 @@ Entry = Item (AnyRange ℕ) (BTreeSet ℕ)
 abbrev Bindings : Type 0
 Bindings = List (Item (AnyRange ℕ) ℕ)
 
-same_value : (n m : ℕ) → IsTrue (nat_eq n m) → m ≡ n
-same_value n m e = grind (arith, nat_tests)
-
-itself : (n : ℕ) → IsTrue (nat_eq n n)
-itself n = grind (arith, nat_tests)
-
 bound_to : (items : Bindings) (c : ℕ) → IsBound character_order items c
     → (n : ℕ) × BindsTo character_order nat_eq items c n
 bound_to [] c h = absurd h
-bound_to (i ∷ rest) c (inl h) = (i.value, inl (h, itself i.value))
+bound_to (i ∷ rest) c (inl h) = (i.value, inl (h, grind (arith, nat_tests)))
 bound_to (i ∷ rest) c (inr h) = let (n, b) = bound_to rest c h in (n, inr b)
 
 is_bound : (items : Bindings) (c n : ℕ) → BindsTo character_order nat_eq items c n
@@ -50,10 +44,6 @@ pair_bound [] c q h = h
 pair_bound (i ∷ rest) c q (inl h) = inl h.0
 pair_bound (i ∷ rest) c q (inr h) = inr (pair_bound rest c q h)
 
-pub index_still : (sets after : List (BTreeSet ℕ)) (set : BTreeSet ℕ) (n : ℕ) → KeepsAll sets after
-    → IsIndexOf sets set n → IsIndexOf after set n
-index_still sets after set n keeps (same, at, alike) = (same, keeps n same at, alike)
-
 -- the characters of the ranges so far lead to the sets of these
 pub record IsRowSoFar (sets : List (BTreeSet ℕ)) (all : List Entry) (row : Row)
     (left : List Entry) : Type 0 where
@@ -67,10 +57,9 @@ pub record IsRowSoFar (sets : List (BTreeSet ℕ)) (all : List Entry) (row : Row
 pub row_none : (sets : List (BTreeSet ℕ)) (all left : List Entry) (row : Row)
     → bindings_of row ≡ [] → left ≡ all → IsRowSoFar sets all row left
 row_none sets all left row none whole = record {
-  covers = λ c is h. inr (subst (λ l. IsBound character_order l c) (sym whole) h);
-  leads = λ c n is h.
-      absurd (subst (λ l. BindsTo character_order nat_eq l c n) none h);
-  within = λ i h. subst (Any (λ j. j ≡ i)) whole h;
+  covers = λ c is h. inr (rw whole h);
+  leads = λ c n is h. absurd (rw none at h);
+  within = λ i h. rw whole at h;
 }
 
 module _ (sets after : List (BTreeSet ℕ)) (keeps : KeepsAll sets after) (all : List Entry)
@@ -78,10 +67,13 @@ module _ (sets after : List (BTreeSet ℕ)) (keeps : KeepsAll sets after) (all :
     (index : IsIndexOf after i.value n)
     (bound : IsBoundAfter character_order nat_eq (bindings_of before) (bindings_of new) i.key n)
     (was : IsRowSoFar sets all before left) where
+  here : Any (λ j. j ≡ i) left
+  here = rw turn (inl refl)
+
   now_held : (c : ℕ) → IsCharacter c → Holds character_order i.key c
       → IsBound character_order (bindings_of new) c
   now_held c is holds =
-      is_bound (bindings_of new) c n ((bound.held c is holds (Some n)).1 (itself n))
+      is_bound (bindings_of new) c n ((bound.held c is holds (Some n)).1 (grind (arith, nat_tests)))
 
   still_bound : (c : ℕ) → IsCharacter c → IsBound character_order (bindings_of before) c
       → IsBound character_order (bindings_of new) c
@@ -97,31 +89,29 @@ module _ (sets after : List (BTreeSet ℕ)) (keeps : KeepsAll sets after) (all :
   row_more = record {
     covers = λ c is h. elim (was.covers c is h) [
       | inl old ↦ inl (still_bound c is old)
-      | inr more ↦ elim (subst (λ l. IsBound character_order l c) turn more) [
+      | inr more ↦ elim (rw turn at more) [
         | inl holds ↦ inl (now_held c is holds)
         | inr later ↦ inr later
       ]
     ];
     leads = λ c m is h. elim (held_or_not i.key c) [
       | inl holds ↦
-          let same = same_value n m ((bound.held c is holds (Some m)).0 h) in (
-            i,
-            (holds, was.within i (subst (Any (λ j. j ≡ i)) (sym turn) (inl refl))),
-            subst (IsIndexOf after i.value) (sym same) index,
-          )
+          let equal = (bound.held c is holds (Some m)).0 h in
+          let same : m ≡ n = grind (arith, nat_tests) in
+          (i, (holds, was.within i here), rw same index)
       | inr out ↦
-          let (j, at, to) = was.leads c m is ((bound.others c is out (Some m)).0 h) in
-          (j, at, index_still sets after j.value m keeps to)
+          let (j, at, (set, stands, alike)) =
+          was.leads c m is ((bound.others c is out (Some m)).0 h) in
+          (j, at, (set, keeps m set stands, alike))
     ];
-    within = λ j h. was.within j (subst (Any (λ k. k ≡ j)) (sym turn) (inr h));
+    within = λ j h. was.within j (rw turn (inr h));
   }
 
 keyed_at : (items : List Entry) (i : Entry)
     → AllByRecursion (λ j. ¬ IsKeyless character_order j.key) items → Any (λ j. j ≡ i) items
     → ¬ IsKeyless character_order i.key
 keyed_at [] i keyed at = absurd at
-keyed_at (j ∷ rest) i keyed (inl same) =
-    subst (λ k. ¬ IsKeyless character_order k.key) same keyed.0
+keyed_at (j ∷ rest) i keyed (inl same) = rw (← same) keyed.0
 keyed_at (j ∷ rest) i keyed (inr later) = keyed_at rest i keyed.1 later
 
 -- of the characters by which rules lead on from a set
@@ -131,10 +121,7 @@ module _ (rules : Rules) (set : BTreeSet ℕ) (leads : Transitions) (all : List 
     → AreValuesAt character_order (contains nat_cmp) all c (Some i.value)) where
   pairs : (c q : ℕ) → IsCharacter c → HasPair character_order (contains nat_cmp) all c q
       ↔ ((p : ℕ) × IsTrue (contains nat_cmp set p) × HasRule rules p c q)
-  pairs c q is =
-      subst (λ l. HasPair character_order (contains nat_cmp) l c q
-      ↔ ((p : ℕ) × IsTrue (contains nat_cmp set p) × HasRule rules p c q)) (sym whole)
-      (among c q is)
+  pairs c q is = rw whole (among c q is)
 
   leads_there : (i : Entry) (c : ℕ) → IsCharacter c → IsItemFor character_order all c i
       → AreReached rules set c i.value
@@ -149,26 +136,16 @@ module _ (rules : Rules) (set : BTreeSet ℕ) (leads : Transitions) (all : List 
         → AllByRecursion (λ j. ¬ IsKeyless character_order j.key) all → IsReached rules set
         → IsReached rules i.value
     next_reached i rest turn keyed reached =
-        let at = was.within i (subst (Any (λ j. j ≡ i)) (sym turn) (inl refl)) in
+        let at = was.within i (rw turn (inl refl)) in
         let (c, is, holds) = some_character i.key (keyed_at all i keyed at) in
         reached_more rules set i.value c reached (leads_there i c is (holds, at))
 
     pub row_all : left ≡ [] → IsRowOf rules sets set row
-    row_all none c is next binds = by next binds
-      where
-        by : (next : Option ℕ) → RowBinds row c next → Goes rules sets set c next
-        by None never = λ p q has rule.
-            elim (was.covers c is (pair_bound all c q ((pairs c q is).1 (p, has, rule)))) [
-              | inl bound ↦ never bound
-              | inr more ↦ subst (λ l. IsBound character_order l c) none more
-            ]
-        by (Some n) to =
-            let (i, at, (same, stands, alike)) = was.leads c n is to in
-            let there = leads_there i c is at in (
-              same,
-              stands,
-              λ q. (
-                λ h. (there q).0 (sym (alike q) ∙ h),
-                λ h. alike q ∙ (there q).1 h,
-              ),
-            )
+    row_all none c is None never = λ p q has rule.
+        elim (was.covers c is (pair_bound all c q ((pairs c q is).1 (p, has, rule)))) [
+          | inl bound ↦ never bound
+          | inr more ↦ rw none at more
+        ]
+    row_all none c is (Some n) to =
+        let (i, at, (same, stands, alike)) = was.leads c n is to in
+        (same, stands, λ q. rw (alike q) (leads_there i c is at q))

@@ -1,24 +1,25 @@
 -- A machine that has read some characters.
-use Rattle.std.proofs.Common.{◌≡◌, subst, ℕ, ◌<◌, ◌+◌, ◌*◌, List, [], ◌∷◌, ◌++◌, length, take, get_or, Option, Some, None, BTreeSet, arith}
+use Rattle.std.proofs.Common.{◌≡◌, ℕ, ◌<◌, ◌+◌, ◌*◌, List, [], ◌∷◌, ◌++◌, length, Option, Some, None, BTreeSet, arith}
 use Rattle.std.specs.Prelude.{IfSome, Bool, true}
 use Rattle.std.specs.Char.{is_ascii}
-use Rattle.std.proofs.lemmas.Bool.Decides.{nat_tests}
 use Rattle.std.specs.Option.{MatchOption}
-use Rattle.btree_range_map.specs.Characters.{IsCharacter}
 use Rattle.std.specs.List.{slice_get}
 use Rattle.std.specs.Str.{chars, IsUtf8}
 use Rattle.std.proofs.Math.Logic.{∥∥₁_elim}
 use Rattle.std.proofs.Props.{props}
-use Rattle.std.proofs.lemmas.Option.{slice_get_within, slice_get-get_or}
+use Rattle.std.proofs.lemmas.Bool.Decides.{nat_tests}
+use Rattle.std.proofs.lemmas.Option.{slice_get_within}
+use Rattle.btree_range_map.specs.Characters.{IsCharacter}
 use Rattle.charmoves.specs.Automata.{HasRule, IsStart}
 use Rattle.state_sets.specs.declared.longest.Match.{Match}
 use Rattle.state_sets.specs.Steps.{AreAfter}
-use Rattle.state_sets.proofs.Best.{IsBest, best_none, best_grows, best_stays, best_when_stuck, token_of_best, first_for, none_for, never_through}
-use Rattle.state_sets.proofs.Fronts.{bytes_of}
+use Rattle.state_sets.specs.Tokens.{IsFirstAmong}
+use Rattle.state_sets.proofs.Best.{IsBest, best_none, best_grows, best_stays, best_when_stuck, token_of_best}
 use Rattle.state_sets.proofs.Leading.{after_none, after_more}
 use Rattle.state_sets.proofs.Lists.{some_at}
+use Rattle.state_sets.proofs.Reading.{bytes_of}
 use Rattle.lexing.specs.declared.machine.Machine.{Machine}
-use Rattle.lexing.specs.Lexers.{rules_in, Accepts, IsAcceptedBy}
+use Rattle.lexing.specs.Lexers.{rules_in, Accepts}
 use Rattle.lexing.specs.Tokens.{IsToken, BeginsWithNone}
 use Rattle.lexing.specs.Machines.{Row, RowBinds, AreStates, IsMachine}
 use Rattle.lexing.specs.MachineSteps.{GoesTo, state_count}
@@ -30,6 +31,9 @@ module _ (machine : Machine) where
   abbrev Starts : ℕ → Type 0
   Starts = IsStart (rules_in machine.lexer)
 
+  abbrev IsBestOf : List ℕ → Option Match → Type 0
+  IsBestOf = IsBest HasStep Starts (Accepts machine.lexer)
+
   -- the state stands for the states that what is read leads to
   pub record IsRunning (read : List ℕ) (state : ℕ) (longest : Option Match) : Type 0 where
     pub sets : List (BTreeSet ℕ)
@@ -38,7 +42,7 @@ module _ (machine : Machine) where
     pub set : BTreeSet ℕ
     pub stands : slice_get sets state ≡ Some set
     pub after : AreAfter HasStep Starts read set
-    pub best : IsBest (IsAcceptedBy machine.lexer) read longest
+    pub best : IsBestOf read longest
 
   pub running_none : IsMachine machine.lexer machine.states → IsRunning [] 0 None
   running_none (sets, are, all) =
@@ -50,105 +54,84 @@ module _ (machine : Machine) where
         set = set;
         stands = stands;
         after = after_none HasStep Starts set starts;
-        best = best_none (IsAcceptedBy machine.lexer);
+        best = best_none HasStep Starts (Accepts machine.lexer);
       }
 
-  module _ (read : List ℕ) (c state next : ℕ) (longest : Option Match)
-      (goes : GoesTo machine state c (Some next)) where
-    -- with a character more, and a rule of which a token may end there
-    pub running_grows : (rule len : ℕ) (found : Option ℕ) → len ≡ bytes_of (read ++ c ∷ [])
-        → slice_get machine.states.first_rules.items next ≡ Some found → found ≡ Some rule
-        → IsRunning read state longest
+  module _ (read : List ℕ) (c state next : ℕ) (longest : Option Match) (found : Option ℕ)
+      (goes : GoesTo machine state c (Some next))
+      (at : slice_get machine.states.first_rules.items next ≡ Some found)
+      (was : IsRunning read state longest) where
+    -- a character more, with which a token of the first rule ends, or none
+    goes_on : (now : Option Match) → ((reached : BTreeSet ℕ)
+        → AreAfter HasStep Starts (read ++ c ∷ []) reached
+        → IsFirstAmong (Accepts machine.lexer) reached found → IsBestOf (read ++ c ∷ []) now)
+        → IsRunning (read ++ c ∷ []) next now
+    goes_on now best =
+        let (reached, stands, by) = goes was.sets was.are was.all was.set was.stands in
+        let after = after_more HasStep Starts read was.set reached c was.after by in
+        record {
+          sets = was.sets;
+          are = was.are;
+          all = was.all;
+          set = reached;
+          stands = stands;
+          after = after;
+          best = best reached after (was.are.first next found reached at stands);
+        }
+
+    pub running_grows : (rule len : ℕ) → len ≡ bytes_of (read ++ c ∷ []) → found ≡ Some rule
         → IsRunning (read ++ c ∷ []) next (Some (record { rule = rule; len = len }))
-    running_grows rule len found bytes at is was =
-        let (reached, stands, by) = goes was.sets was.are was.all was.set was.stands in
-        let after =
-        after_more HasStep Starts read was.set reached c was.after by in
-        record {
-          sets = was.sets;
-          are = was.are;
-          all = was.all;
-          set = reached;
-          stands = stands;
-          after = after;
-          best = best_grows (IsAcceptedBy machine.lexer) read c rule len bytes
-              (first_for HasStep Starts (Accepts machine.lexer) read c reached found rule after
-              (was.are.first next found reached at stands) is);
-        }
+    running_grows rule len bytes is =
+        goes_on _
+        (λ reached after told. best_grows _ _ _ read c reached found rule len after told is bytes)
 
-    -- or of which none may end there
-    pub running_stays : (found : Option ℕ) → slice_get machine.states.first_rules.items next ≡ Some found
-        → ((rule : ℕ) → ¬ (found ≡ Some rule)) → IsRunning read state longest
+    pub running_stays : ((rule : ℕ) → ¬ (found ≡ Some rule))
         → IsRunning (read ++ c ∷ []) next longest
-    running_stays found at never was =
-        let (reached, stands, by) = goes was.sets was.are was.all was.set was.stands in
-        let after =
-        after_more HasStep Starts read was.set reached c was.after by in
-        record {
-          sets = was.sets;
-          are = was.are;
-          all = was.all;
-          set = reached;
-          stands = stands;
-          after = after;
-          best = best_stays (IsAcceptedBy machine.lexer) read c longest
-              (none_for HasStep Starts (Accepts machine.lexer) (read ++ c ∷ []) reached found after
-              (was.are.first next found reached at stands) never)
-              was.best;
-        }
-
-  told_prop : (text : List ℕ) (found : Option Match)
-      → IsProp (MatchOption found (BeginsWithNone machine.lexer text)
-      (λ m. IsToken machine.lexer text m.rule m.len))
-  told_prop text None = hlevel props
-  told_prop text (Some m) = hlevel props
+    running_stays never =
+        goes_on longest
+        (λ reached after told.
+        best_stays _ _ _ read c reached found longest after told never was.best)
 
   module _ (text : List ℕ) (utf8 : IsUtf8 text) (longest : Option Match) where
-    -- the whole text is read
-    pub token_at_end : (read : List ℕ) (state : ℕ) → read ≡ chars text
-        → ∥ IsRunning read state longest ∥₁
-        → MatchOption longest (BeginsWithNone machine.lexer text)
+    abbrev IsTold : Type 0
+    IsTold = MatchOption longest (BeginsWithNone machine.lexer text)
         (λ m. IsToken machine.lexer text m.rule m.len)
-    token_at_end read state whole running =
-        ∥∥₁_elim running (told_prop text longest)
-        (λ was. token_of_best (IsAcceptedBy machine.lexer) text utf8 longest
-        (subst (λ t. IsBest (IsAcceptedBy machine.lexer) t longest) whole was.best))
 
-    -- or the next character leads nowhere
-    pub token_when_stuck : (read : List ℕ) (c state : ℕ) → read ≡ take (length read) (chars text)
-        → length read < length (chars text) → c ≡ get_or (chars text) (length read) c
-        → GoesTo machine state c None → ∥ IsRunning read state longest ∥₁
-        → MatchOption longest (BeginsWithNone machine.lexer text)
-        (λ m. IsToken machine.lexer text m.rule m.len)
-    token_when_stuck read c state front within at goes running =
-        ∥∥₁_elim running (told_prop text longest)
-        (λ was. token_of_best (IsAcceptedBy machine.lexer) text utf8 longest
-        (best_when_stuck (IsAcceptedBy machine.lexer) (chars text) read c longest front within at
-        (never_through HasStep Starts (Accepts machine.lexer) read c was.set was.after
-        (goes was.sets was.are was.all was.set was.stands))
-        was.best))
+    -- the whole text is read, or the next character leads nowhere
+    told_of_best : (read : List ℕ) (state : ℕ) → ∥ IsRunning read state longest ∥₁
+        → (IsRunning read state longest → IsBestOf (chars text) longest) → IsTold
+    told_of_best read state running best =
+        ∥∥₁_elim running (told_prop longest)
+        (λ was. token_of_best _ _ _ text utf8 longest (best was))
+      where
+        told_prop : (found : Option Match) → IsProp (MatchOption found
+            (BeginsWithNone machine.lexer text) (λ m. IsToken machine.lexer text m.rule m.len))
+        told_prop None = hlevel props
+        told_prop (Some m) = hlevel props
+
+    pub token_at_end : (read : List ℕ) (state : ℕ) → read ≡ chars text
+        → ∥ IsRunning read state longest ∥₁ → IsTold
+    token_at_end read state whole running =
+        told_of_best read state running (λ was. rw (← whole) was.best)
+
+    pub token_when_stuck : (read rest : List ℕ) (c state : ℕ) → chars text ≡ read ++ c ∷ rest
+        → GoesTo machine state c None → ∥ IsRunning read state longest ∥₁ → IsTold
+    token_when_stuck read rest c state split goes running =
+        told_of_best read state running
+        (λ was.
+        let none = goes was.sets was.are was.all was.set was.stands in
+        rw split (best_when_stuck _ _ _ read rest c was.set longest was.after none was.best))
 
   -- the next state is one of the machine's
-  next_known : (state c : ℕ) (next : Option ℕ) → state < state_count machine
-      → IsMachine machine.lexer machine.states
-      → GoesTo machine state c next → IfSome next (λ n. n < state_count machine)
-  next_known state c None within (sets, are, all) goes = tt
-  next_known state c (Some next) within (sets, are, all) goes =
-      let set = get_or sets state (are.start.0) in
-      let (reached, at, by) =
-      goes sets are all set
-      (slice_get-get_or sets state (are.start.0) (omega (arith, within, all))) in
-      let inside = slice_get_within sets next reached at in omega (arith, inside, all)
-
-  within_prop : (next : Option ℕ) (n : ℕ) → IsProp (IfSome next (λ k. k < n))
-  within_prop None n = hlevel props
-  within_prop (Some k) n = hlevel props
-
   pub next_within : (state c : ℕ) (next : Option ℕ) → state < state_count machine
       → GoesTo machine state c next → IfSome next (λ n. n < state_count machine)
-  next_within state c next within goes =
-      ∥∥₁_elim machine.sound (within_prop next (state_count machine))
-      (λ sound. next_known state c next within sound goes)
+  next_within state c None within goes = tt
+  next_within state c (Some next) within goes =
+      ∥∥₁_elim machine.sound (hlevel props)
+      (λ (sets, are, all).
+      let (set, stands) = some_at sets state (omega (arith, within, all)) in
+      let (reached, at, by) = goes sets are all set stands in
+      omega (arith, slice_get_within sets next reached at, all))
 
   pub some_state : IsMachine machine.lexer machine.states → 0 < state_count machine
   some_state (sets, are, all) =

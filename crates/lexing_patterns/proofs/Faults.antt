@@ -1,5 +1,5 @@
 -- Why patterns are not taken, by what they are made of.
-use Rattle.std.proofs.Common.{◌≡◌, ◌<◌, ◌-◌, sym, subst, inl, inr, ℕ, zero, suc, Bool, true, false, Option, Some, None, List, [], ◌∷◌, map, length, get_or, Result, Ok, Err, IfErr, arith}
+use Rattle.std.proofs.Common.{◌≡◌, ◌<◌, ◌-◌, inl, inr, ℕ, zero, suc, Bool, true, false, Option, Some, None, List, [], ◌∷◌, map, length, get_or, arith}
 use Rattle.regex_hir.specs.Re.{Re, cat, plus}
 use Rattle.regex_hir.specs.Meaning.{meaning, cat_all, alt_all, copies, up_to, optional, repeat}
 use Rattle.regex_hir.specs.declared.hir.Hir.{Hir}
@@ -7,11 +7,6 @@ use Rattle.lexing_patterns.specs.declared.error.PatternError.{PatternError}
 use Rattle.lexing_patterns.specs.declared.error.PatternError.TheVariants.{Syntax, Assertion, NotText, TooLarge, Memory}
 use Rattle.lexing_patterns.specs.Faults.{HasLeaf, IsAssertion, IsBytes, IsFaultIn}
 use Rattle.lexing_patterns.proofs.Repeating.{repeat_bounded, repeat_plus}
-
-pub if_err : {T E : Type 0} (r : Result T E) (P Q : E → Type 0) → ((e : E) → P e → Q e)
-    → IfErr r P → IfErr r Q
-if_err (Ok x) P Q more h = tt
-if_err (Err e) P Q more h = more e h
 
 -- the leaves of the one pattern are among those of the other
 abbrev pub HasLeavesOf : Re → Re → Type 1
@@ -30,14 +25,14 @@ fault_of a b more Memory is = tt
 pub has_in_turn : (subs : List Hir) (i : ℕ) (sub : Hir) → i < length subs → sub ≡ get_or subs i sub
     → HasLeavesOf (cat_all (map meaning subs)) (meaning sub)
 has_in_turn [] i sub within is Is has = absurd (omega (arith, within))
-has_in_turn (x ∷ subs) zero sub within is Is has = inl (subst (λ s. HasLeaf Is (meaning s)) is has)
+has_in_turn (x ∷ subs) zero sub within is Is has = inl (rw (← is) has)
 has_in_turn (x ∷ subs) (suc i) sub within is Is has =
     inr (has_in_turn subs i sub (omega (arith, within)) is Is has)
 
 pub has_as_choice : (subs : List Hir) (i : ℕ) (sub : Hir) → i < length subs
     → sub ≡ get_or subs i sub → HasLeavesOf (alt_all (map meaning subs)) (meaning sub)
 has_as_choice [] i sub within is Is has = absurd (omega (arith, within))
-has_as_choice (x ∷ subs) zero sub within is Is has = inl (subst (λ s. HasLeaf Is (meaning s)) is has)
+has_as_choice (x ∷ subs) zero sub within is Is has = inl (rw (← is) has)
 has_as_choice (x ∷ subs) (suc i) sub within is Is has =
     inr (has_as_choice subs i sub (omega (arith, within)) is Is has)
 
@@ -63,8 +58,7 @@ has_in_up_to n (suc count) greedy a within Is has =
 pub has_in_bounded : (least most : ℕ) (greedy : Bool) (a : Re)
     → HasLeavesOf (repeat least (Some most) greedy a) (up_to greedy (most - least) a)
 has_in_bounded least most greedy a Is has =
-    subst (HasLeaf Is) (sym (repeat_bounded least most greedy a))
-    (has_behind_copies least a (up_to greedy (most - least) a) Is has)
+    rw repeat_bounded (has_behind_copies least a (up_to greedy (most - least) a) Is has)
 
 pub has_in_unbounded : (least : ℕ) (greedy : Bool) (a : Re)
     → HasLeavesOf (repeat least None greedy a) a
@@ -77,28 +71,22 @@ module _ (least : ℕ) (max : Option ℕ) (greedy : Bool) (a : Re) (error : Patt
   pub bounded_rest : (most n : ℕ) → max ≡ Some most → n ≡ most - least
       → IsFaultIn (up_to greedy n a) error → IsFaultIn (repeat least max greedy a) error
   bounded_rest most n is rest fault =
-      subst (λ m. IsFaultIn (repeat least m greedy a) error) (sym is)
+      rw is
       (fault_of (up_to greedy (most - least) a) (repeat least (Some most) greedy a)
-      (has_in_bounded least most greedy a) error
-      (subst (λ k. IsFaultIn (up_to greedy k a) error) rest fault))
+      (has_in_bounded least most greedy a) error (rw rest at fault))
 
   pub bounded_copies : (most : ℕ) → max ≡ Some most
       → ((re : Re) → IsFaultIn (copies least a re) error)
       → IsFaultIn (repeat least max greedy a) error
-  bounded_copies most is fault =
-      subst (λ m. IsFaultIn (repeat least m greedy a) error) (sym is)
-      (subst (λ re. IsFaultIn re error) (sym (repeat_bounded least most greedy a))
-      (fault (up_to greedy (most - least) a)))
+  bounded_copies most is fault = rw (is, repeat_bounded) (fault (up_to greedy (most - least) a))
 
   pub unbounded_once : max ≡ None → IsFaultIn a error → IsFaultIn (repeat least max greedy a) error
   unbounded_once is fault =
-      subst (λ m. IsFaultIn (repeat least m greedy a) error) (sym is)
+      rw is
       (fault_of a (repeat least None greedy a) (has_in_unbounded least greedy a) error fault)
 
   pub unbounded_copies : max ≡ None → ¬ (least ≡ 0)
       → ((re : Re) → IsFaultIn (copies (least - 1) a re) error)
       → IsFaultIn (repeat least max greedy a) error
   unbounded_copies is some fault =
-      subst (λ m. IsFaultIn (repeat least m greedy a) error) (sym is)
-      (subst (λ re. IsFaultIn re error) (sym (repeat_plus least greedy a some))
-      (fault (plus greedy a)))
+      rw (is, repeat_plus least greedy a some) (fault (plus greedy a))

@@ -1,14 +1,23 @@
--- Automata put together, over what leads in, the steps, the ends and whether the empty text is read.
-use Rattle.std.proofs.Common.{◌≡◌, refl, sym, ap, subst, ◌∙◌, ◌↔◌, ◌⊎◌, inl, inr, ℕ, ◌≤◌, ◌<◌, List, [], ◌∷◌, ◌++◌, arith, append-nil}
+-- Parts put together, and what they read then.
+use Rattle.std.proofs.Common.{◌≡◌, refl, sym, ap, subst, ◌↔◌, ◌⊎◌, inl, inr, ℕ, ◌≤◌, ◌<◌, IsTrue, List, [], ◌∷◌, ◌++◌, arith, append-nil, append_assoc}
+use Rattle.character_leads.specs.Leads.{Leads, LeadsBy}
+use Rattle.character_leads.proofs.Any.{any-append}
+use Rattle.lexing_patterns.specs.declared.part.Edge.{Edge}
+use Rattle.lexing_patterns.specs.declared.part.Part.{Part}
 use Rattle.lexing_patterns.specs.Languages.{InTurn, RoundsOf, one_text, more_texts}
-use Rattle.lexing_patterns.specs.Parts.{Path, ReadsBy}
+use Rattle.lexing_patterns.specs.Parts.{HasEdge, IsAmong, IsWithin, Path, Reads, ReadsBy}
 
-pub same_both : {A B C : Type 0} → A ↔ B → B ↔ C → A ↔ C
-same_both ab bc = (λ a. bc.0 (ab.0 a), λ c. ab.1 (bc.1 c))
+pub has_edge-append : (xs ys : List Edge) (p c q : ℕ)
+    → HasEdge (xs ++ ys) p c q ↔ (HasEdge xs p c q ⊎ HasEdge ys p c q)
+has_edge-append xs ys p c q = any-append (λ edge. (p ≡ edge.from) × LeadsBy c q edge.lead) xs ys
 
-pub path-append : (S : ℕ → ℕ → ℕ → Type 0) (p s q : ℕ) (u v : List ℕ) → Path S p u s → Path S s v q
+pub is_among-append : (xs ys : List ℕ) (q : ℕ)
+    → IsAmong q (xs ++ ys) ↔ (IsAmong q xs ⊎ IsAmong q ys)
+is_among-append xs ys q = any-append (λ state. q ≡ state) xs ys
+
+path-append : (S : ℕ → ℕ → ℕ → Type 0) (p s q : ℕ) (u v : List ℕ) → Path S p u s → Path S s v q
     → Path S p (u ++ v) q
-path-append S p s q [] v front back = subst (λ x. Path S x v q) (sym front) back
+path-append S p s q [] v front back = grind arith
 path-append S p s q (c ∷ u) v front back =
     (front.0, front.1, path-append S front.0 s q u v front.2 back)
 
@@ -18,314 +27,203 @@ path-more S T more p [] q path = path
 path-more S T more p (c ∷ w) q path =
     (path.0, more p c path.0 path.1, path-more S T more path.0 w q path.2)
 
--- what leads in, the steps, the ends and the empty text are the same: so are the texts
-pub reads-same : (I J : ℕ → ℕ → Type 0) (S T : ℕ → ℕ → ℕ → Type 0) (E F : ℕ → Type 0) (A B : Type 0)
-    → ((c q : ℕ) → I c q ↔ J c q) → ((p c q : ℕ) → S p c q ↔ T p c q) → ((q : ℕ) → E q ↔ F q)
-    → A ↔ B → (w : List ℕ) → ReadsBy I S E A w ↔ ReadsBy J T F B w
-reads-same I J S T E F A B ins steps ends empty [] = empty
-reads-same I J S T E F A B ins steps ends empty (c ∷ w) = (
-  λ h. (
-    h.0,
-    h.1,
-    (ins c h.0).0 h.2,
-    path-more S T (λ p d q. (steps p d q).0) h.0 w h.1 h.3,
-    (ends h.1).0 h.4,
-  ),
-  λ h. (
-    h.0,
-    h.1,
-    (ins c h.0).1 h.2,
-    path-more T S (λ p d q. (steps p d q).1) h.0 w h.1 h.3,
-    (ends h.1).1 h.4,
-  ),
-)
+-- from such states the one kind of steps is also of the other, and leads to such states
+pub path-within : (S T : ℕ → ℕ → ℕ → Type 0) (Is : ℕ → Type 0)
+    → ((p c q : ℕ) → Is p → S p c q → T p c q × Is q) → (p : ℕ) (w : List ℕ) (q : ℕ) → Is p
+    → Path S p w q → Path T p w q × Is q
+path-within S T Is within p [] q at path = grind arith
+path-within S T Is within p (c ∷ w) q at path =
+    grind (arith, within p c path.0 at path.1, path-within S T Is within path.0 w q)
 
--- steps from states below the middle to such states, and from others to others
-module _ (S T : ℕ → ℕ → ℕ → Type 0) (middle : ℕ)
-    (step_first : (p c q : ℕ) → S p c q → (middle ≤ p) × (middle ≤ q))
-    (step_second : (p c q : ℕ) → T p c q → (p < middle) × (q < middle)) where
-  pub stays_above : (p : ℕ) (w : List ℕ) (q : ℕ) → middle ≤ p → Path (λ a d b. T a d b ⊎ S a d b) p w q
-      → Path S p w q × (middle ≤ q)
-  stays_above p [] q at path = (path, subst (λ x. middle ≤ x) path at)
-  stays_above p (c ∷ w) q at path = elim path.1 [
-    | inl low ↦ absurd (omega (arith, at, (step_second p c path.0 low).0))
-    | inr high ↦
-        let rest = stays_above path.0 w q (step_first p c path.0 high).1 path.2 in
-        ((path.0, high, rest.0), rest.1)
-  ]
+-- two parts, the states of the second below the middle and those of the first from there on
+module _ (one other both : Part) (low middle high : ℕ) (first : IsWithin one middle high)
+    (second : IsWithin other low middle) where
+  abbrev StepOne : ℕ → ℕ → ℕ → Type 0
+  StepOne = HasEdge one.edges.items
 
-  pub stays_below : (p : ℕ) (w : List ℕ) (q : ℕ) → p < middle → Path (λ a d b. T a d b ⊎ S a d b) p w q
-      → Path T p w q × (q < middle)
-  stays_below p [] q at path = (path, subst (λ x. x < middle) path at)
-  stays_below p (c ∷ w) q at path = elim path.1 [
-    | inl low ↦
-        let rest = stays_below path.0 w q (step_second p c path.0 low).1 path.2 in
-        ((path.0, low, rest.0), rest.1)
-    | inr high ↦ absurd (omega (arith, at, (step_first p c path.0 high).0))
-  ]
+  abbrev StepOther : ℕ → ℕ → ℕ → Type 0
+  StepOther = HasEdge other.edges.items
 
--- two automata, the states of the second below the middle and those of the first from there on
-module _ (I J : ℕ → ℕ → Type 0) (S T : ℕ → ℕ → ℕ → Type 0) (E F : ℕ → Type 0) (A B : Type 0)
-    (middle : ℕ) (in_first : (c q : ℕ) → I c q → middle ≤ q)
-    (in_second : (c q : ℕ) → J c q → q < middle)
-    (step_first : (p c q : ℕ) → S p c q → (middle ≤ p) × (middle ≤ q))
-    (step_second : (p c q : ℕ) → T p c q → (p < middle) × (q < middle))
-    (end_first : (q : ℕ) → E q → middle ≤ q) (end_second : (q : ℕ) → F q → q < middle) where
-  abbrev First : List ℕ → Type 0
-  First = ReadsBy I S E A
+  abbrev Step : ℕ → ℕ → ℕ → Type 0
+  Step = HasEdge both.edges.items
 
-  abbrev Second : List ℕ → Type 0
-  Second = ReadsBy J T F B
+  -- side by side
+  module _ (leads : (c q : ℕ) → Leads both.leads.items c q
+      ↔ (Leads other.leads.items c q ⊎ Leads one.leads.items c q))
+      (ends : (q : ℕ) → IsAmong q both.ends.items
+      ↔ (IsAmong q other.ends.items ⊎ IsAmong q one.ends.items))
+      (edges : (p c q : ℕ) → Step p c q ↔ (StepOther p c q ⊎ StepOne p c q))
+      (empty : IsTrue both.empty ↔ (IsTrue other.empty ⊎ IsTrue one.empty)) where
+    pub either_within : low ≤ middle → middle ≤ high → IsWithin both low high
+    either_within below above = record {
+      leads = λ c q h. grind (arith, leads c q, first.leads c q, second.leads c q);
+      ends = λ q h. grind (arith, ends q, first.ends q, second.ends q);
+      edges = λ p c q h. grind (arith, edges p c q, first.edges p c q, second.edges p c q);
+    }
 
-  abbrev BothSteps : ℕ → ℕ → ℕ → Type 0
-  BothSteps p c q = T p c q ⊎ S p c q
-
-  abbrev pub EitherReads : List ℕ → Type 0
-  EitherReads = ReadsBy (λ c q. J c q ⊎ I c q) BothSteps (λ q. F q ⊎ E q) (B ⊎ A)
-
-  pub either_reads : (w : List ℕ) → EitherReads w ↔ (First w ⊎ Second w)
-  either_reads [] = (
-    λ h. elim h [ inl b ↦ inr b | inr a ↦ inl a ],
-    λ h. elim h [ inl a ↦ inr a | inr b ↦ inl b ],
-  )
-  either_reads (c ∷ w) = (
-    λ h. let (s, t, enters, path, ends) = h in
-        elim enters [
-          | inl low ↦
-              let along = stays_below S T middle step_first step_second s w t (in_second c s low) path in
-              elim ends [
-                | inl f ↦ inr (s, t, low, along.0, f)
-                | inr e ↦ absurd (omega (arith, along.1, end_first t e))
-              ]
-          | inr high ↦
-              let along = stays_above S T middle step_first step_second s w t (in_first c s high) path in
-              elim ends [
-                | inl f ↦ absurd (omega (arith, along.1, end_second t f))
-                | inr e ↦ inl (s, t, high, along.0, e)
-              ]
-        ],
-    λ h. elim h [
-      | inl a ↦ (
-        a.0,
-        a.1,
-        inr a.2,
-        path-more S BothSteps (λ p d q step. inr step) a.0 w a.1 a.3,
-        inr a.4,
-      )
-      | inr b ↦ (
-        b.0,
-        b.1,
-        inl b.2,
-        path-more T BothSteps (λ p d q step. inl step) b.0 w b.1 b.3,
-        inl b.4,
-      )
-    ],
-  )
+    pub either_reads : (w : List ℕ) → Reads both w ↔ (Reads one w ⊎ Reads other w)
+    either_reads [] = grind (arith, empty)
+    either_reads (c ∷ w) =
+        let above =
+        path-within Step StepOne (λ p. middle ≤ p)
+        (λ p d q at h. grind (arith, edges p d q, first.edges p d q, second.edges p d q)) in
+        let below =
+        path-within Step StepOther (λ p. p < middle)
+        (λ p d q at h. grind (arith, edges p d q, first.edges p d q, second.edges p d q)) in
+        let of_one = path-more StepOne Step (λ p d q h. (edges p d q).1 (inr h)) in
+        let of_other = path-more StepOther Step (λ p d q h. (edges p d q).1 (inl h)) in (
+          λ (s, t, enters, path, stops).
+              let low = second.leads c s in
+              let high = first.leads c s in
+              let stays = above s w t in
+              grind (arith, leads c s, ends t, first.ends t, second.ends t, below s w t),
+          λ h. elim h [
+            | inl (s, t, enters, path, stops) ↦
+                (s, t, (leads c s).1 (inr enters), of_one s w t path, (ends t).1 (inr stops))
+            | inr (s, t, enters, path, stops) ↦
+                (s, t, (leads c s).1 (inl enters), of_other s w t path, (ends t).1 (inl stops))
+          ],
+        )
 
   -- one after the other: from an end of the first the second's ways in lead on
-  abbrev TurnSteps : ℕ → ℕ → ℕ → Type 0
-  TurnSteps p c q = (T p c q ⊎ S p c q) ⊎ (E p × J c q)
+  module _ (leads : (c q : ℕ) → Leads both.leads.items c q
+      ↔ (Leads one.leads.items c q ⊎ (IsTrue one.empty × Leads other.leads.items c q)))
+      (ends : (q : ℕ) → IsAmong q both.ends.items
+      ↔ (IsAmong q other.ends.items ⊎ (IsTrue other.empty × IsAmong q one.ends.items)))
+      (edges : (p c q : ℕ) → Step p c q
+      ↔ ((StepOther p c q ⊎ StepOne p c q)
+      ⊎ (IsAmong p one.ends.items × Leads other.leads.items c q)))
+      (empty : IsTrue both.empty ↔ (IsTrue one.empty × IsTrue other.empty)) where
+    pub turn_within : low ≤ middle → middle ≤ high → IsWithin both low high
+    turn_within below above = record {
+      leads = λ c q h. grind (arith, leads c q, first.leads c q, second.leads c q);
+      ends = λ q h. grind (arith, ends q, first.ends q, second.ends q);
+      edges = λ p c q h.
+          let end = first.ends p in
+          let enters = second.leads c q in
+          grind (arith, edges p c q, first.edges p c q, second.edges p c q);
+    }
 
-  abbrev pub TurnReads : List ℕ → Type 0
-  TurnReads = ReadsBy (λ c q. I c q ⊎ (A × J c q)) TurnSteps (λ q. F q ⊎ (B × E q)) (A × B)
+    low_path : (p : ℕ) (w : List ℕ) (q : ℕ) → p < middle → Path Step p w q
+        → Path StepOther p w q × (q < middle)
+    low_path = path-within Step StepOther (λ p. p < middle)
+        (λ p c q at h.
+        grind (arith, edges p c q, first.edges p c q, second.edges p c q, first.ends p))
 
-  low_path : (p : ℕ) (w : List ℕ) (q : ℕ) → p < middle → Path TurnSteps p w q
-      → Path T p w q × (q < middle)
-  low_path p [] q at path = (path, subst (λ x. x < middle) path at)
-  low_path p (c ∷ w) q at path = elim path.1 [
-    | inl within ↦ elim within [
-      | inl low ↦
-          let rest = low_path path.0 w q (step_second p c path.0 low).1 path.2 in
-          ((path.0, low, rest.0), rest.1)
-      | inr high ↦ absurd (omega (arith, at, (step_first p c path.0 high).0))
+    -- from the second part's ways in a text of it is read
+    back_read : (c s : ℕ) (w : List ℕ) (q : ℕ) → Leads other.leads.items c s → Path Step s w q
+        → IsAmong q both.ends.items → Reads other (c ∷ w)
+    back_read c s w q enters path stops =
+        let (along, below) = low_path s w q (second.leads c s enters).1 path in
+        (s, q, enters, along, grind (arith, ends q, first.ends q))
+
+    -- a path in the first up to an end of it, and on in the second
+    high_path : (p : ℕ) (w : List ℕ) (q : ℕ) → middle ≤ p → Path Step p w q
+        → IsAmong q both.ends.items
+        → InTurn (λ u. (t : ℕ) × Path StepOne p u t × IsAmong t one.ends.items) (Reads other) w
+    high_path p [] q at path stops =
+        let at_end = ends q in
+        let inside = second.ends q in
+        ([], [], refl, (p, refl, grind arith), grind arith)
+    high_path p (c ∷ w) q at (s, step, path) stops = elim ((edges p c s).0 step) [
+      | inl (inl low) ↦ absurd (omega (arith, at, (second.edges p c s low).0.1))
+      | inl (inr high) ↦
+          let (u, v, parts, (t, front, end), back) =
+          high_path s w q (first.edges p c s high).1.0 path stops in
+          (c ∷ u, v, ap (λ x. c ∷ x) parts, (t, (s, high, front), end), back)
+      | inr (end, enters) ↦
+          ([], c ∷ w, refl, (p, refl, end), back_read c s w q enters path stops)
     ]
-    | inr over ↦ absurd (omega (arith, at, end_first p over.0))
-  ]
 
-  -- a path in the first, and on from an end of it in the second
-  abbrev Crosses : ℕ → List ℕ → ℕ → Type 0
-  Crosses p w q = (u : List ℕ) × (c : ℕ) × (v : List ℕ) × (t : ℕ) × (s : ℕ) × (w ≡ u ++ c ∷ v)
-      × Path S p u t × E t × J c s × Path T s v q × (q < middle)
-
-  high_path : (p : ℕ) (w : List ℕ) (q : ℕ) → middle ≤ p → Path TurnSteps p w q
-      → (Path S p w q × (middle ≤ q)) ⊎ Crosses p w q
-  high_path p [] q at path = inl (path, subst (λ x. middle ≤ x) path at)
-  high_path p (c ∷ w) q at path = elim path.1 [
-    | inl within ↦ elim within [
-      | inl low ↦ absurd (omega (arith, at, (step_second p c path.0 low).0))
-      | inr high ↦ elim (high_path path.0 w q (step_first p c path.0 high).1 path.2) [
-        | inl stays ↦ inl ((path.0, high, stays.0), stays.1)
-        | inr on ↦
-            let (u, d, v, t, s, parts, front, end, enters, back, low) = on in
-            inr (
-              c ∷ u,
-              d,
-              v,
-              t,
-              s,
-              ap (λ x. c ∷ x) parts,
-              (path.0, high, front),
-              end,
-              enters,
-              back,
-              low,
-            )
-      ]
+    turn_splits : (w : List ℕ) → Reads both w → InTurn (Reads one) (Reads other) w
+    turn_splits [] h = let (none, none_other) = empty.0 h in ([], [], refl, none, none_other)
+    turn_splits (c ∷ w) (s, q, enters, path, stops) = elim ((leads c s).0 enters) [
+      | inl high ↦
+          let (u, v, parts, (t, front, end), back) =
+          high_path s w q (first.leads c s high).0 path stops in
+          (c ∷ u, v, ap (λ x. c ∷ x) parts, (s, t, high, front, end), back)
+      | inr (none, low) ↦ ([], c ∷ w, refl, none, back_read c s w q low path stops)
     ]
-    | inr over ↦
-        let rest = low_path path.0 w q (in_second c path.0 over.1) path.2 in
-        inr ([], c, w, p, path.0, refl, refl, over.0, over.1, rest.0, rest.1)
-  ]
 
-  from_first : (s : ℕ) (w : List ℕ) (t : ℕ) → Path S s w t → Path TurnSteps s w t
-  from_first = path-more S TurnSteps (λ p d q step. inl (inr step))
+    of_one : (s : ℕ) (w : List ℕ) (t : ℕ) → Path StepOne s w t → Path Step s w t
+    of_one = path-more StepOne Step (λ p d q h. (edges p d q).1 (inl (inr h)))
 
-  from_second : (s : ℕ) (w : List ℕ) (t : ℕ) → Path T s w t → Path TurnSteps s w t
-  from_second = path-more T TurnSteps (λ p d q step. inl (inl step))
+    of_other : (s : ℕ) (w : List ℕ) (t : ℕ) → Path StepOther s w t → Path Step s w t
+    of_other = path-more StepOther Step (λ p d q h. (edges p d q).1 (inl (inl h)))
 
-  turn_splits : (w : List ℕ) → TurnReads w → InTurn First Second w
-  turn_splits [] h = ([], [], refl, h.0, h.1)
-  turn_splits (c ∷ w) h =
-      let (s, t, enters, path, ends) = h in
-      elim enters [
-        | inl high ↦ elim (high_path s w t (in_first c s high) path) [
-          | inl stays ↦ elim ends [
-            | inl f ↦ absurd (omega (arith, stays.1, end_second t f))
-            | inr e ↦
-                (c ∷ w, [], sym (append-nil (c ∷ w)), (s, t, high, stays.0, e.1), e.0)
-          ]
-          | inr on ↦
-              let (u, d, v, m, r, parts, front, end, second, back, low) = on in
-              elim ends [
-                | inl f ↦ (
-                  c ∷ u,
-                  d ∷ v,
-                  ap (λ x. c ∷ x) parts,
-                  (s, m, high, front, end),
-                  (r, t, second, back, f),
-                )
-                | inr e ↦ absurd (omega (arith, low, end_first t e.1))
-              ]
-        ]
-        | inr over ↦
-            let along = low_path s w t (in_second c s over.1) path in
-            elim ends [
-              | inl f ↦ ([], c ∷ w, refl, over.0, (s, t, over.1, along.0, f))
-              | inr e ↦ absurd (omega (arith, along.1, end_first t e.1))
-            ]
-      ]
+    turn_joins : (u v : List ℕ) → Reads one u → Reads other v → Reads both (u ++ v)
+    turn_joins [] [] a b = empty.1 (a, b)
+    turn_joins [] (c ∷ v) a (s, t, enters, path, stops) =
+        grind (arith, leads c s, ends t, of_other s v t path)
+    turn_joins (c ∷ u) [] (s, t, enters, path, stops) b =
+        subst (Reads both) (sym (append-nil (c ∷ u)))
+        (grind (arith, leads c s, ends t, of_one s u t path))
+    turn_joins (c ∷ u) (d ∷ v) (s, t, enters, front, end) (r, q, on, back, last) =
+        let step = (edges t d r).1 (inr (end, on)) in (
+          s,
+          q,
+          (leads c s).1 (inl enters),
+          path-append Step s t q u (d ∷ v) (of_one s u t front) (r, step, of_other r v q back),
+          (ends q).1 (inl last),
+        )
 
-  turn_joins : (u v : List ℕ) → First u → Second v → TurnReads (u ++ v)
-  turn_joins [] [] a b = (a, b)
-  turn_joins [] (c ∷ v) a b =
-      (b.0, b.1, inr (a, b.2), from_second b.0 v b.1 b.3, inl b.4)
-  turn_joins (c ∷ u) [] a b =
-      subst TurnReads (sym (append-nil (c ∷ u)))
-      (a.0, a.1, inl a.2, from_first a.0 u a.1 a.3, inr (b, a.4))
-  turn_joins (c ∷ u) (d ∷ v) a b = (
-    a.0,
-    b.1,
-    inl a.2,
-    path-append TurnSteps a.0 a.1 b.1 u (d ∷ v) (from_first a.0 u a.1 a.3)
-        (b.0, inr (a.4, b.2), from_second b.0 v b.1 b.3),
-    inl b.4,
-  )
-
-  pub turn_reads : (w : List ℕ) → TurnReads w ↔ InTurn First Second w
-  turn_reads w = (
-    turn_splits w,
-    λ h. subst TurnReads (sym h.2) (turn_joins h.0 h.1 h.3 h.4),
-  )
+    pub turn_reads : (w : List ℕ) → Reads both w ↔ InTurn (Reads one) (Reads other) w
+    turn_reads w =
+        (turn_splits w, λ (u, v, parts, front, back). rw parts (turn_joins u v front back))
 
 -- from an end of the automaton its ways in lead on
-module _ (I : ℕ → ℕ → Type 0) (S : ℕ → ℕ → ℕ → Type 0) (E : ℕ → Type 0) (A : Type 0) where
+module _ (In : ℕ → ℕ → Type 0) (Step Loop : ℕ → ℕ → ℕ → Type 0) (Ends : ℕ → Type 0)
+    (Empty : Type 0) (loops : (p c q : ℕ) → Loop p c q ↔ (Step p c q ⊎ (Ends p × In c q))) where
   abbrev Once : List ℕ → Type 0
-  Once = ReadsBy I S E A
+  Once = ReadsBy In Step Ends Empty
 
-  abbrev LoopSteps : ℕ → ℕ → ℕ → Type 0
-  LoopSteps p c q = S p c q ⊎ (E p × I c q)
+  abbrev LoopReads : List ℕ → Type 0
+  LoopReads = ReadsBy In Loop Ends Empty
 
-  abbrev pub LoopReads : List ℕ → Type 0
-  LoopReads = ReadsBy I LoopSteps E A
+  abbrev MaybeRounds : List ℕ → Type 0
+  MaybeRounds w = (w ≡ []) ⊎ RoundsOf Once w
 
-  abbrev Rounds : List ℕ → Type 0
-  Rounds = RoundsOf Once
-
-  pub rounds-front : (u v : List ℕ) → Once u → Rounds v → Rounds (u ++ v)
-  rounds-front u _ once (one_text v h) = more_texts u v (one_text u once) h
-  rounds-front u _ once (more_texts v x rounds last) =
-      subst Rounds (append_assoc u v x) (more_texts (u ++ v) x (rounds-front u v once rounds) last)
-    where
-      append_assoc : (xs ys zs : List ℕ) → (xs ++ ys) ++ zs ≡ xs ++ (ys ++ zs)
-      append_assoc [] ys zs = refl
-      append_assoc (x ∷ xs) ys zs = ap (λ l. x ∷ l) (append_assoc xs ys zs)
+  rounds_more : (u v : List ℕ) → Once u → MaybeRounds v → RoundsOf Once (u ++ v)
+  rounds_more u v once (inl none) = rw (none, append-nil) (one_text u once)
+  rounds_more u _ once (inr (one_text v last)) = more_texts u v (one_text u once) last
+  rounds_more u _ once (inr (more_texts v x rounds last)) =
+      rw (← append_assoc) (more_texts (u ++ v) x (rounds_more u v once (inr rounds)) last)
 
   -- the first round ends, and others may follow
-  abbrev Leaves : ℕ → List ℕ → Type 0
-  Leaves p w = (u : List ℕ) × (v : List ℕ) × (t : ℕ) × (w ≡ u ++ v) × Path S p u t × E t
-      × ((v ≡ []) ⊎ Rounds v)
-
-  leaves : (p : ℕ) (w : List ℕ) (q : ℕ) → Path LoopSteps p w q → E q → Leaves p w
-  leaves p [] q path end = ([], [], p, refl, refl, subst E (sym path) end, inl refl)
-  leaves p (c ∷ w) q path end =
-      let (u, v, t, parts, front, ends, rest) = leaves path.0 w q path.2 end in
-      elim path.1 [
-        | inl step ↦ (c ∷ u, v, t, ap (λ x. c ∷ x) parts, (path.0, step, front), ends, rest)
-        | inr again ↦ (
-          [],
-          c ∷ w,
-          p,
-          refl,
-          refl,
-          again.0,
-          inr (elim rest [
-            | inl none ↦
-                let all : c ∷ u ≡ c ∷ w =
-                ap (λ x. c ∷ x) (sym (append-nil u) ∙ ap (λ x. u ++ x) (sym none) ∙ sym parts) in
-                subst Rounds all (one_text (c ∷ u) (path.0, t, again.1, front, ends))
-            | inr more ↦
-                subst Rounds (ap (λ x. c ∷ x) (sym parts))
-                (rounds-front (c ∷ u) v (path.0, t, again.1, front, ends) more)
-          ]),
-        )
+  leaves : (p : ℕ) (w : List ℕ) (q : ℕ) → Path Loop p w q → Ends q
+      → InTurn (λ u. (t : ℕ) × Path Step p u t × Ends t) MaybeRounds w
+  leaves p [] q path end = ([], [], refl, (p, refl, rw path end), inl refl)
+  leaves p (c ∷ w) q (s, step, path) end =
+      let (u, v, parts, (t, front, ends), rest) = leaves s w q path end in
+      elim ((loops p c s).0 step) [
+        | inl same ↦ (c ∷ u, v, ap (λ x. c ∷ x) parts, (t, (s, same, front), ends), rest)
+        | inr (end, enters) ↦
+            let more = rounds_more (c ∷ u) v (s, t, enters, front, ends) rest in
+            ([], c ∷ w, refl, (p, refl, end), inr (rw parts more))
       ]
 
-  loop_splits : (w : List ℕ) → LoopReads w → Rounds w
+  loop_splits : (w : List ℕ) → LoopReads w → RoundsOf Once w
   loop_splits [] h = one_text [] h
-  loop_splits (c ∷ w) h =
-      let (u, v, t, parts, front, ends, rest) = leaves h.0 w h.1 h.3 h.4 in
-      elim rest [
-        | inl none ↦
-            let all : c ∷ u ≡ c ∷ w =
-            ap (λ x. c ∷ x) (sym (append-nil u) ∙ ap (λ x. u ++ x) (sym none) ∙ sym parts) in
-            subst Rounds all (one_text (c ∷ u) (h.0, t, h.2, front, ends))
-        | inr more ↦
-            subst Rounds (ap (λ x. c ∷ x) (sym parts))
-            (rounds-front (c ∷ u) v (h.0, t, h.2, front, ends) more)
-      ]
-
-  stays_once : (s : ℕ) (w : List ℕ) (t : ℕ) → Path S s w t → Path LoopSteps s w t
-  stays_once = path-more S LoopSteps (λ p d q step. inl step)
+  loop_splits (c ∷ w) (s, q, enters, path, end) =
+      let (u, v, parts, (t, front, ends), rest) = leaves s w q path end in
+      rw parts (rounds_more (c ∷ u) v (s, t, enters, front, ends) rest)
 
   loop_once : (w : List ℕ) → Once w → LoopReads w
   loop_once [] h = h
-  loop_once (c ∷ w) h = (h.0, h.1, h.2, stays_once h.0 w h.1 h.3, h.4)
+  loop_once (c ∷ w) (s, t, enters, path, end) =
+      (s, t, enters, path-more Step Loop (λ p d q h. (loops p d q).1 (inl h)) s w t path, end)
 
-  loop_more : (u v : List ℕ) → LoopReads u → Once v → LoopReads (u ++ v)
-  loop_more [] v a b = loop_once v b
-  loop_more (c ∷ u) [] a b = subst LoopReads (sym (append-nil (c ∷ u))) a
-  loop_more (c ∷ u) (d ∷ v) a b = (
-    a.0,
-    b.1,
-    a.2,
-    path-append LoopSteps a.0 a.1 b.1 u (d ∷ v) a.3
-        (b.0, inr (a.4, b.2), stays_once b.0 v b.1 b.3),
-    b.4,
-  )
-
-  loop_joins : (w : List ℕ) → Rounds w → LoopReads w
+  loop_joins : (w : List ℕ) → RoundsOf Once w → LoopReads w
   loop_joins _ (one_text w h) = loop_once w h
-  loop_joins _ (more_texts u v rounds last) = loop_more u v (loop_joins u rounds) last
+  loop_joins _ (more_texts u v rounds last) = more u v (loop_joins u rounds) last
+    where
+      more : (u v : List ℕ) → LoopReads u → Once v → LoopReads (u ++ v)
+      more [] v a b = loop_once v b
+      more (c ∷ u) [] a b = subst LoopReads (sym (append-nil (c ∷ u))) a
+      more (c ∷ u) (d ∷ v) (s, t, enters, front, end) b =
+          let (r, q, on, back, last) = loop_once (d ∷ v) b in
+          let step = (loops t d r).1 (inr (end, on)) in
+          (s, q, enters, path-append Loop s t q u (d ∷ v) front (r, step, back), last)
 
-  pub loop_reads : (w : List ℕ) → LoopReads w ↔ Rounds w
+  pub loop_reads : (w : List ℕ) → LoopReads w ↔ RoundsOf Once w
   loop_reads w = (loop_splits w, loop_joins w)

@@ -1,4 +1,3 @@
-pub mod Building
 pub mod Drafting
 pub mod Faults
 pub mod Joining
@@ -9,4 +8,3 @@ pub mod CharacterRanges
 pub mod Pouring
 pub mod Promise
 pub mod Repeating
-pub mod Within

@@ -1,14 +1,13 @@
 -- A text, one character after the other from its end.
-use Rattle.std.proofs.Common.{◌≡◌, refl, sym, ap, ap₂, subst, ◌∙◌, ◌↔◌, inl, inr, ℕ, zero, suc, ◌-◌, ◌+◌, ◌≤◌, ◌<◌, true, List, [], ◌∷◌, ◌++◌, length, drop, get_or, arith}
+use Rattle.std.proofs.Common.{◌≡◌, refl, sym, ap, ap₂, subst, ◌∙◌, ◌↔◌, ℕ, zero, suc, ◌-◌, ◌+◌, ◌≤◌, ◌<◌, true, List, [], ◌∷◌, ◌++◌, length, drop, get_or, arith}
 use Rattle.std.proofs.lemmas.Bool.{and_parts}
 use Rattle.std.proofs.lemmas.List.{drop_more}
 use Rattle.std.proofs.lemmas.Str.{chars-encodes}
-use Rattle.std.specs.Str.{encode_utf8_all, all_scalars, chars}
+use Rattle.std.specs.Str.{encode_utf8_all, all_scalars}
 use Rattle.regex_class.specs.Ranges.{in_ranges}
 use Rattle.regex_hir.specs.Re.{empty, literal, char_in, cat}
 use Rattle.lexing_patterns.specs.declared.part.Part.{Part}
-use Rattle.lexing_patterns.specs.Languages.{InTurn, OneOf, IsLanguage}
-use Rattle.lexing_patterns.specs.Parts.{Reads}
+use Rattle.lexing_patterns.specs.Languages.{IsLanguage}
 use Rattle.lexing_patterns.specs.Built.{IsBuilt}
 use Rattle.character_leads.proofs.Ranges.{in_ranges_any}
 use Rattle.lexing_patterns.proofs.Meanings.{language_same, language_empty, language_cat, language_char_in, language_literal, language_through}
@@ -18,43 +17,29 @@ language_spelled : (cs : List ℕ) → all_scalars cs ≡ true
     → IsLanguage (literal (encode_utf8_all cs)) (λ w. w ≡ cs)
 language_spelled cs s =
     let same = chars-encodes cs s in
-    language_same (literal (encode_utf8_all cs)) (λ w. w ≡ chars (encode_utf8_all cs)) (λ w. w ≡ cs)
-    (λ w _. (λ h. h ∙ same, λ h. h ∙ sym same))
+    language_same (λ w _. (λ h. h ∙ sym same, λ h. h ∙ same))
     (language_literal (encode_utf8_all cs) (cs, (s, refl)))
 
 pub literal_ends : (r : Part) (low high : ℕ) → IsBuilt empty r low high
     → IsBuilt (literal []) r low high
 literal_ends r low high is = record {
-  language = language_through empty (literal []) (Reads r) (λ w. w ≡ []) is.language language_empty
-      (language_spelled [] refl);
+  language = language_through is.language language_empty (language_spelled [] refl);
   within = is.within;
 }
 
 itself : (c d : ℕ) → (in_ranges ((c, c) ∷ []) d ≡ true) ↔ (d ≡ c)
-itself c d =
-    let any = in_ranges_any ((c, c) ∷ []) d 0 0 in (
-      λ h. elim (any.1 (h, refl)) [
-        | inl piece ↦ omega (arith, piece.0.0, piece.0.1)
-        | inr none ↦ absurd none
-      ],
-      λ h. (any.0 (inl ((omega (arith, h), omega (arith, h)), refl))).0,
-    )
+itself c d = grind (arith, in_ranges_any ((c, c) ∷ []) d 0 0)
 
 language_begun : (c : ℕ) (cs : List ℕ) → all_scalars cs ≡ true
     → IsLanguage (cat (char_in ((c, c) ∷ [])) (literal (encode_utf8_all cs))) (λ w. w ≡ c ∷ cs)
 language_begun c cs s =
-    language_same (cat (char_in ((c, c) ∷ [])) (literal (encode_utf8_all cs)))
-    (InTurn (OneOf (in_ranges ((c, c) ∷ []))) (λ w. w ≡ cs)) (λ w. w ≡ c ∷ cs)
+    language_same
     (λ w _. (
-      λ h.
-          let (u, v, parts, one, rest) = h in
-          let (d, is, by) = one in
-          parts ∙ ap₂ (λ x y. x ++ y) is rest ∙ ap (λ x. x ∷ cs) ((itself c d).0 by),
       λ h. (c ∷ [], cs, h, (c, refl, (itself c c).1 refl), refl),
+      λ (u, v, parts, (d, is, by), rest).
+          parts ∙ ap₂ (λ x y. x ++ y) is rest ∙ ap (λ x. x ∷ cs) ((itself c d).0 by),
     ))
-    (language_cat (char_in ((c, c) ∷ [])) (literal (encode_utf8_all cs))
-    (OneOf (in_ranges ((c, c) ∷ []))) (λ w. w ≡ cs) (language_char_in ((c, c) ∷ []))
-    (language_spelled cs s))
+    (language_cat (language_char_in ((c, c) ∷ [])) (language_spelled cs s))
 
 scalars_drop : (n : ℕ) (cs : List ℕ) → all_scalars cs ≡ true → all_scalars (drop n cs) ≡ true
 scalars_drop zero cs s = s
@@ -74,9 +59,7 @@ literal_begins cs i c r low high s some within at is =
     subst (λ x. all_scalars x ≡ true) more (scalars_drop (i - 1) cs s) in
     subst (λ x. IsBuilt (literal (encode_utf8_all x)) r low high) (sym more)
     (record {
-      language = language_through (cat (char_in ((c, c) ∷ []))
-          (literal (encode_utf8_all (drop i cs)))) (literal (encode_utf8_all (c ∷ drop i cs)))
-          (Reads r) (λ w. w ≡ c ∷ drop i cs) is.language
-          (language_begun c (drop i cs) (scalars_drop i cs s)) (language_spelled (c ∷ drop i cs) all);
+      language = language_through is.language (language_begun c (drop i cs) (scalars_drop i cs s))
+          (language_spelled (c ∷ drop i cs) all);
       within = is.within;
     })

@@ -1,12 +1,13 @@
 -- The languages of patterns, one for each of their forms.
-use Rattle.std.proofs.Common.{◌≡◌, refl, sym, ap, subst, ◌∙◌, ◌↔◌, ◌⊎◌, inl, inr, ℕ, ◌+◌, ◌<◌, ◌≤◌, zero, suc, Bool, true, List, [], ◌∷◌, ◌++◌, length, drop, Some, arith, append_assoc, append-nil, length-append, slice_get, true≢false}
+use Rattle.std.proofs.Common.{◌≡◌, refl, sym, ap, ◌∙◌, ◌↔◌, ◌⊎◌, inl, inr, ℕ, ◌+◌, ◌<◌, ◌≤◌, zero, suc, Bool, true, false, List, [], ◌∷◌, ◌++◌, length, drop, Some, arith, append_assoc, append-nil, length-append, slice_get, true≢false}
 use Rattle.std.proofs.Math.Seq.{drop-append_seam}
-use Rattle.std.proofs.lemmas.Bool.{and_parts, and_from}
+use Rattle.std.proofs.lemmas.Bool.{and_parts}
 use Rattle.std.proofs.lemmas.Str.{cons_from_encodes, encodes-append, encodes-chars, length-encode, encode_ascii, len_utf8_ascii}
 use Rattle.std.specs.Str.{encode_utf8_all, all_scalars, chars, IsUtf8}
 use Rattle.std.specs.Char.{len_utf8, encode_utf8}
 use Rattle.regex_class.specs.Ranges.{in_ranges}
-use Rattle.regex_hir.specs.Re.{Re, empty, literal, byte_in, char_in, cat, alt, group, plus}
+use Rattle.regex_hir.specs.Re.{Re, empty, literal, byte_in, char_in, cat, alt, plus}
+use Rattle.regex_hir.specs.Meaning.{optional}
 use Rattle.regex_hir.specs.Matches.{Matches, Rounds, one_round, next_round}
 use Rattle.regex_hir.proofs.TextLemmas.{char_at_parts, char_at_from, has_bytes_at_parts, has_bytes_at_from, char_at_ascii}
 use Rattle.lexing_patterns.specs.Languages.{InTurn, RoundsOf, one_text, more_texts, OneOf, MatchesBehind, GoesOnTo, IsLanguage}
@@ -14,15 +15,12 @@ use Rattle.lexing_patterns.specs.Languages.{InTurn, RoundsOf, one_text, more_tex
 scalars_parts : (xs ys : List ℕ) → all_scalars (xs ++ ys) ≡ true
     → (all_scalars xs ≡ true) × (all_scalars ys ≡ true)
 scalars_parts [] ys h = (refl, h)
-scalars_parts (x ∷ xs) ys h =
-    let parts = and_parts _ _ h in
-    let rest = scalars_parts xs ys parts.1 in (and_from _ _ parts.0 rest.0, rest.1)
+scalars_parts (x ∷ xs) ys h = grind (arith, scalars_parts xs ys)
 
 scalars_both : (xs ys : List ℕ) → all_scalars xs ≡ true → all_scalars ys ≡ true
     → all_scalars (xs ++ ys) ≡ true
 scalars_both [] ys h k = k
-scalars_both (x ∷ xs) ys h k =
-    let parts = and_parts _ _ h in and_from _ _ parts.0 (scalars_both xs ys parts.1 k)
+scalars_both (x ∷ xs) ys h k = grind (arith, scalars_both xs ys)
 
 -- where the characters end
 abbrev end_of : List ℕ → ℕ
@@ -43,49 +41,37 @@ moved : (re : Re) (front rest w more : List ℕ) (l at : ℕ) → rest ≡ w ++ 
     → l ≡ end_of (front ++ w)
     → Matches (encode_utf8_all (front ++ rest)) re l at ↔ MatchesBehind re (front ++ w) more at
 moved re front rest w more l at parts end =
-    let text : front ++ rest ≡ (front ++ w) ++ more =
-    ap (λ x. front ++ x) parts ∙ sym (append_assoc front w more) in (
-      λ h. subst (λ n. Matches (encode_utf8_all ((front ++ w) ++ more)) re n at) end
-          (subst (λ t. Matches (encode_utf8_all t) re l at) text h),
-      λ h. subst (λ t. Matches (encode_utf8_all t) re l at) (sym text)
-          (subst (λ n. Matches (encode_utf8_all ((front ++ w) ++ more)) re n at) (sym end) h),
-    )
+    rw (parts, end, append_assoc front w more) (λ h. h, λ h. h)
 
-pub language_same : (re : Re) (L M : List ℕ → Type 0)
-    → ((w : List ℕ) → all_scalars w ≡ true → L w ↔ M w) → IsLanguage re L → IsLanguage re M
-language_same re L M same is = record {
+pub language_same : {re : Re} {L M : List ℕ → Type 0}
+    → ((w : List ℕ) → all_scalars w ≡ true → M w ↔ L w) → IsLanguage re L → IsLanguage re M
+language_same same is = record {
   matches = λ front rest f r at. (
     λ h.
         let (w, more, parts, end, by) = (is.matches front rest f r at).0 h in
-        let s = scalars_parts w more (subst (λ x. all_scalars x ≡ true) parts r) in
-        (w, more, parts, end, (same w s.0).0 by),
-    λ h.
-        let (w, more, parts, end, by) = h in
-        let s = scalars_parts w more (subst (λ x. all_scalars x ≡ true) parts r) in
-        (is.matches front rest f r at).1 (w, more, parts, end, (same w s.0).1 by),
+        let s = scalars_parts w more (rw parts at r) in
+        (w, more, parts, end, (same w s.0).1 by),
+    λ (w, more, parts, end, by).
+        let s = scalars_parts w more (rw parts at r) in
+        (is.matches front rest f r at).1 (w, more, parts, end, (same w s.0).0 by),
   );
 }
-
-pub language_of_same : (a b : Re) (L : List ℕ → Type 0) → a ≡ b → IsLanguage b L → IsLanguage a L
-language_of_same a b L e is = subst (λ re. IsLanguage re L) (sym e) is
 
 pub language_empty : IsLanguage empty (λ w. w ≡ [])
 language_empty = record {
   matches = λ front rest f r at. (
-    λ h. ([], rest, refl, h ∙ ap end_of (sym (append-nil front)), refl),
-    λ h.
-        let (w, more, parts, end, by) = h in
-        end ∙ ap (λ x. end_of (front ++ x)) by ∙ ap end_of (append-nil front),
+    λ h. ([], rest, refl, grind (arith, append-nil front), refl),
+    λ (w, more, parts, end, by). grind (arith, append-nil front),
   );
 }
 
-pub language_cat : (a b : Re) (L M : List ℕ → Type 0) → IsLanguage a L → IsLanguage b M
+pub language_cat : {a b : Re} {L M : List ℕ → Type 0} → IsLanguage a L → IsLanguage b M
     → IsLanguage (cat a b) (InTurn L M)
-language_cat a b L M is_a is_b = record {
+language_cat {b = b} is_a is_b = record {
   matches = λ front rest f r at. (
     λ h.
         let (u, mid, parts, end, by) = (is_a.matches front rest f r h.0).0 h.1 in
-        let s = scalars_parts u mid (subst (λ x. all_scalars x ≡ true) parts r) in
+        let s = scalars_parts u mid (rw parts at r) in
         let (v, more, parts_2, end_2, by_2) =
         (is_b.matches (front ++ u) mid (scalars_both front u f s.0) s.1 at).0
         ((moved b front rest u mid h.0 at parts end).0 h.2) in (
@@ -95,12 +81,10 @@ language_cat a b L M is_a is_b = record {
           end_2 ∙ ap end_of (append_assoc front u v),
           (u, v, refl, by, by_2),
         ),
-    λ h.
-        let (w, more, parts, end, turn) = h in
-        let (u, v, split, by, by_2) = turn in
+    λ (w, more, parts, end, (u, v, split, by, by_2)).
         let whole : rest ≡ u ++ (v ++ more) =
         parts ∙ ap (λ x. x ++ more) split ∙ append_assoc u v more in
-        let s = scalars_parts u (v ++ more) (subst (λ x. all_scalars x ≡ true) whole r) in
+        let s = scalars_parts u (v ++ more) (rw whole at r) in
         let l = end_of (front ++ u) in
         let last : at ≡ end_of ((front ++ u) ++ v) =
         end ∙ ap (λ x. end_of (front ++ x)) split ∙ ap end_of (sym (append_assoc front u v)) in (
@@ -113,9 +97,9 @@ language_cat a b L M is_a is_b = record {
   );
 }
 
-pub language_alt : (a b : Re) (L M : List ℕ → Type 0) → IsLanguage a L → IsLanguage b M
+pub language_alt : {a b : Re} {L M : List ℕ → Type 0} → IsLanguage a L → IsLanguage b M
     → IsLanguage (alt a b) (λ w. L w ⊎ M w)
-language_alt a b L M is_a is_b = record {
+language_alt is_a is_b = record {
   matches = λ front rest f r at. (
     λ h. elim h [
       | inl x ↦
@@ -125,18 +109,18 @@ language_alt a b L M is_a is_b = record {
           let (w, more, parts, end, by) = (is_b.matches front rest f r at).0 y in
           (w, more, parts, end, inr by)
     ],
-    λ h.
-        let (w, more, parts, end, by) = h in
-        elim by [
-          | inl x ↦ inl ((is_a.matches front rest f r at).1 (w, more, parts, end, x))
-          | inr y ↦ inr ((is_b.matches front rest f r at).1 (w, more, parts, end, y))
-        ],
+    λ (w, more, parts, end, by). elim by [
+      | inl x ↦ inl ((is_a.matches front rest f r at).1 (w, more, parts, end, x))
+      | inr y ↦ inr ((is_b.matches front rest f r at).1 (w, more, parts, end, y))
+    ],
   );
 }
 
-pub language_group : (n : ℕ) (a : Re) (L : List ℕ → Type 0) → IsLanguage a L
-    → IsLanguage (group n a) L
-language_group n a L is = record { matches = is.matches }
+pub language_optional : (greedy : Bool) {a : Re} {L M : List ℕ → Type 0}
+    → ((w : List ℕ) → M w ↔ (L w ⊎ (w ≡ []))) → IsLanguage a L → IsLanguage (optional greedy a) M
+language_optional true same is = language_same (λ w _. same w) (language_alt is language_empty)
+language_optional false same is =
+    language_same (λ w _. grind (arith, same w)) (language_alt language_empty is)
 
 module _ (a : Re) (L : List ℕ → Type 0) (is : IsLanguage a L) (front rest : List ℕ)
     (f : all_scalars front ≡ true) (r : all_scalars rest ≡ true) where
@@ -149,7 +133,7 @@ module _ (a : Re) (L : List ℕ → Type 0) (is : IsLanguage a L) (front rest : 
       (w, more, parts, end, one_text w by)
   rounds_read at (next_round l _ before h) =
       let (u, mid, parts, end, by) = rounds_read l before in
-      let s = scalars_parts u mid (subst (λ x. all_scalars x ≡ true) parts r) in
+      let s = scalars_parts u mid (rw parts at r) in
       let (v, more, parts_2, end_2, by_2) =
       (is.matches (front ++ u) mid (scalars_both front u f s.0) s.1 at).0
       ((moved a front rest u mid l at parts end).0 h) in (
@@ -167,7 +151,7 @@ module _ (a : Re) (L : List ℕ → Type 0) (is : IsLanguage a L) (front rest : 
       ((is.matches front rest f r (end_of (front ++ w))).1 (w, more, parts, refl, by))
   rounds_match _ more parts (more_texts u v before by) =
       let whole : rest ≡ u ++ (v ++ more) = parts ∙ append_assoc u v more in
-      let s = scalars_parts u (v ++ more) (subst (λ x. all_scalars x ≡ true) whole r) in
+      let s = scalars_parts u (v ++ more) (rw whole at r) in
       let last : end_of (front ++ (u ++ v)) ≡ end_of ((front ++ u) ++ v) =
       ap end_of (sym (append_assoc front u v)) in
       next_round (end_of (front ++ u)) (end_of (front ++ (u ++ v)))
@@ -177,15 +161,12 @@ module _ (a : Re) (L : List ℕ → Type 0) (is : IsLanguage a L) (front rest : 
       ((is.matches (front ++ u) (v ++ more) (scalars_both front u f s.0) s.1
       (end_of (front ++ (u ++ v)))).1 (v, more, refl, last, by)))
 
-pub language_plus : (greedy : Bool) (a : Re) (L : List ℕ → Type 0) → IsLanguage a L
+pub language_plus : {greedy : Bool} {a : Re} {L : List ℕ → Type 0} → IsLanguage a L
     → IsLanguage (plus greedy a) (RoundsOf L)
-language_plus greedy a L is = record {
+language_plus {a = a} {L = L} is = record {
   matches = λ front rest f r at. (
     λ h. rounds_read a L is front rest f r at h,
-    λ h.
-        let (w, more, parts, end, by) = h in
-        subst (λ n. Rounds (Matches (encode_utf8_all (front ++ rest)) a) (end_of front) n) (sym end)
-        (rounds_match a L is front rest f r w more parts by),
+    λ (w, more, parts, end, by). rw end (rounds_match a L is front rest f r w more parts by),
   );
 }
 
@@ -218,8 +199,7 @@ language_literal bs utf8 = record {
               h.1 ∙ ap (λ x. i + length x) (sym coded) ∙ sym (end_behind front (chars bs)),
               refl,
             ),
-        λ h.
-            let (w, more, parts, end, by) = h in
+        λ (w, more, parts, end, by).
             let all : rest ≡ chars bs ++ more = parts ∙ ap (λ x. x ++ more) by in (
               has_bytes_at_from hay i bs (encode_utf8_all more)
                   (behind front rest ∙ ap encode_utf8_all all ∙ encodes-append (chars bs) more
@@ -241,8 +221,7 @@ language_char_in rs = record {
   matches = λ front rest f r at.
       let hay = encode_utf8_all (front ++ rest) in
       let i = end_of front in (
-        λ h.
-            let (c, there, is, end) = h in
+        λ (c, there, is, end).
             let (scalar, bytes) = char_at_parts hay i c there in
             let (more, parts, bytes_2) =
             cons_from_encodes rest (drop (i + len_utf8 c) hay) c
@@ -253,11 +232,9 @@ language_char_in rs = record {
               end ∙ sym (one_end front c),
               (c, refl, is),
             ),
-        λ h.
-            let (w, more, parts, end, one) = h in
-            let (c, whole, is) = one in
+        λ (w, more, parts, end, (c, whole, is)).
             let all : rest ≡ c ∷ more = parts ∙ ap (λ x. x ++ more) whole in
-            let scalar = (and_parts _ _ (subst (λ x. all_scalars x ≡ true) all r)).0 in (
+            let scalar = (and_parts _ _ (rw all at r)).0 in (
               c,
               char_at_from hay i c (encode_utf8_all more) scalar
                   (behind front rest ∙ ap encode_utf8_all all),
@@ -281,8 +258,7 @@ language_byte_in rs ascii = record {
       let hay = encode_utf8_all (front ++ rest) in
       let i = end_of front in
       let by_char = (language_char_in rs).matches front rest f r at in (
-        λ h.
-            let (b, there, is, end) = h in
+        λ (b, there, is, end).
             let low : b < 128 = omega (arith, ascii b is) in
             by_char.0 (
               b,
@@ -311,9 +287,9 @@ language_nothing = record {
 }
 
 -- two patterns with one language in common have the others in common too
-pub language_through : (a b : Re) (L M : List ℕ → Type 0) → IsLanguage a L → IsLanguage a M
+pub language_through : {a b : Re} {L M : List ℕ → Type 0} → IsLanguage a L → IsLanguage a M
     → IsLanguage b M → IsLanguage b L
-language_through a b L M is_l is_m is_b = record {
+language_through is_l is_m is_b = record {
   matches = λ front rest f r at.
       let l = is_l.matches front rest f r at in
       let m = is_m.matches front rest f r at in

@@ -1,13 +1,10 @@
 -- What a rule is called when others are added.
-use Rattle.std.proofs.Common.{◌≡◌, sym, subst, ◌∙◌, ◌↔◌, ℕ, ◌+◌, ◌<◌, List, IsTrue, Some, get_or, below_more}
+use Rattle.std.proofs.Common.{◌≡◌, subst, ◌↔◌, ℕ, ◌+◌, ◌<◌, List, IsTrue, Some, get_or, below_more}
 use Rattle.std.specs.List.{slice_get}
 use Rattle.std.proofs.lemmas.Option.{get_or_from_slice_get}
 use Rattle.lexing.specs.declared.lexer.Lexer.{Lexer}
 use Rattle.lexing.specs.Lexers.{IsNameOf, IsSkipped, KeepsRules}
 use Rattle.lexing_patterns.specs.declared.patterns.PatternRule.{PatternRule}
-
-some_is : {X : Type 0} (x y : X) → Some x ≡ Some y → x ≡ y
-some_is x y e = cc
 
 -- the lexer's rule at the index is called so, and is skipped or not
 abbrev pub IsRule : Lexer → ℕ → PatternRule → Type 0
@@ -15,13 +12,13 @@ IsRule lexer i rule = IsNameOf lexer i rule.name.now × (IsSkipped lexer i ↔ I
 
 still : (before after : Lexer) → KeepsRules before after → (i : ℕ) (rule : PatternRule)
     → IsRule before i rule → IsRule after i rule
-still before after kept i rule h =
-    let at = kept.2 i h.0.0 h.0.1 in (
-      (h.0.0, at, h.0.2),
+still before after kept i rule ((kind, at, named), skips) =
+    let now = kept.2 i kind at in (
+      (kind, now, named),
       (
-        λ s.
-            h.1.0 (h.0.0, h.0.1, subst (λ k. IsTrue k.skipped) (some_is _ _ (sym s.1 ∙ at)) s.2),
-        λ t. let old = h.1.1 t in (old.0, kept.2 i old.0 old.1, old.2),
+        λ (other, there, skipped).
+            let same : kind ≡ other = cc in skips.0 (kind, at, rw same skipped),
+        λ skipped. let (kind, at, is) = skips.1 skipped in (kind, kept.2 i kind at, is),
       ),
     )
 

@@ -1,15 +1,16 @@
 -- A token of the lexer is a longest match of its patterns.
-use Rattle.std.proofs.Common.{◌≡◌, refl, sym, ap, subst, ◌∙◌, ◌↔◌, ◌⊎◌, inl, inr, ℕ, zero, suc, ◌≤◌, true, List, [], ◌∷◌, ◌++◌, length, take, Some, slice_get, arith, append-nil, length-append}
+use Rattle.std.proofs.Common.{◌≡◌, refl, sym, ap, subst, ◌∙◌, ◌↔◌, inl, inr, ℕ, ◌≤◌, true, List, [], ◌∷◌, ◌++◌, length, take, Some, slice_get, arith, append-nil, length-append}
 use Rattle.std.proofs.Math.Logic.{∥∥₁_elim}
-use Rattle.std.proofs.lemmas.Grind.{not_there}
-use Rattle.std.proofs.lemmas.Bool.{and_parts}
+use Rattle.std.proofs.lemmas.Grind.{common_steps, not_there}
+use Rattle.std.proofs.lemmas.Bool.{and_parts, cases_lt}
 use Rattle.std.proofs.lemmas.Bool.Decides.{nat_tests}
-use Rattle.std.proofs.lemmas.Str.{encodes-chars, scalars-chars, encodes-append, length-encode, len_utf8_bounds, IsUtf8-take}
-use Rattle.std.specs.Char.{IsScalar, encode_utf8}
+use Rattle.std.proofs.lemmas.Str.{encodes-chars, scalars-chars, encodes-append, length-le-encodes, IsUtf8-take}
+use Rattle.std.specs.Char.{IsScalar}
 use Rattle.std.specs.Str.{encode_utf8_all, all_scalars, chars, IsUtf8}
 use Rattle.btree_range_map.specs.Characters.{IsCharacter}
 use Rattle.charmoves.specs.Automata.{LeadsTo}
 use Rattle.state_sets.specs.Beginnings.{AcceptsFirst}
+use Rattle.state_sets.proofs.Lists.{some_at}
 use Rattle.lexing.specs.declared.lexer.Lexer.{Lexer}
 use Rattle.lexing.specs.Lexers.{rules_in, PathOf, IsAcceptedBy}
 use Rattle.lexing.specs.Tokens.{IsToken}
@@ -23,14 +24,7 @@ use Rattle.lexing_patterns.specs.Patterns.{MatchesAll, MatchesFirst, IsLongestMa
 
 nothing_left : (cs : List ℕ) → length (encode_utf8_all cs) ≡ 0 → cs ≡ []
 nothing_left [] e = refl
-nothing_left (c ∷ cs) e =
-    absurd (omega (
-      arith,
-      e,
-      length-append (encode_utf8 c) (encode_utf8_all cs),
-      length-encode c,
-      len_utf8_bounds c,
-    ))
+nothing_left (c ∷ cs) e = absurd (grind (arith, common_steps, length-le-encodes (c ∷ cs)))
 
 -- the pattern matches a whole text where the text's characters are in its language
 pub whole_text : (re : Re) (L : List ℕ → Type 0) → IsLanguage re L → (text : List ℕ) → IsUtf8 text
@@ -55,43 +49,27 @@ whole_text re L is text utf8 =
 is_character : (c : ℕ) → IsScalar c → IsCharacter c
 is_character c s = grind (arith, nat_tests)
 
-at_or_past : (res : List Re) (rule : ℕ) → ((re : Re) × (slice_get res rule ≡ Some re))
-    ⊎ (length res ≤ rule)
-at_or_past [] rule = inr (omega arith)
-at_or_past (re ∷ res) zero = inl (re, refl)
-at_or_past (re ∷ res) (suc rule) =
-    elim (at_or_past res rule) [ inl at ↦ inl at | inr past ↦ inr (omega (arith, past)) ]
-
 module _ (draft : Draft) (lexer : Lexer) (patterns : List Re) (is : IsDraft draft patterns)
     (poured : IsPoured draft lexer) where
   leads : (p : ℕ) (w : List ℕ) (q : ℕ) → all_scalars w ≡ true
       → LeadsTo (rules_in lexer) p w q ↔ Path (HasEdge draft.edges.items) p w q
   leads p [] q s = (λ h. h, λ h. h)
   leads p (c ∷ w) q s =
-      let parts = and_parts _ _ s in
-      let key = is_character c parts.0 in (
-        λ h. (h.0, (poured.edges p c h.0 key).0 h.1, (leads h.0 w q parts.1).0 h.2),
-        λ h. (h.0, (poured.edges p c h.0 key).1 h.1, (leads h.0 w q parts.1).1 h.2),
+      let (scalar, later) = and_parts _ _ s in
+      let key = is_character c scalar in (
+        λ (t, step, path). (t, (poured.edges p c t key).0 step, (leads t w q later).0 path),
+        λ (t, step, path). (t, (poured.edges p c t key).1 step, (leads t w q later).1 path),
       )
 
   paths : (rule : ℕ) (w : List ℕ) → all_scalars w ≡ true → PathOf lexer rule w
       ↔ DraftReads draft.edges.items draft.starts.items draft.ends.items rule w
-  paths rule w s = (
-    λ h. (
-      h.0,
-      h.1,
-      (poured.starts h.0).0 h.2,
-      (leads h.0 w h.1 s).0 h.3,
-      (poured.ends is.ends_at_one h.1 rule).0 h.4,
-    ),
-    λ h. (
-      h.0,
-      h.1,
-      (poured.starts h.0).1 h.2,
-      (leads h.0 w h.1 s).1 h.3,
-      (poured.ends is.ends_at_one h.1 rule).1 h.4,
-    ),
-  )
+  paths rule w s =
+      let ends = λ (q : ℕ). poured.ends is.ends_at_one q rule in (
+        λ (p, q, starts, path, stops).
+            (p, q, (poured.starts p).0 starts, (leads p w q s).0 path, (ends q).0 stops),
+        λ (p, q, starts, path, stops).
+            (p, q, (poured.starts p).1 starts, (leads p w q s).1 path, (ends q).1 stops),
+      )
 
   accepted : (rule : ℕ) (re : Re) → slice_get patterns rule ≡ Some re → (text : List ℕ)
       → IsUtf8 text → IsAcceptedBy lexer rule (chars text) ↔ MatchesAll re text
@@ -116,8 +94,10 @@ module _ (draft : Draft) (lexer : Lexer) (patterns : List Re) (is : IsDraft draf
     first rule n = (
       λ h.
           let front = IsUtf8-take text n utf8 h.0 in
-          elim (at_or_past patterns rule) [
-            | inl at ↦ (h.0, (at.0, at.1, (accepted rule at.0 at.1 (take n text) front).0 h.1))
+          elim (cases_lt rule (length patterns)) [
+            | inl within ↦
+                let (re, at) = some_at patterns rule within in
+                (h.0, (re, at, (accepted rule re at (take n text) front).0 h.1))
             | inr past ↦ absurd (never_past rule past (take n text) front h.1)
           ],
       λ h.

@@ -19,9 +19,9 @@
 //! - which texts a pattern matches, as a language over characters, form by form:
 //!   `specs/Languages.antt`, `proofs/{Meanings,Literals,Repeating}.antt`
 //! - a pattern as a part of an automaton, whose states are each entered by one character or class:
-//!   `src/{trees,builder}.rt`, `specs/Built.antt`, `proofs/Building.antt`
+//!   `src/{trees,builder}.rt`, `specs/Built.antt`
 //! - parts, and how they are put together: `src/part.rt`, `specs/Parts.antt`,
-//!   `proofs/{Joining,Within,CharacterRanges}.antt`
+//!   `proofs/{Joining,CharacterRanges}.antt`
 //! - the automata of several rules side by side, and as those of a lexer: `src/{draft,pour}.rt`,
 //!   `specs/Drafts.antt`, `proofs/{Drafting,Pouring}.antt`
 #![tactic(auto)]

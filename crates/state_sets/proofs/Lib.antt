@@ -4,4 +4,4 @@ pub mod Firsts
 pub mod Fronts
 pub mod Leading
 pub mod Lists
-pub mod Members
+pub mod Reading

@@ -8,9 +8,9 @@
 //!
 //! - steps, and the states that a text leads to: `src/automaton.rt`, `specs/Steps.antt`,
 //!   `proofs/Leading.antt`
-//! - the first rule of which a text may end in a set: `src/first.rt`, `proofs/{Members,Firsts}.antt`
+//! - the first rule of which a text may end in a set: `src/first.rt`, `proofs/Firsts.antt`
 //! - the token that a text begins with: `src/longest.rt`, `specs/{Beginnings,Tokens}.antt`,
-//!   `proofs/{Fronts,Best}.antt`
+//!   `proofs/{Reading,Fronts,Best}.antt`
 //! - sets that are found again: `src/sets.rt`, `specs/{Listed,Found}.antt`,
 //!   `proofs/{Lists,Finding}.antt`
 #![tactic(auto)]

@@ -1,8 +1,8 @@
-use Rattle.character_leads.proofs.Ranges.{piece_added}
+use Rattle.std.proofs.Common.{arith}
+use Rattle.character_leads.specs.Leads.{LeadsBy}
+use Rattle.character_leads.proofs.Any.{any-push}
 use Rattle.character_leads.proofs.leads.add_piece.Goals as goal
 
 pub returns-in_ok-push : goal.returns-in_ok-push
 returns-in_ok-push c =
-    let is = c.in-Some.ensures in
-    piece_added c.args.leads.now.items c.push.new.self.items c.in-Some.lead c.args.first c.args.last
-    c.args.to c.in_ok-push.ensures.items is.0 is.1 is.2
+    λ d q. grind (arith, any-push (LeadsBy d q) _ _ _ c.in_ok-push.ensures.items)

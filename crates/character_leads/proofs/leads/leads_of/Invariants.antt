@@ -1,4 +1,4 @@
-use Rattle.std.proofs.Common.{ℕ, ◌≡◌, ◌↔◌, ◌⊎◌, take}
+use Rattle.std.proofs.Common.{ℕ, ◌≡◌, ◌↔◌, take}
 use Rattle.std.specs.Char.{IsScalar}
 use Rattle.character_leads.specs.Leads.{AnyOf, Leads, HasPiece}
 use Rattle.character_leads.proofs.leads.leads_of.Given as goal
@@ -6,6 +6,6 @@ use Rattle.character_leads.proofs.leads.leads_of.Given as goal
 abbrev pub invariant-loop-range : goal.invariant-loop-range
 invariant-loop-range l = record {
   members : (c q : ℕ) → IsScalar c → Leads l.leads.items c q
-      ↔ (⊥ ⊎ AnyOf (λ r. HasPiece r.0 r.1 l.to c q) (take l.range-index l.ranges));
+      ↔ AnyOf (λ r. HasPiece r.0 r.1 l.to c q) (take l.range-index l.ranges);
   one : (c q : ℕ) → Leads l.leads.items c q → q ≡ l.to;
 }

@@ -1,12 +1,10 @@
-use Rattle.std.proofs.Common.{refl, subst, length, arith}
+use Rattle.std.proofs.Common.{◌≡◌, refl, length, arith}
 use Rattle.std.proofs.lemmas.Option.{slice_get_read}
 use Rattle.std.proofs.lemmas.Result.{err_from_is_err_and}
 use Rattle.btree_range_map.specs.Characters.{character_counted}
 use Rattle.btree_range_map.specs.Counted.{counted_complete}
 use Rattle.lexing.specs.Lexers.{rules_in}
 use Rattle.lexing.specs.Budgets.{IsReached}
-use Rattle.lexing.specs.Machines.{IsRowOf}
-use Rattle.state_sets.proofs.Lists.{one_item}
 use Rattle.lexing.proofs.Rows.{Entry, row_none, row_more, row_all, next_reached}
 use Rattle.lexing.proofs.build.row_of.Goals as goal
 use Rattle.lexing.proofs.build.row_of.Goals.{In-Some}
@@ -20,13 +18,11 @@ reached c =
     let set = c.index.result.now in
     let all = c.iter-entries.result in
     let form = c.iter-entries.ensures.form in
-    let count = c.args.sets.now.listed.ok.0 in
-    let within = c.requires.within in
     let entry : Entry = record { key = c.in-Some.range.now; value = c.in-Some.targets.now } in
     let coarse =
     c.stored_lists_are_coarse.ensures.coarse (counted_complete character_counted) all form in
     let stands =
-    slice_get_read sets (length sets) c.args.at set refl (omega (arith, count, within))
+    slice_get_read sets (length sets) c.args.at set refl (omega arith)
     c.index.ensures in
     next_reached rules set c.in_ok-leads.leads all c.iter-entries.ensures.items
     c.in_ok-leads.ensures.leads (c.stored_sets_have_all_values.ensures all form)
@@ -51,8 +47,7 @@ loop-range-preserved c =
     let found = (goal.at.loop-range-preserved c).In-Some in
     record {
       kept = λ i x h. c.index_of.ensures.kept i x (c.loop-range.invariant.kept i x h);
-      longer = let a = c.index_of.ensures.longer in
-          let b = c.loop-range.invariant.longer in omega (arith, a, b);
+      longer = omega (arith, c.index_of.ensures.longer, c.loop-range.invariant.longer);
       few = c.index_of.ensures.few;
       met = c.in_ok-next.ensures.met (rules_in c.args.lexer.now) c.loop-range.invariant.met
           (reached found);
@@ -86,14 +81,11 @@ returns-clause-row c =
     let sets = c.args.sets.now.listed.items in
     let first = c.index.result.now in
     let all = c.iter-entries.result in
-    let count = c.args.sets.now.listed.ok.0 in
-    let within = c.requires.within in
     let stood =
-    slice_get_read sets (length sets) c.args.at first refl (omega (arith, count, within))
-    c.index.ensures in
+    slice_get_read sets (length sets) c.args.at first refl (omega arith) c.index.ensures in
     λ set stands.
-    subst (λ s. IsRowOf rules c.loop-range.sets.listed.items s c.loop-range.row)
-    (one_item sets c.args.at first set stood stands)
+    let same : first ≡ set = cc in
+    rw (← same)
     (row_all rules first c.in_ok-leads.leads all c.iter-entries.ensures.items
     c.in_ok-leads.ensures.leads
     (c.stored_sets_have_all_values.ensures all c.iter-entries.ensures.form)

@@ -1,9 +1,9 @@
 use Rattle.std.proofs.Common.{ℕ, ◌≡◌, ◌↔◌, ◌⊎◌, take}
-use Rattle.character_leads.specs.Leads.{AnyOf, LeadsBy}
+use Rattle.character_leads.specs.Leads.{Leads}
 use Rattle.lexing_patterns.specs.Parts.{HasEdge}
 use Rattle.lexing_patterns.proofs.part.link.Given as goal
 
 abbrev pub invariant-loop-lead : goal.invariant-loop-lead
 invariant-loop-lead l = (p c q : ℕ) → HasEdge l.edges.items p c q
     ↔ (HasEdge l.initial.edges.items p c q
-    ⊎ AnyOf (λ lead. (p ≡ l.from) × LeadsBy c q lead) (take l.lead-index l.leads))
+    ⊎ ((p ≡ l.from) × Leads (take l.lead-index l.leads) c q))

@@ -1,6 +1,6 @@
 use Rattle.std.proofs.Common.{◌≡◌, ◌∙◌}
 use Rattle.lexing.specs.Lexers.{rules_in}
-use Rattle.lexing_patterns.proofs.Joining.{same_both}
+use Rattle.lexing_patterns.proofs.Pouring.{same_both}
 use Rattle.lexing_patterns.proofs.patterns.assembled.Goals as goal
 
 pub returns-clause-poured : goal.returns-clause-poured

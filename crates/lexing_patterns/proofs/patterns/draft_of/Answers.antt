@@ -1,7 +1,6 @@
-use Rattle.std.proofs.Common.{◌≡◌, refl, ap, inr, ◌∙◌, [], ◌∷◌, ◌++◌, List, take, length, length-append, get_or, false, arith}
+use Rattle.std.proofs.Common.{refl, inr, [], ◌∷◌, ◌++◌, ◌≤◌, List, take, take_all, length, length-append, get_or, false, arith}
 use Rattle.std.proofs.lemmas.List.{take_more}
 use Rattle.std.proofs.lemmas.Option.{slice_get-get_or}
-use Rattle.std.proofs.Math.Seq.{take-length}
 use Rattle.regex_hir.specs.Re.{Re}
 use Rattle.lexing_patterns.specs.declared.patterns.PatternRule.{PatternRule}
 use Rattle.lexing_patterns.specs.Patterns.{IsReadAs, AreReadAs}
@@ -15,6 +14,13 @@ read_more [] (x ∷ res) rule re h is = absurd h
 read_more (r ∷ rules) [] rule re h is = absurd h
 read_more (r ∷ rules) (x ∷ res) rule re h is = (h.0, read_more rules res rule re h.1 is)
 
+abbrev no_rule : PatternRule
+no_rule = record {
+  name = record { ref_ptr = (0, 0); now = [] };
+  pattern = record { ref_ptr = (0, 0); now = [] };
+  skipped = false;
+}
+
 pub loop-i-init : goal.loop-i-init
 loop-i-init c = ([], refl, tt, c.new-draft.ensures)
 
@@ -22,38 +28,26 @@ pub loop-i-preserved : goal.loop-i-preserved
 loop-i-preserved c =
     let (res, len, read, draft) = c.loop-i.invariant in
     let (re, is, more) = c.in-Ok.ensures.added res len draft in
-    let none : PatternRule = record {
-      name = record { ref_ptr = (0, 0); now = [] };
-      pattern = record { ref_ptr = (0, 0); now = [] };
-      skipped = false;
-    } in (
+    let front = take c.loop-i.i c.args.rules.now in
+    let next = get_or c.args.rules.now c.loop-i.i no_rule in (
       res ++ re ∷ [],
       omega (arith, len, length-append res (re ∷ [])),
-      rw (take_more c.args.rules.now c.loop-i.i none c.loop-i-test.true)
-          (read_more (take c.loop-i.i c.args.rules.now) res (get_or c.args.rules.now c.loop-i.i none)
-          re read is),
+      rw (take_more c.args.rules.now c.loop-i.i no_rule c.loop-i-test.true)
+          (read_more front res next re read is),
       more,
     )
 
 pub returns-clause-drafted : goal.returns-clause-drafted
 returns-clause-drafted c =
-    let all : c.loop-i.i ≡ length c.args.rules.now =
-    omega (arith, c.loop-i-test.false, c.loop-i.auto.i-end) in
-    let whole = ap (λ n. take n c.args.rules.now) all ∙ take-length c.args.rules.now in
-    let (res, len, read, draft) = c.loop-i.invariant in
-    (res, rw whole at read, draft)
+    let all : length c.args.rules.now ≤ c.loop-i.i = omega arith in
+    let (res, len, read, draft) = c.loop-i.invariant in (res, rw take_all at read, draft)
 
 pub returns-in-Err-clause-refused : goal.returns-in-Err-clause-refused
 returns-in-Err-clause-refused c =
     let (res, len, read, draft) = c.loop-i.invariant in
-    let none : PatternRule = record {
-      name = record { ref_ptr = (0, 0); now = [] };
-      pattern = record { ref_ptr = (0, 0); now = [] };
-      skipped = false;
-    } in
     inr (
-      get_or c.args.rules.now c.loop-i.i none,
-      slice_get-get_or c.args.rules.now c.loop-i.i none c.loop-i-test.true,
+      get_or c.args.rules.now c.loop-i.i no_rule,
+      slice_get-get_or c.args.rules.now c.loop-i.i no_rule c.loop-i-test.true,
       c.in-Err.ensures.refused,
       res,
       read,

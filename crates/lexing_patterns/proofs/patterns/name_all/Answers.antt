@@ -1,7 +1,7 @@
 use Rattle.std.proofs.Common.{[], false, subst, ◌∙◌, get_or, arith}
 use Rattle.std.proofs.lemmas.Option.{slice_get_within}
 use Rattle.lexing_patterns.specs.declared.patterns.PatternRule.{PatternRule}
-use Rattle.lexing_patterns.proofs.Joining.{same_both}
+use Rattle.lexing_patterns.proofs.Pouring.{same_both}
 use Rattle.lexing_patterns.proofs.Naming.{IsRule, one_more_rule}
 use Rattle.lexing_patterns.proofs.patterns.name_all.Goals as goal
 

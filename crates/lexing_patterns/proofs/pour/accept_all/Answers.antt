@@ -1,6 +1,5 @@
-use Rattle.std.proofs.Common.{◌≡◌, ap, ◌∙◌, take, length, arith, get_or, ◌+◌}
+use Rattle.std.proofs.Common.{◌≤◌, ◌∙◌, take, take_all, length, arith, get_or, ◌+◌}
 use Rattle.std.proofs.lemmas.List.{take_more}
-use Rattle.std.proofs.Math.Seq.{take-length}
 use Rattle.lexing.specs.Lexers.{Accepts}
 use Rattle.lexing_patterns.specs.declared.draft.End.{End}
 use Rattle.lexing_patterns.proofs.Pouring.{one_more_end, one_in_front}
@@ -26,7 +25,5 @@ loop-end-preserved c =
 pub returns-clause-accepting : goal.returns-clause-accepting
 returns-clause-accepting c =
     λ one none q r.
-    let all : c.loop-end.end-index ≡ length c.args.ends.now =
-    omega (arith, c.loop-end-test.false, c.loop-end.auto.end-index-end) in
-    let whole = ap (λ n. take n c.args.ends.now) all ∙ take-length c.args.ends.now in
-    rw whole at (c.loop-end.invariant.accepting one none q r)
+    let all : length c.args.ends.now ≤ c.loop-end.end-index = omega arith in
+    rw take_all at (c.loop-end.invariant.accepting one none q r)

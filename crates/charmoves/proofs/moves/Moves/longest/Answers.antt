@@ -1,13 +1,11 @@
-use Rattle.std.proofs.Common.{◌≡◌, sym, ap, subst, ◌∙◌, ◌+◌, [], ◌∷◌, ◌++◌, length, Some, arith}
-use Rattle.std.specs.Str.{chars}
+use Rattle.std.proofs.Common.{◌≡◌, refl, ◌+◌, [], ◌∷◌, ◌++◌, arith}
+use Rattle.std.proofs.Math.Seq.{take-nil}
 use Rattle.std.proofs.lemmas.Iterator.{YieldsList-from_chars}
-use Rattle.std.proofs.lemmas.Iterator.Consumers.{YieldsList-so_far, YieldsList-turn, YieldsList-end}
-use Rattle.std.proofs.lemmas.List.{map-id}
-use Rattle.std.proofs.lemmas.Str.{encodes-chars}
 use Rattle.charmoves.specs.Automata.{rules_of, HasRule, IsStart, Accepts}
-use Rattle.charmoves.proofs.Paths.{accepted_among, never_again}
-use Rattle.state_sets.proofs.Leading.{after_more}
-use Rattle.state_sets.proofs.Fronts.{bytes_of, bytes_push, bytes_of_front, one_more_char, longest_grows, longest_stays, longest_when_stuck, longest_by_bytes, IsLongestFront, no_member}
+use Rattle.charmoves.proofs.LongestFronts.{longest_whole, longest_stays, longest_by_bytes}
+use Rattle.charmoves.proofs.Paths.{accepted_among, never_through}
+use Rattle.state_sets.proofs.Leading.{after_more, leads_nowhere}
+use Rattle.state_sets.proofs.Reading.{bytes_of, bytes_of-push, read_more, read_all, read_fits}
 use Rattle.charmoves.proofs.moves.Moves.longest.Goals as goal
 
 pub returns-then-is_empty : goal.returns-then-is_empty
@@ -16,91 +14,75 @@ returns-then-is_empty c =
     let text = c.args.text.now in
     let read = c.loop-c.yielded in
     let all = YieldsList-from_chars text c.utf8.text cc in
-    let so_far = sym (map-id read) ∙ YieldsList-so_far all read _ c.loop-c.yielded_by in
-    let turn =
-    YieldsList-turn all read _ c.loop-c.yielded_by _ _ c.in-Some.c c.in-Some.is
-    c.next.ensures.steps in
+    let (rest, split) =
+    read_more all read _ c.loop-c.yielded_by _ _ c.in-Some.c c.in-Some.is c.next.ensures.steps in
+    let none =
+    leads_nowhere (HasRule rules) c.loop-c.states c.in_ok-states-2.states c.in-Some.c
+    c.in_ok-states-2.ensures.reached (c.is_empty.ensures.0 c.if-is_empty.true) in
+    let never =
+    never_through rules read c.loop-c.states c.loop-c.invariant.after c.in-Some.c none in
+    let best =
+    longest_stays (Accepts rules) read rest c.in-Some.c c.loop-c.longest (λ k. never _)
+    c.loop-c.invariant.best in
     record {
-      longest = longest_by_bytes (Accepts rules) text c.utf8.text c.loop-c.longest
-          (longest_when_stuck (Accepts rules) (chars text) read c.in-Some.c c.loop-c.longest so_far
-          turn.0 turn.1
-          (never_again rules (read ++ c.in-Some.c ∷ []) c.in_ok-states-2.states
-          (after_more (HasRule rules) (IsStart rules) read c.loop-c.states c.in_ok-states-2.states c.in-Some.c
-          c.loop-c.invariant.after c.in_ok-states-2.ensures.reached)
-          (no_member c.in_ok-states-2.states (c.is_empty.ensures.0 c.if-is_empty.true)))
-          c.loop-c.invariant.best);
+      longest = longest_by_bytes (Accepts rules) text c.utf8.text c.loop-c.longest (rw split best);
     }
 
 pub overflow_add-len : goal.overflow_add-len
 overflow_add-len c =
     let text = c.args.text.now in
-    let read = c.loop-c.yielded in
     let all = YieldsList-from_chars text c.utf8.text cc in
-    let so_far = sym (map-id read) ∙ YieldsList-so_far all read _ c.loop-c.yielded_by in
-    let turn =
-    YieldsList-turn all read _ c.loop-c.yielded_by _ _ c.in-Some.c c.in-Some.is
-    c.next.ensures.steps in
-    let more = one_more_char (chars text) read c.in-Some.c so_far turn.0 turn.1 in
-    let fits = bytes_of_front (length read + 1) (chars text) in
-    let same = ap bytes_of more in
-    let grown = bytes_push read c.in-Some.c in
-    let whole = ap length (encodes-chars text c.utf8.text) in
-    let was = c.loop-c.invariant.bytes in
-    let added = c.len_utf8-len.ensures.len in
-    omega (arith, fits, same, grown, whole, was, added)
+    let fits =
+    read_fits all c.loop-c.yielded _ c.loop-c.yielded_by _ _ text c.utf8.text refl c.in-Some.c
+    c.in-Some.is c.next.ensures.steps in
+    omega (arith, fits, c.len_utf8-len.ensures.len)
 
 pub loop-c-preserved-then-is_accepting-2 : goal.loop-c-preserved-then-is_accepting-2
 loop-c-preserved-then-is_accepting-2 c =
     let rules = rules_of c.args.self.now in
-    let read = c.loop-c.yielded in
+    let whole = c.loop-c.yielded ++ c.in-Some.c ∷ [] in
+    let states = c.in_ok-states-2.states in
     let after =
-    after_more (HasRule rules) (IsStart rules) read c.loop-c.states c.in_ok-states-2.states c.in-Some.c
+    after_more (HasRule rules) (IsStart rules) c.loop-c.yielded c.loop-c.states states c.in-Some.c
     c.loop-c.invariant.after c.in_ok-states-2.ensures.reached in
-    let grown = bytes_push read c.in-Some.c in
-    let was = c.loop-c.invariant.bytes in
-    let added = c.len_utf8-len.ensures.len in
-    let bytes : c.loop-c.len + c.len_utf8-len.result ≡ bytes_of (read ++ c.in-Some.c ∷ []) =
-    omega (arith, was, added, grown) in
-    let accepted =
-    (accepted_among rules (read ++ c.in-Some.c ∷ []) c.in_ok-states-2.states after).0
-    (c.is_accepting-in-loop-c.ensures.accepting.0 c.if-is_accepting-2.true) in
+    let bytes : c.loop-c.len + c.len_utf8-len.result ≡ bytes_of whole =
+    omega (arith, bytes_of-push c.loop-c.yielded c.in-Some.c, c.len_utf8-len.ensures.len) in
+    let among = c.is_accepting-in-loop-c.ensures.accepting.0 c.if-is_accepting-2.true in
     record {
       after = after;
       bytes = bytes;
-      best = subst (λ n. IsLongestFront (Accepts rules) (read ++ c.in-Some.c ∷ []) (Some n)) (sym bytes)
-          (longest_grows (Accepts rules) read c.in-Some.c c.loop-c.longest accepted);
+      best = longest_whole (Accepts rules) whole _ bytes
+          ((accepted_among rules whole states after).0 among);
     }
 
 pub loop-c-preserved : goal.loop-c-preserved
 loop-c-preserved c =
     let rules = rules_of c.args.self.now in
     let read = c.loop-c.yielded in
+    let states = c.in_ok-states-2.states in
     let after =
-    after_more (HasRule rules) (IsStart rules) read c.loop-c.states c.in_ok-states-2.states c.in-Some.c
+    after_more (HasRule rules) (IsStart rules) read c.loop-c.states states c.in-Some.c
     c.loop-c.invariant.after c.in_ok-states-2.ensures.reached in
-    let grown = bytes_push read c.in-Some.c in
-    let was = c.loop-c.invariant.bytes in
-    let added = c.len_utf8-len.ensures.len in
+    let among = accepted_among rules (read ++ c.in-Some.c ∷ []) states after in
     record {
       after = after;
-      bytes = omega (arith, was, added, grown);
-      best = longest_stays (Accepts rules) read c.in-Some.c c.loop-c.longest
+      bytes = omega (arith, bytes_of-push read c.in-Some.c, c.len_utf8-len.ensures.len);
+      best = longest_stays (Accepts rules) read [] c.in-Some.c c.loop-c.longest
+          (λ k. rw take-nil
           (λ h.
-          let among =
-          (accepted_among rules (read ++ c.in-Some.c ∷ []) c.in_ok-states-2.states after).1 h in
-          let yes = c.is_accepting-in-loop-c.ensures.accepting.1 among in
-          let no = c.if-is_accepting-2.false in absurd cc)
+          let yes = c.is_accepting-in-loop-c.ensures.accepting.1 (among.1 h) in
+          let no = c.if-is_accepting-2.false in absurd cc))
           c.loop-c.invariant.best;
     }
 
 pub returns : goal.returns
 returns c =
     let text = c.args.text.now in
-    let read = c.loop-c.yielded in
     let all = YieldsList-from_chars text c.utf8.text cc in
-    let end = YieldsList-end all read _ c.loop-c.yielded_by _ _ c.in-None.is c.next.ensures.steps in
+    let whole =
+    read_all all c.loop-c.yielded _ c.loop-c.yielded_by _ _ c.in-None.is c.next.ensures.steps in
+    let best = rw whole at c.loop-c.invariant.best in
     record {
-      longest = longest_by_bytes (Accepts (rules_of c.args.self.now)) text c.utf8.text c.loop-c.longest
-          (subst (λ t. IsLongestFront (Accepts (rules_of c.args.self.now)) t c.loop-c.longest)
-          (sym (map-id read) ∙ end.0) c.loop-c.invariant.best);
+      longest = longest_by_bytes (Accepts (rules_of c.args.self.now)) text c.utf8.text
+          c.loop-c.longest best;
     }

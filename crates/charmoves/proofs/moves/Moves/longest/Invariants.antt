@@ -1,7 +1,8 @@
 use Rattle.std.proofs.Common.{◌≡◌}
 use Rattle.charmoves.specs.Automata.{rules_of, HasRule, IsStart, Accepts}
 use Rattle.state_sets.specs.Steps.{AreAfter}
-use Rattle.state_sets.proofs.Fronts.{bytes_of, IsLongestFront}
+use Rattle.state_sets.proofs.Reading.{bytes_of}
+use Rattle.charmoves.proofs.LongestFronts.{IsLongestFront}
 use Rattle.charmoves.proofs.moves.Moves.longest.Given as goal
 
 -- what is read leads to the states, and the longest is that of what is read

@@ -1,5 +1,6 @@
 use Rattle.std.proofs.Common.{refl}
-use Rattle.charmoves.proofs.Adding.{on_ok, on_err, rule_added, rules_kept}
+use Rattle.std.proofs.lemmas.Result.{on_ok_weaker}
+use Rattle.charmoves.proofs.Adding.{on_err, rule_added, rules_kept}
 use Rattle.charmoves.proofs.rules.Rules.add.Goals as goal
 
 pub returns-in-Some-clause-added : goal.returns-in-Some-clause-added
@@ -9,9 +10,10 @@ returns-in-Some-clause-added g c =
     let before = c.args.self.now in
     let after = record before { transitions = c.get_mut.follows.lender new } in
     let updates = ((c.get_mut.follows.holds new).3 (rw (← was) refl)).0 in
-    on_ok c.insert.result c.insert.ensures.added
+    on_ok_weaker c.insert.result
     (λ pairs. rule_added before after c.args.from new updates
     (g.R.AsRange.range c.args.range) c.args.to (rw (← was) pairs))
+    c.insert.ensures.added
 
 pub returns-in-Some-clause-refused : goal.returns-in-Some-clause-refused
 returns-in-Some-clause-refused g c =

@@ -1,5 +1,5 @@
 use Rattle.std.proofs.Common.{◌≡◌, ◌<◌}
-use Rattle.state_sets.proofs.Fronts.{bytes_of}
+use Rattle.state_sets.proofs.Reading.{bytes_of}
 use Rattle.lexing.specs.MachineSteps.{state_count}
 use Rattle.lexing.proofs.Running.{IsRunning}
 use Rattle.lexing.proofs.machine.MachineScanner.longest_match.Given as goal

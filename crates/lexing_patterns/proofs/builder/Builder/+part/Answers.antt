@@ -1,11 +1,10 @@
 use Rattle.std.proofs.Common.{◌≡◌, ◌+◌, ◌-◌, map, length, arith, add-one}
 use Rattle.std.proofs.lemmas.List.{drop_all, drop_more}
-use Rattle.std.proofs.lemmas.Result.{err_from_is_err_and}
+use Rattle.std.proofs.lemmas.Result.{err_from_is_err_and, IfOk-weaker, IfErr-weaker}
 use Rattle.regex_hir.specs.Meaning.{meaning, cat_all, alt_all, copies, up_to}
 use Rattle.regex_hir.proofs.MeaningLemmas.{meaning-Empty, meaning-Repetition}
-use Rattle.lexing_patterns.proofs.Faults.{if_err, fault_of, has_in_turn, has_as_choice, has_in_copies, has_in_up_to, bounded_rest, bounded_copies, unbounded_once, unbounded_copies}
+use Rattle.lexing_patterns.proofs.Faults.{fault_of, has_in_turn, has_as_choice, has_in_copies, has_in_up_to, bounded_rest, bounded_copies, unbounded_once, unbounded_copies}
 use Rattle.lexing_patterns.proofs.Repeating.{repeat_bounded, repeat_star, repeat_plus}
-use Rattle.character_leads.proofs.Results.{if_ok}
 use Rattle.lexing_patterns.proofs.builder.Builder.+part.Goals as goal
 
 pub all_of-loop-i-init : goal.all_of-loop-i-init
@@ -100,7 +99,7 @@ part-returns-in-Empty-clause-built t c =
 pub repetition-returns-in_ok-rest-in-Some-clause-built : goal.repetition-returns-in_ok-rest-in-Some-clause-built
 repetition-returns-in_ok-rest-in-Some-clause-built t c =
     let rest = c.in_ok-rest-in-Some.ensures in
-    if_ok c.copies.result _ _
+    IfOk-weaker c.copies.result _ _
     (λ r more greedy.
     rw (c.in-Some.is, repeat_bounded, ← c.saturating_sub.ensures)
     (more _ c.args.self.now.next rest.grows (rest.built greedy)))
@@ -119,7 +118,7 @@ pub repetition-returns-else-min-eq0-clause-built : goal.repetition-returns-else-
 repetition-returns-else-min-eq0-clause-built t c =
     let once = c.in_ok-once-in-None.ensures in
     let rest = c.in_ok-rest-in-None.ensures in
-    if_ok c.copies-in-None.result _ _
+    IfOk-weaker c.copies-in-None.result _ _
     (λ r more greedy.
     rw (c.in-None.is, repeat_plus _ _ _ c.if-min-eq0.false)
     (more _ c.args.self.now.next (omega (arith, once.grows, rest.kept))
@@ -164,7 +163,7 @@ up_to-returns-in_err-front-clause-refused t c =
 
 pub part-returns-in-Repetition-clause-refused : goal.part-returns-in-Repetition-clause-refused
 part-returns-in-Repetition-clause-refused t c =
-    if_err c.repetition.result _ _
+    IfErr-weaker c.repetition.result _ _
     (λ error fault.
     rw (c.in-Repetition.is, meaning-Repetition)
     (rw c.deref-in-Repetition.ensures at (fault c.in-Repetition.greedy)))
@@ -192,7 +191,7 @@ repetition-returns-in_err-once-in-None-clause-refused t c =
 pub repetition-returns-in_ok-rest-in-Some-clause-refused :
     goal.repetition-returns-in_ok-rest-in-Some-clause-refused
 repetition-returns-in_ok-rest-in-Some-clause-refused t c =
-    if_err c.copies.result _ _
+    IfErr-weaker c.copies.result _ _
     (λ error fault greedy.
     bounded_copies c.args.min c.args.max greedy (meaning c.args.sub.now) error c.in-Some.max
     c.in-Some.is fault)
@@ -201,7 +200,7 @@ repetition-returns-in_ok-rest-in-Some-clause-refused t c =
 pub repetition-returns-else-min-eq0-clause-refused :
     goal.repetition-returns-else-min-eq0-clause-refused
 repetition-returns-else-min-eq0-clause-refused t c =
-    if_err c.copies-in-None.result _ _
+    IfErr-weaker c.copies-in-None.result _ _
     (λ error fault greedy.
     unbounded_copies c.args.min c.args.max greedy (meaning c.args.sub.now) error c.in-None.is
     c.if-min-eq0.false fault)

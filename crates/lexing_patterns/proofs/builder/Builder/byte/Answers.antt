@@ -1,14 +1,14 @@
-use Rattle.regex_hir.specs.Re.{char_in}
-use Rattle.lexing_patterns.specs.Built.{IsBuilt}
-use Rattle.lexing_patterns.proofs.Building.{built_byte}
-use Rattle.character_leads.proofs.Results.{if_ok}
+use Rattle.std.proofs.lemmas.Result.{IfOk-weaker}
+use Rattle.lexing_patterns.proofs.Meanings.{language_through, language_char_in, language_byte_in}
 use Rattle.lexing_patterns.proofs.builder.Builder.byte.Goals as goal
 
 pub returns-clause-built : goal.returns-clause-built
 returns-clause-built c =
     let ranges = c.args.class.now.ranges.items in
-    if_ok c.character.result
-    (λ r. IsBuilt (char_in ranges) r c.args.self.now.next c.character.new.self.next) _
-    (λ r is. built_byte r ranges c.args.self.now.next c.character.new.self.next
-    (c.is_within.ensures.0 c.if-not-is_within.false) is)
+    let ascii = language_byte_in ranges (c.is_within.ensures.0 c.if-not-is_within.false) in
+    IfOk-weaker c.character.result _ _
+    (λ r is. record {
+      language = language_through is.language (language_char_in ranges) ascii;
+      within = is.within;
+    })
     (rw c.deref.ensures.value at c.character.ensures.built)

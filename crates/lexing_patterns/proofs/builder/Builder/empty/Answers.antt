@@ -1,9 +1,13 @@
-use Rattle.lexing_patterns.proofs.Building.{built_empty}
+use Rattle.std.proofs.Common.{arith}
+use Rattle.lexing_patterns.proofs.Meanings.{language_same, language_empty}
 use Rattle.lexing_patterns.proofs.builder.Builder.empty.Goals as goal
 
 pub returns : goal.returns
 returns c =
     λ at.
-    built_empty c.or_empty.result c.nothing.result at at c.nothing.ensures.reads
-    c.or_empty.ensures.reads
-    (c.or_empty.ensures.within at at (c.nothing.ensures.within at at))
+    let none = c.nothing.ensures in
+    let made = c.or_empty.ensures in
+    record {
+      language = language_same (λ w _. grind (arith, made.reads w, none.reads w)) language_empty;
+      within = made.within at at (none.within at at);
+    }
