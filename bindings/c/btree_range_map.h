@@ -10,9 +10,9 @@
 #include <stdint.h>
 
 #define BRM_VERSION_MAJOR 0
-#define BRM_VERSION_MINOR 4
+#define BRM_VERSION_MINOR 5
 #define BRM_VERSION_PATCH 0
-#define BRM_VERSION "0.4.0"
+#define BRM_VERSION "0.5.0"
 
 #ifdef __cplusplus
 extern "C" {
@@ -187,6 +187,7 @@ brm_status brm_map_i64_insert_many(brm_handle *map, const brm_entry_i64 *entries
 /* Sets of uint64_t keys. */
 brm_status brm_set_u64_create(brm_handle *set);
 brm_status brm_set_u64_insert(brm_handle *set, const brm_range_u64 *range);
+brm_status brm_set_u64_try_insert(brm_handle *set, const brm_range_u64 *range);
 brm_status brm_set_u64_remove(brm_handle *set, const brm_range_u64 *range);
 brm_status brm_set_u64_get(const brm_handle *set, uint64_t key, brm_range_u64 *range);
 brm_status brm_set_u64_contains(const brm_handle *set, uint64_t key);
@@ -211,6 +212,7 @@ brm_status brm_set_u64_insert_many(brm_handle *set, const brm_range_u64 *ranges,
 /* Sets of int64_t keys. */
 brm_status brm_set_i64_create(brm_handle *set);
 brm_status brm_set_i64_insert(brm_handle *set, const brm_range_i64 *range);
+brm_status brm_set_i64_try_insert(brm_handle *set, const brm_range_i64 *range);
 brm_status brm_set_i64_remove(brm_handle *set, const brm_range_i64 *range);
 brm_status brm_set_i64_get(const brm_handle *set, int64_t key, brm_range_i64 *range);
 brm_status brm_set_i64_contains(const brm_handle *set, int64_t key);

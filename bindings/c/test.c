@@ -214,6 +214,41 @@ static void sets(void) {
     brm_destroy(&map);
 }
 
+/* Adds a range that meets no stored one with 0, 1, 2 .. allocations until it is done. Before that the set is as it was. */
+static uint64_t refusals_of_free(brm_handle *set, brm_range_u64 range) {
+    size_t count = brm_count(set);
+    for (long allocations = 0;; allocations++) {
+        granted = allocations;
+        brm_status status = brm_set_u64_try_insert(set, &range);
+        granted = -1;
+        if (status == BRM_DONE) return (uint64_t)allocations;
+        EXPECT(status == BRM_NO_MEMORY && brm_count(set) == count && brm_set_u64_intersects(set, &range) == BRM_NONE);
+    }
+}
+
+/* A range is added where it meets no stored one, and becomes one with those that it touches. */
+static void free_ranges(void) {
+    brm_handle set = BRM_HANDLE_CLOSED, map = BRM_HANDLE_CLOSED;
+    brm_range_u64 r = upto(10, 20), meeting = through(19, 25), touching = upto(20, 25), none = upto(15, 12), found = {0, 0, 0};
+    uint64_t refused = 0;
+    EXPECT(brm_set_u64_try_insert(&set, &r) == BRM_CLOSED && !set.is_open);
+    EXPECT(brm_set_u64_create(&set) == BRM_DONE && brm_map_u64_create(&map) == BRM_DONE);
+    EXPECT(brm_set_u64_try_insert(&map, &r) == BRM_OTHER_KIND && brm_count(&map) == 0);
+    EXPECT(brm_set_u64_try_insert(&set, &r) == BRM_DONE && brm_count(&set) == 1);
+    granted = 0;
+    EXPECT(brm_set_u64_try_insert(&set, &r) == BRM_OCCUPIED && brm_set_u64_try_insert(&set, &meeting) == BRM_OCCUPIED);
+    EXPECT(brm_set_u64_try_insert(&set, &none) == BRM_DONE);
+    granted = -1;
+    EXPECT(brm_count(&set) == 1 && brm_set_u64_first(&set, &found) == BRM_DONE && found.start == 10 && found.end == 20);
+    EXPECT(brm_set_u64_try_insert(&set, &touching) == BRM_DONE && brm_count(&set) == 1);
+    EXPECT(brm_set_u64_first(&set, &found) == BRM_DONE && found.start == 10 && found.end == 25);
+    for (uint64_t i = 3; i < 500; i++) refused += refusals_of_free(&set, upto(10 * i, 10 * i + 5));
+    EXPECT(brm_count(&set) == 498 && refused > 10);
+    for (uint64_t i = 3; i < 500; i++) EXPECT(brm_set_u64_contains(&set, 10 * i + 4) == BRM_DONE && brm_set_u64_contains(&set, 10 * i + 5) == BRM_NONE);
+    brm_destroy(&set);
+    brm_destroy(&map);
+}
+
 static brm_handle set_of(const brm_range_u64 *ranges, size_t count) {
     brm_handle set = BRM_HANDLE_CLOSED;
     EXPECT(brm_set_u64_create(&set) == BRM_DONE);
@@ -433,6 +468,36 @@ static void signed_sets(void) {
     granted = -1;
 }
 
+/* A range of signed keys is added where it meets no stored one; a refused allocation leaves the set as it was. */
+static void free_signed_ranges(void) {
+    brm_handle set = BRM_HANDLE_CLOSED;
+    brm_range_i64 r = {-20, -10, BRM_END_EXCLUDED}, meeting = {-25, -20, 0}, touching = {-10, 0, 0}, none = {8, 3, 0}, found = {0, 0, 0};
+    long refused = 0;
+    EXPECT(brm_set_i64_try_insert(&set, &r) == BRM_CLOSED && !set.is_open);
+    EXPECT(brm_set_i64_create(&set) == BRM_DONE && brm_set_i64_try_insert(&set, &r) == BRM_DONE && brm_count(&set) == 1);
+    granted = 0;
+    EXPECT(brm_set_i64_try_insert(&set, &r) == BRM_OCCUPIED && brm_set_i64_try_insert(&set, &meeting) == BRM_OCCUPIED);
+    EXPECT(brm_set_i64_try_insert(&set, &none) == BRM_DONE);
+    granted = -1;
+    EXPECT(brm_count(&set) == 1 && brm_set_i64_first(&set, &found) == BRM_DONE && is_signed_range(found, -20, -10, BRM_END_EXCLUDED));
+    EXPECT(brm_set_i64_try_insert(&set, &touching) == BRM_DONE && brm_count(&set) == 1);
+    EXPECT(brm_set_i64_first(&set, &found) == BRM_DONE && is_signed_range(found, -20, 0, 0));
+    for (int64_t i = 3; i < 500; i++) {
+        brm_range_i64 apart = {-10 * i, 5 - 10 * i, BRM_END_EXCLUDED};
+        brm_status status = BRM_NO_MEMORY;
+        for (long wanted = 0; status == BRM_NO_MEMORY; wanted++) {
+            refused += wanted > 0;
+            EXPECT(brm_set_i64_intersects(&set, &apart) == BRM_NONE && brm_count(&set) == (size_t)i - 2);
+            granted = wanted;
+            status = brm_set_i64_try_insert(&set, &apart);
+            granted = -1;
+        }
+        EXPECT(status == BRM_DONE && brm_set_i64_contains(&set, 4 - 10 * i) == BRM_DONE && brm_set_i64_contains(&set, 5 - 10 * i) == BRM_NONE);
+    }
+    EXPECT(brm_count(&set) == 498 && refused > 10);
+    brm_destroy(&set);
+}
+
 /* The least and the greatest of the signed keys, and all of them. */
 static void ends_of_signed_keys(void) {
     brm_range_i64 ends[] = {{INT64_MIN, INT64_MIN, 0}, {INT64_MAX, INT64_MAX, 0}}, found = {0, 0, 0};
@@ -554,6 +619,7 @@ static void sets_of_two_kinds(void) {
     for (int i = 0; i < 2; i++) {
         EXPECT(brm_set_i64_create(others[i]) == BRM_OPEN && brm_set_i64_contains(others[i], -4) == BRM_OTHER_KIND);
         EXPECT(brm_set_i64_insert(others[i], &q) == BRM_OTHER_KIND && brm_set_i64_remove(others[i], &q) == BRM_OTHER_KIND);
+        EXPECT(brm_set_i64_try_insert(others[i], &q) == BRM_OTHER_KIND);
         EXPECT(brm_set_i64_get(others[i], -4, &q) == BRM_OTHER_KIND && brm_set_i64_intersects(others[i], &q) == BRM_OTHER_KIND);
         EXPECT(brm_set_i64_first(others[i], &q) == BRM_OTHER_KIND && brm_set_i64_last(others[i], &q) == BRM_OTHER_KIND);
         EXPECT(brm_set_i64_next(others[i], -9, &q) == BRM_OTHER_KIND && brm_set_i64_previous(others[i], 9, &q) == BRM_OTHER_KIND);
@@ -567,6 +633,7 @@ static void sets_of_two_kinds(void) {
     }
     EXPECT(is_signed_range(q, -5, -3, 0) && signed_ranges[0].start == 0);
     EXPECT(brm_set_u64_insert(&keys, &r) == BRM_OTHER_KIND && brm_set_u64_contains(&keys, 4) == BRM_OTHER_KIND);
+    EXPECT(brm_set_u64_try_insert(&keys, &r) == BRM_OTHER_KIND && brm_count(&keys) == 1);
     EXPECT(brm_set_u64_read(&keys, 0, ranges, 2, &n) == BRM_OTHER_KIND && brm_map_i64_contains(&keys, -4) == BRM_OTHER_KIND);
     EXPECT(brm_set_u64_union(&set, &keys, &made) == BRM_OTHER_KIND && brm_set_u64_union(&keys, &keys, &made) == BRM_OTHER_KIND);
     EXPECT(brm_set_i64_union(&keys, &set, &made) == BRM_OTHER_KIND && brm_set_i64_union(&set, &set, &made) == BRM_OTHER_KIND);
@@ -925,6 +992,7 @@ int main(void) {
     refused_memory();
     signed_maps();
     sets();
+    free_ranges();
     two_sets();
     handles_given_twice();
     clones();
@@ -936,6 +1004,7 @@ int main(void) {
     many_in_order();
     many_signed();
     signed_sets();
+    free_signed_ranges();
     ends_of_signed_keys();
     signed_batches();
     keys_of_two_signed_sets();

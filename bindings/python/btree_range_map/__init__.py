@@ -37,7 +37,7 @@ from ._keys import KEYS, Keys, Range
 from ._library import library as _calls
 
 __all__ = ["Connected", "NotLoaded", "Range", "RangeMap", "RangeSet"]
-__version__ = "0.4.0"
+__version__ = "0.5.0"
 
 V = TypeVar("V")
 
@@ -833,6 +833,10 @@ class RangeSet(_Collection):
     def add(self, keys: Any) -> None:
         """Adds each key of the range."""
         self._call("insert", self._raw(keys))
+
+    def try_insert(self, keys: Any) -> bool:
+        """Adds the keys of the range where none of them is in the set, and tells whether it did."""
+        return self._call("try_insert", self._raw(keys))
 
     def discard(self, keys: Any) -> None:
         """Takes each key of the range away, whether or not one is there."""

@@ -65,6 +65,7 @@ class Kind:
         parameters = {
             "create": [handle],
             "insert": [handle, buffer, *value],
+            "try_insert": [handle, buffer, *value],
             "remove": [handle, buffer],
             "get": [handle, of_key, buffer],
             "contains": [handle, of_key],
@@ -83,7 +84,7 @@ class Kind:
             "insert_many": [handle, buffer, size, sized],
         }
         if has_values:
-            parameters["insert_disconnected"] = parameters["try_insert"] = parameters["insert"]
+            parameters["insert_disconnected"] = parameters["insert"]
             parameters["split_off"] = [handle, of_key, handle]
             parameters["pieces"] = parameters["overlapping"]
             parameters["get_many"] = [handle, buffer, size, buffer, size]

@@ -146,7 +146,7 @@ class Maps(unittest.TestCase):
             for call in (keys.__getitem__, keys.pop):
                 self.assertRaises(KeyError, call, wrong)
             calls = [keys.entry, keys.next, keys.previous, keys.intersects, keys.setdefault, keys.__delitem__, keys.split_off]
-            calls += [held.range_of, held.next, held.previous, held.intersects, held.add, held.discard]
+            calls += [held.range_of, held.next, held.previous, held.intersects, held.add, held.try_insert, held.discard]
             calls += [lambda key: list(keys.pieces(key)), lambda key: list(held.gaps(key)), lambda key: list(held.overlapping(key))]
             for call in calls:
                 self.assertRaises(OverflowError, call, wrong)
@@ -162,7 +162,7 @@ class Maps(unittest.TestCase):
         keys.close()
         held = RangeSet([1])
         held.close()
-        calls = [lambda: keys[1], lambda: keys.load_json("[]"), lambda: held.load_json("[]"), lambda: held.add(1)]
+        calls = [lambda: keys[1], lambda: keys.load_json("[]"), lambda: held.load_json("[]"), lambda: held.add(1), lambda: held.try_insert(1)]
         calls += [lambda: keys.restrict(held), lambda: RangeMap().append(keys), lambda: keys.append(RangeMap([(1, 1)]))]
         for closed in (keys, held):
             calls += [closed.first, closed.clear, closed.key_count, closed.to_json, closed.copy, lambda it=closed: list(it)]
@@ -413,6 +413,30 @@ class Sets(unittest.TestCase):
         self.assertEqual((keys.first(), keys.pop_last()), (Range(0, 3), Range(20, 30)))
         keys.clear()
         self.assertEqual((len(keys), bool(keys)), (0, False))
+
+    def test_random_calls_answer_as_a_set_of_keys(self):
+        numbers = random.Random(6)
+        for kind, least in [("u64", 0), ("i64", -100), ("u8", 0)]:
+            keys, wanted = RangeSet(keys=kind), set()
+            for _ in range(CALLS // 10):
+                start = numbers.randrange(least, least + 200)
+                span = range(start, start + numbers.randrange(20))
+                call = numbers.randrange(4)
+                if call == 0:
+                    keys.discard(span)
+                    wanted.difference_update(span)
+                elif call == 1:
+                    keys.add(span)
+                    wanted.update(span)
+                else:
+                    is_free = wanted.isdisjoint(span)
+                    self.assertEqual(keys.try_insert(span), is_free)
+                    if is_free:
+                        wanted.update(span)
+                key = numbers.randrange(least - 10, least + 230)
+                self.assertEqual((key in keys, keys.intersects(span)), (key in wanted, not wanted.isdisjoint(span)))
+            self.assertEqual({key for held in keys for key in keys_of(held)}, wanted)
+            self.assertEqual((keys.key_count(), len(keys)), (len(wanted), sum(1 for key in wanted if key - 1 not in wanted)))
 
     def test_random_sets_answer_as_sets_of_keys(self):
         numbers = random.Random(7)

@@ -1,14 +1,14 @@
 //! The functions of `btree_range_map.h`, and a handle that is destroyed once.
-use crate::{NoMemory, NotLoaded};
+use crate::{NoMemory, NotInserted, NotLoaded};
 use std::ffi::c_void;
 
 pub const DONE: u32 = 0;
-pub const CONNECTED: u32 = 4;
-pub const NO_ROOM: u32 = 7;
-pub const NOT_JSON: u32 = 8;
-pub const NOT_READ: u32 = 9;
-pub const OCCUPIED: u32 = 10;
-pub const OUT_OF_ORDER: u32 = 11;
+const CONNECTED: u32 = 4;
+const NO_ROOM: u32 = 7;
+const NOT_JSON: u32 = 8;
+const NOT_READ: u32 = 9;
+const OCCUPIED: u32 = 10;
+const OUT_OF_ORDER: u32 = 11;
 
 pub const START_EXCLUDED: u32 = 1;
 pub const START_UNBOUNDED: u32 = 2;
@@ -177,6 +177,7 @@ unsafe extern "C" {
     pub fn brm_save(handle: *const RawHandle, buffer: *mut u8, capacity: usize, size: &mut usize) -> u32;
     pub fn brm_load(handle: *mut RawHandle, text: *const u8, size: usize) -> u32;
     pub fn brm_set_u64_insert(set: *mut RawHandle, range: &RawRange<u64>) -> u32;
+    pub fn brm_set_u64_try_insert(set: *mut RawHandle, range: &RawRange<u64>) -> u32;
     pub fn brm_set_u64_insert_many(
         set: *mut RawHandle,
         ranges: *const RawRange<u64>,
@@ -210,6 +211,17 @@ unsafe extern "C" {
 /// `Ok` of a status that says that the call is done.
 pub fn done(status: u32) -> Result<(), NoMemory> {
     if status == DONE { Ok(()) } else { Err(NoMemory) }
+}
+
+/// The same of a call that what is stored may be in the way of.
+pub fn inserted(status: u32) -> Result<(), NotInserted> {
+    match status {
+        DONE => Ok(()),
+        CONNECTED => Err(NotInserted::Connected),
+        OCCUPIED => Err(NotInserted::Occupied),
+        OUT_OF_ORDER => Err(NotInserted::OutOfOrder),
+        _ => Err(NotInserted::NoMemory),
+    }
 }
 
 /// A handle that no one else has. A call that reads writes nothing to it.

@@ -1,6 +1,6 @@
 //! Maps from ranges of keys to numbers: the library's maps as they are.
 use crate::batches::{Batches, Bindings, Within, hand_on};
-use crate::ffi::{self, Handle, OfTwo, RawEntry, RawLength, RawPiece, RawRange, done};
+use crate::ffi::{self, Handle, OfTwo, RawEntry, RawLength, RawPiece, RawRange, done, inserted};
 use crate::range::sealed::{Native, Numbered};
 use crate::range::{Key, Range, range_of, raw_range};
 use crate::{InsertedOnly, NoMemory, NotInserted, NotLoaded};
@@ -67,20 +67,14 @@ impl<K: Key> NumberMap<K> {
         range: impl RangeBounds<K>,
         number: u64,
     ) -> Result<(), NotInserted> {
-        match unsafe { (K::Native::BINDS.insert_disconnected)(self.handle.get_mut(), &raw(&range), number) } {
-            ffi::DONE => Ok(()),
-            ffi::CONNECTED => Err(NotInserted::Connected),
-            _ => Err(NotInserted::NoMemory),
-        }
+        inserted(unsafe {
+            (K::Native::BINDS.insert_disconnected)(self.handle.get_mut(), &raw(&range), number)
+        })
     }
 
     /// Binds each key of a range that meets no stored one. It may touch stored ranges.
     pub fn try_insert(&mut self, range: impl RangeBounds<K>, number: u64) -> Result<(), NotInserted> {
-        match unsafe { (K::Native::BINDS.try_insert)(self.handle.get_mut(), &raw(&range), number) } {
-            ffi::DONE => Ok(()),
-            ffi::OCCUPIED => Err(NotInserted::Occupied),
-            _ => Err(NotInserted::NoMemory),
-        }
+        inserted(unsafe { (K::Native::BINDS.try_insert)(self.handle.get_mut(), &raw(&range), number) })
     }
 
     /// Binds the keys of each range to the number beside it, one after the other, in a few calls of the library.
@@ -232,11 +226,7 @@ impl<K: Key> NumberMap<K> {
     /// Moves all ranges of the other map, each of which lies after all of this one, to its end. After an error both
     /// maps are as they were.
     pub fn append(&mut self, other: &mut NumberMap<K>) -> Result<(), NotInserted> {
-        match unsafe { (K::Native::BINDS.append)(self.handle.get_mut(), other.handle.get_mut()) } {
-            ffi::DONE => Ok(()),
-            ffi::OUT_OF_ORDER => Err(NotInserted::OutOfOrder),
-            _ => Err(NotInserted::NoMemory),
-        }
+        inserted(unsafe { (K::Native::BINDS.append)(self.handle.get_mut(), other.handle.get_mut()) })
     }
 
     /// A map that binds each key as the other does, or else as this one does.

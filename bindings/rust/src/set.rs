@@ -1,8 +1,8 @@
 //! Sets of keys.
 use crate::batches::{Batches, Within, hand_on};
-use crate::ffi::{self, Handle, OfTwo, RawLength, RawRange, done};
+use crate::ffi::{self, Handle, OfTwo, RawLength, RawRange, done, inserted};
 use crate::range::{Key, Range, range_of, raw_range};
-use crate::{NoMemory, ffi::set::CALLS};
+use crate::{NoMemory, NotInserted, ffi::set::CALLS};
 use std::fmt;
 use std::hash::{Hash, Hasher};
 use std::iter::FusedIterator;
@@ -11,8 +11,8 @@ use std::ops::{BitAnd, BitOr, BitXor, RangeBounds, Sub};
 
 /// A set of keys, kept as ranges that neither meet nor touch.
 ///
-/// Where memory runs out, a call panics; [`RangeSet::try_insert`] and [`RangeSet::try_remove`] answer by an error.
-/// Iterators, `Debug` and `Hash` allocate as std does.
+/// Where memory runs out, a call panics; [`RangeSet::try_add`], [`RangeSet::try_insert`] and [`RangeSet::try_remove`] answer
+/// by an error. Iterators, `Debug` and `Hash` allocate as std does.
 ///
 /// ```
 /// use btree_range_map_proved::RangeSet;
@@ -54,12 +54,33 @@ impl<K: Key> RangeSet<K> {
 
     /// Adds each key of the range.
     pub fn insert(&mut self, range: impl RangeBounds<K>) {
-        self.try_insert(range).expect(NO_MEMORY);
+        self.try_add(range).expect(NO_MEMORY);
     }
 
     /// Adds each key of the range. After an error the set is as it was.
-    pub fn try_insert(&mut self, range: impl RangeBounds<K>) -> Result<(), NoMemory> {
+    ///
+    /// ```
+    /// # use btree_range_map_proved::RangeSet;
+    /// let mut set: RangeSet<u8> = [0..9].into();
+    /// assert_eq!(set.try_add(8..12), Ok(()));
+    /// assert_eq!(set, [0..12].into());
+    /// ```
+    pub fn try_add(&mut self, range: impl RangeBounds<K>) -> Result<(), NoMemory> {
         done(unsafe { ffi::brm_set_u64_insert(self.handle.get_mut(), &raw(&range)) })
+    }
+
+    /// Adds each key of a range that meets no stored one. It may touch stored ranges. After an error the set is as it
+    /// was.
+    ///
+    /// ```
+    /// # use btree_range_map_proved::{NotInserted, RangeSet};
+    /// let mut set: RangeSet<u8> = [0..5].into();
+    /// assert_eq!(set.try_insert(5..9), Ok(())); // it only touches 0..5
+    /// assert_eq!(set.try_insert(8..12), Err(NotInserted::Occupied)); // 0..9 is in the way
+    /// assert_eq!(set, [0..9].into());
+    /// ```
+    pub fn try_insert(&mut self, range: impl RangeBounds<K>) -> Result<(), NotInserted> {
+        inserted(unsafe { ffi::brm_set_u64_try_insert(self.handle.get_mut(), &raw(&range)) })
     }
 
     /// Takes each key of the range away.
@@ -68,6 +89,13 @@ impl<K: Key> RangeSet<K> {
     }
 
     /// Takes each key of the range away. After an error the set is as it was.
+    ///
+    /// ```
+    /// # use btree_range_map_proved::RangeSet;
+    /// let mut set: RangeSet<u8> = [0..9].into();
+    /// assert_eq!(set.try_remove(3..5), Ok(()));
+    /// assert_eq!(set, [0..3, 5..9].into());
+    /// ```
     pub fn try_remove(&mut self, range: impl RangeBounds<K>) -> Result<(), NoMemory> {
         done(unsafe { (CALLS.remove)(self.handle.get_mut(), &raw(&range)) })
     }
@@ -161,11 +189,7 @@ impl<K: Key> RangeSet<K> {
 
     /// A set of the keys that are in both sets.
     pub fn intersection(&self, other: &RangeSet<K>) -> RangeSet<K> {
-        if std::ptr::eq(self, other) {
-            self.clone()
-        } else {
-            self.with(other, ffi::brm_raw_set_intersection)
-        }
+        if std::ptr::eq(self, other) { self.clone() } else { self.with(other, ffi::brm_raw_set_intersection) }
     }
 
     /// A set of the keys of this set that are not in the other.

@@ -45,6 +45,10 @@ impl Reference {
         self.0.insert(first, (last, value));
     }
 
+    fn meets(&self, first: u64, last: u64) -> bool {
+        self.0.range(..=last).next_back().is_some_and(|(_, (end, _))| *end >= first)
+    }
+
     fn meets_or_touches(&self, first: u64, last: u64) -> bool {
         let last = last + 1;
         self.0.range(..=last).next_back().is_some_and(|(_, (end, _))| end + 1 >= first)
@@ -117,11 +121,7 @@ fn random_changes_answer_as_the_reference() {
                 6 => assert_eq!(map.contains_key(last), reference.get(last).is_some()),
                 7 => assert_eq!(map.previous(first).map(told), reference.previous(first)),
                 8 => assert_eq!(map.next(first).map(told), reference.next(first)),
-                _ => {
-                    let meets =
-                        reference.0.range(..=last).next_back().is_some_and(|(_, (end, _))| *end >= first);
-                    assert_eq!(map.intersects(first..=last), meets);
-                }
+                _ => assert_eq!(map.intersects(first..=last), reference.meets(first, last)),
             }
             assert_eq!(map.len(), reference.0.len());
         }
@@ -448,6 +448,41 @@ fn sets_add_and_take_keys() {
     assert_eq!(set.last().map(first_and_last), Some((4, 14)));
     set.clear();
     assert!(set.is_empty() && set == RangeSet::default());
+}
+
+/// A range is added where it meets no stored one; one that touches some becomes one with them.
+#[test]
+fn a_set_takes_free_ranges_as_the_reference() {
+    for (seed, keys) in [(5, 60), (6, 1_000)] {
+        let mut random = Random(seed);
+        let mut set: RangeSet<u64> = RangeSet::new();
+        let mut reference = Reference::default();
+        for _ in 0..20_000 {
+            let first = random.below(keys);
+            let last = first + random.below(keys / 12);
+            let is_free = !reference.meets(first, last);
+            match random.below(4) {
+                0 => {
+                    assert_eq!(set.try_remove(first..=last), Ok(()));
+                    reference.remove(first, last);
+                }
+                1 => {
+                    assert_eq!(set.try_add(first..=last), Ok(()));
+                    reference.insert(first, last, 0);
+                }
+                _ => {
+                    let wanted = if is_free { Ok(()) } else { Err(NotInserted::Occupied) };
+                    assert_eq!(set.try_insert(first..last + 1), wanted);
+                    if is_free {
+                        reference.insert(first, last, 0);
+                    }
+                }
+            }
+            assert_eq!(set.try_insert(last..first), Ok(()));
+            let stored = reference.0.iter().map(|(first, (last, _))| (*first, *last));
+            assert!(set.iter().map(first_and_last).eq(stored));
+        }
+    }
 }
 
 #[test]

@@ -6,6 +6,7 @@ ghost use Rattle.btree_range_map.specs.Holding.{box_items};
 ghost use Rattle.btree_range_map.specs.JsonError.TheVariants.{Memory};
 ghost use Rattle.btree_range_map.specs.KeySets.{HoldAlike, HoldsAllAlso, HoldsAlso, HoldsTheOthers, HoldsWithout, IsLeastCount};
 ghost use Rattle.btree_range_map.specs.ListOrder.{IsCopyOf};
+ghost use Rattle.btree_range_map.specs.Lookups.{MeetsSome};
 ghost use Rattle.btree_range_map.specs.Range.{IsEmptyRange, ClonesAreEqual};
 ghost use Rattle.btree_range_map.specs.Shapes.{set_shape};
 ghost use Rattle.btree_range_map.specs.Together.{BindKeysOf, ShareNoKey};
@@ -21,9 +22,9 @@ use crate::reads;
 use btree_range_map::json::{Json, JsonError, set_from_json, set_to_json};
 use btree_range_map::range::traits::PartialEnum;
 use btree_range_map::storage::Item;
-use btree_range_map::{AnyRange, MapError, RangeMap, RangeSet};
+use btree_range_map::{AnyRange, MapError, NotAdded, RangeMap, RangeSet};
 use range_ffi::items::{Shown, Told};
-use range_ffi::status::{DONE, NO_MEMORY, NONE};
+use range_ffi::status::{DONE, NO_MEMORY, NONE, OCCUPIED};
 use serde_json::Value;
 use std::alloc::{AllocError, Global};
 use std::marker::Model;
@@ -174,6 +175,25 @@ impl<K: Key> KeptSet<K> {
         match self.set.insert(range) {
             Ok(()) => DONE,
             Err(_) => NO_MEMORY,
+        }
+    }
+
+    /// Adds each key of a range that meets no stored one.
+    pub fn try_insert(&mut self, range: AnyRange<K>) -> u32
+        ensures added { result ≡ DONE
+            → HoldsAlso K.order self.old self.new range }
+        ensures occupied { result ≡ OCCUPIED
+            ↔ (¬ IsEmptyRange K.order range) × MeetsSome K.order self.old range }
+        ensures empty { IsEmptyRange K.order range → result ≡ DONE }
+        ensures empty_unchanged { IsEmptyRange K.order range
+            → self.new ≡ self.old }
+        ensures refused { result ≢ DONE → self.new ≡ self.old }
+        ensures answer { (result ≡ DONE) ⊎ ((result ≡ NO_MEMORY) ⊎ (result ≡ OCCUPIED)) }
+    {
+        match self.set.try_insert(range) {
+            Ok(()) => DONE,
+            Err(NotAdded::Occupied(_)) => OCCUPIED,
+            Err(NotAdded::Memory(_)) => NO_MEMORY,
         }
     }
 

@@ -1,9 +1,9 @@
 //! The calls on sets of `i64` keys.
-ghost use Rattle.std.specs.Prelude.{length, ◌≡◌, ◌≢◌, ◌⊎◌, [], ◌∷◌, ◌++◌, true, false};
+ghost use Rattle.std.specs.Prelude.{length, ◌≡◌, ◌≢◌, ◌⊎◌, ◌↔◌, [], ◌∷◌, ◌++◌, true, false};
 ghost use Rattle.btree_range_map.specs.Bindings.{IsItemFor};
 ghost use Rattle.btree_range_map.specs.FreeRanges.{item_ranges};
 ghost use Rattle.btree_range_map.specs.KeySets.{HoldsKey, HoldsAlso, HoldsWithout};
-ghost use Rattle.btree_range_map.specs.Lookups.{BindsKeyOf};
+ghost use Rattle.btree_range_map.specs.Lookups.{BindsKeyOf, MeetsSome};
 ghost use Rattle.btree_range_map.specs.Numbers.{IsNumberOfKeys};
 ghost use Rattle.btree_range_map.specs.Overlapping.{AreOverlapping};
 ghost use Rattle.btree_range_map.specs.Range.{IsEmptyRange};
@@ -14,7 +14,7 @@ ghost use Rattle.range_handles.specs.Lists.{signed_keys, SignedKeyRanges};
 mod many;
 
 use range_ffi::bounds::{Length, SignedBounds};
-use range_ffi::status::{CLOSED, DONE, NO_MEMORY, NONE, OPEN, OTHER_KIND};
+use range_ffi::status::{CLOSED, DONE, NO_MEMORY, NONE, OCCUPIED, OPEN, OTHER_KIND};
 use range_handles::collection::Collection;
 use range_handles::handle::Handle;
 use range_handles::kept_set::KeptSet;
@@ -58,6 +58,36 @@ pub extern "C" fn brm_set_i64_insert(handle: &mut Handle, range: &SignedBounds) 
     }
     match handle.seal.as_mut() {
         Collection::SignedSet(kept) => kept.insert(range.range()),
+        _ => OTHER_KIND,
+    }
+}
+
+/// Adds each key of a range that meets no stored one. It may touch stored ranges.
+#[unsafe(no_mangle)]
+pub extern "C" fn brm_set_i64_try_insert(handle: &mut Handle, range: &SignedBounds) -> u32
+    ensures added { result ≡ DONE
+        → HoldsAlso signed_keys (signed_set_items handle.old.seal.held)
+        (signed_set_items handle.new.seal.held) (signed_range_of range.now) }
+    ensures occupied { HoldsSignedSet handle.old.seal.held → (result ≡ OCCUPIED
+        ↔ (¬ IsEmptyRange signed_keys (signed_range_of range.now))
+        × MeetsSome signed_keys (signed_set_items handle.old.seal.held) (signed_range_of range.now)) }
+    ensures empty { IsEmptyRange signed_keys (signed_range_of range.now)
+        → HoldsSignedSet handle.old.seal.held → result ≡ DONE }
+    ensures empty_unchanged { IsEmptyRange signed_keys (signed_range_of range.now)
+        → handle.new.seal.held ≡ handle.old.seal.held }
+    ensures kind { HoldsSignedSet handle.old.seal.held → HoldsSignedSet handle.new.seal.held }
+    ensures refused { result ≢ DONE → handle.new.seal.held ≡ handle.old.seal.held }
+    ensures answer { HoldsSignedSet handle.old.seal.held
+        → (result ≡ DONE) ⊎ ((result ≡ NO_MEMORY) ⊎ (result ≡ OCCUPIED)) }
+    ensures closed { handle.old.is_open ≡ false → result ≡ CLOSED }
+    ensures other { handle.old.is_open ≡ true → (¬ HoldsSignedSet handle.old.seal.held)
+        → result ≡ OTHER_KIND }
+{
+    if !handle.is_open {
+        return CLOSED;
+    }
+    match handle.seal.as_mut() {
+        Collection::SignedSet(kept) => kept.try_insert(range.range()),
         _ => OTHER_KIND,
     }
 }

@@ -1,9 +1,9 @@
 //! The calls on sets of `u64` keys.
-ghost use Rattle.std.specs.Prelude.{length, ◌≡◌, ◌≢◌, ◌⊎◌, [], ◌∷◌, ◌++◌, true, false};
+ghost use Rattle.std.specs.Prelude.{length, ◌≡◌, ◌≢◌, ◌⊎◌, ◌↔◌, [], ◌∷◌, ◌++◌, true, false};
 ghost use Rattle.btree_range_map.specs.Bindings.{IsItemFor};
 ghost use Rattle.btree_range_map.specs.FreeRanges.{item_ranges};
 ghost use Rattle.btree_range_map.specs.KeySets.{HoldsKey, HoldsAlso, HoldsWithout};
-ghost use Rattle.btree_range_map.specs.Lookups.{BindsKeyOf};
+ghost use Rattle.btree_range_map.specs.Lookups.{BindsKeyOf, MeetsSome};
 ghost use Rattle.btree_range_map.specs.Numbers.{IsNumberOfKeys};
 ghost use Rattle.btree_range_map.specs.Overlapping.{AreOverlapping};
 ghost use Rattle.btree_range_map.specs.Range.{IsEmptyRange};
@@ -14,7 +14,7 @@ ghost use Rattle.range_handles.specs.Lists.{unsigned_keys, KeyRanges};
 mod many;
 
 use range_ffi::bounds::{Bounds, Length};
-use range_ffi::status::{CLOSED, DONE, NO_MEMORY, NONE, OPEN, OTHER_KIND};
+use range_ffi::status::{CLOSED, DONE, NO_MEMORY, NONE, OCCUPIED, OPEN, OTHER_KIND};
 use range_handles::collection::Collection;
 use range_handles::handle::Handle;
 use range_handles::kept_set::KeptSet;
@@ -58,6 +58,36 @@ pub extern "C" fn brm_set_u64_insert(handle: &mut Handle, range: &Bounds) -> u32
     }
     match handle.seal.as_mut() {
         Collection::Set(kept) => kept.insert(range.range()),
+        _ => OTHER_KIND,
+    }
+}
+
+/// Adds each key of a range that meets no stored one. It may touch stored ranges.
+#[unsafe(no_mangle)]
+pub extern "C" fn brm_set_u64_try_insert(handle: &mut Handle, range: &Bounds) -> u32
+    ensures added { result ≡ DONE
+        → HoldsAlso unsigned_keys (set_items handle.old.seal.held)
+        (set_items handle.new.seal.held) (range_of range.now) }
+    ensures occupied { HoldsSet handle.old.seal.held → (result ≡ OCCUPIED
+        ↔ (¬ IsEmptyRange unsigned_keys (range_of range.now))
+        × MeetsSome unsigned_keys (set_items handle.old.seal.held) (range_of range.now)) }
+    ensures empty { IsEmptyRange unsigned_keys (range_of range.now)
+        → HoldsSet handle.old.seal.held → result ≡ DONE }
+    ensures empty_unchanged { IsEmptyRange unsigned_keys (range_of range.now)
+        → handle.new.seal.held ≡ handle.old.seal.held }
+    ensures kind { HoldsSet handle.old.seal.held → HoldsSet handle.new.seal.held }
+    ensures refused { result ≢ DONE → handle.new.seal.held ≡ handle.old.seal.held }
+    ensures answer { HoldsSet handle.old.seal.held
+        → (result ≡ DONE) ⊎ ((result ≡ NO_MEMORY) ⊎ (result ≡ OCCUPIED)) }
+    ensures closed { handle.old.is_open ≡ false → result ≡ CLOSED }
+    ensures other { handle.old.is_open ≡ true → (¬ HoldsSet handle.old.seal.held)
+        → result ≡ OTHER_KIND }
+{
+    if !handle.is_open {
+        return CLOSED;
+    }
+    match handle.seal.as_mut() {
+        Collection::Set(kept) => kept.try_insert(range.range()),
         _ => OTHER_KIND,
     }
 }
