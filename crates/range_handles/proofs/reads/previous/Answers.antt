@@ -1,4 +1,4 @@
-use Rattle.std.proofs.Common.{◌∷◌, [], reverse, subst}
+use Rattle.std.proofs.Common.{◌∷◌, [], subst}
 use Rattle.btree_range_map.specs.Holding.{box_items}
 use Rattle.btree_range_map.specs.Overlapping.{AreOverlapping}
 use Rattle.range_ffi.specs.Flags.{upto_key}

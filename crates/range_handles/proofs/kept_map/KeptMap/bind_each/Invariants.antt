@@ -1,4 +1,4 @@
-use Rattle.std.proofs.Common.{◌≡◌, ◌≤◌, ◌-◌, take, map, length, nat_eq}
+use Rattle.std.proofs.Common.{◌≤◌, ◌-◌, take, map, length, nat_eq}
 use Rattle.btree_range_map.specs.MapExtending.{AreBoundAfter}
 use Rattle.range_handles.proofs.kept_map.KeptMap.bind_each.Given as goal
 

@@ -1,4 +1,4 @@
-use Rattle.std.proofs.Common.{◌≡◌, ◌≤◌, ◌-◌, take, map, length}
+use Rattle.std.proofs.Common.{◌≤◌, ◌-◌, take, map, length}
 use Rattle.btree_range_map.specs.KeySets.{HoldsAllAlso}
 use Rattle.range_ffi.specs.Flags.{said_range}
 use Rattle.range_handles.proofs.kept_set.KeptSet.add_each.Given as goal
