@@ -161,7 +161,13 @@ def play_unproved(folder):
     files = [it.relative_to(folder) for it in sorted(folder.glob("data/*"))]
     flags = [word for it in files for word in ("--data", f"{it}={it}")]
     ended = cases(folder, {talk.name: (talk.input(), talk.words) for talk in talks}, flags)
-    return [(talk.name, ended.get(talk.name, ended[None]), talk.wanted()) for talk in talks]
+    return [(talk.name, under_its_name(folder, ended.get(talk.name, ended[None])), talk.wanted()) for talk in talks]
+
+
+def under_its_name(folder, ended):
+    """Gives a program its own name in its usage: one that is built without a proof is called `program`."""
+    out, errors = (re.sub(rb"(Usage: |')program\b", rb"\1" + folder.name.encode(), it) for it in ended[:2])
+    return ended._replace(out=out, errors=errors)
 
 
 def count(folder, player):
