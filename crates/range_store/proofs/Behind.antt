@@ -22,8 +22,7 @@ is_first : (g : Edge) → g.path ≡ 0 → g.index ≡ 0 → is_start g ≡ true
 is_first g path index = and_from _ _ (eq-eqb _ _ path) (eq-eqb _ _ index)
 
 is_later : (g : Edge) → 0 < g.path + g.index → is_start g ≡ false
-is_later g some = false_from_ne_true _
-    (λ start. omega (arith, some, (start_parts g start).0, (start_parts g start).1))
+is_later g some = grind (arith, false_from_ne_true, start_parts)
 
 module _ {T : Type 0} (s : Heap T) where
   -- the edge at the end of a leaf
@@ -41,15 +40,7 @@ module _ {T : Type 0} (s : Heap T) where
 
   pub home_sets_out : {below number : ℕ} (edge : Edge) (home : Home) → IsEdge s below number edge
       → 0 < place s below number edge → HasHome below number edge below number edge home
-  home_sets_out {below} {number} edge home is some = record {
-    is = is;
-    first = λ none. absurd (omega (
-      arith,
-      some,
-      place_of_start s below number edge (omega (arith, none)) (omega (arith, none)),
-    ));
-    later = λ _. refl;
-  }
+  home_sets_out {below} {number} edge home is some = grind (arith, place_of_start)
 
   pub home_goes_on : {below number : ℕ} {edge : Edge} {left at : ℕ} {inner : Edge} {home : Home}
       → left ≢ 0 → ShapedBut 1 CAPACITY s left at → HasHome below number edge left at inner home
@@ -57,22 +48,7 @@ module _ {T : Type 0} (s : Heap T) where
       → (0 < i → next ≡ record { node = at; index = i - 1 })
       → HasHome below number edge (left - 1) (node_child s at i) (inside inner) next
   home_goes_on {below} {number} {edge} {left} {at} {inner} {home} above shaped has i i_is next stays
-      goes = record {
-        is = rw i_is (below_inside above shaped inner has.is);
-        first = λ none.
-            elim (cases_eq i 0) [
-              | inl straight ↦
-                  has.first (omega (arith, none, straight, i_is)) ∙ sym (stays straight)
-              | inr other ↦
-                  has.later (omega (arith, other, i_is))
-                  ∙ home_above above shaped inner
-                  (is_first (inside inner) (omega (arith, none)) (omega (arith, none)))
-                  ∙ sym (rw i_is at (goes (omega (arith, other))))
-            ];
-        later = λ some.
-            rw i_is (has.later (omega (arith, some))
-            ∙ home_inside above shaped inner (is_later (inside inner) some));
-      }
+      goes = grind (arith, below_inside, cases_eq, home_above, is_first, home_inside, is_later)
 
   pub home_is_found : {below number : ℕ} {edge : Edge} (left at : ℕ) (inner : Edge) {home : Home}
       → left ≡ 0 → HasHome below number edge left at inner home → (next : Home)
@@ -81,13 +57,7 @@ module _ {T : Type 0} (s : Heap T) where
       → next ≡ home_of s below number edge
   unfolding IsEdge
   home_is_found (suc left) at inner bottom has next stays goes = absurd (omega arith)
-  home_is_found zero at inner bottom has next stays goes =
-      elim (cases_eq inner.index 0) [
-        | inl first ↦ stays first ∙ sym (has.first (omega (arith, has.is.1, first)))
-        | inr some ↦
-            goes (omega (arith, some)) ∙ sym (home_leaf s at inner)
-            ∙ sym (has.later (omega (arith, some)))
-      ]
+  home_is_found zero at inner bottom has next stays goes = grind (arith, cases_eq, home_leaf)
 
   -- a subtree whose first edge stands behind so many items
   pub record BeginsBehind (below number : ℕ) (subtree : Subtree) (ahead : ℕ) : Type 0 where
@@ -118,16 +88,7 @@ module _ {T : Type 0} (s : Heap T) where
 
   pub sets_out : {below number : ℕ} (edge : Edge) → ShapedBut 1 CAPACITY s below number
       → IsEdge s below number edge → IsOnTheWay below number edge below number 0 1 edge None
-  sets_out {below} {number} edge shaped is =
-      record {
-        ahead = 0;
-        lies = lies_itself s shaped;
-        is = is;
-        leaf_is = refl;
-        index_is = refl;
-        place_is = omega arith;
-        after = omega arith;
-      }
+  sets_out {below} {number} edge shaped is = grind (arith, lies_itself, leaf_is)
 
   module _ {below number : ℕ} {edge : Edge} {left at path weight : ℕ} {inner : Edge}
       {behind : Option Subtree} (above : left ≢ 0)
@@ -163,12 +124,7 @@ module _ {T : Type 0} (s : Heap T) where
     pub goes_by_the_last : length (node_items s at) ≤ i
         → IsOnTheWay below number edge (left - 1) (kid i) (path + weight * i) (weight * PATH_BASE)
         (inside inner) behind
-    goes_by_the_last last =
-        let all = past_last above way.lies.shaped i (omega (arith, turn_low)) in
-        let same : way.ahead + length (items_below s (suc left) at)
-        ≡ way.ahead + ahead_of s left at i + length (items_below s left (kid i)) =
-        omega (arith, all) in
-        further behind (subst (ComesAfter below number behind) same way.after)
+    goes_by_the_last last = grind (arith, past_last, turn_low, ahead_of, further)
 
     -- below another the next child does
     pub goes_by_another : i < length (node_items s at)
@@ -202,18 +158,4 @@ module _ {T : Type 0} (s : Heap T) where
   comes_to_the_end {below} {number} {edge} (suc left) at path weight inner behind bottom way last =
       absurd (omega arith)
   comes_to_the_end {below} {number} {edge} zero at path weight inner behind bottom way last =
-      let leaf : edge.leaf ≡ at = sym way.leaf_is ∙ leaf_is s at inner way.is in
-      let end : length (node_items s at) ≤ edge.index =
-      subst (λ n. length (node_items s n) ≤ edge.index) leaf last in
-      let all = ap length (items_below_leaf s at way.lies.shaped.node.branches) in
-      let same : way.ahead + length (items_below s (suc zero) at) ≡ place s below number edge =
-      omega (
-        arith,
-        all,
-        end,
-        way.index_is,
-        way.place_is,
-        leaf_place s at inner,
-        leaf_index s at inner way.is,
-      ) in
-      subst (ComesAfter below number behind) same way.after
+      grind (arith, leaf_is, items_below_leaf, leaf_place, leaf_index)

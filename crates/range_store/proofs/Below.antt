@@ -21,20 +21,11 @@ Shaped-but s d n shaped = record { node = shaped.0; children = shaped.1 }
 pub shaped_with : {T : Type 0} {least most : ℕ} (low top : ℕ) {s : Heap T} {d n : ℕ}
     → low ≤ length (node_items s n) → length (node_items s n) ≤ top → ShapedBut least most s d n
     → ShapedBut low top s d n
-shaped_with low top enough fits shaped = record {
-  node = record {
-    present = shaped.node.present;
-    enough = enough;
-    fits = fits;
-    branches = shaped.node.branches;
-  };
-  children = shaped.children;
-}
+shaped_with low top enough fits shaped = grind arith
 
 pub shaped_within_wider : {T : Type 0} (low : ℕ) {least most : ℕ} (top : ℕ) {s : Heap T} {d n : ℕ}
     → low ≤ least → most ≤ top → ShapedBut least most s d n → ShapedBut low top s d n
-shaped_within_wider low top le le' shaped = shaped_with low top (omega (arith, shaped.node.enough))
-    (omega (arith, shaped.node.fits)) shaped
+shaped_within_wider low top le le' shaped = grind (arith, shaped_with)
 
 pub child_count_cases : (d k m : ℕ) → m ≡ child_count d k → (m ≡ 0) ⊎ (m ≡ k + 1)
 child_count_cases zero k m h = inl h
@@ -78,26 +69,14 @@ module _ {T : Type 0} {least most : ℕ} {s : Heap T} {d n : ℕ} (inner : 0 < d
   items_below_at i within =
       let kid =
       get_or-map (items_below s d) (node_children s n) i 0 [] (omega (arith, children_length)) in
-      weave_items_below s d n ∙ weave_at (node_items s n) (child_lists s d n) i within lists_length
-      ∙ ap (λ zs. before_child s d n i ++ (zs ++ after_child s d n i)) kid
+      grind (arith, weave_items_below, weave_at, lists_length)
 
   pub length-before_more : (i : ℕ) → i < length (node_items s n)
       → length (before_child s d n (i + 1)) ≡ length (before_child s d n i) + length
       (items_below s d (node_child s n i)) + 1
   length-before_more i within =
-      let kid =
-      get_or-map (items_below s d) (node_children s n) i 0 [] (omega (arith, children_length)) in
-      omega (
-        arith,
-        length-before_next (node_items s n) (child_lists s d n) i within
-            (omega (arith, lists_length)),
-        ap length kid,
-      )
+      grind (arith, get_or-map, children_length, length-before_next, lists_length)
 
   -- after the last child stands nothing
   pub none_after_last : after_child s d n (length (node_items s n)) ≡ []
-  none_after_last =
-      let i = length (node_items s n) in
-      let lists = child_lists s d n in
-      ap (λ zs. rest_of zs (drop (i + 1) lists)) (drop_all i (node_items s n) (omega arith))
-      ∙ ap (rest_of []) (drop_all (i + 1) lists (omega (arith, lists_length)))
+  none_after_last = grind (arith, drop_all, lists_length)

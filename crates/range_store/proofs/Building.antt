@@ -24,16 +24,12 @@ use Rattle.range_store.proofs.Room.{used_le}
 weave_more : {X : Type 0} (xs : List X) (x : X) (ls : List (List X)) (l : List X)
     → length ls ≡ length xs + 1 → weave (xs ++ x ∷ []) (ls ++ l ∷ []) ≡ weave xs ls ++ x ∷ l
 weave_more xs x [] l many = absurd (omega arith)
-weave_more xs x (k ∷ ks) l many =
-    weave_cut xs x [] k ks l [] (omega arith)
-    ∙ ap (λ zs. weave xs (k ∷ ks) ++ (x ∷ zs)) (append-nil l)
+weave_more xs x (k ∷ ks) l many = grind (arith, weave_cut, append-nil)
 
 -- a built node with enough items is one that is not the root
 pub built_shaped : {T : Type 0} {r s : Heap T} {d n many : ℕ} → IsBuilt r s d n many
     → MIN_LEN ≤ many → Shaped s (suc d) n
-built_shaped {T} {r} {s} {d} {n} built enough =
-    Shaped-from_but s d n (shaped_with MIN_LEN CAPACITY (omega (arith, built.items, enough))
-    built.shape.node.fits built.shape)
+built_shaped {T} {r} {s} {d} {n} built enough = grind (arith, Shaped-from_but, shaped_with)
 
 -- what a node, of which the rest of the heap is old, becomes with an item and perhaps a child more
 module _ {T : Type 0} {r s t : Heap T} {d n many : ℕ} (cs : List ℕ) (built : IsBuilt r s d n many)
@@ -45,20 +41,10 @@ module _ {T : Type 0} {r s t : Heap T} {d n many : ℕ} (cs : List ℕ) (built :
   ks = node_children s n
 
   agree : AgreeAt s t (used s (suc d) n)
-  agree = Moves-agree (used s (suc d) n) (λ k. omega (
-    arith,
-    built.moved.owned k,
-    occurrences-nil k,
-  )) moved
+  agree = Moves-agree (used s (suc d) n) (λ k. omega (arith, built.moved.owned k, occurrences-nil)) moved
 
   pub built_kept : node_of t n ≡ node_of s n
-  built_kept =
-      agree n
-      (omega (
-        arith,
-        ap (occurrences n) (used_is s d n),
-        occurrences_here n (flat_map (used s d) ks),
-      ))
+  built_kept = grind (arith, agree, occurrences, used_is, occurrences_here)
 
   same : SameChildren s t d ks
   same =
@@ -80,23 +66,8 @@ module _ {T : Type 0} {r s t : Heap T} {d n many : ℕ} (cs : List ℕ) (built :
       (record {
         occur =
             λ k.
-            omega (
-              arith,
-              occurrences-append k more old,
-              ap (occurrences k) (used_is s d n),
-              occurrences-cons k n under,
-              occurrences-cons k n (flat_map (used t d) (ks ++ cs)),
-              ap (occurrences k) used_all,
-              occurrences-append k under more,
-            );
-        len =
-            omega (
-              arith,
-              length-append more old,
-              ap length (used_is s d n),
-              ap length used_all,
-              length-append under more,
-            );
+            omega (arith, occurrences-append, ap (occurrences k) (used_is s d n), occurrences-cons, ap (occurrences k) used_all);
+        len = grind (arith, length-append, ap length (used_is s d n), ap length used_all);
       }) (Moves-then built.moved (Moves-beside old moved))
 
   module _ {u : Heap T} (x : T) (room : many < CAPACITY) (shaped : All (Shaped t d) cs)
@@ -162,18 +133,14 @@ module _ {T : Type 0} {r s t : Heap T} (d : ℕ) {n : ℕ} (c : ℕ) (inner : 0 
   alone = append-nil (used s d c)
 
   above_agree : AgreeAt s t (flat_map (used s d) (c ∷ []))
-  above_agree k among =
-      stored.others k (λ at.
-      let absent : here s k ≡ 0 = rw (at, stored.fresh) refl in
-      omega (arith, among, ap (occurrences k) alone, moved.owned k, occurrences-nil k, absent))
+  above_agree k among = grind (arith, occurrences, alone, occurrences-nil)
 
   above_holds : Holds s t d n [] (c ∷ [])
   above_holds = held_new stored above_agree
 
   pub begun_above : IsBuilt r t d n 0
   begun_above = record {
-    shape = held_shape above_holds 0 (omega arith) (omega arith) (sym (child_count_inner d 0 inner))
-        (All-cons (Shaped s d) c [] shaped (All-nil (Shaped s d)));
+    shape = grind (arith, held_shape, above_holds, child_count_inner, All-cons, All-nil);
     items = ap length stored.items_are;
     moved = Moves-then moved (subst (λ zs. Moves s t (used s d c) zs)
         (sym (held_used above_holds ∙ ap (λ zs. n ∷ zs) alone)) (Stores-moves (used s d c) stored));
@@ -189,9 +156,7 @@ module _ {T : Type 0} {r s t : Heap T} {d n : ℕ} (c : ℕ) {many : ℕ} (inner
   one_moved = subst (Moves s t []) (sym (append-nil (used t d c))) moved
 
   branches : length (node_children s n) ≡ many + 1
-  branches =
-      built.shape.node.branches ∙ child_count_inner d (length (node_items s n)) inner
-      ∙ ap (λ m. m + 1) built.items
+  branches = grind (arith, child_count_inner)
 
   pub node_kept : node_of t n ≡ node_of s n
   node_kept = built_kept (c ∷ []) built one_moved
@@ -203,25 +168,13 @@ module _ {T : Type 0} {r s t : Heap T} {d n : ℕ} (c : ℕ) {many : ℕ} (inner
   node_length = ap (λ node. length (items_of node)) node_kept ∙ built.items
 
   pub node_fits : FitsChild (Some c) (node_items t n) (node_children t n)
-  node_fits =
-      ap (λ node. length (children_of node)) node_kept ∙ branches
-      ∙ ap (λ m. m + 1) (sym node_length)
+  node_fits = grind (arith, node_kept, branches, node_length)
 
   module _ {u : Heap T} (x : T) (room : many < CAPACITY) (shaped : Shaped t d c) (put : Writes t u n
       (insert (node_items t n) many x) (insert (node_children t n) (many + 1) c))
     where
       child_written : Writes t u n (node_items s n ++ x ∷ []) (node_children s n ++ c ∷ [])
-      child_written =
-          let xs = node_items s n in
-          let ks = node_children s n in
-          let items : insert (node_items t n) many x ≡ xs ++ x ∷ [] =
-          ap (λ node. insert (items_of node) many x) node_kept
-          ∙ ap (λ m. insert xs m x) (sym built.items) ∙ insert_end xs x in
-          let children : insert (node_children t n) (many + 1) c ≡ ks ++ c ∷ [] =
-          ap (λ node. insert (children_of node) (many + 1) c) node_kept
-          ∙ ap (λ m. insert ks m c) (sym branches) ∙ insert_end ks c in
-          subst (λ ys. Writes t u n ys (ks ++ c ∷ [])) items
-          (subst (Writes t u n (insert (node_items t n) many x)) children put)
+      child_written = grind (arith, node_kept, insert_end, branches)
 
       below_one : All (Shaped t d) (c ∷ [])
       below_one = All-cons (Shaped t d) c [] shaped (All-nil (Shaped t d))
@@ -258,50 +211,27 @@ built_child {T} {r} {s} (suc d) {n} {many} {count} some built' enough size' =
     let built = rw level at built' in
     let size = rw level at size' in
     let shaped = built_shaped built enough in
-    record {
-      moved = built.moved;
-      shaped = shaped;
-      size = size;
-      few = omega (arith, built.moved.len, used_le s (suc d) n shaped, size);
-    }
+    grind (arith, used_le)
 
 pub child_level : {T : Type 0} (s : Heap T) (d n : ℕ) → 0 < d
     → items_below s (suc (d - 1)) n ≡ items_below s d n
-child_level s d n some = let level : suc (d - 1) ≡ d = omega arith in
-    ap (λ m. items_below s m n) level
+child_level s d n some = grind arith
 
 -- what was taken of a list that is moved, with an item and some more
 pub taken_more : {X : Type 0} (all front rest later end now middle : List X) (x : X)
     → all ≡ front ++ rest → rest ≡ x ∷ later → later ≡ middle ++ end
     → now ≡ front ++ x ∷ middle → all ≡ now ++ end
 taken_more all front rest later end now middle x whole next below longer =
-    whole ∙ ap (λ zs. front ++ zs) (next ∙ ap (λ zs. x ∷ zs) below)
-    ∙ sym (append_assoc front (x ∷ middle) end) ∙ ap (λ zs. zs ++ end) (sym longer)
+    grind (arith, append_assoc, longer)
 
 -- a tree that was built where there was none
 pub built_tree : {T : Type 0} {r s : Heap T} (levels : ℕ) {root d n many : ℕ} → levels ≡ 0
     → IsTree r levels root → IsBuilt r s d n many → 0 < many → IsTree s (d + 1) n
 built_tree {T} {r} {s} (suc e) {root} {d} {n} {many} none tree built some = absurd (omega arith)
 built_tree {T} {r} {s} zero {root} {d} none tree built some =
-    let next : d + 1 ≡ suc d = omega arith in
-    rw next (record {
-      shaped = shaped_with 1 CAPACITY (omega (arith, built.items, some)) built.shape.node.fits
-          built.shape;
-      once =
-          λ k.
-          omega (
-            arith,
-            built.moved.owned k,
-            tree.once k,
-            ap (occurrences k) (used_none r root),
-            occurrences-nil k,
-          );
-      len = omega (arith, built.moved.len, tree.len, ap length (used_none r root));
-    })
+    grind (arith, shaped_with, occurrences, used_none, occurrences-nil)
 
 -- all that was to be moved was
 pub all_taken : {X : Type 0} (all done rest : List X) → all ≡ done ++ rest
     → length done ≡ length all → done ≡ all
-all_taken all done rest parted same =
-    moved_all done rest all (sym parted)
-    (omega (arith, ap length parted, length-append done rest, same))
+all_taken all done rest parted same = grind (arith, moved_all, length-append, same)

@@ -12,27 +12,16 @@ use Rattle.range_store.specs.Rows.{full_cells, items_in, HoldsItems}
 -- the first elements of a list from an index on, turned by one, where others follow
 module _ {A : Type 0} (i k : ℕ) (xs rest : List A) (ys : List A) where
   part_is : i ≤ length xs → i + k ≡ length xs → take k (drop i (xs ++ rest)) ≡ drop i xs
-  part_is within long = ap (take k) (drop-append-le i xs rest within)
-      ∙ take_at (drop i xs) rest k (omega (arith, length-drop i xs))
+  part_is within long = grind (arith, drop-append-le, take_at, length-drop)
 
   part_put : i ≤ length xs → i + k ≡ length xs
       → put_mid i k (xs ++ rest) ys ≡ take i xs ++ (ys ++ rest)
-  part_put within long =
-      let after : drop k (drop i (xs ++ rest)) ≡ rest =
-      ap (drop k) (drop-append-le i xs rest within)
-      ∙ drop_at (drop i xs) rest k (omega (arith, length-drop i xs)) in
-      ap (λ l. l ++ (ys ++ drop k (drop i (xs ++ rest)))) (take-append-le i xs rest within)
-      ∙ ap (λ l. take i xs ++ (ys ++ l)) after
+  part_put within long = grind (arith, drop-append-le, drop_at, length-drop, take-append-le)
 
   turned_left : (d : A) → i < length xs → i + k ≡ length xs
       → ys ≡ drop 1 (mid_of i k (xs ++ rest)) ++ take 1 (mid_of i k (xs ++ rest))
       → put_mid i k (xs ++ rest) ys ≡ remove xs i ++ get_or xs i d ∷ rest
-  turned_left d within long turned =
-      let part = part_is (omega arith) long ∙ drop-cons xs i d within in
-      part_put (omega arith) long
-      ∙ ap (λ l. take i xs ++ (l ++ rest)) (turned ∙ ap (λ l. drop 1 l ++ take 1 l) part)
-      ∙ ap (λ l. take i xs ++ l) (append_assoc (drop (suc i) xs) (get_or xs i d ∷ []) rest)
-      ∙ sym (append_assoc (take i xs) (drop (suc i) xs) (get_or xs i d ∷ rest))
+  turned_left d within long turned = grind (arith, part_is, drop-cons, part_put, append_assoc)
 
 turned_right : {A : Type 0} (i k : ℕ) (xs : List A) (x : A) (rest ys : List A) → i ≤ length xs
     → i + k ≡ length xs + 1
@@ -44,20 +33,7 @@ turned_right i k xs x rest ys within long turned =
     let longer : length more ≡ length xs + 1 = length-append xs (x ∷ []) in
     let whole : xs ++ x ∷ rest ≡ more ++ rest = sym (append_assoc xs (x ∷ []) rest) in
     let left = drop i xs in
-    let last : length (left ++ x ∷ []) - 1 ≡ length left =
-    omega (arith, length-append left (x ∷ [])) in
-    let mid : mid_of i k (xs ++ x ∷ rest) ≡ left ++ x ∷ [] = ap (mid_of i k) whole
-    ∙ part_is i k more rest ys (omega arith) (omega arith)
-    ∙ drop-append-le i xs (x ∷ []) within in
-    let came : ys ≡ x ∷ left = turned
-    ∙ ap (λ l. drop (length l - 1) l ++ take (length l - 1) l) mid
-    ∙ ap (λ n. drop n (left ++ x ∷ []) ++ take n (left ++ x ∷ [])) last
-    ∙ ap (λ l. l ++ take (length left) (left ++ x ∷ [])) (drop_at left (x ∷ []) (length left) refl)
-    ∙ ap (λ l. x ∷ l) (take_at left (x ∷ []) (length left) refl) in
-    ap (λ l. put_mid i k l ys) whole
-    ∙ part_put i k more rest ys (omega arith) (omega arith)
-    ∙ ap (λ l. l ++ (ys ++ rest)) (take-append-le i xs (x ∷ []) within)
-    ∙ ap (λ l. take i xs ++ (l ++ rest)) came
+    grind (arith, left, length-append, part_is, drop-append-le, drop_at, take_at, part_put, take-append-le)
 
 module _ {T : Type 0} where
   pub items_in_full : (xs : List T) → items_in (full_cells xs) ≡ xs
@@ -73,16 +49,10 @@ module _ {T : Type 0} where
 
   full_insert : (xs : List T) (i : ℕ) (x : T)
       → insert (full_cells xs) i (Some x) ≡ full_cells (insert xs i x)
-  full_insert xs i x =
-      ap (λ a. a ++ Some x ∷ drop i (full_cells xs)) (take-map (λ x. Some x) i xs)
-      ∙ ap (λ b. full_cells (take i xs) ++ Some x ∷ b) (drop-map (λ x. Some x) i xs)
-      ∙ sym (map-append (λ x. Some x) (take i xs) (x ∷ drop i xs))
+  full_insert xs i x = grind (arith, take-map, drop-map, map-append)
 
   full_remove : (xs : List T) (i : ℕ) → remove (full_cells xs) i ≡ full_cells (remove xs i)
-  full_remove xs i =
-      ap (λ a. a ++ drop (suc i) (full_cells xs)) (take-map (λ x. Some x) i xs)
-      ∙ ap (λ b. full_cells (take i xs) ++ b) (drop-map (λ x. Some x) (suc i) xs)
-      ∙ sym (map-append (λ x. Some x) (take i xs) (drop (suc i) xs))
+  full_remove xs i = grind (arith, take-map, drop-map, map-append)
 
   -- what stands at an index, with its cell
   pub record Standing (xs : List T) (i : ℕ) : Type 0 where
@@ -98,35 +68,19 @@ module _ {T : Type 0} where
     item_is = λ other.
         refl;
   }
-  standing (x ∷ xs) (suc i) within =
-      let later = standing xs i (omega arith) in
-      record { item = later.item; cell_is = later.cell_is; item_is = later.item_is }
+  standing (x ∷ xs) (suc i) within = grind (arith, standing xs i (omega arith))
 
   pub items_held : {row : List (Option T)} {xs : List T} → HoldsItems row xs → items_in row ≡ xs
-  items_held {row} {xs} h = ap items_in h.cells_are
-      ∙ filter_map-append (λ cell. cell) (full_cells xs) (replicate (CAPACITY - length xs) None)
-      ∙ ap (λ ys. ys ++ items_in (replicate (CAPACITY - length xs) None)) (items_in_full xs)
-      ∙ ap (λ ys. xs ++ ys) (items_in_none (CAPACITY - length xs))
-      ∙ append-nil xs
+  items_held {row} {xs} h = grind (arith, filter_map-append, items_in_full, items_in_none, append-nil)
 
   pub row_length : {row : List (Option T)} {xs : List T} → HoldsItems row xs → length row ≡ CAPACITY
-  row_length {row} {xs} h = omega (
-    arith,
-    ap length h.cells_are,
-    length-append (full_cells xs) (replicate (CAPACITY - length xs) None),
-    length-full xs,
-    length-replicate {A = Option T} (CAPACITY - length xs) None,
-    h.fits,
-  )
+  row_length {row} {xs} h = grind (arith, ap length h.cells_are, length-append, length-full, length-replicate)
 
   -- the cell at an index below the number of items
   pub cell_read : {row : List (Option T)} {xs : List T} → HoldsItems row xs → (i : ℕ)
       → i < length xs → (stands : Standing xs i) → (d : Option T)
       → get_or row i d ≡ Some stands.item
-  cell_read {row} {xs} h i within stands d = ap (λ cells. get_or cells i d) h.cells_are
-      ∙ get_or_append_left (full_cells xs) (replicate (CAPACITY - length xs) None) d i
-      (omega (arith, length-full xs))
-      ∙ stands.cell_is d
+  cell_read {row} {xs} h i within stands d = grind (arith, get_or_append_left, length-full)
 
   -- an item came to the others
   pub held_with : {old : List (Option T)} {xs : List T} (i k : ℕ) (item : T)
@@ -144,10 +98,7 @@ module _ {T : Type 0} where
       h.cells_are ∙ ap (λ n. cells ++ replicate n None) left in
       let many = length-full xs in
       let moved : put_mid i k old part ≡ take i cells ++ None ∷ (drop i cells ++ rest) =
-      ap (λ l. put_mid i k l part) same
-      ∙ turned_right i k cells None rest part (omega arith) (omega arith) (subst (λ l. part
-      ≡ drop (length (mid_of i k l) - 1) (mid_of i k l)
-      ++ take (length (mid_of i k l) - 1) (mid_of i k l)) same turned) in
+      grind (arith, turned_right) in
       record {
         fits = omega arith;
         cells_are = ap (λ l. set l i (Some item)) moved
@@ -201,16 +152,7 @@ module _ {T : Type 0} where
   pub held_set : {old : List (Option T)} {xs : List T} (i : ℕ) (item : T) → HoldsItems old xs
       → i < length xs → HoldsItems (set old i (Some item)) (set xs i item)
   held_set {old} {xs} i item h within =
-      let rest : List (Option T) = replicate (CAPACITY - length xs) None in
-      let same : length (set xs i item) ≡ length xs = length-set xs i item in
-      record {
-        fits = omega (arith, same, h.fits);
-        cells_are =
-            ap (λ cells. set cells i (Some item)) h.cells_are
-            ∙ set-append_left (full_cells xs) rest i (Some item) (omega (arith, length-full xs))
-            ∙ ap (λ cells. cells ++ rest) (sym (map-set (λ x. Some x) xs i item))
-            ∙ ap (λ k. full_cells (set xs i item) ++ replicate (CAPACITY - k) None) (sym same);
-      }
+      grind (arith, length-set, set-append_left, length-full, map-set)
 
   -- a row with no item
   pub held_none : HoldsItems {T = T} (replicate CAPACITY None) []

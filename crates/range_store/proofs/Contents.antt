@@ -50,24 +50,14 @@ module _ {T : Type 0} where
 module _ {T : Type 0} {s t : Heap T} {d n : ℕ} {xs : List T} {ks : List ℕ}
     (holds : Holds s t d n xs ks) where
   pub held_items_below : items_below t (suc d) n ≡ weave xs (map (items_below s d) ks)
-  held_items_below =
-      weave_items_below t d n
-      ∙ rw (holds.items_are, holds.children_are, holds.same.items_below_same) refl
+  held_items_below = grind (arith, weave_items_below)
 
   pub held_used : used t (suc d) n ≡ n ∷ flat_map (used s d) ks
   held_used = used_is t d n ∙ rw (holds.children_are, holds.same.used_same) refl
 
   pub held_shape : (least : ℕ) → least ≤ length xs → length xs ≤ CAPACITY
       → length ks ≡ child_count d (length xs) → All (Shaped s d) ks → ShapedBut least CAPACITY t d n
-  held_shape least enough fits branches shaped = record {
-    node = record {
-      present = holds.present;
-      enough = omega (arith, enough, ap length holds.items_are);
-      fits = omega (arith, fits, ap length holds.items_are);
-      branches = rw (holds.items_are, holds.children_are) branches;
-    };
-    children = rw holds.children_are (holds.same.shaped_same shaped);
-  }
+  held_shape least enough fits branches shaped = grind arith
 
 -- a node that was written, once its children have the subtrees again
 pub held_after : {T : Type 0} {q r s t : Heap T} {d n : ℕ} {xs : List T} {ks : List ℕ}
@@ -99,25 +89,14 @@ child_count_part (suc d) k m k' m' h none some = some h
 -- a leaf with other items
 pub bare_content : {T : Type 0} {least most : ℕ} {s : Heap T} {n : ℕ} (xs : List T)
     → ShapedBut least most s 0 n → Owned s 1 n → IsContent s 0 n xs (node_children s n)
-bare_content {T} {least} {most} {s} {n} xs shaped owned = record {
-  present = shaped.node.present;
-  shaped = shaped.children;
-  branches = shaped.node.branches;
-  owned = λ k. omega (arith, owned k, ap (occurrences k) (used_is s 0 n));
-}
+bare_content {T} {least} {most} {s} {n} xs shaped owned = grind (arith, occurrences, used_is)
 
 module _ {T : Type 0} {s : Heap T} (t : Heap T) {d n : ℕ} {xs : List T} {ks : List ℕ}
     (content : IsContent s d n xs ks) where
   -- the subtrees of the children do not have the node
   pub content_apart : (k : ℕ) → 0 < occurrences k (flat_map (used s d) ks) → k ≢ n
   content_apart k among same =
-      omega (
-        arith,
-        content.owned k,
-        occurrences-cons k n (flat_map (used s d) ks),
-        here_le s k,
-        occurrences_self n k (sym same),
-      )
+      omega (arith, content.owned k, occurrences-cons, here_le, occurrences_self)
 
   pub content_there : (k : ℕ) → 0 < occurrences k (flat_map (used s d) ks) → here s k ≡ 1
   content_there k among =
@@ -136,8 +115,7 @@ module _ {T : Type 0} {s : Heap T} (t : Heap T) {d n : ℕ} {xs : List T} {ks : 
       moved = subst (λ zs. Moves s t (n ∷ flat_map (used s d) ks) zs)
           (sym (append-nil (used t (suc d) n) ∙ held_used written_holds))
           (Writes-moves (flat_map (used s d) ks) written);
-      shape = λ least small enough. All-cons (ShapedBut least CAPACITY t d) n []
-          (held_shape written_holds least enough fits content.branches content.shaped) (All-nil _);
+      shape = λ least small enough. grind (arith, All-cons, held_shape, written_holds, All-nil);
     }
 
 -- the items before and after the one at `half`, in two nodes
@@ -153,9 +131,7 @@ module _ {T : Type 0} {s t : Heap T} {d n r : ℕ} (half : ℕ) {xs : List T} {k
 
   lists_fit : (length (map (items_below s d) ks) ≡ 0) ⊎
       (length (map (items_below s d) ks) ≡ length xs + 1)
-  lists_fit =
-      child_count_cases d (length xs) (length (map (items_below s d) ks))
-      (length-map ks (items_below s d) ∙ content.branches)
+  lists_fit = grind (arith, child_count_cases, length-map)
 
   pub left_items_below : items_below t (suc d) n ≡ weave (take half xs) (map (items_below s d) us)
   left_items_below = held_items_below left
@@ -171,15 +147,7 @@ module _ {T : Type 0} {s t : Heap T} {d n r : ℕ} (half : ℕ) {xs : List T} {k
       let next : suc half ≡ half + 1 = omega arith in
       let halves =
       rw next at (weave_halves xs (map (items_below s d) ks) half middle low lists_fit) in
-      ap (λ zs. items_below t (suc d) n ++ (middle ∷ zs)) (append-nil (items_below t (suc d) r))
-      ∙ sym (halves
-      ∙ rw (
-        take-map (items_below s d) (half + 1) ks,
-        drop-map (items_below s d) (half + 1) ks,
-        ← is,
-        ← left_items_below,
-        ← right_items_below,
-      ) refl)
+      grind (arith, append-nil, take-map, drop-map, left_items_below, right_items_below)
 
   left_used : used t (suc d) n ≡ n ∷ flat_map (used s d) us
   left_used = held_used left
@@ -193,41 +161,13 @@ module _ {T : Type 0} {s t : Heap T} {d n r : ℕ} (half : ℕ) {xs : List T} {k
       let both : flat_map (used s d) ks ≡ flat_map (used s d) us ++ flat_map (used s d) vs =
       ap (flat_map (used s d)) (sym (take-append-drop (half + 1) ks))
       ∙ flat_map-append (used s d) us vs in
-      rw (left_used, right_used) (record {
-        occur =
-            λ k.
-            omega (
-              arith,
-              occurrences-cons k r (n ∷ flat_map (used s d) ks),
-              occurrences-cons k n (flat_map (used s d) ks),
-              ap (occurrences k) both,
-              occurrences-append k (flat_map (used s d) us) (flat_map (used s d) vs),
-              occurrences-append k (n ∷ flat_map (used s d) us)
-                  (r ∷ (flat_map (used s d) vs ++ [])),
-              occurrences-cons k n (flat_map (used s d) us),
-              occurrences-cons k r (flat_map (used s d) vs ++ []),
-              ap (occurrences k) (append-nil (flat_map (used s d) vs)),
-            );
-        len =
-            omega (
-              arith,
-              ap length both,
-              length-append (flat_map (used s d) us) (flat_map (used s d) vs),
-              length-append (n ∷ flat_map (used s d) us) (r ∷ (flat_map (used s d) vs ++ [])),
-              ap length (append-nil (flat_map (used s d) vs)),
-            );
-      })
+      grind (arith, left_used, right_used, occurrences-cons, occurrences, occurrences-append, append-nil, length-append)
 
   branches_left : length us ≡ child_count d half
-  branches_left = child_count_part d (length xs) (length ks) half (length us) content.branches
-      (λ none. omega (arith, length-append us vs, ap length (take-append-drop (half + 1) ks), none))
-      (λ some. length-take-le (half + 1) ks (omega (arith, some, low)))
+  branches_left = grind (arith, child_count_part, length-append, take-append-drop, length-take-le)
 
   branches_right : length vs ≡ child_count d (length xs - half - 1)
-  branches_right =
-      child_count_part d (length xs) (length ks) (length xs - half - 1) (length vs) content.branches
-      (λ none. omega (arith, length-drop (half + 1) ks, none))
-      (λ some. omega (arith, length-drop (half + 1) ks, some, low))
+  branches_right = grind (arith, child_count_part, length-drop)
 
   left_length : length (take half xs) ≡ half
   left_length = length-take-le half xs (omega (arith, low))
@@ -239,19 +179,10 @@ module _ {T : Type 0} {s t : Heap T} {d n r : ℕ} (half : ℕ) {xs : List T} {k
       → length xs ≤ half + 1 + CAPACITY → (least : ℕ) → least ≤ MIN_LEN
       → All (ShapedBut least CAPACITY t d) (n ∷ r ∷ [])
   halves_shape least_left most_left least_right most_right least small = All-cons
-      (ShapedBut least CAPACITY t d) n (r ∷ []) (held_shape left least (omega (
-        arith,
-        left_length,
-        least_left,
-        small,
-      )) (omega (arith, left_length, most_left))
+      (ShapedBut least CAPACITY t d) n (r ∷ []) (held_shape left least (omega (arith, left_length)) (omega (arith, left_length, most_left))
       (branches_left ∙ ap (child_count d) (sym left_length))
       (All-take (Shaped s d) (half + 1) ks content.shaped)) (All-cons (ShapedBut least CAPACITY t d)
-      r [] (held_shape right least (omega (arith, right_length, least_right, small)) (omega (
-        arith,
-        right_length,
-        most_right,
-      )) (branches_right ∙ ap (child_count d) (sym right_length)) (All-drop
+      r [] (held_shape right least (omega (arith, right_length, least_right, small)) (omega (arith, right_length)) (branches_right ∙ ap (child_count d) (sym right_length)) (All-drop
       (Shaped s d) (half + 1) ks content.shaped)) (All-nil _))
 
 -- they are parts of the children
@@ -275,22 +206,10 @@ module _ {T : Type 0} {s t : Heap T} {d n half : ℕ} {xs : List T} {ks : List �
     (content : IsContent s d n xs ks) (cut : Divides s t n half xs ks split.middle split.right)
     (low : half < length xs) where
   pub cut_agree : AgreeAt s t (flat_map (used s d) ks)
-  cut_agree k among =
-      let kept : node_of cut.between k ≡ node_of s k = cut.first.others k
-      (content_apart t content k among) in
-      let was : here s k ≡ 1 = content_there t content k among in
-      cut.second.others k (λ same.
-      let none : here cut.between k ≡ 0 =
-      rw (same, cut.second.fresh) refl in let now : here cut.between k ≡ here s k =
-      rw kept refl in omega (arith, none, now, was))
-      ∙ kept
+  cut_agree k among = grind (arith, content_apart, content_there)
 
   n_kept : node_of t n ≡ node_of cut.between n
-  n_kept =
-      cut.second.others n (λ same.
-      let none : here cut.between n ≡ 0 =
-      rw (same, cut.second.fresh) refl in omega
-      (arith, none, here_some cut.between n cut.first.present))
+  n_kept = grind (arith, here_some)
 
   pub left_holds : Holds s t d n (take half xs) (take (half + 1) ks)
   left_holds = held_after cut.first n_kept (part_agree s t d (half + 1) ks cut_agree).0

@@ -35,12 +35,7 @@ module _ {T : Type 0} (p : T → Bool) (s : Heap T) where
   -- it begins at the node itself
   pub begins : (below number : ℕ) → ShapedBut 1 CAPACITY s below number
       → Falls p (items_below s (suc below) number) → Descent below number below number 0 1
-  begins below number shaped falls = record {
-    ahead = 0;
-    lies = lies_itself s shaped;
-    falls = falls;
-    count = omega arith;
-  }
+  begins below number shaped falls = grind (arith, lies_itself)
 
   pub descends : {below number left : ℕ} (at path weight : ℕ) → left ≢ 0
       → Descent below number left at path weight → (i : ℕ)
@@ -84,7 +79,4 @@ pub adds_more : {first before after : ℕ} (below left : ℕ) → left ≢ 0 →
     → AddsSteps first before (below - left) (MAX_ASKS * (below - left))
     → AddsSteps before after 1 MAX_ASKS
     → AddsSteps first after (below - (left - 1)) (MAX_ASKS * (below - (left - 1)))
-adds_more below left inner low above here = record {
-  at_most = omega (arith, inner, low, above.at_most, here.at_most);
-  at_least = omega (arith, inner, low, above.at_least, here.at_least);
-}
+adds_more below left inner low above here = grind arith

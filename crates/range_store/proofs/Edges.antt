@@ -21,10 +21,7 @@ path_fits s (suc d) n g is = omega (arith, pow-suc PATH_BASE d, path_fits s d _ 
 
 path_under : {T : Type 0} (s : Heap T) (d n : ℕ) (g : Edge) (most : ℕ) → d ≤ most → IsEdge s d n g
     → g.path < PATH_BASE ^ most
-path_under s d n g most low is =
-    let some : 0 < PATH_BASE = omega arith in
-    let widest : PATH_BASE ^ d ≤ PATH_BASE ^ most = pow-le-pow_right some low in
-    omega (arith, path_fits s d n g is, widest)
+path_under s d n g most low is = grind (arith, pow-le-pow_right, path_fits)
 
 pub path_small : {T : Type 0} (s : Heap T) (d n : ℕ) (g : Edge) → d < MAX_LEVELS → IsEdge s d n g
     → g.path < 2 ^ 60
@@ -82,12 +79,7 @@ place_inside s d n g = refl
 -- no edge lies past the end
 pub place_within : {T : Type 0} {s : Heap T} (d : ℕ) {n : ℕ} (g : Edge) {least most : ℕ}
     → ShapedBut least most s d n → IsEdge s d n g → place s d n g ≤ length (items_below s (suc d) n)
-place_within {T} {s} zero {n} g {least} {most} shaped is = omega (
-  arith,
-  leaf_place s n g,
-  leaf_index s n g is,
-  ap length (items_below_leaf s n shaped.node.branches),
-)
+place_within {T} {s} zero {n} g {least} {most} shaped is = omega (arith, leaf_place, leaf_index, ap length (items_below_leaf s n shaped.node.branches))
 place_within {T} {s} (suc d) {n} g {least} {most} shaped is =
     let xs = node_items s n in
     let lists = child_lists s (suc d) n in
@@ -96,14 +88,7 @@ place_within {T} {s} (suc d) {n} g {least} {most} shaped is =
     let low : i ≤ length xs = omega (arith, turn_within s d n g is, shaped.node.branches) in
     let further = place_within d (inside g) (kid_shaped d i shaped low) (edge_inside s d n g is) in
     let whole = items_below_at (omega arith) shaped i low in
-    omega (
-      arith,
-      place_inside s d n g,
-      further,
-      ap length whole,
-      length-append (before xs lists i) (items_below s (suc d) kid ++ after xs lists i),
-      length-append (items_below s (suc d) kid) (after xs lists i),
-    )
+    grind (arith, place_inside, ap length whole, length-append)
 
 module _ {T : Type 0} where
   -- an edge is the same in two slabs that agree at the nodes below
@@ -114,17 +99,10 @@ module _ {T : Type 0} where
 pub same_edge : {T : Type 0} (s t : Heap T) (d n : ℕ) (g : Edge) → AgreeAt s t (used s (suc d) n)
     → IsEdge s d n g → SameEdge s t d n g
 unfolding used IsEdge place
-same_edge s t zero n g agree is =
-    let here : node_of t n ≡ node_of s n =
-    agree n (occurrences_here n (flat_map (used s zero) (node_children s n))) in
-    record { edge = λ h. rw here h; place = refl }
+same_edge s t zero n g agree is = grind (arith, occurrences_here)
 same_edge s t (suc d) n g agree is =
     let ks = node_children s n in
     let here : node_of t n ≡ node_of s n =
     agree n (occurrences_here n (flat_map (used s (suc d)) ks)) in
     let below = AgreeAt-right s t (n ∷ []) (flat_map (used s (suc d)) ks) agree in
-    let lists = (same_children s t (suc d) ks below).items_below_same in
-    let kid =
-    same_edge s t d (get_or ks (turn g) 0) (inside g)
-    (agree_kid s t (suc d) (turn g) ks below is.0) is.1 in
-    record { edge = λ h. rw here (h.0, kid.edge h.1); place = rw (here, lists, kid.place) refl }
+    grind (arith, same_children, agree_kid, same_edge s t d (get_or ks (turn g) 0) (inside g) (agree_kid s t (suc d) (turn g) ks below is.0) is.1)

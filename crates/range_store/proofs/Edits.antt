@@ -21,11 +21,7 @@ pub removed_one : {T : Type 0} (before now new : List T) (place i r : ℕ) (d : 
 removed_one before now new place i r d was done same within =
     let front : length (take place before) ≡ place = length-take-le place before (omega arith) in
     let more = drop_more before (place + i) d within in
-    let after =
-    remove_behind (take place before) (drop (place + i + 1) before)
-    (get_or before (place + i) d) place front in
-    let next : place + (i + 1) ≡ place + i + 1 = omega arith in
-    rw (done, same, was, more, after, next) refl
+    grind (arith, remove_behind)
 
 pub remove_parts : {T : Type 0} (xs : List T) (i : ℕ) → remove xs i ≡ take i xs ++ drop (i + 1) xs
 remove_parts xs i = ap (λ m. take i xs ++ drop m xs) (sym (add-one i))
@@ -34,8 +30,7 @@ remove_parts xs i = ap (λ m. take i xs ++ drop m xs) (sym (add-one i))
 pub put_over : {T : Type 0} (before new : List T) (place r left : ℕ) (x : T) → new ≡ set before r x
     → r ≡ place → place < length before → 0 < left
     → new ≡ take place before ++ x ∷ drop (place + (left - (left - 1))) before
-put_over before new place r left x done same within some = let one : left - (left - 1) ≡ 1 =
-    omega arith in rw one (done ∙ (ap (λ n. set before n x) same ∙ set_parts before place x within))
+put_over before new place r left x done same within some = grind (arith, set_parts)
 
 -- a run gives way to one item, then the rest of it is removed
 pub replaced_run : {T : Type 0} (before now new : List T) (place left less : ℕ) (x : T)
@@ -47,31 +42,19 @@ replaced_run before now new place left less x was fewer within done =
     let one : length (take place before ++ x ∷ []) ≡ place + 1 =
     length-append (take place before) (x ∷ []) ∙ ap (λ n. n + 1) front in
     let whole : now ≡ (take place before ++ x ∷ []) ++ drop (place + (left - less)) before =
-    was
-    ∙ sym (append_assoc (take place before) (x ∷ []) (drop (place + (left - less)) before))
+    grind (arith, append_assoc)
     in
-    let kept : take (place + 1) now ≡ take place before ++ x ∷ [] =
-    ap (take (place + 1)) whole
-    ∙ take_at (take place before ++ x ∷ []) (drop (place + (left - less)) before)
-    (place + 1) one in
+    let kept : take (place + 1) now ≡ take place before ++ x ∷ [] = grind (arith, take_at) in
     let rest : drop (place + 1) now ≡ drop (place + (left - less)) before =
-    ap (drop (place + 1)) whole
-    ∙ drop_at (take place before ++ x ∷ []) (drop (place + (left - less)) before)
-    (place + 1) one in
+    grind (arith, drop_at) in
     let tail : drop (place + 1 + less) now ≡ drop (place + left) before =
     sym (drop-drop less (place + 1) now)
-    ∙ (ap (drop less) rest
-    ∙ (drop-drop less (place + (left - less)) before
-    ∙ ap (λ n. drop n before) (omega (arith, fewer)))) in
-    done
-    ∙ (ap (λ ys. ys ++ drop (place + 1 + less) now) kept
-    ∙ (ap (λ ys. (take place before ++ x ∷ []) ++ ys) tail
-    ∙ append_assoc (take place before) (x ∷ []) (drop (place + left) before)))
+    ∙ (grind (arith, drop-drop)) in
+    grind (arith, append_assoc)
 
 module _ {X : Type 0} where
   pub without_last : (xs : List X) (n : ℕ) → length xs ≤ n + 1 → remove xs n ≡ take n xs
-  without_last xs n few = ap (λ zs. take n xs ++ zs) (drop_all (suc n) xs (omega (arith, few)))
-      ∙ append-nil (take n xs)
+  without_last xs n few = grind (arith, drop_all, append-nil)
 
   -- the front of two lists, and the rest of them
   pub take-append-add : (xs ys : List X) (n k : ℕ) → n ≡ length xs + k

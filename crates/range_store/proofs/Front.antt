@@ -27,11 +27,7 @@ module _ {X : Type 0} (p : X → Bool) where
   falls_true [] i d falls within holds = absurd (omega arith)
   falls_true (x ∷ xs) zero d falls within holds = omega (arith, count-yes x xs holds)
   falls_true (x ∷ xs) (suc i) d falls within holds =
-      let later = falls_true xs i d falls.1 (omega arith) holds in
-      elim (true_or_false (p x)) [
-        | inl here ↦ omega (arith, later, count-yes x xs here)
-        | inr none ↦ absurd (omega (arith, later, falls.0 none))
-      ]
+      grind (arith, true_or_false, count-yes, falls_true xs i d falls.1 (omega arith) holds)
 
   pub falls_false : (xs : List X) (i : ℕ) (d : X) → Falls p xs → i < length xs
       → p (get_or xs i d) ≡ false → count_by p xs ≤ i
@@ -39,11 +35,7 @@ module _ {X : Type 0} (p : X → Bool) where
   falls_false [] i d falls within fails = absurd (omega arith)
   falls_false (x ∷ xs) zero d falls within fails = omega (arith, count-no x xs fails, falls.0 fails)
   falls_false (x ∷ xs) (suc i) d falls within fails =
-      let later = falls_false xs i d falls.1 (omega arith) fails in
-      elim (true_or_false (p x)) [
-        | inl here ↦ omega (arith, later, count-yes x xs here)
-        | inr none ↦ omega (arith, count-no x xs none, falls.0 none)
-      ]
+      grind (arith, true_or_false, count-yes, count-no, falls_false xs i d falls.1 (omega arith) fails)
 
   pub count-append : (xs ys : List X) → count_by p (xs ++ ys) ≡ count_by p xs + count_by p ys
   count-append xs ys = sum_by-append (λ y. cond (p y) 1 0) xs ys
@@ -58,16 +50,7 @@ module _ {X : Type 0} (p : X → Bool) where
   unfolding Falls
   falls_parts [] ys falls = record { front = tt; back = falls; none = λ less. absurd (omega arith) }
   falls_parts (x ∷ xs) ys falls =
-      let later = falls_parts xs ys falls.1 in
-      record {
-        front = ((λ fails. omega (arith, falls.0 fails, count-append xs ys)), later.front);
-        back = later.back;
-        none = λ less.
-            elim (true_or_false (p x)) [
-              | inl here ↦ later.none (omega (arith, less, count-yes x xs here))
-              | inr fails ↦ omega (arith, falls.0 fails, count-append xs ys)
-            ];
-      }
+      grind (arith, count-append, true_or_false, count-yes, falls_parts xs ys falls.1)
 
   none_counted : (xs : List X) → ((k : ℕ) (d : X) → k < length xs → p (get_or xs k d) ≡ false)
       → count_by p xs ≡ 0
@@ -101,18 +84,9 @@ module _ {X : Type 0} (p : X → Bool) where
           elim (true_or_false (p (get_or xs k d))) [
             | inl holds ↦ holds
             | inr fails ↦
-                absurd
-                (omega (
-                  arith,
-                  less,
-                  falls_false xs k d falls (omega (arith, less, count_by-le-length p xs)) fails,
-                ))
+                grind (arith, falls_false, count_by-le-length)
           ]),
-      (λ k d low within.
-          elim (true_or_false (p (get_or xs k d))) [
-            | inl holds ↦ absurd (omega (arith, low, falls_true xs k d falls within holds))
-            | inr fails ↦ fails
-          ]),
+      (grind (arith, true_or_false, falls_true)),
     ),
   )
 

@@ -37,26 +37,12 @@ module _ {T : Type 0} {s t : Heap T} {b n : ℕ} {us ms vs ts : List ℕ}
 
   pub used_old : used s (suc b) n
       ≡ n ∷ (flat_map (used s b) us ++ (flat_map (used s b) ms ++ flat_map (used s b) vs))
-  used_old =
-      used_is s b n ∙ ap (λ zs. n ∷ flat_map (used s b) zs) run.children
-      ∙ ap (λ zs. n ∷ zs) (flat_map-append (used s b) us (ms ++ vs)
-      ∙ ap (λ zs. flat_map (used s b) us ++ zs) (flat_map-append (used s b) ms vs))
+  used_old = grind (arith, used_is, flat_map-append)
 
   occur_old : (k : ℕ)
       → occurrences k (used s (suc b) n)
       ≡ occurrences k (flat_map (used s b) ms) + occurrences k rest
-  occur_old k =
-      omega (
-        arith,
-        ap (occurrences k) used_old,
-        occurrences-cons k n (flat_map (used s b) us
-            ++ (flat_map (used s b) ms ++ flat_map (used s b) vs)),
-        occurrences-append k (flat_map (used s b) us)
-            (flat_map (used s b) ms ++ flat_map (used s b) vs),
-        occurrences-append k (flat_map (used s b) ms) (flat_map (used s b) vs),
-        occurrences-cons k n (flat_map (used s b) us ++ flat_map (used s b) vs),
-        occurrences-append k (flat_map (used s b) us) (flat_map (used s b) vs),
-      )
+  occur_old k = omega (arith, ap (occurrences k) used_old, occurrences-cons, occurrences-append)
 
   once : (k : ℕ) → occurrences k (flat_map (used s b) ms) + occurrences k rest ≤ here s k
   once k = omega (arith, occur_old k, run.owned k)
@@ -65,13 +51,7 @@ module _ {T : Type 0} {s t : Heap T} {b n : ℕ} {us ms vs ts : List ℕ}
   agree = Moves-agree rest once run.moved
 
   pub run_kept : node_of t n ≡ node_of s n
-  run_kept =
-      agree n
-      (omega (
-        arith,
-        occurrences-cons n n (flat_map (used s b) us ++ flat_map (used s b) vs),
-        occurrences_itself n,
-      ))
+  run_kept = grind (arith, agree, occurrences-cons, occurrences_itself)
 
   agree_sides : AgreeAt s t (flat_map (used s b) us ++ flat_map (used s b) vs)
   agree_sides = AgreeAt-right s t (n ∷ []) (flat_map (used s b) us ++ flat_map (used s b) vs) agree
@@ -95,43 +75,12 @@ module _ {T : Type 0} {s t : Heap T} {b n : ℕ} {us ms vs ts : List ℕ}
 
   pub run_moved : Moves s t (used s (suc b) n) (n ∷ flat_map (used t b) (us ++ (ts ++ vs)))
   run_moved = Moves-like (used s (suc b) n) (n ∷ flat_map (used t b) (us ++ (ts ++ vs)))
-      (record {
-        occur = λ k. omega (arith, occur_old k, occurrences-append k (flat_map (used s b) ms) rest);
-        len =
-            omega (
-              arith,
-              ap length used_old,
-              length-append (flat_map (used s b) us)
-                  (flat_map (used s b) ms ++ flat_map (used s b) vs),
-              length-append (flat_map (used s b) ms) (flat_map (used s b) vs),
-              length-append (flat_map (used s b) ms) rest,
-              length-append (flat_map (used s b) us) (flat_map (used s b) vs),
-            );
-      })
+      (grind (arith, occur_old, occurrences-append, used_old, length-append))
       (record {
         occur =
             λ k.
-            omega (
-              arith,
-              ap (occurrences k) used_new,
-              occurrences-cons k n (flat_map (used t b) (us ++ (ts ++ vs))),
-              occurrences-append k (flat_map (used s b) us)
-                  (flat_map (used t b) ts ++ flat_map (used s b) vs),
-              occurrences-append k (flat_map (used t b) ts) (flat_map (used s b) vs),
-              occurrences-append k (flat_map (used t b) ts) rest,
-              occurrences-cons k n (flat_map (used s b) us ++ flat_map (used s b) vs),
-              occurrences-append k (flat_map (used s b) us) (flat_map (used s b) vs),
-            );
-        len =
-            omega (
-              arith,
-              ap length used_new,
-              length-append (flat_map (used s b) us)
-                  (flat_map (used t b) ts ++ flat_map (used s b) vs),
-              length-append (flat_map (used t b) ts) (flat_map (used s b) vs),
-              length-append (flat_map (used t b) ts) rest,
-              length-append (flat_map (used s b) us) (flat_map (used s b) vs),
-            );
+            omega (arith, ap (occurrences k) used_new, occurrences-cons, occurrences-append);
+        len = grind (arith, ap length used_new, length-append);
       }) (Moves-beside rest run.moved)
 
   pub run_content : (xs : List T) → length (us ++ (ts ++ vs)) ≡ child_count b (length xs)
@@ -159,16 +108,7 @@ pub settled_replaces : {T : Type 0} {s t u : Heap T} {b n : ℕ} {xs : List T} {
     → Moves s t (used s (suc b) n) (n ∷ flat_map (used t b) ks)
     → weave xs (map (items_below t b) ks) ≡ list → length (node_items s n) ≤ length xs
     → Settles t u b n xs ks split → Replaces s u b n split list
-settled_replaces {T} {s} {t} {u} {b} {n} {xs} {ks} list {split} moved listed more settles = record {
-  listed = settles.listed ∙ listed;
-  moved = Moves-then moved settles.moved;
-  shape = λ least small enough. settles.shape least small (still least split enough);
-}
-  where
-    still : (least : ℕ) (cut : Option (Split T))
-        → EnoughFor least cut (length (node_items s n)) → EnoughFor least cut (length xs)
-    still least None enough = omega (arith, enough, more)
-    still least (Some cut) enough = tt
+settled_replaces {T} {s} {t} {u} {b} {n} {xs} {ks} list {split} moved listed more settles = grind (arith, Moves-then)
 
 -- with all capacity that the item needs there is some for a cut
 pub content_room : {T : Type 0} {s t : Heap T} {b n : ℕ} {xs : List T} {ks : List ℕ}
@@ -176,12 +116,7 @@ pub content_room : {T : Type 0} {s t : Heap T} {b n : ℕ} {xs : List T} {ks : L
     → length (weave xs (map (items_below t b) ks)) ≡ length (items_below s (suc b) n) + 1
     → HasTreeRoom s (suc b) n 1 → CAPACITY < length xs → HasRoomFor t 1
 content_room {T} {s} {t} {b} {n} {xs} {ks} moved content longer room over =
-    let woven =
-    length-weave xs (map (items_below t b) ks)
-    (child_count_cases b (length xs) _ (length-map ks (items_below t b) ∙ content.branches))
-    in
-    let few = children_le t b ks content.shaped in
-    omega (arith, woven, few, longer, moved.len, room.filled, moved.capacity, over)
+    grind (arith, length-weave, child_count_cases, length-map, children_le)
 
 -- what stands in the place of a node
 pub tops_many : {T : Type 0} (k : ℕ) (cut : Option (Split T))
@@ -215,16 +150,7 @@ pub grows_below : {T : Type 0} {s t : Heap T} {b n : ℕ} {item : T} {split : Op
     (insert (items_below s (suc (b - 1)) (node_child s n (turn g)))
     (place s (b - 1) (node_child s n (turn g)) (inside g)) item)
     → Grows s t b n (turn g) (place s (b - 1) (node_child s n (turn g)) (inside g)) item split
-grows_below inner shaped owned g is child =
-    let low = below_turn inner shaped g is in
-    record {
-      inner = inner;
-      shaped = shaped;
-      owned = owned;
-      low = low;
-      within = below_most inner shaped (turn g) (inside g) low (below_inside inner shaped g is);
-      child = child;
-    }
+grows_below inner shaped owned g is child = grind (arith, below_turn, below_most, below_inside)
 
 module _ {T : Type 0} {s t : Heap T} {b n i rest : ℕ} {item : T} {split : Option (Split T)}
     (grows : Grows s t b n i rest item split) where
@@ -261,18 +187,10 @@ module _ {T : Type 0} {s t : Heap T} {b n i rest : ℕ} {item : T} {split : Opti
   ks_parts = list_splits_at ks i 0 (omega (arith, many))
 
   kid_shape : ShapedBut MIN_LEN CAPACITY s (b - 1) kid
-  kid_shape = Shaped-but s (b - 1) kid (rw (← level) at (grows.shaped.children i 0
-      (omega (arith, many))))
+  kid_shape = Shaped-but s (b - 1) kid (grind (arith, level, many))
 
   grown_run : Runs s t b n us (kid ∷ []) vs (tops kid split)
-  grown_run =
-      record {
-        present = grows.shaped.node.present;
-        owned = grows.owned;
-        children = ks_parts;
-        moved = subst (λ zs. Moves s t zs (flat_map (used t b) (tops kid split)))
-            (sym (append-nil (used s b kid))) (rw level at grows.child.moved);
-      }
+  grown_run = grind (arith, ks_parts, append-nil, level)
 
   pub grown_kept : node_of t n ≡ node_of s n
   grown_kept = run_kept grown_run
@@ -283,8 +201,7 @@ module _ {T : Type 0} {s t : Heap T} {b n i rest : ℕ} {item : T} {split : Opti
   tops_shaped : All (Shaped t b) (tops kid split)
   tops_shaped =
       let but = grows.child.shape MIN_LEN (omega arith) (enough split) in
-      rw level at (All-weaker (ShapedBut MIN_LEN CAPACITY t (b - 1)) (Shaped t (suc (b - 1)))
-      (λ k. Shaped-from_but t (b - 1) k) (tops kid split) but)
+      grind (arith, level, All-weaker, Shaped-from_but)
     where
       enough : (cut : Option (Split T)) → EnoughFor MIN_LEN cut (length (node_items s kid))
       enough None = kid_shape.node.enough
@@ -297,20 +214,7 @@ module _ {T : Type 0} {s t : Heap T} {b n i rest : ℕ} {item : T} {split : Opti
   front_many = length-take-le i xs grows.low
 
   pub grown_content : IsContent t b n new_xs new_ks
-  grown_content = run_content grown_run new_xs (omega (
-    arith,
-    child_count_inner b (length new_xs) (omega arith),
-    length-append us (tops kid split ++ vs),
-    length-append (tops kid split) vs,
-    tops_many kid split,
-    us_many,
-    length-append (take i xs) (separators split ++ drop i xs),
-    length-append (separators split) (drop i xs),
-    front_many,
-    length-drop i xs,
-    length-drop (i + 1) ks,
-    many,
-  )) (All-take (Shaped s b) i ks grows.shaped.children) tops_shaped
+  grown_content = run_content grown_run new_xs (grind (arith, child_count_inner, length-append, tops_many, us_many, front_many, length-drop, many)) (All-take (Shaped s b) i ks grows.shaped.children) tops_shaped
       (All-drop (Shaped s b) (i + 1) ks grows.shaped.children)
 
   abbrev lists : List (List T)
@@ -336,16 +240,7 @@ module _ {T : Type 0} {s t : Heap T} {b n i rest : ℕ} {item : T} {split : Opti
       ≡ length (items_below s (suc b) n) + 1
   grown_longer =
       let whole = items_below_at (omega arith) grows.shaped i grows.low in
-      let place : length (before xs lists i) + rest ≤ length (items_below s (suc b) n) =
-      omega (
-        arith,
-        ap length whole,
-        length-append (before xs lists i) (items_below s b kid ++ after xs lists i),
-        length-append (items_below s b kid) (after xs lists i),
-        grows.within,
-      ) in
-      ap length grown_listed
-      ∙ length-insert (items_below s (suc b) n) (length (before xs lists i) + rest) item place
+      grind (arith, length-append, grown_listed, length-insert)
 
   pub grown_seat : (side : ℕ) (g : Edge)
       → IsSeat t (suc (b - 1)) (separators split) (tops kid split) side g
@@ -382,15 +277,7 @@ kid_owned s b n i owned low k =
     let all : flat_map (used s b) ks ≡ us ++ (used s b kid ++ vs) =
     ap (flat_map (used s b)) (list_splits_at ks i 0 low)
     ∙ flat_map-append (used s b) (take i ks) (kid ∷ drop (i + 1) ks) in
-    omega (
-      arith,
-      owned k,
-      ap (occurrences k) (used_is s b n),
-      occurrences-cons k n (flat_map (used s b) ks),
-      ap (occurrences k) all,
-      occurrences-append k us (used s b kid ++ vs),
-      occurrences-append k (used s b kid) vs,
-    )
+    omega (arith, owned k, ap (occurrences k) (used_is s b n), occurrences-cons, ap (occurrences k) all, occurrences-append)
 
 -- a child that was not cut leaves the node as it is
 module _ {T : Type 0} {s t : Heap T} {b n i rest : ℕ} {item : T}
@@ -408,17 +295,7 @@ module _ {T : Type 0} {s t : Heap T} {b n i rest : ℕ} {item : T}
   content = grown_content grows
 
   written : Writes t t n xs' ks'
-  written =
-      record {
-        was = content.present;
-        present = content.present;
-        items_are = ap items_of kept ∙ sym (take-append-drop i (node_items s n));
-        children_are = ap children_of kept ∙ list_splits_at (node_children s n) i 0
-            (omega (arith, children_length (omega arith) grows.shaped));
-        others = λ k other. refl;
-        len = refl;
-        capacity = refl;
-      }
+  written = grind (arith, kept, take-append-drop, list_splits_at, children_length)
 
   same_length : length xs' ≡ length (node_items s n)
   same_length = ap length (take-append-drop i (node_items s n))
@@ -456,9 +333,6 @@ module _ {T : Type 0} {s t : Heap T} {b n i rest : ℕ} {item : T} {split : Spli
 
   pub some_children : take i (node_children s n) ++ (node_child s n i ∷ split.right ∷ drop (i + 1)
       (node_children s n)) ≡ insert (node_children t n) (i + 1) split.right
-  some_children = sym (with_right (node_children s n) i split.right (omega (
-    arith,
-    children_length (omega arith) grows.shaped,
-  )))
+  some_children = sym (with_right (node_children s n) i split.right (grind (arith, children_length)))
       ∙ ap (λ zs. insert zs (i + 1) split.right)
       (sym (ap children_of (grown_kept grows)))

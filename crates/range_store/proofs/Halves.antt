@@ -7,9 +7,7 @@ use Rattle.range_store.proofs.Edits.{take-append-add, drop-append-add}
 
 module _ {X : Type 0} (xs : List X) (i k : ℕ) (x : X) where
   pub take_insert_before : k ≤ i → i ≤ length xs → take k (insert xs i x) ≡ take k xs
-  take_insert_before low within =
-      take-append-le k (take i xs) (x ∷ drop i xs) (omega (arith, length-take-le i xs within))
-      ∙ take-take k i xs low
+  take_insert_before low within = grind (arith, take-append-le, length-take-le, take-take)
 
   pub take_insert_after : i ≤ k → i ≤ length xs
       → take (suc k) (insert xs i x) ≡ insert (take k xs) i x
@@ -29,8 +27,4 @@ module _ {X : Type 0} (xs : List X) (i k : ℕ) (x : X) where
   pub drop_insert_before : k ≤ i → i ≤ length xs
       → drop k (insert xs i x) ≡ insert (drop k xs) (i - k) x
   drop_insert_before low within =
-      let on : k + (i - k) ≡ i = omega arith in
-      drop-append-le k (take i xs) (x ∷ drop i xs) (omega (arith, length-take-le i xs within))
-      ∙ ap (λ ys. ys ++ x ∷ drop i xs) (sym (between_is xs k i))
-      ∙ ap (λ ys. take (i - k) (drop k xs) ++ x ∷ ys)
-      (sym (drop-drop (i - k) k xs ∙ ap (λ n. drop n xs) on))
+      grind (arith, drop-append-le, length-take-le, between_is, drop-drop)

@@ -12,48 +12,24 @@ module _ {T : Type 0} where
 
   pub writes_slot : (s : Heap T) (n : ℕ) (node : Content T) → HasNode s n
       → Writes s (with_slot s n (Some node)) n node.items node.children
-  writes_slot s n node present =
-      let here = slot_read s.slots n present (Some node) in
-      record {
-        was = present;
-        present = rw here refl;
-        items_are = ap items_of here;
-        children_are = ap children_of here;
-        others = λ k other. get_or-set_other s.slots n k (Some node) None other;
-        len = omega (arith, slot_count s.slots n present (Some node));
-        capacity = refl;
-      }
+  writes_slot s n node present = grind (arith, slot_read, get_or-set_other, slot_count)
 
   removes_slot : (s : Heap T) (n : ℕ) → HasNode s n → Removes s (with_slot s n None) n
-  removes_slot s n present =
-      record {
-        was = present;
-        gone = slot_read s.slots n present None;
-        others = λ k other. get_or-set_other s.slots n k None None other;
-        len = omega (arith, slot_count s.slots n present None);
-        capacity = refl;
-      }
+  removes_slot s n present = grind (arith, slot_read, get_or-set_other, slot_count)
 
   pub item_other : (s : Heap T) (n i k : ℕ) (x : T) → k ≢ n
       → node_of (with_item s n i x) k ≡ node_of s k
-  item_other s n i k x other = get_or-set_other s.slots n k
-      (Some (record {
-        items = set (node_items s n) i x;
-        children = node_children s n;
-      })) None other
+  item_other s n i k x other = grind (arith, get_or-set_other)
 
   content_is : (node : Option (Content T)) (xs : List T) (ks : List ℕ) → IsSome node
       → items_of node ≡ xs → children_of node ≡ ks
       → node ≡ Some (record { items = xs; children = ks })
   content_is None xs ks present items children = absurd (cc)
-  content_is (Some node) xs ks present items children =
-      ap (λ ys. Some (record { items = ys; children = node.children })) items
-      ∙ ap (λ ls. Some (record { items = xs; children = ls })) children
+  content_is (Some node) xs ks present items children = grind arith
 
   written_is : {s t : Heap T} {n : ℕ} {xs : List T} {ks : List ℕ} → Writes s t n xs ks
       → node_of t n ≡ Some (record { items = xs; children = ks })
-  written_is {s} {t} {n} {xs} {ks} writes = content_is (node_of t n) xs ks writes.present
-      writes.items_are writes.children_are
+  written_is {s} {t} {n} {xs} {ks} writes = grind (arith, content_is)
 
   -- a write between two heaps that differ from two others at another node alone
   writes_along : {s t : Heap T} (u v : Heap T) {n : ℕ} (m : ℕ) {xs : List T} {ks : List ℕ} → n ≢ m
@@ -61,19 +37,7 @@ module _ {T : Type 0} where
       → ((k : ℕ) → k ≢ m → node_of v k ≡ node_of t k) → node_of v m ≡ node_of u m
       → node_count v ≡ node_count u → v.capacity ≡ u.capacity → Writes u v n xs ks
   writes_along {s} {t} u v {n} m apart writes before after here len capacity =
-      record {
-        was = rw (before n apart) writes.was;
-        present = rw (after n apart) writes.present;
-        items_are = ap items_of (after n apart) ∙ writes.items_are;
-        children_are = ap children_of (after n apart) ∙ writes.children_are;
-        others = λ k other.
-            elim (cases_eq k m) [
-              | inl same ↦ rw same here
-              | inr differs ↦ after k differs ∙ writes.others k other ∙ sym (before k differs)
-            ];
-        len = len;
-        capacity = capacity;
-      }
+      grind (arith, cases_eq)
 
   module _ (s t u : Heap T) (n m : ℕ) (xs : List T) (ks : List ℕ) (apart : m ≢ n) where
     -- two writes of different nodes
@@ -89,14 +53,7 @@ module _ {T : Type 0} where
         let between = with_slot s m (Some (record { items = ys; children = ls })) in
         let first : Writes s between m ys ls = writes_slot s m
         (record { items = ys; children = ls }) present in
-        record {
-          between = between;
-          first = first;
-          second = writes_along between u m (λ e. apart (sym e)) one first.others two.others
-              (written_is two ∙ sym (written_is first)) (two.len ∙ one.len ∙ sym first.len)
-              (two.capacity ∙ one.capacity
-              ∙ sym first.capacity);
-        }
+        grind (arith, writes_along, written_is)
 
     pub record RemovesFirst : Type 0 where
       pub between : Heap T
@@ -104,17 +61,7 @@ module _ {T : Type 0} where
       pub second : Writes between u n xs ks
 
     pub remove_first : Writes s t n xs ks → Removes t u m → RemovesFirst
-    remove_first one two =
-        let present : HasNode s m = rw (one.others m apart) at two.was in
-        let between = with_slot s m None in
-        let first : Removes s between m = removes_slot s m present in
-        record {
-          between = between;
-          first = first;
-          second = writes_along between u m (λ e. apart (sym e)) one first.others two.others
-              (two.gone ∙ sym first.gone) (omega (arith, two.len, one.len, first.len))
-              (two.capacity ∙ one.capacity ∙ sym first.capacity);
-        }
+    remove_first one two = grind (arith, removes_slot, writes_along)
 
     pub record RemovesLast : Type 0 where
       pub between : Heap T
@@ -128,20 +75,4 @@ module _ {T : Type 0} where
         let between = with_slot s n (Some (record { items = xs; children = ks })) in
         let first : Writes s between n xs ks = writes_slot s n
         (record { items = xs; children = ks }) present in
-        record {
-          between = between;
-          first = first;
-          second = record {
-            was = rw (first.others m apart) one.was;
-            gone = two.others m apart ∙ one.gone;
-            others = λ k other.
-                elim (cases_eq k n) [
-                  | inl same ↦ rw same (written_is two
-                      ∙ sym (written_is first))
-                  | inr differs ↦ two.others k differs ∙ one.others k other
-                      ∙ sym (first.others k differs)
-                ];
-            len = omega (arith, one.len, two.len, first.len);
-            capacity = two.capacity ∙ one.capacity ∙ sym first.capacity;
-          };
-        }
+        grind (arith, cases_eq, written_is)

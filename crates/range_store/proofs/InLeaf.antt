@@ -35,42 +35,19 @@ module _ {T : Type 0} where
 pub leaf_of_edge : {T : Type 0} {s : Heap T} (d : ℕ) {n : ℕ} (g : Edge) → ShapedBut 1 CAPACITY s d n
     → IsEdge s d n g → IsLeafOf s g
 unfolding IsEdge
-leaf_of_edge {T} {s} zero {n} g shaped is =
-    rw is.0 (record {
-      present = shaped.node.present;
-      some = shaped.node.enough;
-      fits = shaped.node.fits;
-      childless = shaped.node.branches;
-      within = is.2;
-    })
+leaf_of_edge {T} {s} zero {n} g shaped is = grind arith
 leaf_of_edge {T} {s} (suc d) {n} g shaped is =
-    let low : turn g ≤ length (node_items s n) =
-    omega (arith, is.0, shaped.node.branches) in
-    let below = leaf_of_edge d (inside g)
-    (shaped_within_wider 1 CAPACITY (omega arith) (omega arith) (kid_shaped d (turn g) shaped low))
-    is.1 in
-    record {
-      present = below.present;
-      some = below.some;
-      fits = below.fits;
-      childless = below.childless;
-      within = below.within;
-    }
+    let low : turn g ≤ length (node_items s n) = omega (arith, is.0, shaped.node.branches) in
+    grind (arith, shaped_within_wider, kid_shaped, leaf_of_edge d (inside g) (shaped_within_wider 1 CAPACITY (omega arith) (omega arith) (kid_shaped d (turn g) shaped low)) is.1)
 
 -- another edge in it
 pub leaf_beside : {T : Type 0} (s : Heap T) (d n : ℕ) (g h : Edge) → h.leaf ≡ g.leaf
     → h.path ≡ g.path → h.index ≤ length (node_items s g.leaf) → IsEdge s d n g
     → IsEdge s d n h × (place s d n h + g.index ≡ place s d n g + h.index)
 unfolding IsEdge place
-leaf_beside s zero n g h leaf path index is =
-    let within : h.index ≤ length (node_items s n) = rw is.0 at index in
-    ((leaf ∙ is.0, path ∙ is.1, within), omega arith)
+leaf_beside s zero n g h leaf path index is = grind arith
 leaf_beside s (suc d) n g h leaf path index is =
-    let first : turn h ≡ turn g = ap (λ w. w % PATH_BASE) path in
-    let rest =
-    leaf_beside s d (node_child s n (turn g)) (inside g)
-    (inside h) leaf (ap (λ w. w / PATH_BASE) path) index is.1 in
-    rw first ((is.0, rest.0), omega (arith, rest.1))
+    grind (arith, leaf_beside s d (node_child s n (turn g)) (inside g) (inside h) leaf (ap (λ w. w / PATH_BASE) path) index is.1)
 
 -- the item before it
 pub leaf_home : {T : Type 0} (s : Heap T) (d n : ℕ) (g : Edge) → IsEdge s d n g → 0 < g.index
@@ -78,9 +55,7 @@ pub leaf_home : {T : Type 0} (s : Heap T) (d n : ℕ) (g : Edge) → IsEdge s d 
 unfolding IsEdge home_of
 leaf_home s zero n g is some = rw is.0 refl
 leaf_home s (suc d) n g is some =
-    let later : is_start (inside g) ≡ false =
-    and_right _ _ (ne_eqb g.index 0 (λ none. omega (arith, none))) in
-    rw later (leaf_home s d _ (inside g) is.1 some)
+    grind (arith, and_right, ne_eqb, leaf_home s d _ (inside g) is.1 some)
 
 -- an item that takes the place of its predecessor, once it was taken out
 pub moved_down : {X : Type 0} (xs : List X) (q : ℕ) (y : X) → suc q < length xs

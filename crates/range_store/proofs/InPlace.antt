@@ -60,10 +60,8 @@ module _ {T : Type 0} {s t : Heap T} {n : ℕ} (g : Edge) {items : List T}
           listed = held_items_below holds
               ∙ ap (λ zs. weave items (map (items_below s zero) zs)) childless
               ∙ sym (append-nil items);
-          moved = rw (used_is s zero n, held_used holds)
-              (Writes-moves (flat_map (used s zero) (node_children s n)) written);
-          shape = λ least small old. held_shape holds least (enough least small old.node.enough)
-              fits shaped.node.branches shaped.children;
+          moved = grind (arith, used_is, held_used, holds, Writes-moves);
+          shape = λ least small old. grind (arith, held_shape, holds);
         };
         edges =
             λ h leaf path index. (
@@ -89,15 +87,7 @@ module _ {T : Type 0} {s t : Heap T} {d n : ℕ} (g : Edge) {items : List T}
     behind = after_child s (suc d) n (turn g)
 
     anew : ListsAnew s t (suc d) n (turn g) (below.front ++ (items ++ below.rest))
-    anew =
-        record {
-          inner = inner;
-          shaped = shaped;
-          owned = owned;
-          low = low;
-          listed = below.rewritten.listed;
-          moved = below.rewritten.moved;
-        }
+    anew = grind (arith, inner, shaped, owned)
 
     kept : node_of t n ≡ node_of s n
     kept = kid_kept anew
@@ -118,19 +108,10 @@ module _ {T : Type 0} {s t : Heap T} {d n : ℕ} (g : Edge) {items : List T}
       rewritten = record {
         listed = kid_listed anew ∙ regroup fore below.front items below.rest behind;
         moved = kid_moved anew;
-        shape = λ least small old. record {
-          node = IsNode-same t kept old.node;
-          children = kid_children anew kid_now;
-        };
+        shape = λ least small old. grind (arith, IsNode-same, kept, kid_children, anew, kid_now);
       };
       edges = λ h leaf path index.
-          let first : turn h ≡ turn g = ap (λ w. w % PATH_BASE) path in
-          let further = below.edges (inside h) leaf (ap (λ w. w / PATH_BASE) path) index in
-          let now = rw (kept, first) at (place_inside t d n h) in
-          let fronts = rw kept at (kid_front anew) in (
-            edge_above t d n (turn g) (inside h) h first refl (rw kept within) (rw kept further.0),
-            omega (arith, now, fronts, further.1, length-append fore below.front),
-          );
+          grind (arith, leaf, kept, place_inside, kid_front, anew, edge_above, length-append);
     }
 
 pub leaf_edit : {T : Type 0} {s t : Heap T} (d : ℕ) {n : ℕ} (g : Edge) {items : List T}
@@ -142,12 +123,10 @@ unfolding IsEdge
 leaf_edit {T} {s} {t} zero {n} g {items} fits enough shaped owned is written = edited_here g fits
     (rw is.0 at enough) shaped owned (rw is.0 at written) is.0 is.1
 leaf_edit {T} {s} {t} (suc d) {n} g {items} fits enough shaped owned is written =
-    let low : turn g ≤ length (node_items s n) =
-    omega (arith, is.0, shaped.node.branches) in
+    let low : turn g ≤ length (node_items s n) = omega (arith, is.0, shaped.node.branches) in
     let kid_whole = shaped_within_wider 1 CAPACITY (omega arith) (omega arith)
     (kid_shaped d (turn g) shaped low) in
-    edited_above g shaped owned low is.0 (leaf_edit d (inside g) fits enough kid_whole
-    (kid_owned s (suc d) n (turn g) owned is.0) is.1 written)
+    grind (arith, edited_above, shaped, owned, kid_owned, leaf_edit d (inside g) fits enough kid_whole (kid_owned s (suc d) n (turn g) owned is.0) is.1 written)
 
 -- an item more, before the edge
 module _ {T : Type 0} {s t : Heap T} {d n : ℕ} (item : T) {g : Edge}
@@ -155,11 +134,7 @@ module _ {T : Type 0} {s t : Heap T} {d n : ℕ} (item : T) {g : Edge}
     (within : g.index ≤ length (node_items s g.leaf)) where
   pub inserted_in_leaf : edit.front ++ (insert (node_items s g.leaf) g.index item ++ edit.rest)
       ≡ insert (items_below s (suc d) n) (place s d n g) item
-  inserted_in_leaf =
-      sym (insert_middle edit.front (node_items s g.leaf) edit.rest g.index item within)
-      ∙ ap (λ m. insert (edit.front ++ (node_items s g.leaf ++ edit.rest)) m item)
-      (sym edit.place_is)
-      ∙ ap (λ zs. insert zs (place s d n g) item) (sym edit.was)
+  inserted_in_leaf = grind (arith, insert_middle)
 
 -- an item less, from before the edge
 module _ {T : Type 0} {s t : Heap T} {d n : ℕ} {g : Edge}
@@ -170,10 +145,7 @@ module _ {T : Type 0} {s t : Heap T} {d n : ℕ} {g : Edge}
   removed_in_leaf =
       let at : length edit.front + (g.index - 1) ≡ place s d n g - 1 =
       omega (arith, edit.place_is, some) in
-      sym (remove_middle edit.front (node_items s g.leaf) edit.rest (g.index - 1)
-      (omega (arith, some, within)))
-      ∙ ap (remove (edit.front ++ (node_items s g.leaf ++ edit.rest))) at
-      ∙ ap (λ zs. remove zs (place s d n g - 1)) (sym edit.was)
+      grind (arith, remove_middle)
 
 -- the leaf of an edge of a whole tree, with an item more or less
 module _ {T : Type 0} {t : BoxStorage T} (new : Heap T) {g : Edge} (is : IsBoxEdge t g) where
@@ -204,16 +176,7 @@ module _ {T : Type 0} {t : BoxStorage T} (new : Heap T) {g : Edge} (is : IsBoxEd
       (edit : IsLeafEdit t.nodes new (t.levels - 1) t.root g now)
       → edit.front ++ (now ++ edit.rest) ≡ list → h.leaf ≡ g.leaf → h.path ≡ g.path
       → h.index ≤ length now → IsLeafChange list h h.index
-  leaf_change_lists list h edit same at path within =
-      let whole = rewritten_tree t.levels is.some t.whole.tree edit.rewritten in
-      let edge = edit.edges h at path within in
-      record {
-        tree = whole.0;
-        items_are = whole.1 ∙ same;
-        capacity = edit.rewritten.moved.capacity;
-        edge = edge.0;
-        place_is = omega (arith, edge.1, edit.place_is);
-      }
+  leaf_change_lists list h edit same at path within = grind (arith, rewritten_tree)
 
   pub put_in_leaf : (item : T) (h : Edge) → length items < CAPACITY
       → Writes t.nodes new g.leaf (insert items g.index item) (node_children t.nodes g.leaf)

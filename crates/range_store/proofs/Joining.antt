@@ -50,34 +50,11 @@ module _ {T : Type 0} {s : Heap T} {d l r : ℕ} (x : T) (pair : IsPair s d l r)
 
   pub pair_nodes : SameNodes (used s (suc d) l ++ used s (suc d) r) (r ∷ l ∷ F)
   pair_nodes =
-      let us = flat_map (used s d) (node_children s l) in
-      let vs = flat_map (used s d) (node_children s r) in
-      rw (used_is s d l, used_is s d r) (record {
-        occur =
-            λ k.
-            omega (
-              arith,
-              occurrences-append k (l ∷ us) (r ∷ vs),
-              occurrences-cons k l us,
-              occurrences-cons k r vs,
-              occurrences-cons k r (l ∷ F),
-              occurrences-cons k l F,
-              ap (occurrences k) both,
-              occurrences-append k us vs,
-            );
-        len = omega (arith, length-append (l ∷ us) (r ∷ vs), ap length both, length-append us vs);
-      })
+      grind (arith, used_is, occurrences-append, occurrences-cons, occurrences, both, length-append)
 
   occur_pair : (k : ℕ)
       → occurrences k (r ∷ []) + (occurrences k (l ∷ []) + occurrences k F) ≤ here s k
-  occur_pair k =
-      omega (
-        arith,
-        pair.owned k,
-        pair_nodes.occur k,
-        occurrences-cons k r (l ∷ F),
-        occurrences-cons k l F,
-      )
+  occur_pair k = omega (arith, pair.owned k, pair_nodes.occur k, occurrences-cons)
 
   pub pair_apart : l ≢ r
   pair_apart same =
@@ -99,45 +76,25 @@ module _ {T : Type 0} {s : Heap T} {d l r : ℕ} (x : T) (pair : IsPair s d l r)
     shaped =
         All-append (Shaped s d) (node_children s l)
         (node_children s r) pair.left.children pair.right.children;
-    branches =
-        length-append (node_children s l) (node_children s r)
-        ∙ child_count-join d _ _ _ _ pair.left.node.branches pair.right.node.branches
-        ∙ ap (child_count d) (one ∙ sym (length-append (node_items s l) (x ∷ node_items s r)));
+    branches = grind (arith, length-append, child_count-join, one);
     owned = λ k. omega (arith, occur_pair k, occurrences-cons k l F);
   }
 
   pub pair_listed : weave xs (map (items_below s d) ks) ≡ items_below s (suc d) l
       ++ (x ∷ items_below s (suc d) r)
-  pair_listed =
-      ap (weave xs) (map-append (items_below s d) (node_children s l) (node_children s r))
-      ∙ weave_join (node_items s l) x (node_items s r) (child_lists s d l) (child_lists s d r) d
-      (length-map (node_children s l) (items_below s d) ∙ pair.left.node.branches)
-      (length-map (node_children s r) (items_below s d) ∙ pair.right.node.branches)
-      ∙ rw (weave_items_below s d l, weave_items_below s d r) refl
+  pair_listed = grind (arith, map-append, weave_join, length-map, weave_items_below)
 
   pub pair_length : length xs ≡ length (node_items s l) + 1 + length (node_items s r)
   pair_length = omega (arith, length-append (node_items s l) (x ∷ node_items s r))
 
   swapped : SameNodes (l ∷ r ∷ F) (r ∷ l ∷ F)
-  swapped =
-      record {
-        occur = λ k. omega (
-          arith,
-          occurrences-cons k l (r ∷ F),
-          occurrences-cons k r F,
-          occurrences-cons k r (l ∷ F),
-          occurrences-cons k l F,
-        );
-        len = refl;
-      }
+  swapped = grind (arith, occurrences-cons)
 
   -- all of it in the left node
   module _ {t u : Heap T} (written : Writes s t l xs ks) (removed : Removes t u r)
       (few : length xs ≤ CAPACITY) where
     gone_apart : (k : ℕ) → 0 < occurrences k F → node_of u k ≡ node_of s k
-    gone_apart k among =
-        removed.others k (right_apart k among)
-        ∙ written.others k (content_apart t pair_content k among)
+    gone_apart k among = grind (arith, right_apart, content_apart, pair_content)
 
     l_kept : node_of u l ≡ node_of t l
     l_kept = removed.others l pair_apart
@@ -153,12 +110,10 @@ module _ {T : Type 0} {s : Heap T} {d l r : ℕ} (x : T) (pair : IsPair s d l r)
 
     pub united_rejoins : Rejoins s u d l x r None
     united_rejoins = record {
-      listed = append-nil (items_below u (suc d) l) ∙ held_items_below united_holds
-          ∙ pair_listed;
+      listed = grind (arith, append-nil, held_items_below, united_holds, pair_listed);
       moved = Moves-like (used s (suc d) l ++ used s (suc d) r) (used u (suc d) l ++ [])
           (record { occur = λ k. sym (pair_nodes.occur k); len = sym pair_nodes.len })
-          (rw (append-nil (used u (suc d) l), united_used)
-          (record { occur = λ k. refl; len = refl }))
+          (grind (arith, append-nil, united_used))
           (Moves-then
           (Moves-like (r ∷ l ∷ F) (r ∷ l ∷ F) swapped swapped (Writes-moves (r ∷ F) written))
           (Removes-moves (l ∷ F) removed));
@@ -172,9 +127,7 @@ module _ {T : Type 0} {s : Heap T} {d l r : ℕ} (x : T) (pair : IsPair s d l r)
       (first : Writes s t l (take half xs) (take (half + 1) ks))
       (second : Writes t u r (drop (half + 1) xs) (drop (half + 1) ks)) where
     pub shared_agree : AgreeAt s u F
-    shared_agree k among =
-        second.others k (right_apart k among)
-        ∙ first.others k (content_apart t pair_content k among)
+    shared_agree k among = grind (arith, right_apart, content_apart, pair_content)
 
     left_kept : node_of u l ≡ node_of t l
     left_kept = second.others l pair_apart
@@ -191,8 +144,7 @@ module _ {T : Type 0} {s : Heap T} {d l r : ℕ} (x : T) (pair : IsPair s d l r)
         → half + 1 + MIN_LEN ≤ length xs → length xs ≤ half + 1 + CAPACITY
         → Rejoins s u d l x r (Some split)
     shared_rejoins split same middle least_left most_left least_right most_right = rw same (record {
-      listed = halves_listed half pair_content low shared_left shared_right split.middle middle ∙
-          pair_listed;
+      listed = grind (arith, halves_listed, pair_content, shared_left, shared_right, pair_listed);
       moved = Moves-like (used s (suc d) l ++ used s (suc d) r)
           (used u (suc d) l ++ (used u (suc d) r ++ []))
           (record { occur = λ k. sym (pair_nodes.occur k); len = sym pair_nodes.len })
@@ -202,8 +154,7 @@ module _ {T : Type 0} {s : Heap T} {d l r : ℕ} (x : T) (pair : IsPair s d l r)
       shaped =
           let but = halves_shape half pair_content low shared_left shared_right least_left most_left
           least_right most_right MIN_LEN (omega arith) in
-          All-weaker (ShapedBut MIN_LEN CAPACITY u d) (Shaped u (suc d))
-          (λ k. Shaped-from_but u d k) (l ∷ r ∷ []) but;
+          grind (arith, All-weaker, Shaped-from_but);
     })
 
 -- the seat of an edge among the items of both, from that in the left or in the right one
@@ -227,9 +178,7 @@ module _ {T : Type 0} (s : Heap T) (l : ℕ) (x : T) (r : ℕ) (g : Edge) where
       seat_run s e [] (node_children s l) (node_children s r) []
       (node_items s l) (x ∷ node_items s r) 0 (turn g)
       (inside g) refl refl pair.left.node.branches is in
-      let start : 0 + turn g ≡ turn g = omega arith in
-      let run' = rw start at run in
-      (run'.0, run'.1 ∙ omega arith)
+      grind arith
 
   pub seat_from_right : (d : ℕ) → IsPair s d l r → IsEdge s d r g
       → IsSeat s d all_items all_children (length (node_items s l) + 1 + seat_of d g) (inside g)

@@ -22,15 +22,7 @@ module _ {T : Type 0} where
       (within : i ≤ length xs) where
     rest_cells : take (length xs - i) (drop i row) ≡ full_cells (drop i xs)
     rest_cells =
-        let none : List (Option T) = replicate (CAPACITY - length xs) None in
-        let many : length (drop i (full_cells xs)) ≡ length xs - i =
-        length-drop i (full_cells xs) ∙ ap (λ n. n - i) (length-full xs) in
-        ap (λ cells. take (length xs - i) (drop i cells)) h.cells_are
-        ∙ ap (take (length xs - i))
-        (drop-append-le i (full_cells xs) none (omega (arith, length-full xs)))
-        ∙ take-append-le (length xs - i) (drop i (full_cells xs)) none (omega (arith, many))
-        ∙ take_all (length xs - i) (drop i (full_cells xs)) (omega (arith, many))
-        ∙ drop-map (λ x. Some x) i xs
+        grind (arith, length-drop, length-full, drop-append-le, take-append-le, take_all, drop-map)
 
     pub rest_full : AreFull (take (length xs - i) (drop i row))
     rest_full = rw rest_cells (full_cells_full (drop i xs))
@@ -55,24 +47,11 @@ module _ {T : Type 0} {t : BoxStorage T} {g : Edge} (is : IsBoxEdge t g) where
       let end = at_index (length leaf_items) (omega arith) in
       let most = edge_within end.0 in
       same_lists _ _
-      (omega (
-        arith,
-        length-drop g.index leaf_items,
-        length-take (length leaf_items - g.index) (drop (box_place t g) (box_items t)),
-        length-drop (box_place t g) (box_items t),
-        end.1,
-        most,
-        leaf.within,
-      ))
+      (grind (arith, length-drop, length-take, box_place, box_items))
       (λ k d low.
       let here : g.index + k < length leaf_items =
       omega (arith, low, length-drop g.index leaf_items) in
       let next = at_index (g.index + k + 1) (omega (arith, here)) in
       let at : box_place t (record g { index = g.index + k + 1 }) - 1 ≡ box_place t g + k =
       omega (arith, next.1) in
-      get_or-drop g.index leaf_items k d
-      ∙ ap (λ i. get_or leaf_items i d) (omega arith)
-      ∙ sym (leaf_item next.0 d (omega arith))
-      ∙ ap (λ i. get_or (box_items t) i d) at
-      ∙ sym (get_or-drop (box_place t g) (box_items t) k d)
-      ∙ sym (get_or-take (length leaf_items - g.index) _ k d (omega (arith, here))))
+      grind (arith, get_or-drop, leaf_item, box_items, box_place, get_or-take))

@@ -103,24 +103,11 @@ module _ {T : Type 0} {s : BoxStorage T} {edge : Edge} (good : IsGood s edge) wh
   pub item_home : (home : Home) → home ≡ box_home s edge → (x : T)
       → x ≡ get_or (node_items s.nodes home.node) home.index x
       → x ≡ get_or (box_items s) (box_rank s edge) x
-  item_home home at x here =
-      here ∙ ap (λ h. get_or (node_items s.nodes h.node) h.index x) at
-      ∙ sym (good_item s edge good x)
-      ∙ ap (λ i. get_or (box_items s) i x) (sym (rank_is good))
+  item_home home at x here = grind (arith, good_item, box_items, rank_is)
 
 -- nodes of the same shape keep the positions
 pub good_same : {T : Type 0} {s : BoxStorage T} (t : BoxStorage T) → SameShape s.nodes t.nodes
     → t.levels ≡ s.levels → t.root ≡ s.root → (q : Edge) → IsGood s q → IsGood t q ×
     (box_rank t q ≡ box_rank s q)
 good_same {T} {s} t shape levels root q good =
-    let place : box_place t q ≡ box_place s q = rw (levels, root)
-    (place_same shape (s.levels - 1) s.root q) in
-    let edge : IsEdge t.nodes (t.levels - 1) t.root q = rw (levels, root)
-    (edge_same shape (s.levels - 1) s.root q good.is.edge)
-    in
-    let new : IsGood t q =
-    record {
-      is = record { some = omega (arith, levels, good.is.some); edge = edge };
-      some = omega (arith, place, good.some);
-    } in
-    (new, rank_is new ∙ ap (λ m. m - 1) place ∙ sym (rank_is good))
+    grind (arith, box_place, place_same, edge_same, rank_is)

@@ -19,11 +19,7 @@ use Rattle.range_store.proofs.Seats.{seat_run, seat_written}
 -- the parts round the two children at j and after it
 pub pair_parts : (ks : List ℕ) (j : ℕ) → j + 1 < length ks
     → ks ≡ take j ks ++ (get_or ks j 0 ∷ get_or ks (j + 1) 0 ∷ drop (j + 2) ks)
-pair_parts ks j low =
-    let far : j + 1 + 1 ≡ j + 2 = omega arith in
-    list_splits_at ks j 0 (omega arith)
-    ∙ ap (λ zs. take j ks ++ (get_or ks j 0 ∷ zs))
-    (drop_more ks (j + 1) 0 low ∙ ap (λ m. get_or ks (j + 1) 0 ∷ drop m ks) far)
+pair_parts ks j low = grind (arith, list_splits_at, drop_more)
 
 module _ {T : Type 0} {s : Heap T} {low n j : ℕ} (x : T) (levelled : IsLevelled s low n j)
     (here : x ≡ get_or (node_items s n) j x) where
@@ -52,9 +48,7 @@ module _ {T : Type 0} {s : Heap T} {low n j : ℕ} (x : T) (levelled : IsLevelle
   ks_parts = pair_parts ks j (omega (arith, many, levelled.within))
 
   xs_parts : xs ≡ take j xs ++ (x ∷ drop (j + 1) xs)
-  xs_parts =
-      list_splits_at xs j x levelled.within
-      ∙ ap (λ z. take j xs ++ (z ∷ drop (j + 1) xs)) (sym here)
+  xs_parts = grind (arith, list_splits_at)
 
   us_many : length us ≡ j
   us_many = length-take-le j ks (omega (arith, many, levelled.within))
@@ -63,19 +57,7 @@ module _ {T : Type 0} {s : Heap T} {low n j : ℕ} (x : T) (levelled : IsLevelle
   front_many = length-take-le j xs (omega (arith, levelled.within))
 
   same_run : Runs s s (suc low) n us (l ∷ r ∷ []) vs (l ∷ r ∷ [])
-  same_run =
-      record {
-        present = levelled.node.present;
-        owned = levelled.owned;
-        children = ks_parts;
-        moved =
-            record {
-              owned = λ k. refl;
-              outside = λ k unused present. refl;
-              len = refl;
-              capacity = refl;
-            };
-      }
+  same_run = grind (arith, ks_parts)
 
   pub pair_of : IsPair s low l r
   pair_of = record {
@@ -83,35 +65,14 @@ module _ {T : Type 0} {s : Heap T} {low n j : ℕ} (x : T) (levelled : IsLevelle
     right = levelled.right;
     owned =
         λ k.
-        omega (
-          arith,
-          levelled.owned k,
-          ap (occurrences k) (used_old same_run),
-          occurrences-cons k n (flat_map (used s (suc low)) us
-              ++ (flat_map (used s (suc low)) (l ∷ r ∷ []) ++ flat_map (used s (suc low)) vs)),
-          occurrences-append k (flat_map (used s (suc low)) us)
-              (flat_map (used s (suc low)) (l ∷ r ∷ []) ++ flat_map (used s (suc low)) vs),
-          occurrences-append k (flat_map (used s (suc low)) (l ∷ r ∷ []))
-              (flat_map (used s (suc low)) vs),
-          occurrences-append k (used s (suc low) l) (used s (suc low) r ++ []),
-          occurrences-append k (used s (suc low) l) (used s (suc low) r),
-          ap (occurrences k) (append-nil (used s (suc low) r)),
-        );
+        omega (arith, levelled.owned k, ap (occurrences k) (used_old same_run), occurrences-cons, occurrences-append, ap (occurrences k) (append-nil (used s (suc low) r)));
     enough = levelled.enough;
     fits = levelled.fits;
   }
 
   module _ {t : Heap T} {split : Option (Split T)} (rejoins : Rejoins s t low l x r split) where
     pair_run : Runs s t (suc low) n us (l ∷ r ∷ []) vs (tops l split)
-    pair_run =
-        record {
-          present = levelled.node.present;
-          owned = levelled.owned;
-          children = ks_parts;
-          moved = subst (λ zs. Moves s t (used s (suc low) l ++ zs)
-              (flat_map (used t (suc low)) (tops l split))) (sym (append-nil (used s (suc low) r)))
-              rejoins.moved;
-        }
+    pair_run = grind (arith, ks_parts, append-nil)
 
     abbrev new_xs : List T
     new_xs = take j (node_items s n) ++ (separators split ++ drop (j + 1) (node_items s n))
@@ -137,17 +98,7 @@ module _ {T : Type 0} {s : Heap T} {low n j : ℕ} (x : T) (levelled : IsLevelle
         )
 
     new_content : IsContent t (suc low) n new_xs new_ks
-    new_content = run_content pair_run new_xs (omega (
-      arith,
-      new_length,
-      length-append us (tops l split ++ vs),
-      length-append (tops l split) vs,
-      tops_many l split,
-      us_many,
-      length-drop (j + 2) ks,
-      many,
-      levelled.within,
-    ))
+    new_content = run_content pair_run new_xs (grind (arith, new_length, length-append, tops_many, us_many, length-drop, many))
         levelled.before rejoins.shaped levelled.behind
 
     woven_old : items_below s (suc (suc low)) n

@@ -52,11 +52,7 @@ but_sizes {T} {least} {most} {s} (suc d) {n} below shaped =
     let enough : least + 1 ≤ length ks = omega (arith, shaped.node.enough, shaped.node.branches) in
     let fits : length ks ≤ most + 1 = omega (arith, shaped.node.fits, shaped.node.branches) in
     let size = items_below_size shaped in
-    let more : (least + 1) * p ≤ length ks * p = mul-le-mul_right p enough in
-    let less : length ks * q ≤ (most + 1) * q = mul-le-mul_right q fits in (
-      le_trans more (omega (arith, all.0, size, shaped.node.branches)),
-      le_trans (omega (arith, all.1, size, shaped.node.branches)) less,
-    )
+    grind (arith, mul-le-mul_right, le_trans)
 
 items_sizes : {T : Type 0} (s : Heap T) (d n : ℕ) → Shaped s d n
     → ((MIN_LEN + 1) ^ d ≤ length (items_below s d n) + 1)
@@ -97,8 +93,7 @@ pub levels_least : {T : Type 0} {s : Heap T} (levels : ℕ) {root : ℕ} → IsT
     → 0 < length (items_below s levels root)
     → 2 * (MIN_LEN + 1) ^ (levels - 1) ≤ length (items_below s levels root) + 1
 levels_least {T} {s} zero {root} tree some = absurd (omega (arith, ap length (items_below_none s root)))
-levels_least {T} {s} (suc d) {root} tree some = let level : suc d - 1 ≡ d = omega arith in rw level
-    (tree_lower d tree)
+levels_least {T} {s} (suc d) {root} tree some = grind (arith, tree_lower)
 
 pub levels_most : {T : Type 0} {s : Heap T} (levels : ℕ) {root : ℕ} → IsTree s levels root
     → 0 < length (items_below s levels root)
@@ -108,9 +103,4 @@ levels_most {T} {s} (suc d) {root} tree some = tree_upper d tree
 
 pub has_levels : {T : Type 0} {s : Heap T} {levels root : ℕ} → IsTree s levels root
     → HasLevels (length (items_below s levels root)) levels
-has_levels {T} {s} {levels} {root} tree =
-    record {
-      empty = empty_levels tree;
-      least = levels_least levels tree;
-      most = levels_most levels tree;
-    }
+has_levels {T} {s} {levels} {root} tree = grind (arith, empty_levels, levels_least, levels_most)

@@ -31,31 +31,15 @@ Moves-none s us =
 -- what is under a number once the first step was made
 pub Moves-kept : {T : Type 0} {s t : Heap T} {us vs : List ℕ} → Moves s t us vs → (k : ℕ)
     → occurrences k us ≡ 0 → IsSome (node_of s k) → (occurrences k vs ≡ 0) × IsSome (node_of t k)
-Moves-kept {T} {s} {t} m k unused present =
-    let same = m.outside k unused present in
-    let now : IsSome (node_of t k) = rw same present in
-    (omega (arith, m.owned k, unused, here_some s k present, here_le t k), now)
+Moves-kept {T} {s} {t} m k unused present = grind (arith, here_some, here_le)
 
 pub Moves-then : {T : Type 0} {r s t : Heap T} {us vs ws : List ℕ} → Moves r s us vs
     → Moves s t vs ws → Moves r t us ws
-Moves-then {T} {r} {s} {t} {us} {vs} first second = record {
-  owned = λ k. omega (arith, first.owned k, second.owned k);
-  outside = λ k unused present. let kept = Moves-kept first k unused present in second.outside k
-      kept.0 kept.1
-      ∙ first.outside k unused present;
-  len = omega (arith, first.len, second.len);
-  capacity = second.capacity ∙ first.capacity;
-}
+Moves-then {T} {r} {s} {t} {us} {vs} first second = grind (arith, Moves-kept)
 
 pub Moves-beside : {T : Type 0} {s t : Heap T} {us vs : List ℕ} (ws : List ℕ) → Moves s t us vs
     → Moves s t (us ++ ws) (vs ++ ws)
-Moves-beside {T} {s} {t} {us} {vs} ws m = record {
-  owned = λ k. omega (arith, m.owned k, occurrences-append k us ws, occurrences-append k vs ws);
-  outside =
-      λ k unused present. m.outside k (omega (arith, unused, occurrences-append k us ws)) present;
-  len = omega (arith, m.len, length-append us ws, length-append vs ws);
-  capacity = m.capacity;
-}
+Moves-beside {T} {s} {t} {us} {vs} ws m = grind (arith, occurrences-append, length-append)
 
 -- the same items_below, in another order
 pub record SameNodes (us vs : List ℕ) : Type 0 where
@@ -64,69 +48,21 @@ pub record SameNodes (us vs : List ℕ) : Type 0 where
 
 pub Moves-like : {T : Type 0} {s t : Heap T} {us : List ℕ} (us' : List ℕ) {vs : List ℕ}
     (vs' : List ℕ) → SameNodes us us' → SameNodes vs vs' → Moves s t us vs → Moves s t us' vs'
-Moves-like us' vs' before after m = record {
-  owned = λ k. omega (arith, m.owned k, before.occur k, after.occur k);
-  outside = λ k unused present. m.outside k (omega (arith, unused, before.occur k)) present;
-  len = omega (arith, m.len, before.len, after.len);
-  capacity = m.capacity;
-}
+Moves-like us' vs' before after m = grind arith
 
 pub Writes-moves : {T : Type 0} {s t : Heap T} {n : ℕ} {xs : List T} {ks : List ℕ} (us : List ℕ)
     → Writes s t n xs ks → Moves s t (n ∷ us) (n ∷ us)
-Writes-moves {T} {s} {t} {n} us w = record {
-  owned = λ k.
-      elim (cases_eq k n) [
-        | inl same ↦ let one = here_some s n w.was in let two =
-            here_some t n w.present in rw same (omega (arith, one, two))
-        | inr other ↦ let kept : here t k ≡ here s k =
-            rw (w.others k other) refl in omega (arith, kept)
-      ];
-  outside = λ k unused present. w.others k (other_than n k us unused);
-  len = omega (arith, w.len);
-  capacity = w.capacity;
-}
+Writes-moves {T} {s} {t} {n} us w = grind (arith, cases_eq, here_some, other_than)
 
 pub Stores-moves : {T : Type 0} {s t : Heap T} {n : ℕ} {xs : List T} {ks : List ℕ} (us : List ℕ)
     → Stores s t n xs ks → Moves s t us (n ∷ us)
-Stores-moves {T} {s} {t} {n} us w = record {
-  owned = λ k.
-      elim (cases_eq k n) [
-        | inl same ↦
-            let none : here s n ≡ 0 = rw w.fresh refl in
-            let one = here_some t n w.present in
-            rw same (omega (arith, none, one, occurrences-cons n n us, occurrences_itself n))
-        | inr other ↦
-            let kept : here t k ≡ here s k = rw (w.others k other) refl in
-            omega (arith, kept, occurrences-cons k n us, occurrences_other k n (λ e. other (sym e)))
-      ];
-  outside =
-      λ k unused present. w.others k
-      (λ same. let none : here s k
-      ≡ 0 = rw (same, w.fresh) refl in omega (arith, none, here_some s k present));
-  len = omega (arith, w.len);
-  capacity = w.capacity;
-}
+Stores-moves {T} {s} {t} {n} us w = grind (arith, cases_eq, here_some, occurrences-cons, occurrences_itself, occurrences_other)
 
 pub Removes-moves : {T : Type 0} {s t : Heap T} {n : ℕ} (us : List ℕ) → Removes s t n
     → Moves s t (n ∷ us) us
-Removes-moves {T} {s} {t} {n} us w = record {
-  owned = λ k.
-      elim (cases_eq k n) [
-        | inl same ↦
-            let one = here_some s n w.was in
-            let none : here t n ≡ 0 = rw w.gone refl in
-            rw same (omega (arith, none, one, occurrences-cons n n us, occurrences_itself n))
-        | inr other ↦
-            let kept : here t k ≡ here s k = rw (w.others k other) refl in
-            omega (arith, kept, occurrences-cons k n us, occurrences_other k n (λ e. other (sym e)))
-      ];
-  outside = λ k unused present. w.others k (other_than n k us unused);
-  len = omega (arith, w.len);
-  capacity = w.capacity;
-}
+Removes-moves {T} {s} {t} {n} us w = grind (arith, cases_eq, here_some, occurrences-cons, occurrences_itself, occurrences_other, other_than)
 
 -- the nodes that are none of these stay
 pub Moves-agree : {T : Type 0} {s t : Heap T} {us vs : List ℕ} (ws : List ℕ)
     → ((k : ℕ) → occurrences k us + occurrences k ws ≤ here s k) → Moves s t us vs → AgreeAt s t ws
-Moves-agree {T} {s} ws once m k among = m.outside k (omega (arith, once k, here_le s k, among))
-    (some_from_here s k (omega (arith, once k, among)))
+Moves-agree {T} {s} ws once m k among = grind (arith, here_le, some_from_here)

@@ -14,11 +14,7 @@ use Rattle.range_store.proofs.Levelling.{pair_of}
 pub seat_low : {T : Type 0} {s : Heap T} (low : ℕ) {k : ℕ} (g : Edge) {least : ℕ}
     → ShapedBut least CAPACITY s low k → IsEdge s low k g → seat_of low g ≤ length (node_items s k)
 seat_low {T} {s} zero {k} g {least} shaped is = leaf_index s k g is
-seat_low {T} {s} (suc d) {k} g shaped is = omega (
-  arith,
-  turn_within s d k g is,
-  shaped.node.branches,
-)
+seat_low {T} {s} (suc d) {k} g shaped is = omega (arith, turn_within)
 
 -- the seat of an edge below one of two neighbours, in either of them and among what both have
 pub near_seat : {T : Type 0} {s : Heap T} {low n j : ℕ} (i : ℕ) (g : Edge) → IsLevelled s low n j
@@ -60,21 +56,7 @@ module _ {T : Type 0} {s : Heap T} {low n j : ℕ} (x : T) (levelled : IsLevelle
   rest_before : length (before xs (map (items_below s (suc low)) ks) (j + 1))
       ≡ length (before xs (map (items_below s (suc low)) ks) j) + length
       (items_below s (suc low) l) + 1
-  rest_before =
-      let kid =
-      get_or-map (items_below s (suc low)) ks j 0 []
-      (omega (arith, levelled.within, levelled.node.branches)) in
-      omega (
-        arith,
-        length-before_next xs (map (items_below s (suc low)) ks) j levelled.within
-            (omega (
-              arith,
-              length-map ks (items_below s (suc low)),
-              levelled.node.branches,
-              levelled.within,
-            )),
-        ap length kid,
-      )
+  rest_before = grind (arith, get_or-map, length-before_next, length-map)
 
   pub pair_seat : (i : ℕ) (g : Edge) (q : ℕ) → (i ≡ j) ⊎ (i ≡ j + 1)
       → IsEdge s low (get_or ks i 0) g → (i - j ≡ 0 → q ≡ seat_of low g)

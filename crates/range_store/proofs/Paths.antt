@@ -25,9 +25,7 @@ unfolding home_of
 home_step s d n g = refl
 
 pub start_parts : (g : Edge) → is_start g ≡ true → (g.path ≡ 0) × (g.index ≡ 0)
-start_parts g start =
-    let both = and_parts (g.path == 0) (g.index == 0) start in
-    (eqb-true _ _ both.0, eqb-true _ _ both.1)
+start_parts g start = grind (arith, and_parts, eqb-true)
 
 -- nothing stands before an edge just where it is a start
 pub stands_first : {T : Type 0} (s : Heap T) (d n : ℕ) (g : Edge) → is_start g ≡ true
@@ -40,8 +38,7 @@ not_start {T} {s} {d} {n} g shaped is later =
     elim (cases_eq (place s d n g) 0) [
       | inr some ↦ omega (arith, some)
       | inl none ↦ let start =
-          start_of_place s 1 CAPACITY d n g shaped is none in absurd
-          (both_ways _ later (and_from _ _ (eq-eqb _ _ start.0) (eq-eqb _ _ start.1)))
+          start_of_place s 1 CAPACITY d n g shaped is none in grind (arith, both_ways, and_from, eq-eqb)
     ]
 
 module _ {T : Type 0} {s : Heap T} {b n : ℕ} (inner : b ≢ 0)
@@ -101,13 +98,7 @@ module _ {T : Type 0} {s : Heap T} {b n : ℕ} (inner : b ≢ 0)
       let whole = items_below_at (omega arith) shaped i (omega arith) in
       let none : length (after xs lists i) ≡ 0 = rw last
       (ap length (none_after_last (omega arith) shaped)) in
-      omega (
-        arith,
-        ap length whole,
-        length-append (before xs lists i) (items_below s b kid ++ after xs lists i),
-        length-append (items_below s b kid) (after xs lists i),
-        none,
-      )
+      grind (arith, ap length whole, length-append)
 
   -- an edge at the end of the child at i is one before the next child
   pub before_next : (i : ℕ) → i < length (node_items s n) → length (before_child s b n (i + 1))
@@ -117,18 +108,8 @@ module _ {T : Type 0} {s : Heap T} {b n : ℕ} (inner : b ≢ 0)
   -- where the item before an edge stands, which begins a child or goes further down
   pub home_above : (g : Edge) → is_start (inside g) ≡ true
       → home_of s b n g ≡ record { node = n; index = turn g - 1 }
-  home_above g start =
-      let at : Home = record { node = n; index = turn g - 1 } in
-      let step : home_of s (suc (b - 1)) n g ≡ at =
-      home_step s (b - 1) n g
-      ∙ ap (λ v. cond v at (home_of s (b - 1) (node_child s n (turn g)) (inside g))) start in
-      rw level_of_children at step
+  home_above g start = grind (arith, home_step, level_of_children)
 
   pub home_inside : (g : Edge) → is_start (inside g) ≡ false
       → home_of s b n g ≡ home_of s (b - 1) (node_child s n (turn g)) (inside g)
-  home_inside g later =
-      let at : Home = record { node = n; index = turn g - 1 } in
-      let below = home_of s (b - 1) (node_child s n (turn g)) (inside g) in
-      let step : home_of s (suc (b - 1)) n g ≡ below =
-      home_step s (b - 1) n g ∙ ap (λ v. cond v at below) later in
-      rw level_of_children at step
+  home_inside g later = grind (arith, home_step, level_of_children)

@@ -45,21 +45,7 @@ module _ {T : Type 0} (s : Heap T) where
 
   pub lies_itself : {below number : ℕ} → ShapedBut 1 CAPACITY s below number
       → LiesBelow below number below number 0 1 0
-  lies_itself {below} {number} shaped =
-      let none : below - below ≡ 0 = omega arith in
-      record {
-        low = omega arith;
-        weight_is = rw none refl;
-        small = omega arith;
-        shaped = shaped;
-        edge = λ e is.
-            let same : 0 + 1 * e.path ≡ e.path = omega arith in
-            rw same is;
-        place_is = λ e is.
-            let same : 0 + 1 * e.path ≡ e.path = omega arith in
-            let none_ahead : place s below number e ≡ 0 + place s below number e = omega arith in
-            ap (λ w. place s below number (record e { path = w })) same ∙ none_ahead;
-      }
+  lies_itself {below} {number} shaped = grind arith
 
   pub lies_in_child : {below number left : ℕ} (at path weight ahead : ℕ) → left ≢ 0
       → LiesBelow below number left at path weight ahead → (i : ℕ)

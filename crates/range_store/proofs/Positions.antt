@@ -25,24 +25,19 @@ module _ {T : Type 0} (s : BoxStorage T) where
   -- an edge after an item stands for that
   pub good_from : {edge : Edge} → IsBoxEdge s edge → 0 < box_place s edge → IsGood s edge ×
       (box_rank s edge + 1 ≡ box_place s edge)
-  good_from {edge} is some =
-      let good : IsGood s edge = record { is = is; some = some } in
-      (good, omega (arith, rank_is good, some))
+  good_from {edge} is some = grind (arith, rank_is)
 
   pub next_at : (rank : ℕ) (edge : Option Edge) → IsNextEdge s edge rank
       → IsAt (IsGood s) (box_rank s) (length (box_items s)) edge rank
   next_at rank None at = at
-  next_at rank (Some edge) at =
-      let good = good_from at.0 (omega (arith, at.1)) in
-      (good.0, omega (arith, good.1, at.1))
+  next_at rank (Some edge) at = grind (arith, good_from)
 
   -- the edge after an item, or none, from what is known below the root
   pub next_from : (rank : ℕ) → 0 < s.levels → (edge : Option Edge)
       → MatchOption edge (rank ≡ length (items_below s.nodes (suc (s.levels - 1)) s.root))
       (λ h. IsEdge s.nodes (s.levels - 1) s.root h
       × (place s.nodes (s.levels - 1) s.root h ≡ rank + 1)) → IsNextEdge s edge rank
-  next_from rank some None none = let level : suc (s.levels - 1) ≡ s.levels =
-      omega (arith, some) in rw level at none
+  next_from rank some None none = grind arith
   next_from rank some (Some h) is = (record { some = some; edge = is.0 }, is.1)
 
   -- the edge after all items, if there are any
@@ -60,6 +55,4 @@ module _ {T : Type 0} (s : BoxStorage T) where
       → MatchOption edge (IsFrontOf test (box_items s) 0)
       (λ p. IsGood s p × IsFrontOf test (box_items s) (box_rank s p + 1))
   front_found test falls None none = rw none at (falling_front test (box_items s) falls)
-  front_found test falls (Some g) found =
-      let good = good_from found.0 found.1 in
-      (good.0, rw (good.1, found.2) (falling_front test (box_items s) falls))
+  front_found test falls (Some g) found = grind (arith, good_from, falling_front, box_items)

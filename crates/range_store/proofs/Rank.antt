@@ -15,18 +15,7 @@ unfolding used
 used_none s n = refl
 
 pub IsTree-none : {T : Type 0} (s : Heap T) (root : ℕ) → s.slots ≡ [] → IsTree s zero root
-IsTree-none s root empty = record {
-  shaped = tt;
-  once = λ k. let absent : here s k ≡ 0 =
-      rw empty refl in omega (
-        arith,
-        absent,
-        ap (occurrences k) (used_none s root),
-        occurrences-nil k,
-      );
-  len = let nothing : node_count s ≡ 0 =
-      rw empty refl in omega (arith, nothing, ap length (used_none s root));
-}
+IsTree-none s root empty = grind (arith, occurrences, used_none, occurrences-nil)
 
 -- an empty tree has no node
 pub nothing_stored : {T : Type 0} {s : Heap T} (levels : ℕ) {root : ℕ} → levels ≡ 0

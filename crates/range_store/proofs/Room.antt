@@ -18,15 +18,11 @@ sizes s d ns = sum_by length (map (items_below s d) ns)
 
 pub sizes-append : {T : Type 0} (s : Heap T) (d : ℕ) (us vs : List ℕ)
     → sizes s d (us ++ vs) ≡ sizes s d us + sizes s d vs
-sizes-append {T} s d us vs =
-    ap (sum_by length) (map-append (items_below s d) us vs)
-    ∙ sum_by-append (length {A = T}) (map (items_below s d) us) (map (items_below s d) vs)
+sizes-append {T} s d us vs = grind (arith, map-append, sum_by-append)
 
 pub items_below_size : {T : Type 0} {least most : ℕ} {s : Heap T} {d n : ℕ}
     → ShapedBut least most s d n → length (items_below s (suc d) n) ≡ length (node_items s n) + sizes s d (node_children s n)
-items_below_size {T} {least} {most} {s} {d} {n} shaped = ap length (weave_items_below s d n)
-    ∙ length-weave (node_items s n) (child_lists s d n) (child_count_cases d _ _
-    (length-map (node_children s n) (items_below s d) ∙ shaped.node.branches))
+items_below_size {T} {least} {most} {s} {d} {n} shaped = grind (arith, weave_items_below, length-weave, child_count_cases, length-map)
 
 children_le_from : {T : Type 0} (s : Heap T) (d : ℕ)
     → ((n : ℕ) → Shaped s d n → MIN_LEN * length (used s d n) ≤ length (items_below s d n))
@@ -73,32 +69,17 @@ HasTreeRoom-child {T} {most} {s} {d} {n} i {more} inner within shaped room =
     ≡ sizes s d (take i ks) + (length (items_below s d kid) + sizes s d (drop (i + 1) ks)) =
     ap (sizes s d) three ∙ sizes-append s d (take i ks) (kid ∷ drop (i + 1) ks)
     ∙ ap (λ m. sizes s d (take i ks) + m)
-    (sum_by-cons (length {A = T}) (items_below s d kid)
-    (map (items_below s d) (drop (i + 1) ks))) in
+    (simp sum_by-cons) in
     let used_all : length (flat_map (used s d) ks)
     ≡ length (flat_map (used s d) (take i ks)) +
     (length (used s d kid) + length (flat_map (used s d) (drop (i + 1) ks))) =
-    ap (λ zs. length (flat_map (used s d) zs)) three
-    ∙ ap length (flat_map-append (used s d) (take i ks) (kid ∷ drop (i + 1) ks))
-    ∙ length-append (flat_map (used s d) (take i ks))
-    (used s d kid ++ flat_map (used s d) (drop (i + 1) ks))
-    ∙ ap (λ m. length (flat_map (used s d) (take i ks)) + m)
-    (length-append (used s d kid) (flat_map (used s d) (drop (i + 1) ks))) in
+    grind (arith, flat_map-append, length-append) in
     let lefts = children_le s d (take i ks) (All-take (Shaped s d) i ks shaped.children) in
     let rights =
     children_le s d (drop (i + 1) ks) (All-drop (Shaped s d) (i + 1) ks shaped.children) in
     let kept : MIN_LEN * node_count s + (length (items_below s d kid) + more) + 1
     ≤ MIN_LEN * s.capacity + MIN_LEN * length (used s d kid) + MIN_LEN =
-    omega (
-      arith,
-      room.few,
-      ap length (used_is s d n),
-      items_below_size shaped,
-      sizes_all,
-      used_all,
-      lefts,
-      rights,
-    ) in
+    omega (arith, ap length (used_is s d n), items_below_size) in
     record {
       filled = kept;
       few = few_from d kid kept (shaped.children i 0 (omega (arith, many))) inner;

@@ -25,16 +25,7 @@ use Rattle.range_store.proofs.Seats.{seat_written}
 Stores-here : {T : Type 0} {s t : Heap T} {n : ℕ} {xs : List T} {ks : List ℕ} → Stores s t n xs ks
     → (k : ℕ) → here t k ≡ here s k + occurrences k (n ∷ [])
 Stores-here {T} {s} {t} {n} stored k =
-    elim (cases_eq k n) [
-      | inl same ↦
-          let now : here t n ≡ 1 = here_some t n stored.present in
-          let was : here s n ≡ 0 = rw stored.fresh refl in
-          rw same (omega (arith, now, was, occurrences_itself n))
-      | inr other ↦
-          let none : occurrences k (n ∷ []) ≡ 0 = occurrences_other k n (λ e. other (sym e)) in
-          let kept : here t k ≡ here s k = rw (stored.others k other) refl in
-          omega (arith, none, kept)
-    ]
+    grind (arith, cases_eq, here_some, occurrences_itself, occurrences, occurrences_other)
 
 pub first_tree : {T : Type 0} {s t : Heap T} (levels : ℕ) {root n : ℕ} (item : T) → levels ≡ 0
     → IsTree s levels root → Stores s t n (item ∷ []) [] → IsTree t 1 n ×
@@ -43,16 +34,7 @@ first_tree {T} {s} {t} (suc d) {root} {n} item none tree stored = absurd (omega 
 first_tree {T} {s} {t} zero {root} {n} item none tree stored =
     let childless : length (node_children t n) ≡ 0 = ap length stored.children_are in
     let whole : IsTree t 1 n = record {
-      shaped = record {
-        node =
-            record {
-              present = stored.present;
-              enough = omega (arith, ap length stored.items_are);
-              fits = omega (arith, ap length stored.items_are);
-              branches = childless;
-            };
-        children = rw stored.children_are (All-nil (Shaped t zero));
-      };
+      shaped = grind (arith, All-nil);
       once =
           λ k.
           omega (
@@ -63,14 +45,7 @@ first_tree {T} {s} {t} zero {root} {n} item none tree stored =
             ap (occurrences k) (used_none s root),
             occurrences-nil k,
           );
-      len =
-          omega (
-            arith,
-            ap length (used_leaf t n childless),
-            stored.len,
-            tree.len,
-            ap length (used_none s root),
-          );
+      len = omega (arith, ap length (used_leaf t n childless), ap length (used_none s root));
     } in
     (whole, items_below_leaf t n childless ∙ stored.items_are)
 
@@ -79,12 +54,7 @@ pub one_more : {T : Type 0} (s : Heap T) (levels root : ℕ) → 0 < levels → 
     → 1 ≤ MIN_LEN * s.capacity - length (items_below s levels root)
     → HasTreeRoom s (suc (levels - 1)) root 1
 one_more s zero root some tree room = absurd (omega arith)
-one_more s (suc d) root some tree room =
-    let level : suc d - 1 ≡ d = omega arith in
-    rw level (record {
-      filled = omega (arith, tree.len, room);
-      few = omega (arith, tree.len, room, tree.shaped.node.enough);
-    })
+one_more s (suc d) root some tree room = grind arith
 
 module _ {T : Type 0} where
   -- a tree with this list
@@ -97,17 +67,7 @@ pub grown_whole : {T : Type 0} {s : Heap T} {levels root : ℕ} {list : List T} 
     → IsGrown s levels root list → len ≡ length list → length list ≤ MIN_LEN * s.capacity
     → length list ≤ MAX_LEN
     → IsRoomy s levels root × (len ≡ length (items_below s levels root)) × HasLevels len levels
-grown_whole {T} {s} {levels} {root} len grown many fits counted =
-    let all : len ≡ length (items_below s levels root) =
-    many ∙ ap length (sym grown.items_are) in (
-      record {
-        tree = grown.tree;
-        fits = omega (arith, all, many, fits);
-        counted = omega (arith, all, many, counted);
-      },
-      all,
-      rw all (has_levels grown.tree),
-    )
+grown_whole {T} {s} {levels} {root} len grown many fits counted = grind (arith, has_levels)
 
 module _ {T : Type 0} {s t : Heap T} {d root : ℕ} {list : List T} (tree : IsTree s (suc d) root)
     (step : Replaces s t d root None list) where
@@ -115,13 +75,7 @@ module _ {T : Type 0} {s t : Heap T} {d root : ℕ} {list : List T} (tree : IsTr
   whole = append-nil (used t (suc d) root)
 
   kept_tree : IsTree t (suc d) root
-  kept_tree =
-      record {
-        shaped = All-head (ShapedBut 1 CAPACITY t d) root []
-            (step.shape 1 (omega arith) tree.shaped.node.enough);
-        once = λ k. omega (arith, step.moved.owned k, tree.once k, ap (occurrences k) whole);
-        len = omega (arith, step.moved.len, tree.len, ap length whole);
-      }
+  kept_tree = grind (arith, All-head, occurrences, whole)
 
 pub kept_root : {T : Type 0} {s t : Heap T} (levels : ℕ) {root : ℕ} {list : List T} → 0 < levels
     → IsTree s levels root → Replaces s t (levels - 1) root None list → IsGrown t levels root list
@@ -138,8 +92,7 @@ pub kept_edge : {T : Type 0} (t : Heap T) (d root side : ℕ) (g : Edge)
     → IsSeat t (suc d) [] (root ∷ []) side g
     → IsEdge t d root g × (place t d root g ≡ seat_place t (suc d) [] (root ∷ []) side g)
 unfolding IsSeat seat_place
-kept_edge t d root side g seat = let first : side ≡ 0 =
-    omega (arith, seat.0) in (rw first at seat.1, rw first (omega arith))
+kept_edge t d root side g seat = grind arith
 
 module _ {T : Type 0} {s t u : Heap T} {d root n : ℕ} (split : Split T) {list : List T}
     (tree : IsTree s (suc d) root) (step : Replaces s t d root (Some split) list)
@@ -151,18 +104,13 @@ module _ {T : Type 0} {s t u : Heap T} {d root n : ℕ} (split : Split T) {list 
   once_before k = omega (arith, step.moved.owned k, tree.once k)
 
   agree : AgreeAt t u (flat_map (used t (suc d)) ts)
-  agree k among =
-      stored.others k (λ same.
-      let absent : here t k ≡ 0 =
-      rw (same, stored.fresh) refl in omega (arith, once_before k, absent))
+  agree k among = grind (arith, once_before)
 
   holds : Holds t u (suc d) n (split.middle ∷ []) ts
   holds = held_new stored agree
 
   ts_shaped : All (Shaped t (suc d)) ts
-  ts_shaped =
-      All-weaker (ShapedBut MIN_LEN CAPACITY t d) (Shaped t (suc d)) (λ k. Shaped-from_but t d k) ts
-      (step.shape MIN_LEN (omega arith) tt)
+  ts_shaped = grind (arith, All-weaker, Shaped-from_but)
 
   used_now : used u (suc (suc d)) n ≡ n ∷ flat_map (used t (suc d)) ts
   used_now = held_used holds
@@ -171,13 +119,7 @@ module _ {T : Type 0} {s t u : Heap T} {d root n : ℕ} (split : Split T) {list 
   taller_tree =
       record {
         shaped = held_shape holds 1 (omega arith) (omega arith) refl ts_shaped;
-        once = λ k. omega (
-          arith,
-          ap (occurrences k) used_now,
-          occurrences-cons k n (flat_map (used t (suc d)) ts),
-          once_before k,
-          Stores-here stored k,
-        );
+        once = λ k. grind (arith, ap (occurrences k) used_now, occurrences-cons, once_before, Stores-here);
         len = omega (arith, ap length used_now, stored.len, step.moved.len, tree.len);
       }
 
@@ -242,24 +184,4 @@ taller_room {T} {s} {t} (suc d) {root} split some room tree step' =
     used_le t (suc d) split.right
     (All-head (Shaped t (suc d)) split.right []
     (All-tail (Shaped t (suc d)) root (split.right ∷ []) shaped)) in
-    let both = length-append (used t (suc d) root) (used t (suc d) split.right ++ []) in
-    let nothing = ap length (append-nil (used t (suc d) split.right)) in
-    let long = ap length step.listed in
-    let woven =
-    length-append (items_below t (suc d) root)
-    (split.middle ∷ (items_below t (suc d) split.right ++ [])) in
-    let nothing' = ap length (append-nil (items_below t (suc d) split.right)) in
-    omega (
-      arith,
-      left,
-      right,
-      both,
-      nothing,
-      long,
-      woven,
-      nothing',
-      step.moved.len,
-      tree.len,
-      step.moved.capacity,
-      room,
-    )
+    grind (arith, length-append, append-nil)

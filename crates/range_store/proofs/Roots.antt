@@ -19,8 +19,7 @@ use Rattle.range_store.specs.Edges.{turn, inside, IsEdge, place}
 -- the items after one went below the root
 pub loosened_items : {T : Type 0} {s t : Heap T} (levels : ℕ) {root : ℕ} {list : List T}
     → 0 < levels → Shrinks s t (levels - 1) root list → items_below t levels root ≡ list
-loosened_items levels some step = let level : suc (levels - 1) ≡ levels = omega arith in rw level at
-    step.listed
+loosened_items levels some step = grind arith
 
 list_of_one : (ks : List ℕ) → length ks ≡ 1 → ks ≡ get_or ks 0 0 ∷ []
 list_of_one [] one = absurd (omega arith)
@@ -31,15 +30,7 @@ list_of_one (k ∷ j ∷ ks) one = absurd (omega arith)
 here_without : {T : Type 0} {s t : Heap T} {root : ℕ} → here s root ≡ 1 → Removes s t root → (k : ℕ)
     → here t k + occurrences k (root ∷ []) ≡ here s k
 here_without {T} {s} {t} {root} present gone k =
-    elim (cases_eq k root) [
-      | inl same ↦ let none : here t root ≡ 0 =
-          rw gone.gone refl in rw same (omega (arith, none, present, occurrences_itself root))
-      | inr other ↦
-          let none : occurrences k (root ∷ []) ≡ 0 =
-          occurrences_other k root (λ e. other (sym e)) in
-          let kept : here t k ≡ here s k = rw (gone.others k other) refl in
-          omega (arith, none, kept)
-    ]
+    grind (arith, cases_eq, occurrences_itself, occurrences, occurrences_other)
 
 -- a tree of one level that lost its last item
 pub empty_root_leaves_nothing : {T : Type 0} {s t : Heap T} (levels : ℕ) {root : ℕ} → levels ≡ 1
@@ -48,27 +39,7 @@ pub empty_root_leaves_nothing : {T : Type 0} {s t : Heap T} (levels : ℕ) {root
 empty_root_leaves_nothing {T} {s} {t} zero {root} one loose empty gone = absurd (omega arith)
 empty_root_leaves_nothing {T} {s} {t} (suc (suc d)) {root} one loose empty gone = absurd (omega arith)
 empty_root_leaves_nothing {T} {s} {t} (suc zero) {root} one loose empty gone =
-    let level : suc zero - 1 ≡ zero = omega arith in
-    let shaped = rw level at loose.shaped in
-    let alone = used_leaf s root shaped.node.branches in
-    let tree : IsTree t 0 0 = record {
-      shaped = tt;
-      once =
-          λ k.
-          omega (
-            arith,
-            loose.once k,
-            ap (occurrences k) alone,
-            here_without (here_some s root shaped.node.present) gone k,
-            ap (occurrences k) (used_none t 0),
-            occurrences-nil k,
-          );
-      len = omega (arith, gone.len, loose.len, ap length alone, ap length (used_none t 0));
-    } in (
-      tree,
-      items_below_none t 0 ∙ sym (nil_from_length (node_items s root) empty)
-          ∙ sym (items_below_leaf s root shaped.node.branches),
-    )
+    grind (arith, used_leaf, occurrences, here_without, here_some, used_none, occurrences-nil, items_below_none, nil_from_length, items_below_leaf)
 
 -- a taller tree whose root has one child alone
 module _ {T : Type 0} {s t : Heap T} {e root : ℕ} (loose : IsLooseTree s (suc (suc e)) root)
@@ -80,18 +51,12 @@ module _ {T : Type 0} {s t : Heap T} {e root : ℕ} (loose : IsLooseTree s (suc 
 
   occurs : (k : ℕ) → occurrences k (root ∷ [])
       + occurrences k (used s (suc e) (node_child s root 0)) ≡ here s k
-  occurs k = omega (
-    arith,
-    loose.once k,
-    ap (occurrences k) used_all,
-    occurrences-cons k root (used s (suc e) (node_child s root 0)),
-  )
+  occurs k = omega (arith, loose.once k, ap (occurrences k) used_all, occurrences-cons)
 
   agree : AgreeAt s t (used s (suc e) (node_child s root 0))
   agree k among = gone.others k (λ at.
       let itself : occurrences k (root ∷ []) ≡ 1 = rw (← at) (occurrences_itself k) in
-      let was : here s k ≡ 1 = rw at (here_some s root gone.was) in
-      omega (arith, occurs k, itself, was))
+      grind (arith, here_some, occurs))
 
 pub only_child_is_root : {T : Type 0} {s t : Heap T} (levels : ℕ) {root : ℕ} → levels ≢ 1
     → IsLooseTree s levels root → length (node_items s root) ≡ 0 → Removes s t root
@@ -121,13 +86,7 @@ only_child_is_root {T} {s} {t} (suc (suc e)) {root} more loose empty gone =
           );
       len = omega (arith, gone.len, loose.len, ap length (used_all loose one gone), ap length same.used_same);
     } in
-    let list : items_below t (suc e) kid ≡ items_below s (suc (suc e)) root =
-    same.items_below_same
-    ∙ sym (weave_items_below s (suc e) root ∙ ap (λ zs. weave zs (child_lists s (suc e) root))
-    (nil_from_length (node_items s root) empty)
-    ∙ ap (λ zs. weave [] (map (items_below s (suc e)) zs)) one
-    ∙ append-nil (items_below s (suc e) kid)) in
-    rw level (tree, list)
+    grind (arith, weave_items_below, nil_from_length, append-nil)
 
 -- an edge below the only child of the root
 pub lowered_edge : {T : Type 0} {s t : Heap T} (levels : ℕ) {root : ℕ} (g : Edge) → levels ≢ 1
@@ -150,10 +109,7 @@ lowered_edge {T} {s} {t} (suc (suc e)) {root} g more loose empty gone is' =
     let below : IsEdge s e kid (inside g) = rw first at (edge_inside s e root g is) in
     let same : SameEdge s t e kid (inside g) =
     same_edge s t e kid (inside g) (agree loose one gone) below in
-    let here' = rw first at (place_inside s e root g) in
-    let start : length (before (node_items s root) (map (items_below s (suc e)) ks) 0) ≡ 0 =
-    refl in
-    rw (level, lower) (same.edge below, omega (arith, same.place, here', start))
+    grind (arith, place_inside)
 
 pub tree_owned : {T : Type 0} {s : Heap T} {levels root : ℕ} → IsTree s levels root → (k : ℕ)
     → occurrences k (used s levels root) ≤ here s k

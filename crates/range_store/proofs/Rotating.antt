@@ -54,9 +54,7 @@ pub moved_path : (low leaf index : ℕ) (g e : Edge)
     → (low ≡ 0 → g ≡ record { leaf = leaf; path = 0; index = index })
     → (0 < low → inside g ≡ inside e) → e.path < 2 ^ 56 → g.path < 2 ^ 60
 moved_path zero leaf index g e at into small = rw (at refl) (omega arith)
-moved_path (suc low) leaf index g e at into small =
-    let same = ap (λ (x : Edge). x.path) (into (omega arith)) in
-    omega (arith, same, small)
+moved_path (suc low) leaf index g e at into small = grind arith
 
 module _ {T : Type 0} {s : Heap T} {low n j : ℕ} (levelled : IsLevelled s low n j) where
   abbrev l : ℕ
@@ -117,11 +115,7 @@ module _ {T : Type 0} {s : Heap T} {low n j : ℕ} (levelled : IsLevelled s low 
 
       written : Writes t u n (take j xs ++ (y ∷ drop (j + 1) xs))
           (take j ks ++ (l ∷ r ∷ drop (j + 2) ks))
-      written =
-          rw (
-            sym (set_parts xs j y levelled.within),
-            sym (pair_parts ks j (omega (arith, levelled.within, levelled.node.branches))),
-          ) shared.parent
+      written = grind (arith, set_parts, pair_parts)
 
       shrunk : Shrinks s u (suc low) n (items_below s (suc (suc low)) n)
       shrunk = levelled_shrinks x levelled here rejoined written
@@ -204,19 +198,7 @@ module _ {T : Type 0} {s : Heap T} {low n j : ℕ} (levelled : IsLevelled s low 
   kid_apart i low' same =
       let F = flat_map (used s (suc low)) ks in
       let inner = used_kid_le s (suc low) i ks n low' in
-      let itself : 0 < occurrences n (used s (suc low) (get_or ks i 0)) =
-      rw same (rw (used_is s low n)
-      (occurrences_here n (flat_map (used s low) (node_children s n)))) in
-      omega (
-        arith,
-        levelled.owned n,
-        ap (occurrences n) (used_is s (suc low) n),
-        occurrences-cons n n F,
-        occurrences_itself n,
-        here_le s n,
-        inner,
-        itself,
-      )
+      grind (arith, occurrences, used_is, occurrences_here, occurrences-cons, occurrences_itself, here_le)
 
   pub has_pair : HasPair s n j
   has_pair = record {
@@ -244,8 +226,7 @@ module _ {T : Type 0} {s : Heap T} {low n j : ℕ} (levelled : IsLevelled s low 
       × (0 < d → turn e ≡ seat_of d e)
   unfolding IsEdge
   edge_itself zero k e is = (
-    (λ _. let at : e ≡ record { leaf = k; path = e.path; index = e.index } = rw (← is.0) refl in at
-        ∙ ap (λ w. record { leaf = k; path = w; index = e.index }) is.1),
+    (λ _. let at : e ≡ record { leaf = k; path = e.path; index = e.index } = rw (← is.0) refl in grind arith),
     (λ some. absurd (omega arith)),
   )
   edge_itself (suc d) k e is = ((λ none. absurd (omega arith)), (λ _. refl))
@@ -263,22 +244,13 @@ module _ {T : Type 0} {s : Heap T} {low n j : ℕ} (levelled : IsLevelled s low 
         let fore : length (take (a - 1) lefts) ≡ a - 1 =
         length-take-le (a - 1) lefts (omega arith) in
         record {
-          first = rw (
-            take-append-le (a - 1) lefts more (omega arith),
-            one,
-            take_fewer low a b _ _ levelled.left.node.branches levelled.right.node.branches,
-          ) rotates.rotates.left;
+          first = grind (arith, take-append-le, one, take_fewer);
           second = rw (
             drop-append-add lefts more (a - 1 + 1) 0 (omega (arith, spare)),
             one,
             drop_fewer low a b _ _ levelled.left.node.branches levelled.right.node.branches,
           ) rotates.rotates.right;
-          middle = sym (
-              get_or_append_left lefts more rotates.up (a - 1) (omega (arith, spare))
-              ∙ ap (λ zs. get_or zs (a - 1) rotates.up) rotates.up_is
-              ∙ ap (λ m. get_or (take (a - 1) lefts ++ (rotates.up ∷ [])) m rotates.up) (sym fore)
-              ∙ item_behind (take (a - 1) lefts) rotates.up [] rotates.up
-              );
+          middle = grind (arith, get_or_append_left, item_behind);
           parent = rotates.rotates.parent;
           least = omega (arith, spare);
           most = omega (arith, levelled.left.node.fits);
@@ -327,8 +299,7 @@ module _ {T : Type 0} {s : Heap T} {low n j : ℕ} (levelled : IsLevelled s low 
             next,
             drop_children low a b _ _ levelled.left.node.branches levelled.right.node.branches,
           ) rotates.rotates.right;
-          middle = sym (get_or-append-add lefts more 1 rotates.up
-              ∙ ap (λ zs. get_or zs 0 rotates.up) rotates.up_is);
+          middle = grind (arith, get_or-append-add);
           parent = rotates.rotates.parent;
           least = omega (arith, levelled.left.node.enough);
           most = omega (arith, spare, levelled.fits);

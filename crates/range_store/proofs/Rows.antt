@@ -31,21 +31,11 @@ module _ {T : Type 0} where
   -- a row past the cells has no item
   module _ {many : ℕ} {cells : List (Option T)} (rows : IsRows many cells) (n : ℕ) where
     cells_past : rows.there ≤ n → cells_of cells n ≡ []
-    cells_past past =
-        ap (take CAPACITY)
-        (drop_all (CAPACITY * n) cells (omega (arith, past, rows.cells_are)))
+    cells_past past = grind (arith, drop_all)
 
     module _ (less : n < many) {i : ℕ} (within : i < length (row_of (rows_in many cells) n)) where
       row_there : n < rows.there
-      row_there =
-          elim (cases_lt n rows.there) [
-            | inl less ↦ less
-            | inr past ↦
-                let none : length (row_of (rows_in many cells) n) ≡ 0 =
-                ap length (rows_read many cells n less
-                ∙ ap items_in (cells_past (omega (arith, past)))) in
-                absurd (omega (arith, none, within))
-          ]
+      row_there = grind (arith, cases_lt, rows_read, cells_past)
 
       -- what a row with an item holds
       pub row_held : HoldsItems (cells_of cells n) (row_of (rows_in many cells) n)
@@ -78,37 +68,16 @@ module _ {T : Type 0} where
   module _ {many : ℕ} {cells new : List (Option T)} (rows : IsRows many cells) {n : ℕ}
       (within : n < many) {items : List T} (rewrites : Rewrites cells new n items) where
     held_anew : (m : ℕ) → m < rows.there → HoldsItems (cells_of new m) (items_in (cells_of new m))
-    held_anew m within =
-        elim (cases_eq m n) [
-          | inl same ↦
-              rw same (rw (items_held rewrites.here) rewrites.here)
-          | inr other ↦ rw (rewrites.others m other) (rows.held m within)
-        ]
+    held_anew m within = grind (arith, cases_eq, items_held)
 
     row_written : IsRowWritten many cells new n items
     row_written =
         let long = length-rows many cells in
         record {
-          rows = record {
-            there = rows.there;
-            few = rows.few;
-            cells_are = rewrites.len ∙ rows.cells_are;
-            held = held_anew;
-          };
+          rows = grind (arith, held_anew);
           is = ext_get_or [] (rows_in many new) (set (rows_in many cells) n items)
               (length-rows many new ∙ sym (length-set (rows_in many cells) n items ∙ long))
-              (λ m below.
-              let less : m < many = omega (arith, length-rows many new) in
-              elim (cases_eq m n) [
-                | inl same ↦
-                    rw same (rows_read many new n within
-                    ∙ items_held rewrites.here
-                    ∙ sym (get_or-set_same (rows_in many cells) n items [] (omega (arith, long))))
-                | inr other ↦
-                    rows_read many new m less ∙ ap items_in (rewrites.others m other)
-                    ∙ sym (rows_read many cells m less)
-                    ∙ sym (get_or-set_other (rows_in many cells) n m items [] other)
-              ]);
+              (grind (arith, length-rows, cases_eq, rows_read, items_held, get_or-set_same, get_or-set_other));
           len = rewrites.len;
         }
 
@@ -123,8 +92,7 @@ module _ {T : Type 0} where
       let start : length front ≡ CAPACITY * n =
       length-take-le (CAPACITY * n) cells (omega (arith, within)) in
       let here : cells_of (put_mid (CAPACITY * n) CAPACITY cells part) n ≡ part =
-      ap (take CAPACITY) (drop_at front (part ++ back) (CAPACITY * n) start)
-      ∙ take_at part back CAPACITY long in
+      simp (drop_at, take_at) in
       record {
         len = omega (
           arith,
@@ -138,8 +106,7 @@ module _ {T : Type 0} where
         others = λ m other.
             elim (cases_lt m n) [
               | inl less ↦
-                  sym (drop-take (CAPACITY * m) CAPACITY
-                  (put_mid (CAPACITY * n) CAPACITY cells part))
+                  sym (grind (arith, drop-take))
                   ∙ ap (drop (CAPACITY * m))
                   (take-put_mid_below (CAPACITY * n) CAPACITY cells part
                   (CAPACITY * m + CAPACITY) (omega arith) (omega (arith, within)))
@@ -179,8 +146,7 @@ module _ {T : Type 0} where
       let cell : Option T = Some item in
       let less : i < CAPACITY = omega (arith, holds.fits) in
       let here : cells_of (set cells (CAPACITY * n + i) cell) n ≡ set (cells_of cells n) i cell =
-      ap (take CAPACITY) (drop-set-add (CAPACITY * n) cells i cell)
-      ∙ take_set CAPACITY (drop (CAPACITY * n) cells) i cell in
+      grind (arith, drop-set-add, take_set) in
       record {
         len = length-set cells (CAPACITY * n + i) cell;
         others = λ m other.
@@ -188,12 +154,10 @@ module _ {T : Type 0} where
               | inl before ↦
                   sym (drop-take (CAPACITY * m) CAPACITY (set cells (CAPACITY * n + i) cell))
                   ∙ ap (drop (CAPACITY * m))
-                  (take-set-le (CAPACITY * m + CAPACITY) cells (CAPACITY * n + i) cell
-                  (omega arith))
+                  (grind (arith, take-set-le))
                   ∙ drop-take (CAPACITY * m) CAPACITY cells
               | inr past ↦
-                  ap (take CAPACITY)
-                  (drop-set-lt (CAPACITY * m) cells (CAPACITY * n + i) cell (omega arith))
+                  grind (arith, drop-set-lt)
             ];
         here = rw here (held_set i item holds within);
       }
@@ -215,9 +179,7 @@ module _ {T : Type 0} where
     topped = cells ++ replicate missing None
 
     length-topped : length topped ≡ length cells + missing
-    length-topped =
-        length-append cells (replicate missing None)
-        ∙ ap (λ k. length cells + k) (length-replicate {A = Option T} missing None)
+    length-topped = grind (arith, length-append, length-replicate)
 
     pub topped_room : CAPACITY * n + CAPACITY ≤ length topped
     topped_room = omega (arith, length-topped)
@@ -225,8 +187,7 @@ module _ {T : Type 0} where
     old_cells : (m : ℕ) → m < rows.there → cells_of topped m ≡ cells_of cells m
     old_cells m less =
         sym (drop-take (CAPACITY * m) CAPACITY topped)
-        ∙ ap (drop (CAPACITY * m)) (take-append-le (CAPACITY * m + CAPACITY) cells
-        (replicate missing None) (omega (arith, rows.cells_are, less)))
+        ∙ ap (drop (CAPACITY * m)) (grind (arith, take-append-le))
         ∙ drop-take (CAPACITY * m) CAPACITY cells
 
     new_cells : (m : ℕ) → rows.there ≤ m → m ≤ n → cells_of topped m ≡ replicate CAPACITY None
@@ -234,9 +195,7 @@ module _ {T : Type 0} where
         let skipped = CAPACITY * m - length cells in
         let front = cells ++ replicate skipped None in
         let parts : topped ≡ front ++ replicate (missing - skipped) None =
-        ap (λ zs. cells ++ zs) (ap (λ k. replicate k None) (omega (arith, rows.cells_are, past, least))
-        ∙ sym (replicate-append-replicate skipped (missing - skipped) None))
-        ∙ sym (append_assoc cells (replicate skipped None) (replicate (missing - skipped) None)) in
+        grind (arith, replicate-append-replicate, append_assoc) in
         let long : length front ≡ CAPACITY * m =
         omega (
           arith,
@@ -253,31 +212,18 @@ module _ {T : Type 0} where
     topped_rows =
         elim (cases_lt n rows.there) [
           | inl less ↦
-              let none : missing ≡ 0 = omega (arith, rows.cells_are, less) in
-              let same : topped ≡ cells =
-              ap (λ k. cells ++ replicate k None) none ∙ append-nil cells in
-              rw same rows
+              grind (arith, append-nil)
           | inr past ↦ record {
             there = suc n;
             few = omega (arith, within);
             cells_are = omega (arith, length-topped, rows.cells_are, past);
             held = λ m least.
-                elim (cases_lt m rows.there) [
-                  | inl less ↦ rw (old_cells m less) (rows.held m less)
-                  | inr new ↦ rw (new_cells m (omega (arith, new)) (omega (arith, least))) held_none
-                ];
+                grind (arith, cases_lt, old_cells, new_cells, held_none);
           }
         ]
 
     none_new : (m : ℕ) → rows.there ≤ m → items_in (cells_of topped m) ≡ []
-    none_new m past =
-        elim (cases_lt n m) [
-          | inl after ↦
-              ap (λ cs. items_in (take CAPACITY cs))
-              (drop_all (CAPACITY * m) topped
-              (omega (arith, length-topped, rows.cells_are, past, after)))
-          | inr least ↦ ap items_in (new_cells m past (omega (arith, least)))
-        ]
+    none_new m past = grind (arith, cases_lt, drop_all, length-topped, new_cells)
 
     pub topped_same : rows_in many topped ≡ rows_in many cells
     topped_same =
@@ -313,23 +259,14 @@ module _ {T : Type 0} where
                 | inl new ↦
                     rows_read more cells n new
                     ∙ ap items_in (cells_past rows n (omega (arith, past, rows.few)))
-                    ∙ sym (get_or_past (rows_in many cells) n []
-                    (omega (arith, length-rows many cells, past)))
+                    ∙ sym (grind (arith, get_or_past, length-rows))
                 | inr other ↦
-                    get_or_past (rows_in more cells) n []
-                    (omega (arith, length-rows more cells, other))
-                    ∙ sym (get_or_past (rows_in many cells) n []
-                    (omega (arith, length-rows many cells, past)))
+                    grind (arith, get_or_past, length-rows)
               ]
         ]
 
   pub no_rows : (many : ℕ) (cells : List (Option T)) → many ≡ 0 → cells ≡ [] → IsRows many cells
-  no_rows many cells none empty = record {
-    there = 0;
-    few = omega arith;
-    cells_are = ap length empty;
-    held = λ n within. absurd (omega (arith, within));
-  }
+  no_rows many cells none empty = grind arith
 
   pub rows_none : (cells : List (Option T)) → rows_in 0 cells ≡ []
   unfolding rows_in

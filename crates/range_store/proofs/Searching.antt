@@ -15,26 +15,7 @@ module _ {T : Type 0} (p : T → Bool) where
   count-rest_of xs [] same = omega arith
   count-rest_of [] (j ∷ ks) same = absurd (omega arith)
   count-rest_of (x ∷ xs) (j ∷ ks) same =
-      let later = count-rest_of xs ks (omega arith) in
-      let both = count-append p j (rest_of xs ks) in
-      elim (true_or_false p (p x)) [
-        | inl holds ↦
-            omega (
-              arith,
-              count-yes p x xs holds,
-              count-yes p x (j ++ rest_of xs ks) holds,
-              both,
-              later,
-            )
-        | inr fails ↦
-            omega (
-              arith,
-              count-no p x xs fails,
-              count-no p x (j ++ rest_of xs ks) fails,
-              both,
-              later,
-            )
-      ]
+      grind (arith, count-append, true_or_false, count-yes, count-no, count-rest_of xs ks (omega arith))
 
   falls_rest_of : (xs : List T) (ks : List (List T)) → length ks ≡ length xs
       → Falls p (rest_of xs ks) → Falls p xs
@@ -42,13 +23,7 @@ module _ {T : Type 0} (p : T → Bool) where
   falls_rest_of xs [] same falls = falls
   falls_rest_of [] (j ∷ ks) same falls = absurd (omega arith)
   falls_rest_of (x ∷ xs) (j ∷ ks) same falls = (
-    (λ fails.
-        omega (
-          arith,
-          falls.0 fails,
-          count-append p j (rest_of xs ks),
-          count-rest_of xs ks (omega arith),
-        )),
+    (grind (arith, count-append, count-rest_of)),
     falls_rest_of xs ks (omega arith) (falls_parts p j (rest_of xs ks) falls.1).back,
   )
 
@@ -72,51 +47,7 @@ module _ {T : Type 0} (p : T → Bool) where
   count-weave (x ∷ xs) (k ∷ j ∷ ks) many falls =
       let tail = weave xs (j ∷ ks) in
       let parts = falls_parts p k (x ∷ tail) falls in
-      let whole = count-append p k (x ∷ tail) in
-      elim (true_or_false p (p x)) [
-        | inl holds ↦
-            let later = count-weave xs (j ∷ ks) (omega arith) parts.back.1 in
-            let one = count-yes p x xs holds in
-            let one' = count-yes p x tail holds in
-            let step : count_by p (x ∷ xs) ≡ suc (count_by p xs) = omega (arith, one) in
-            let front = length-append (k ++ x ∷ []) (before xs (j ∷ ks) (count_by p xs)) in
-            let front' = length-append k (x ∷ []) in
-            let most = count_by-le-length p k in
-            let here : length (before (x ∷ xs) (k ∷ j ∷ ks) (suc (count_by p xs)))
-            ≡ length ((k ++ x ∷ []) ++ before xs (j ∷ ks) (count_by p xs)) = refl in
-            let split : count_by p (weave (x ∷ xs) (k ∷ j ∷ ks)) ≡ count_by p (k ++ x ∷ tail) =
-            refl in
-            let next : count_by p (get_or (k ∷ j ∷ ks) (suc (count_by p xs)) [])
-            ≡ count_by p (get_or (j ∷ ks) (count_by p xs) []) = refl in
-            elim (cases_lt (count_by p k) (length k)) [
-              | inl less ↦ absurd (omega (arith, parts.none less, one'))
-              | inr full ↦
-                  rw step
-                  (omega (
-                    arith,
-                    whole,
-                    one',
-                    later,
-                    front,
-                    front',
-                    full,
-                    most,
-                    here,
-                    split,
-                    next,
-                  ))
-            ]
-        | inr fails ↦
-            let none = parts.back.0 fails in
-            let low = count-rest_of xs ks (omega arith) in
-            let tail_count = count-append p j (rest_of xs ks) in
-            let zero_here = count-no p x xs fails in
-            let zero_tail = count-no p x tail fails in
-            let step : count_by p (x ∷ xs) ≡ 0 = omega (arith, none, low, tail_count, zero_here) in
-            let split : count_by p (weave (x ∷ xs) (k ∷ j ∷ ks)) ≡ count_by p (k ++ x ∷ tail) =
-            refl in
-            rw step (omega (arith, whole, zero_tail, none, split))
-      ]
+      grind (arith, count-append, true_or_false, count-yes, length-append, count_by-le-length, cases_lt, count-rest_of, count-no, count-weave xs (j ∷ ks) (omega arith) parts.back.1)
 
 pub fits_weave : {T : Type 0} (s : Heap T) (d n : ℕ)
     → length (node_children s n) ≡ child_count d (length (node_items s n))
@@ -128,20 +59,14 @@ fits_weave s d n branches =
 module _ {T : Type 0} (p : T → Bool) {least most : ℕ} {s : Heap T} {d n : ℕ}
     (shaped : ShapedBut least most s d n) where
   pub node_falls : Falls p (items_below s (suc d) n) → Falls p (node_items s n)
-  node_falls falls =
-      falls_weave p (node_items s n) (child_lists s d n)
-      (fits_weave s d n shaped.node.branches) (rw weave_items_below at falls)
+  node_falls falls = grind (arith, falls_weave, fits_weave, weave_items_below)
 
   module _ (inner : 0 < d) (i : ℕ) (within : i ≤ length (node_items s n)) where
     pub kid_falls : Falls p (items_below s (suc d) n) → Falls p (items_below s d (node_child s n i))
     kid_falls falls =
         let lists = child_lists s d n in
         let whole = items_below_at inner shaped i within in
-        let first =
-        falls_parts p (before (node_items s n) lists i) (items_below s d (node_child s n i)
-        ++ after (node_items s n) lists i) (rw whole at falls) in
-        (falls_parts p (items_below s d (node_child s n i))
-        (after (node_items s n) lists i) first.back).front
+        grind (arith, falls_parts)
 
   pub search_step : 0 < d → Falls p (items_below s (suc d) n)
       → count_by p (items_below s (suc d) n) ≡ length (before_child s d n
@@ -154,5 +79,4 @@ module _ {T : Type 0} (p : T → Bool) {least most : ℕ} {s : Heap T} {d n : �
       let many = children_length inner shaped in
       let main = count-weave p xs (map (items_below s d) ks) (lists_length inner shaped)
       (rw weave_items_below at falls) in
-      let kid = get_or-map (items_below s d) ks (count_by p xs) 0 [] (omega (arith, many)) in
-      omega (arith, ap (count_by p) (weave_items_below s d n), main, ap (count_by p) kid)
+      grind (arith, get_or-map, weave_items_below)

@@ -27,16 +27,7 @@ module _ {T : Type 0} (s t : Heap T) (n : ℕ) (xs : List T) (ks : List ℕ) (i 
   seat_written (suc d) holds agree leaf at within seat =
       let kid =
       same_edge s t d (get_or ks i 0) g (agree_kid s t (suc d) i ks agree seat.0) seat.1 in
-      rw (
-        at (omega arith),
-        within (omega arith),
-        holds.items_are,
-        holds.children_are,
-        holds.same.items_below_same,
-      ) (
-        (seat.0, kid.edge seat.1),
-        ap (λ m. length (before xs (map (items_below s (suc d)) ks) i) + m) kid.place,
-      )
+      grind arith
 
 pub seat_small : {T : Type 0} (s : Heap T) (d : ℕ) (xs : List T) (ks : List ℕ) (i : ℕ) (g : Edge)
     → length ks ≡ child_count d (length xs) → IsSeat s d xs ks i g → i ≤ length xs
@@ -68,27 +59,7 @@ module _ {T : Type 0} (s : Heap T) (half : ℕ) (xs : List T) (ks : List ℕ) (i
   seat_left zero branches small seat =
       (omega (arith, small, length-take-le half xs (omega arith)), refl)
   seat_left (suc d) branches small seat =
-      let lists = map (items_below s (suc d)) ks in
-      let kid : get_or (take (half + 1) ks) i 0 ≡ get_or ks i 0 =
-      get_or-take (half + 1) ks i 0 (omega arith) in
-      let many : length lists ≡ length xs + 1 = length-map ks (items_below s (suc d)) ∙ branches in
-      let first =
-      length-before (take half xs) (take (half + 1) lists) i
-      (omega (arith, length-take-le half xs (omega arith)))
-      (omega (arith, length-take-le (half + 1) lists (omega (arith, many)))) in
-      let all = length-before xs lists i (omega arith) (omega (arith, many)) in
-      let same : take i (take (half + 1) lists) ≡ take i lists =
-      take-take i (half + 1) lists (omega arith) in
-      let front : length (before (take half xs)
-      (map (items_below s (suc d)) (take (half + 1) ks)) i)
-      ≡ length (before xs lists i) =
-      rw (lists_take (suc d)) (first ∙ ap (λ zs. i + sum_by length zs) same ∙ sym all) in (
-        (
-          omega (arith, small, length-take-le (half + 1) ks (omega (arith, branches))),
-          rw kid seat.1,
-        ),
-        rw (kid, front) refl,
-      )
+      grind (arith, get_or-take, length-map, length-before, length-take-le, take-take, lists_take)
 
   -- or in the second part
   pub seat_right : (d : ℕ) → length ks ≡ child_count d (length xs) → half < i → IsSeat s d xs ks i g
@@ -97,46 +68,9 @@ module _ {T : Type 0} (s : Heap T) (half : ℕ) (xs : List T) (ks : List ℕ) (i
       s d (drop (half + 1) xs) (drop (half + 1) ks) (i - half - 1) g ≡ seat_place s d xs ks i g)
   unfolding IsSeat seat_place
   seat_right zero branches large seat =
-      let none : take (half + 1) ks ≡ [] =
-      ap (take (half + 1)) (nil_from_length ks branches)
-      ∙ take_all (half + 1) [] (omega arith) in (
-        omega (arith, seat, length-drop (half + 1) xs),
-        rw none (omega (arith, length-take-le half xs (omega arith))),
-      )
+      grind (arith, nil_from_length, take_all, length-drop, length-take-le)
   seat_right (suc d) branches large seat =
-      let j = i - half - 1 in
-      let at : half + 1 + j ≡ i = omega arith in
-      let lists = map (items_below s (suc d)) ks in
-      let many : length lists ≡ length xs + 1 = length-map ks (items_below s (suc d)) ∙ branches in
-      let kid : get_or (drop (half + 1) ks) j 0 ≡ get_or ks i 0 =
-      get_or-drop (half + 1) ks j 0 ∙ ap (λ m. get_or ks m 0) at in
-      let second =
-      length-before (drop (half + 1) xs) (drop (half + 1) lists) j
-      (omega (arith, length-drop (half + 1) xs, seat.0, branches))
-      (omega (arith, length-drop (half + 1) lists, many, seat.0, branches)) in
-      let all =
-      length-before xs lists i (omega (arith, seat.0, branches))
-      (omega (arith, many, seat.0, branches)) in
-      let parted : take i lists ≡ take (half + 1) lists ++ take j (drop (half + 1) lists) =
-      ap (λ m. take m lists) (sym at) ∙ take-add (half + 1) j lists in
-      let sums : sum_by length (take i lists)
-      ≡ sum_by length (take (half + 1) lists) + sum_by length
-      (take j (drop (half + 1) lists)) =
-      ap (sum_by length) parted
-      ∙ sum_by-append (length {A = T}) (take (half + 1) lists)
-      (take j (drop (half + 1) lists)) in
-      let left =
-      length-weave (take half xs) (take (half + 1) lists)
-      (inr
-      (omega (
-        arith,
-        length-take-le half xs (omega arith),
-        length-take-le (half + 1) lists (omega (arith, many, low)),
-      ))) in (
-        (omega (arith, length-drop (half + 1) ks, seat.0), rw kid seat.1),
-        rw (kid, lists_take (suc d), lists_drop (suc d))
-            (omega (arith, second, all, sums, left, length-take-le half xs (omega arith))),
-      )
+      grind (arith, length-map, get_or-drop, length-before, length-drop, take-add, sum_by-append, length-weave, length-take-le, lists_take, lists_drop)
 
 -- an edge below a node, or below the one after it, among the two
 module _ {T : Type 0} (s : Heap T) (d n : ℕ) (g : Edge) where
@@ -154,11 +88,7 @@ module _ {T : Type 0} (s : Heap T) (d n : ℕ) (g : Edge) where
   unfolding IsSeat seat_place
   seat_beside split is = (
     (omega arith, is),
-    omega (
-      arith,
-      length-append (items_below s (suc d) n ++ (split.middle ∷ [])) [],
-      length-append (items_below s (suc d) n) (split.middle ∷ []),
-    ),
+    grind (arith, length-append),
   )
 
 -- an edge in a run of children, among all of them
@@ -173,8 +103,7 @@ module _ {T : Type 0} (s : Heap T) (d : ℕ) (us ts vs : List ℕ) (xs seps ys :
   seat_run seat =
       let f = items_below s (suc d) in
       let kid : get_or (us ++ (ts ++ vs)) (i + j) 0 ≡ get_or ts j 0 =
-      ap (λ m. get_or (us ++ (ts ++ vs)) (m + j) 0) (sym many)
-      ∙ get_or-append-add us (ts ++ vs) j 0 ∙ get_or_append_left ts vs 0 j seat.0 in
+      grind (arith, get_or-append-add, get_or_append_left) in
       let lists : map f (us ++ (ts ++ vs)) ≡ map f us ++ (map f ts ++ map f vs) =
       map-append f us (ts ++ vs) ∙ ap (λ zs. map f us ++ zs) (map-append f ts vs) in
       let us_many : length (map f us) ≡ i = length-map us f ∙ many in
@@ -190,14 +119,7 @@ module _ {T : Type 0} (s : Heap T) (d : ℕ) (us ts vs : List ℕ) (xs seps ys :
       ) in
       let all =
       length-before (xs ++ (seps ++ ys)) (map f us ++ (map f ts ++ map f vs)) (i + j)
-      (omega (
-        arith,
-        length-append xs (seps ++ ys),
-        length-append seps ys,
-        items,
-        seat.0,
-        more,
-      )) (omega (arith, whole, seat.0, more)) in
+      (grind (arith, length-append)) (omega (arith, whole, seat.0, more)) in
       let inner =
       length-before seps (map f ts) j (omega (arith, seat.0, more))
       (omega (arith, ts_many, seat.0, more)) in
@@ -206,16 +128,7 @@ module _ {T : Type 0} (s : Heap T) (d : ℕ) (us ts vs : List ℕ) (xs seps ys :
       take-append-add (map f us) (map f ts ++ map f vs) (i + j) j (omega (arith, us_many))
       ∙ ap (λ zs. map f us ++ zs)
       (take-append-le j (map f ts) (map f vs) (omega (arith, ts_many, seat.0, more))) in
-      let sums : sum_by length (take (i + j) (map f us ++ (map f ts ++ map f vs)))
-      ≡ sum_by length (map f us) + sum_by length (take j (map f ts)) =
-      ap (sum_by length) first
-      ∙ sum_by-append (length {A = T}) (map f us) (take j (map f ts)) in (
-        (
-          omega (arith, length-append us (ts ++ vs), length-append ts vs, many, seat.0),
-          rw kid seat.1,
-        ),
-        rw (kid, lists) (omega (arith, all, inner, sums)),
-      )
+      grind (arith, sum_by-append, length-append)
 
 pub seat_side : {T : Type 0} (s : Heap T) (d : ℕ) (xs : List T) (ks : List ℕ) (i : ℕ) (g : Edge)
     → IsSeat s (suc d) xs ks i g → i < length ks

@@ -24,26 +24,15 @@ quotient n k some = (n % k, omega arith, omega arith)
 others_fit : (others share left high : ℕ) → left ≤ others
     → (others + 1) * share + left + (others + 1) ≤ (others + 1) * high → share < high
     → others * share + left + others ≤ others * high
-others_fit others share left high few all fits =
-    elim (cases_lt (share + 1) high) [
-      | inl more ↦
-          let next : share + 2 ≤ high = omega (arith, more) in
-          omega (arith, few, mul-le-mul_left others next)
-      | inr full ↦ let same : high ≡ share + 1 = omega (arith, full, fits) in
-          omega (arith, ap (λ m. others * m) same, ap (λ m. (others + 1) * m) same, all)
-    ]
+others_fit others share left high few all fits = grind (arith, cases_lt, mul-le-mul_left)
 
 pub share_is : {rest : ℕ} (others : ℕ) {low high : ℕ} → CanBeShared rest (others + 1) low high
     → IsShare rest others low high (rest / (others + 1))
 share_is {rest} others {low} {high} can =
     let q = rest / (others + 1) in
     let parts = quotient rest (others + 1) (omega arith) in
-    let enough : low ≤ q =
-    le-div low rest (others + 1) (omega arith)
-    (omega (arith, can.enough, mul_comm low (others + 1))) in
-    let fits : q < high =
-    div_below rest (others + 1) high (omega arith)
-    (omega (arith, can.fits, mul_comm high (others + 1))) in
+    let enough : low ≤ q = grind (arith, le-div, mul_comm) in
+    let fits : q < high = grind (arith, div_below, mul_comm) in
     let left : rest - q ≡ others * q + parts.0 = omega (arith, parts.1) in
     record {
       enough = enough;
@@ -67,13 +56,7 @@ pub can_be_shared : (inner width many count : ℕ) → width ≡ inner * (CAPACI
     → CanBeShared (count - many) (many + 1) (MIN_LEN * inner) ((CAPACITY + 1) * inner)
 can_be_shared inner width many count is some more least most =
     let each = ap (λ m. many * m) is in
-    let all = ap (λ m. (many + 1) * m) is in
-    let one : 1 * inner ≤ many * inner = mul-le-mul_right inner more in
-    let each_one : many * 1 ≤ many * inner = mul-le-mul_left many some in
-    record {
-      enough = omega (arith, each, one, each_one, least);
-      fits = omega (arith, all, one, each_one, least, most, each);
-    }
+    grind (arith, mul-le-mul_right, mul-le-mul_left)
 
 -- how many items the node has
 pub record IsCut (width count many : ℕ) : Type 0 where
@@ -84,17 +67,7 @@ pub record IsCut (width count many : ℕ) : Type 0 where
 
 pub cut_is : (width count : ℕ) → 0 < width → width ≤ count → count < (CAPACITY + 1) * width
     → IsCut width count (count / width)
-cut_is width count some least most =
-    let m = count / width in
-    let parts = quotient count width some in
-    record {
-      some = le-div 1 count width some (omega (arith, least));
-      few =
-          let below : m < CAPACITY + 1 = div_below count width (CAPACITY + 1) some most in
-          omega (arith, below);
-      least = omega (arith, parts.1);
-      most = omega (arith, parts.1, parts.2);
-    }
+cut_is width count some least most = grind (arith, quotient, le-div, div_below)
 
 -- a child has as many items as a node needs that is not the root
 pub cut_enough : {inner share : ℕ} → 0 < inner → MIN_LEN * inner ≤ share → MIN_LEN ≤ share / inner
@@ -110,18 +83,13 @@ leaf_width {below = suc d} none is = absurd (omega arith)
 
 pub leaf_cut : {width below : ℕ} (count : ℕ) → below ≡ 0 → width ≡ (CAPACITY + 1) ^ below
     → count / width ≡ count
-leaf_cut count none is =
-    let one : count / 1 ≡ count = omega arith in
-    ap (λ m. count / m) (leaf_width none is) ∙ one
+leaf_cut count none is = grind (arith, leaf_width)
 
 pub inner_is : (width below : ℕ) → 0 < below → width ≡ (CAPACITY + 1) ^ below
     → (width / (CAPACITY + 1) ≡ (CAPACITY + 1) ^ (below - 1))
     × (width ≡ width / (CAPACITY + 1) * (CAPACITY + 1))
 inner_is width zero some is = absurd (omega arith)
-inner_is width (suc d) some is =
-    let level : suc d - 1 ≡ d = omega arith in
-    let power = pow-suc (CAPACITY + 1) d in
-    (rw level (omega (arith, is, power)), omega (arith, is, power))
+inner_is width (suc d) some is = grind (arith, pow-suc)
 
 -- a tree of one level more
 pub wider : (width below count : ℕ) → width ≡ (CAPACITY + 1) ^ below → below < width
@@ -130,12 +98,7 @@ pub wider : (width below count : ℕ) → width ≡ (CAPACITY + 1) ^ below → b
     × (below + 1 < width * (CAPACITY + 1)) × (width * (CAPACITY + 1) ≤ count)
 wider width below count is deep full =
     let next : below + 1 ≡ suc below = omega arith in
-    let parts = quotient count width (omega (arith, deep)) in
-    let more : CAPACITY + 1 ≤ count / width = omega (arith, full) in (
-      rw next (omega (arith, is, pow-suc (CAPACITY + 1) below)),
-      omega (arith, deep),
-      omega (arith, parts.1, mul-le-mul_left width more),
-    )
+    grind (arith, quotient, pow-suc, mul-le-mul_left)
 
 -- a node that is no leaf, over children of which each has fewer than 12 times `inner` items
 pub record IsBranch (width below count inner many : ℕ) : Type 0 where
@@ -149,21 +112,7 @@ pub branch_is : {width below count : ℕ} → 0 < below → width ≡ (CAPACITY 
     → width ≤ count → count < (CAPACITY + 1) * width
     → IsBranch width below count (width / (CAPACITY + 1)) (count / width)
 branch_is {width} {below} {count} some is least most =
-    let inner = inner_is width below some is in
-    let some_inner : 0 < width / (CAPACITY + 1) =
-    omega (arith, inner.0, one-le-pow (below - 1) (CAPACITY + 1) (omega arith)) in
-    let cut = cut_is width count (width_some width below is) least most in
-    let each : (count / width) * 1 ≤ (count / width) * width =
-    mul-le-mul_left (count / width) (width_some width below is) in
-    record {
-      inner_is = inner.0;
-      some = some_inner;
-      cut = cut;
-      within = omega (arith, each, cut.least);
-      can =
-          can_be_shared (width / (CAPACITY + 1)) width (count / width) count inner.1 some_inner
-          cut.some cut.least cut.most;
-    }
+    grind (arith, inner_is, one-le-pow, cut_is, width_some, mul-le-mul_left, can_be_shared)
 
 -- the share of the first child
 pub first_share : {width below count inner many : ℕ} → IsBranch width below count inner many →

@@ -40,8 +40,7 @@ module _ {T : Type 0} (s : Heap T) (low n i : ℕ) (m : MayBeRebalanced s low n 
       subst (All Present) (sym kids)
       (All-append Present (take i ks) (kid ∷ drop (i + 1) ks)
       (All-weaker P Present present_of (take i ks) m.before)
-      (All-cons Present kid (drop (i + 1) ks) m.child.node.present
-      (All-weaker P Present present_of (drop (i + 1) ks) m.behind)))
+      (grind (arith, All-cons, All-weaker, present_of)))
 
   pub stays_balanced : MIN_LEN ≤ length (node_items s kid)
       → Shrinks s s (suc low) n (items_below s (suc (suc low)) n)
@@ -52,24 +51,10 @@ module _ {T : Type 0} (s : Heap T) (low n i : ℕ) (m : MayBeRebalanced s low n 
       subst (All P) (sym kids)
       (All-append P (take i ks) (kid ∷ drop (i + 1) ks) m.before
       (All-cons P kid (drop (i + 1) ks) here m.behind)) in
-      record {
-        listed = refl;
-        moved = Moves-none s (used s (suc (suc low)) n);
-        shape = λ least more. record {
-          node =
-              record {
-                present = m.node.present;
-                enough = omega arith;
-                fits = m.node.fits;
-                branches = m.node.branches;
-              };
-          children = children;
-        };
-      }
+      grind (arith, Moves-none)
 
   loose : (c : ℕ) → Shaped s (suc low) c → ShapedBut (MIN_LEN - 1) CAPACITY s low c
-  loose c shaped = shaped_within_wider (MIN_LEN - 1) CAPACITY (omega arith) (omega arith)
-      (Shaped-but s low c shaped)
+  loose c shaped = grind (arith, shaped_within_wider, Shaped-but)
 
   with_behind : i < length xs → length (node_items s kid) < MIN_LEN → IsLevelled s low n i
   with_behind within short =
@@ -93,24 +78,7 @@ module _ {T : Type 0} (s : Heap T) (low n i : ℕ) (m : MayBeRebalanced s low n 
 
   with_before : (j : ℕ) → j + 1 ≡ i → length (node_items s kid) < MIN_LEN → IsLevelled s low n j
   with_before j next short =
-      let within : j < length xs = omega (arith, m.within) in
-      let last = rw (get_or-take i ks j 0 (omega arith)) at (m.before j 0 (omega (
-        arith,
-        length-take-le i ks (omega (arith, many, m.within)),
-      ))) in
-      let last' = Shaped-but s low (get_or ks j 0) last in
-      let far : i + 1 ≡ j + 2 = omega arith in
-      record {
-        node = m.node;
-        owned = m.owned;
-        within = within;
-        before = subst (All P) (take-take j i ks (omega arith)) (All-take P j (take i ks) m.before);
-        left = loose (get_or ks j 0) last;
-        right = rw next m.child;
-        behind = rw far at m.behind;
-        enough = rw next (omega (arith, m.child.node.enough, last'.node.enough));
-        fits = rw next (omega (arith, short, last'.node.fits));
-      }
+      grind (arith, get_or-take, length-take-le, many, Shaped-but, take-take, All-take, loose)
 
   pub pair_levelled : (j : ℕ) → j < length xs → (j ≡ i) ⊎ (j + 1 ≡ i)
       → length (node_items s kid) < MIN_LEN → IsLevelled s low n j

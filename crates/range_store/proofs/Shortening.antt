@@ -56,13 +56,7 @@ module _ {T : Type 0} {s t : Heap T} {b n i : ℕ} {list : List T}
   ks_parts = list_splits_at ks i 0 (omega (arith, many))
 
   kid_run : Runs s t b n us (kid ∷ []) vs (kid ∷ [])
-  kid_run =
-      record {
-        present = anew.shaped.node.present;
-        owned = anew.owned;
-        children = ks_parts;
-        moved = rw (append-nil (used s b kid), append-nil (used t b kid)) anew.moved;
-      }
+  kid_run = grind (arith, ks_parts, append-nil)
 
   pub kid_kept : node_of t n ≡ node_of s n
   kid_kept = run_kept kid_run
@@ -70,8 +64,7 @@ module _ {T : Type 0} {s t : Heap T} {b n i : ℕ} {list : List T}
   pub kid_moved : Moves s t (used s (suc b) n) (used t (suc b) n)
   kid_moved =
       let now : used t (suc b) n ≡ n ∷ flat_map (used t b) (us ++ (kid ∷ vs)) =
-      used_is t b n
-      ∙ ap (λ zs. n ∷ flat_map (used t b) zs) (ap children_of kid_kept ∙ ks_parts) in
+      grind (arith, used_is, kid_kept, ks_parts) in
       subst (λ zs. Moves s t (used s (suc b) n) zs) (sym now) (run_moved kid_run)
 
   pub kid_owned_after : Owned t (suc b) n
@@ -86,12 +79,7 @@ module _ {T : Type 0} {s t : Heap T} {b n i : ℕ} {list : List T}
       let R = map (items_below s b) vs in
       let woven =
       weave_splice (take i xs) [] (drop i xs) L (items_below t b kid) [] R
-      (omega (
-        arith,
-        length-take-le i xs anew.low,
-        length-take-le i ks (omega (arith, many)),
-        length-map us (items_below s b),
-      )) refl in
+      (grind (arith, length-take-le, many, length-map)) refl in
       let middle =
       ap (λ zs. front_of (take i xs) L ++ (zs ++ rest_of (drop i xs) R))
       (append-nil (items_below t b kid) ∙ anew.listed) in
@@ -112,18 +100,7 @@ module _ {T : Type 0} {s t : Heap T} {b n i : ℕ} {list : List T}
   kid_front =
       let same : map (items_below t b) us ≡ take i lists = (same_before kid_run).items_below_same
       ∙ sym (take-map (items_below s b) i ks) in
-      let first =
-      length-before xs (map (items_below t b) ks) i anew.low
-      (omega (arith, many, length-map ks (items_below t b))) in
-      let second =
-      length-before xs lists i anew.low (omega (arith, many, length-map ks (items_below s b))) in
-      rw kid_kept
-      (omega (
-        arith,
-        first,
-        second,
-        ap (sum_by length) (take-map (items_below t b) i ks ∙ same),
-      ))
+      grind (arith, length-before, many, length-map, kid_kept, take-map)
 
   pub kid_children : Shaped t b kid → All (Shaped t b) (node_children t n)
   kid_children shape =
@@ -146,14 +123,7 @@ module _ {T : Type 0} {s t : Heap T} {b n i : ℕ} {list : List T}
       anew.shaped.children) in
       let behind = (same_after kid_run).shaped_same
       (All-drop (Shaped s b) (i + 1) ks anew.shaped.children) in
-      record {
-        node = rw (← level) at node;
-        owned = rw (← level) at kid_owned_after;
-        within = rw kid_kept anew.low;
-        before = rw kid_kept (rw (← level) at before);
-        child = rw kid_kept short;
-        behind = rw kid_kept (rw (← level) at behind);
-      }
+      grind (arith, level, kid_owned_after, kid_kept)
 
 -- an item of a leaf goes
 pub leaf_shrinks : {T : Type 0} {s t : Heap T} {n : ℕ} (q : ℕ) → ShapedBut 1 CAPACITY s 0 n
@@ -161,37 +131,13 @@ pub leaf_shrinks : {T : Type 0} {s t : Heap T} {n : ℕ} (q : ℕ) → ShapedBut
     → Writes s t n (remove (node_items s n) q) (node_children s n)
     → Shrinks s t 0 n (remove (items_below s 1 n) q)
 leaf_shrinks {T} {s} {t} {n} q shaped owned within written =
-    let less = length-remove (node_items s n) q within in
-    let content = bare_content (remove (node_items s n) q) shaped owned in
-    let holds = written_holds t content written in
-    let none = nil_from_length (node_children s n) shaped.node.branches in
-    record {
-      listed = held_items_below holds
-          ∙ ap (λ zs. weave (remove (node_items s n) q) (map (items_below s 0) zs)) none
-          ∙ ap (λ zs. remove zs q) (sym (items_below_leaf s n shaped.node.branches));
-      moved = rw (used_is s 0 n, held_used holds)
-          (Writes-moves (flat_map (used s 0) (node_children s n)) written);
-      shape = λ least more. held_shape holds least (omega (arith, less, more)) (omega (
-        arith,
-        less,
-        shaped.node.fits,
-      )) shaped.node.branches shaped.children;
-    }
+    grind (arith, length-remove, bare_content, written_holds, nil_from_length, held_items_below, items_below_leaf, used_is, held_used, Writes-moves, held_shape)
 
 -- an item below a child went
 pub lists_shorter : {T : Type 0} {s t : Heap T} {b n i : ℕ} {list : List T} → b ≢ 0
     → ShapedBut 1 CAPACITY s b n → Owned s (suc b) n → i ≤ length (node_items s n)
     → Shrinks s t (b - 1) (node_child s n i) list → ListsAnew s t b n i list
-lists_shorter {T} {s} {t} {b} inner shaped owned low child =
-    let back : suc (b - 1) ≡ b = omega arith in
-    record {
-      inner = inner;
-      shaped = shaped;
-      owned = owned;
-      low = low;
-      listed = rw back at child.listed;
-      moved = rw back at child.moved;
-    }
+lists_shorter {T} {s} {t} {b} inner shaped owned low child = grind arith
 
 -- and the child was rebalanced
 pub shorter_child_shrinks_node : {T : Type 0} {s t u : Heap T} {b n i : ℕ} (q : ℕ)
@@ -207,8 +153,7 @@ shorter_child_shrinks_node {T} {s} {t} {u} {b} {n} {i} q anew within rebalanced 
     record {
       listed =
           (rw back at rebalanced.listed) ∙ (rw back at (kid_listed anew))
-          ∙ sym (remove_middle fore (items_below s b (node_child s n i))
-          (after (node_items s n) lists i) q within) ∙ ap (λ zs. remove zs (length fore + q))
+          ∙ sym (grind (arith, remove_middle)) ∙ ap (λ zs. remove zs (length fore + q))
           (sym (items_below_at (omega arith) anew.shaped i anew.low));
       moved = Moves-then (kid_moved anew) (rw back at rebalanced.moved);
       shape = λ least more. rw back at (rebalanced.shape least (rw kept more));

@@ -16,9 +16,7 @@ module _ {X : Type 0} where
 
   last_and_front : (xs : List X) (x : X) (n : ℕ) → length xs ≡ n + 1 → x ≡ get_or xs n x
       → xs ≡ take n xs ++ x ∷ []
-  last_and_front xs x n many is =
-      sym (take_all (n + 1) xs (omega (arith, many))) ∙ take_more xs n x (omega (arith, many))
-      ∙ ap (λ z. take n xs ++ z ∷ []) (sym is)
+  last_and_front xs x n many is = grind (arith, take_all, take_more)
 
 -- the children with the first of others at the end
 end_child : {X : Type 0} (below : ℕ) (xs : List X) (ks : List ℕ) (zs : List X) (ls : List ℕ)
@@ -27,26 +25,17 @@ end_child : {X : Type 0} (below : ℕ) (xs : List X) (ks : List ℕ) (zs : List 
 end_child zero xs ks zs [] many others = sym (append-nil ks)
 end_child zero xs ks zs (l ∷ ls) many others = absurd (omega (arith, others))
 end_child (suc below) xs ks zs [] many others = absurd (omega (arith, others))
-end_child (suc below) xs ks zs (l ∷ ls) many others = ap (λ k. insert ks k l) (sym many)
-    ∙ insert_end ks l
+end_child (suc below) xs ks zs (l ∷ ls) many others = grind (arith, insert_end)
 
 -- the children with the last of others at the front
 front_child : {X : Type 0} (below : ℕ) (ks : List ℕ) (zs : List X) (ls : List ℕ)
     → length ls ≡ child_count below (length zs) → with_child ks 0 (slice_get ls (length zs)) ≡ drop
     (length zs) ls ++ ks
-front_child zero ks zs ls others =
-    let none : ls ≡ [] = nil_from_length ls others in
-    rw (none, drop_all (length zs) (none_of ls) (omega arith)) refl
-  where
-    none_of : List ℕ → List ℕ
-    none_of _ = []
+front_child zero ks zs ls others = grind (arith, nil_from_length, drop_all)
 front_child (suc below) ks zs ls others =
     let at = get_or ls (length zs) 0 in
-    let some : slice_get ls (length zs) ≡ Some at = slice_get-get_or ls (length zs) 0
-    (omega (arith, others)) in
-    let one : drop (length zs) ls ≡ at ∷ [] = drop_more ls (length zs) 0 (omega (arith, others))
-    ∙ ap (λ rest. at ∷ rest) (drop_all (length zs + 1) ls (omega (arith, others))) in
-    rw (some, one) refl
+    let some : slice_get ls (length zs) ≡ Some at = grind (arith, slice_get-get_or) in
+    grind (arith, drop_more, drop_all)
 
 few_children : (below k m : ℕ) → m ≡ child_count below k → m ≤ k + 1
 few_children zero k m many = omega (arith, many)
@@ -57,11 +46,7 @@ module _ {T : Type 0} {s t u : Heap T} {n i : ℕ} (pair : HasPair s n i) (up : 
     (left_is : l ≡ node_child s n i) (right_is : r ≡ node_child s n (i + 1))
     (after : u ≡ with_item t n i up) {xs : List T} {ks : List ℕ} where
   pub left_kept : Writes s t r xs ks → node_of u l ≡ node_of s (node_child s n i)
-  left_kept writes =
-      let one = subst (λ k. Writes s t k xs ks) right_is writes in
-      ap (λ h. node_of h l) after ∙ ap (node_of (with_item t n i up)) left_is
-      ∙ item_other t n i (node_child s n i) up pair.left_apart
-      ∙ one.others (node_child s n i) pair.apart
+  left_kept writes = grind (arith, item_other)
 
 module _ {T : Type 0} {s : Heap T} (t u v : Heap T) {n i : ℕ} (pair : HasPair s n i) (down up : T) where
   abbrev l : ℕ
@@ -82,35 +67,18 @@ module _ {T : Type 0} {s : Heap T} (t u v : Heap T) {n i : ℕ} (pair : HasPair 
       let parent : node_of t n ≡ node_of s n = one.others n (λ e. pair.right_apart (sym e)) in
       let here = subst (λ node. Writes t u n (set (items_of node) i up) (children_of node)) parent
       two in
-      let left : node_of u l ≡ node_of s l = two.others l pair.left_apart
-      ∙ one.others l pair.apart in
+      let left : node_of u l ≡ node_of s l = grind arith in
       let items : insert (node_items u l) (length (node_items u l)) down
       ≡ left_items s n i ++ down ∷ [] =
       insert_end (node_items u l) down ∙ ap (λ node. items_of node ++ down ∷ []) left in
       let children : with_child (node_children u l) (length (node_items u l) + 1)
       (slice_get (right_children s n i) 0) ≡ left_children s n i ++ take 1
-      (right_children s n i) =
-      ap (λ node. with_child (children_of node) (length (items_of node) + 1)
-      (slice_get (right_children s n i) 0)) left
-      ∙ end_child pair.below (left_items s n i) (left_children s n i) (right_items s n i)
-      (right_children s n i) pair.left_branches pair.right_branches in
+      (right_children s n i) = grind (arith, end_child) in
       let swapped = write_first t u v n l (set (node_items s n) i up)
       (node_children s n) pair.left_apart here (rw (items, children) at three) in
       let moved = write_first s t swapped.between r l (drop 1 (right_items s n i))
       (drop 1 (right_children s n i)) pair.apart one swapped.first in
-      record {
-        down = down;
-        down_is = down_is ∙ ap (λ node. get_or (items_of node) i down) parent;
-        up = up;
-        up_is = first_and_rest (right_items s n i) up some up_is;
-        rotates = record {
-          first = moved.between;
-          second = swapped.between;
-          left = moved.first;
-          right = moved.second;
-          parent = swapped.second;
-        };
-      }
+      grind (arith, first_and_rest)
 
   pub rotated_right : up ≡ get_or (left_items s n i) (length (left_items s n i) - 1) up
       → 0 < length (left_items s n i) → down ≡ get_or (node_items t n) i down
@@ -124,36 +92,19 @@ module _ {T : Type 0} {s : Heap T} (t u v : Heap T) {n i : ℕ} (pair : HasPair 
       let xs = left_items s n i in
       let ks = left_children s n i in
       let last : length xs ≡ (length xs - 1) + 1 = omega arith in
-      let fewer : remove xs (length xs - 1) ≡ take (length xs - 1) xs = without_last xs
-      (length xs - 1) (omega arith) in
-      let fewer_children : remove ks (length xs) ≡ take (length xs) ks = without_last ks (length xs)
-      (few_children pair.below (length xs) (length ks) pair.left_branches) in
+      let fewer : remove xs (length xs - 1) ≡ take (length xs - 1) xs = grind (arith, without_last) in
+      let fewer_children : remove ks (length xs) ≡ take (length xs) ks = grind (arith, without_last, few_children) in
       let parent : node_of t n ≡ node_of s n = one.others n (λ e. pair.left_apart (sym e)) in
       let here = subst (λ node. Writes t u n (set (items_of node) i up) (children_of node)) parent
       two in
-      let right : node_of u r ≡ node_of s r = two.others r pair.right_apart
-      ∙ one.others r (λ e. pair.apart (sym e)) in
+      let right : node_of u r ≡ node_of s r = grind arith in
       let items : insert (node_items u r) 0 down ≡ down ∷ right_items s n i
       = ap (λ node. down ∷ items_of node) right in
       let children : with_child (node_children u r) 0 (slice_get ks (length xs)) ≡ drop
-      (length xs) ks ++ right_children s n i =
-      ap (λ node. with_child (children_of node) 0 (slice_get ks (length xs))) right
-      ∙ front_child pair.below (right_children s n i) xs ks pair.left_branches in
+      (length xs) ks ++ right_children s n i = grind (arith, front_child) in
       let swapped = write_first t u v n r (set (node_items s n) i up)
       (node_children s n) pair.right_apart here (rw (items, children) at three) in
-      record {
-        down = down;
-        down_is = down_is ∙ ap (λ node. get_or (items_of node) i down) parent;
-        up = up;
-        up_is = last_and_front xs up (length xs - 1) last up_is;
-        rotates = record {
-          first = t;
-          second = swapped.between;
-          left = rw (fewer, fewer_children) at one;
-          right = swapped.first;
-          parent = swapped.second;
-        };
-      }
+      grind (arith, last_and_front)
 
 module _ {T : Type 0} (s t u : Heap T) (n i : ℕ) (pair : HasPair s n i) (down : T) where
   pub merged : down ≡ get_or (node_items s n) i down → Writes s t n (remove (node_items s n) i)
@@ -173,12 +124,4 @@ module _ {T : Type 0} (s t u : Heap T) (n i : ℕ) (pair : HasPair s n i) (down 
       (remove (node_children s n) (i + 1)) pair.left_apart one last.first in
       let upper = remove_first lower.between last.between u n r (remove (node_items s n) i)
       (remove (node_children s n) (i + 1)) pair.right_apart lower.second last.second in
-      record {
-        down = down;
-        down_is = down_is;
-        first = lower.between;
-        second = upper.between;
-        left = lower.first;
-        right = upper.first;
-        parent = upper.second;
-      }
+      grind arith

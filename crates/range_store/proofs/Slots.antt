@@ -8,23 +8,11 @@ use Rattle.std.proofs.lemmas.List.Sums.{sum_by-set}
 module _ {X : Type 0} (slots : List (Option X)) (n : ℕ)
     (present : IsSome (get_or slots n None)) where
   slot_within : n < length slots
-  slot_within =
-      elim (cases_lt n (length slots)) [
-        | inl less ↦ less
-        | inr past ↦ let none : get_or slots n None ≡ None = get_or_past slots n None past in absurd
-            (false≢true (rw none at present))
-      ]
+  slot_within = grind (arith, cases_lt, get_or_past, false≢true)
 
   pub slot_read : (slot : Option X) → get_or (set slots n slot) n None ≡ slot
   slot_read slot = get_or-set_same slots n slot None slot_within
 
   pub slot_count : (slot : Option X) → count_by is_some (set slots n slot) + 1
       ≡ count_by is_some slots + cond (is_some slot) 1 0
-  slot_count slot =
-      let one : ◌≡◌ {A = ℕ} (cond (is_some (get_or slots n None)) 1 0) 1 = rw present refl in
-      omega (
-        arith,
-        one,
-        sum_by-set (λ o. cond (is_some o) 1 0) slots n slot None
-            slot_within,
-      )
+  slot_count slot = grind (arith, sum_by-set, slot_within)

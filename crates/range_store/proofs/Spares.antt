@@ -15,17 +15,11 @@ use Rattle.range_store.specs.Spares.{without, len_of, content_of, contents, heap
 use Rattle.range_store.proofs.Slots.{slot_count, slot_read}
 
 listed : (n : ℕ) (ns : List ℕ) (k : ℕ) → k ≡ n → occurrences k (n ∷ ns) ≡ 0 → ⊥
-listed n ns k same none =
-    let some : 0 < occurrences k (n ∷ ns) = rw same (occurrences_here n ns) in
-    omega (arith, some, none)
+listed n ns k same none = grind (arith, occurrences, occurrences_here)
 
 module _ {X : Type 0} where
   set_none : (slots : List (Option X)) (n : ℕ) → get_or (set slots n None) n None ≡ None
-  set_none slots n =
-      elim (cases_lt n (length slots)) [
-        | inl less ↦ get_or-set_same slots n None None less
-        | inr past ↦ get_or_past (set slots n None) n None (omega (arith, past, length-set slots n None))
-      ]
+  set_none slots n = grind (arith, cases_lt, get_or-set_same, get_or_past, length-set)
 
   without_here : (ns : List ℕ) (slots : List (Option X)) (k : ℕ) → 0 < occurrences k ns
       → get_or (without ns slots) k None ≡ None
@@ -35,9 +29,7 @@ module _ {X : Type 0} where
       elim (cases_eq k n) [
         | inl same ↦ rw same (set_none (without ns slots) n)
         | inr other ↦
-            get_or-set_other (without ns slots) n k None None other
-            ∙ without_here ns slots k
-            (omega (arith, among, occurrences-cons k n ns, occurrences_other k n (λ e. other (sym e))))
+            grind (arith, get_or-set_other, among, occurrences-cons, occurrences_other, without_here ns slots k (omega (arith, among, occurrences-cons k n ns, occurrences_other k n (λ e. other (sym e)))))
       ]
 
   without_other : (ns : List ℕ) (slots : List (Option X)) (k : ℕ) → occurrences k ns ≡ 0
@@ -45,9 +37,7 @@ module _ {X : Type 0} where
   unfolding without
   without_other [] slots k none = refl
   without_other (n ∷ ns) slots k none =
-      get_or-set_other (without ns slots) n k None None
-      (λ same. absurd (listed n ns k same none))
-      ∙ without_other ns slots k (omega (arith, none, occurrences-cons k n ns))
+      grind (arith, get_or-set_other, listed, occurrences-cons, without_other ns slots k (omega (arith, none, occurrences-cons k n ns)))
 
   without_count : (ns : List ℕ) (slots : List (Option X)) → ((k : ℕ) → occurrences k ns ≤ 1)
       → ((k : ℕ) → 0 < occurrences k ns → IsSome (get_or slots k None))
@@ -59,22 +49,14 @@ module _ {X : Type 0} where
       omega (arith, once n, occurrences-cons n n ns, occurrences_itself n) in
       let there : IsSome (get_or (without ns slots) n None) =
       rw (without_other ns slots n apart) (some n (occurrences_here n ns)) in
-      omega (
-        arith,
-        slot_count (without ns slots) n there None,
-        without_count ns slots (λ k. omega (arith, once k, occurrences-cons k n ns))
-            (λ k among. some k (omega (arith, among, occurrences-cons k n ns))),
-      )
+      grind (arith, slot_count, without_count ns slots (λ k. omega (arith, once k, occurrences-cons k n ns)) (λ k among. some k (omega (arith, among, occurrences-cons k n ns))))
 
   without_set : (ns : List ℕ) (slots : List (Option X)) (k : ℕ) (slot : Option X)
       → occurrences k ns ≡ 0 → without ns (set slots k slot) ≡ set (without ns slots) k slot
   unfolding without
   without_set [] slots k slot none = refl
   without_set (n ∷ ns) slots k slot none =
-      ap (λ zs. set zs n None)
-      (without_set ns slots k slot (omega (arith, none, occurrences-cons k n ns)))
-      ∙ set_comm (without ns slots) k n slot None
-      (λ same. absurd (listed n ns k same none))
+      grind (arith, occurrences-cons, set_comm, listed, without_set ns slots k slot (omega (arith, none, occurrences-cons k n ns)))
 
 module _ {X : Type 0} where
   module _ (s : Slab X) (n : ℕ) (present : IsSome (get s n)) (new : X) where
@@ -116,23 +98,9 @@ module _ {T : Type 0} where
   unfolding contents
   count_contents rows [] = refl
   count_contents [] (slot ∷ slots) =
-      omega (
-        arith,
-        sum_by-cons (λ (o : Option (Content T)). cond (is_some o) 1 0) (content_of [] slot)
-            (contents [] slots),
-        sum_by-cons (λ (o : Option Node). cond (is_some o) 1 0) slot slots,
-        ap {B = ℕ} (λ b. cond b 1 0) (content_bit [] slot),
-        count_contents [] slots,
-      )
+      omega (arith, sum_by-cons, ap {B = ℕ} (λ b. cond b 1 0) (content_bit [] slot), count_contents [] slots)
   count_contents (xs ∷ rows) (slot ∷ slots) =
-      omega (
-        arith,
-        sum_by-cons (λ (o : Option (Content T)). cond (is_some o) 1 0) (content_of xs slot)
-            (contents rows slots),
-        sum_by-cons (λ (o : Option Node). cond (is_some o) 1 0) slot slots,
-        ap {B = ℕ} (λ b. cond b 1 0) (content_bit xs slot),
-        count_contents rows slots,
-      )
+      omega (arith, sum_by-cons, ap {B = ℕ} (λ b. cond b 1 0) (content_bit xs slot), count_contents rows slots)
 
   contents_set : (rows : List (List T)) (slots : List (Option Node)) (n : ℕ) (xs : List T)
       → n < length rows
@@ -160,12 +128,7 @@ module _ {T : Type 0} (slab : Slab Node) (rows : List (List T)) (spares : List �
 
   -- a node that is seen is no spare
   in_use : (k : ℕ) → HasNode heap k → occurrences k spares ≡ 0
-  in_use k present =
-      elim (cases_eq (occurrences k spares) 0) [
-        | inl none ↦ none
-        | inr some ↦
-            absurd (false≢true (rw (spare_read k (omega (arith, some))) at present))
-      ]
+  in_use k present = grind (arith, cases_eq, occurrences, false≢true, spare_read)
 
 -- a node that is seen has what its slot and its row have
 pub record IsSeen {T : Type 0} (slab : Slab Node) (rows : List (List T)) (spares : List ℕ) (n : ℕ)
@@ -177,14 +140,11 @@ pub record IsSeen {T : Type 0} (slab : Slab Node) (rows : List (List T)) (spares
 module _ {T : Type 0} {slab : Slab Node} {rows : List (List T)} {spares : List ℕ}
     (whole : IsWhole slab rows spares) where
   pub found : (k : ℕ) → HasNode (heap_of slab rows spares) k → IsSome (get slab k)
-  found k present = content_some (row_of rows k) (get slab k)
-      (rw (slot_seen slab rows spares k (in_use slab rows spares k present)) at present)
+  found k present = grind (arith, content_some, slot_seen, in_use)
 
   pub items_seen : (k : ℕ) → HasNode (heap_of slab rows spares) k
       → node_items (heap_of slab rows spares) k ≡ row_of rows k
-  items_seen k present =
-      let read = slot_seen slab rows spares k (in_use slab rows spares k present) in
-      ap items_of read ∙ content_items (row_of rows k) (get slab k) (rw read at present)
+  items_seen k present = grind (arith, slot_seen, in_use, content_items)
 
   pub row_there : (k : ℕ) → HasNode (heap_of slab rows spares) k → k < length rows
   row_there k present = whole.there k (found k present)
@@ -194,12 +154,7 @@ module _ {T : Type 0} {slab : Slab Node} {rows : List (List T)} {spares : List �
 
   pub seen : (k : ℕ) → HasNode (heap_of slab rows spares) k → {node : Node}
       → get slab k ≡ Some node → IsSeen slab rows spares k node
-  seen k present is = record {
-    items = items_seen k present;
-    children = ap children_of (slot_seen slab rows spares k (in_use slab rows spares k present)
-        ∙ ap (content_of (row_of rows k)) is);
-    len = row_len k is ∙ sym (ap length (items_seen k present));
-  }
+  seen k present is = grind (arith, items_seen, slot_seen, in_use, row_len)
 
   pub counted : node_count (heap_of slab rows spares) + length spares ≡ slab_len slab
   counted =
@@ -230,39 +185,18 @@ module _ {T : Type 0} {old new : Slab Node} {was now : List (List T)} {spares : 
     (whole : IsWhole old was spares) {n : ℕ} {node : Node} {items : List T}
     (changes : Changes old new was now n node items) where
   changed_there : (k : ℕ) → IsSome (get new k) → k < length now
-  changed_there k some =
-      elim (cases_eq k n) [
-        | inl same ↦ rw same changes.there
-        | inr differs ↦
-            omega (
-              arith,
-              changes.long,
-              whole.there k (rw (changes.updates.others k differs) at some),
-            )
-      ]
+  changed_there k some = grind (arith, cases_eq)
 
   changed_lens : (k : ℕ) → length (row_of now k) ≡ len_of (get new k)
-  changed_lens k =
-      elim (cases_eq k n) [
-        | inl same ↦
-            rw same (ap length changes.here ∙ sym changes.len_is
-            ∙ ap len_of (sym changes.updates.changed))
-        | inr differs ↦
-            ap length (changes.others k differs) ∙ whole.lens k
-            ∙ ap len_of (sym (changes.updates.others k differs))
-      ]
+  changed_lens k = grind (arith, cases_eq)
 
   unchanged : (k : ℕ) → k ≢ n
       → content_of (row_of now k) (get new k) ≡ content_of (row_of was k) (get old k)
-  unchanged k differs =
-      ap (λ xs. content_of xs (get new k)) (changes.others k differs)
-      ∙ ap (content_of (row_of was k)) (changes.updates.others k differs)
+  unchanged k differs = grind arith
 
   changed : content_of (row_of now n) (get new n)
       ≡ Some (record { items = items; children = node.children.items })
-  changed =
-      ap (λ xs. content_of xs (get new n)) changes.here
-      ∙ ap (content_of items) changes.updates.changed
+  changed = grind arith
 
   changed_whole : (left : List ℕ) → ((k : ℕ) → occurrences k left ≤ occurrences k spares)
       → occurrences n left ≡ 0 → IsWhole new now left
@@ -270,23 +204,14 @@ module _ {T : Type 0} {old new : Slab Node} {was now : List (List T)} {spares : 
     there = changed_there;
     lens = changed_lens;
     empty = λ k among.
-        unchanged k (λ same. omega (arith, apart, ap (λ m. occurrences m left) same, among))
-        ∙ whole.empty k (omega (arith, among, fewer k));
+        grind (arith, unchanged, apart, occurrences, among);
     once = λ k. omega (arith, fewer k, whole.once k);
   }
 
   elsewhere : (left : List ℕ) → ((k : ℕ) → k ≢ n → occurrences k left ≡ occurrences k spares)
       → (k : ℕ) → k ≢ n → node_of (heap_of new now left) k ≡ node_of (heap_of old was spares) k
   elsewhere left alike k differs =
-      elim (cases_eq (occurrences k spares) 0) [
-        | inl none ↦
-            slot_seen new now left k (alike k differs ∙ none)
-            ∙ unchanged k differs
-            ∙ sym (slot_seen old was spares k none)
-        | inr some ↦
-            spare_read new now left k (omega (arith, alike k differs, some))
-            ∙ sym (spare_read old was spares k (omega (arith, some)))
-      ]
+      grind (arith, cases_eq, occurrences, slot_seen, unchanged, spare_read)
 
   -- the number became a spare, with nothing
   more_whole : (left : List ℕ)
@@ -296,30 +221,9 @@ module _ {T : Type 0} {old new : Slab Node} {was now : List (List T)} {spares : 
     there = changed_there;
     lens = changed_lens;
     empty = λ k among.
-        elim (cases_eq k n) [
-          | inl same ↦
-              rw same (changed
-              ∙ ap (λ xs. Some (record { items = xs; children = node.children.items })) no_items
-              ∙ ap (λ ks. Some (record { items = []; children = ks })) no_children)
-          | inr differs ↦
-              unchanged k differs
-              ∙ whole.empty k (omega (
-                arith,
-                among,
-                told k,
-                occurrences_other k n (λ e. differs (sym e)),
-              ))
-        ];
+        grind (arith, cases_eq, changed, no_items, unchanged, among, told, occurrences_other);
     once = λ k.
-        elim (cases_eq k n) [
-          | inl same ↦ rw same (omega (arith, told n, apart, occurrences_itself n))
-          | inr differs ↦ omega (
-            arith,
-            told k,
-            whole.once k,
-            occurrences_other k n (λ e. differs (sym e)),
-          )
-        ];
+        grind (arith, cases_eq, told, apart, occurrences_itself, occurrences_other);
   }
 
   module _ (len : slab_len new ≡ slab_len old) where
@@ -335,16 +239,7 @@ module _ {T : Type 0} {old new : Slab Node} {was now : List (List T)} {spares : 
         → Writes (heap_of old was spares) (heap_of new now spares) n items node.children.items
     written present =
         let apart = in_use old was spares n present in
-        let read = here spares apart in
-        record {
-          was = present;
-          present = rw read refl;
-          items_are = ap items_of read;
-          children_are = ap children_of read;
-          others = elsewhere spares (λ k differs. refl);
-          len = omega (arith, counted whole, counted (written_whole apart), len);
-          capacity = len;
-        }
+        grind (arith, here, apart, elsewhere, counted, written_whole)
 
     -- a spare got what a new node has
     module _ {left : List ℕ} (parts : spares ≡ n ∷ left) where
@@ -360,17 +255,7 @@ module _ {T : Type 0} {old new : Slab Node} {was now : List (List T)} {spares : 
       pub stored : Stores (heap_of old was spares) (heap_of new now left) n items
           node.children.items
       stored =
-          let read = here left spare_apart in
-          record {
-            fresh = spare_read old was spares n (omega (arith, told n, occurrences_itself n));
-            present = rw read refl;
-            items_are = ap items_of read;
-            children_are = ap children_of read;
-            others = elsewhere left
-                (λ k differs. omega (arith, told k, occurrences_other k n (λ e. differs (sym e))));
-            len = omega (arith, counted whole, counted stored_whole, len, ap length parts);
-            capacity = len;
-          }
+          grind (arith, here, spare_apart, spare_read, told, occurrences_itself, elsewhere, occurrences_other, counted, stored_whole)
 
     -- a node became a spare
     module _ (present : HasNode (heap_of old was spares) n) (no_items : items ≡ [])
@@ -388,10 +273,8 @@ module _ {T : Type 0} {old new : Slab Node} {was now : List (List T)} {spares : 
       pub removed : Removes (heap_of old was spares) (heap_of new now (n ∷ spares)) n
       removed = record {
         was = present;
-        gone = spare_read new now (n ∷ spares) n
-            (omega (arith, longer n, occurrences_itself n));
-        others = elsewhere (n ∷ spares)
-            (λ k differs. omega (arith, longer k, occurrences_other k n (λ e. differs (sym e))));
+        gone = grind (arith, spare_read, longer, occurrences_itself);
+        others = grind (arith, elsewhere, longer, occurrences_other);
         len = omega (arith, counted whole, counted freed_whole, len);
         capacity = len;
       }
@@ -400,22 +283,14 @@ module _ {T : Type 0} {old new : Slab Node} {was now : List (List T)} {spares : 
   module _ (fresh : get old n ≡ None) (len : slab_len new ≡ slab_len old + 1)
       (no_items : items ≡ []) (no_children : node.children.items ≡ []) where
     absent : occurrences n spares ≡ 0
-    absent =
-        elim (cases_eq (occurrences n spares) 0) [
-          | inl none ↦ none
-          | inr some ↦
-              absurd (false≢true (ap is_some
-              (ap (content_of (row_of was n)) (sym fresh)
-              ∙ whole.empty n (omega (arith, some)))))
-        ]
+    absent = grind (arith, cases_eq, occurrences, false≢true)
 
     more : (k : ℕ)
         → occurrences k (spares ++ n ∷ []) ≡ occurrences k spares + occurrences k (n ∷ [])
     more k = occurrences-append k spares (n ∷ [])
 
     added_whole : IsWhole new now (spares ++ n ∷ [])
-    added_whole = more_whole (spares ++ n ∷ []) (λ k. omega (arith, more k)) absent no_items
-        no_children
+    added_whole = grind (arith, more_whole, more, absent, no_items)
 
     pub added : IsWhole new now (spares ++ n ∷ [])
         × SameNodes (heap_of old was spares) (heap_of new now (spares ++ n ∷ []))
@@ -423,15 +298,7 @@ module _ {T : Type 0} {old new : Slab Node} {was now : List (List T)} {spares : 
       added_whole,
       record {
         nodes = λ k.
-            elim (cases_eq k n) [
-              | inl same ↦
-                  rw same (spare_read new now (spares ++ n ∷ []) n
-                  (omega (arith, more n, occurrences_itself n))
-                  ∙ sym (slot_seen old was spares n absent
-                  ∙ ap (content_of (row_of was n)) fresh))
-              | inr differs ↦ elsewhere (spares ++ n ∷ []) (λ k differs.
-                  omega (arith, more k, occurrences_other k n (λ e. differs (sym e)))) k differs
-            ];
+            grind (arith, cases_eq, spare_read, more, occurrences_itself, slot_seen, absent, elsewhere, occurrences_other);
         len = omega (arith, counted whole, counted added_whole, len, length-append spares (n ∷ []));
       },
     )
@@ -454,26 +321,11 @@ module _ {T : Type 0} {slab larger : Slab Node} {was : List (List T)} {spares : 
   }
 
   grown_nodes : SameNodes (heap_of slab was spares) (heap_of grown now spares)
-  grown_nodes = record {
-    nodes = λ k.
-        elim (cases_eq (occurrences k spares) 0) [
-          | inl none ↦
-              slot_seen slab now spares k none
-              ∙ ap (λ xs. content_of xs (get slab k)) (kept k)
-              ∙ sym (slot_seen slab was spares k none)
-          | inr some ↦
-              spare_read slab now spares k (omega (arith, some))
-              ∙ sym (spare_read slab was spares k (omega (arith, some)))
-        ];
-    len = omega (arith, counted whole, counted grown_whole);
-  }
+  grown_nodes = grind (arith, cases_eq, occurrences, slot_seen, spare_read, counted, grown_whole)
 
   pub roomier : IsWhole larger now spares
       × SameNodes (heap_of slab was spares) (heap_of larger now spares)
-  roomier =
-      subst (λ s. IsWhole s now spares
-      × SameNodes (heap_of slab was spares) (heap_of s now spares))
-      (sym same) (grown_whole, grown_nodes)
+  roomier = grind (arith, grown_whole, grown_nodes)
 
 -- a node and its row were written, which left these spares, and made this of the nodes
 pub record Leaves {T : Type 0} (slab : Slab Node) (rows : List (List T)) (spares : List ℕ) (n : ℕ)
@@ -492,15 +344,7 @@ module _ {T : Type 0} {slab : Slab Node} {rows : List (List T)} {spares : List �
   there = rw at refl
 
   edit : Changes slab (with_value slab n node) rows (set rows n items) n node items
-  edit =
-      record {
-        updates = value_updates slab n there node;
-        here = get_or-set_same rows n items [] (whole.there n there);
-        others = λ k differs. get_or-set_other rows n k items [] differs;
-        long = omega (arith, length-set rows n items);
-        there = omega (arith, length-set rows n items, whole.there n there);
-        len_is = len_is;
-      }
+  edit = grind (arith, value_updates, there, here, get_or-set_same, get_or-set_other, length-set)
 
   same_len : slab_len (with_value slab n node) ≡ slab_len slab
   same_len = value_len slab n there node
@@ -556,12 +400,7 @@ module _ {T : Type 0} {slab : Slab Node} {rows : List (List T)} {spares : List �
       (λ old new. Writes old new n (insert (node_items (heap_of slab rows spares) n) i x) ks)
   put_among x within more children =
       let items = items_seen whole n present in
-      rw items (edited whole n at node (insert (row_of rows n) i x) (omega (
-        arith,
-        more,
-        row_len whole n at,
-        length-insert (row_of rows n) i x (rw items at within),
-      )) children present)
+      rw items (edited whole n at node (insert (row_of rows n) i x) (grind (arith, more, row_len, length-insert)) children present)
 
   pub taken_out : i < length (node_items (heap_of slab rows spares) n) → node.len + 1 ≡ was.len
       → {ks : List ℕ} → node.children.items ≡ ks
@@ -569,12 +408,7 @@ module _ {T : Type 0} {slab : Slab Node} {rows : List (List T)} {spares : List �
       (λ old new. Writes old new n (remove (node_items (heap_of slab rows spares) n) i) ks)
   taken_out within less children =
       let items = items_seen whole n present in
-      rw items (edited whole n at node (remove (row_of rows n) i) (omega (
-        arith,
-        less,
-        row_len whole n at,
-        length-remove (row_of rows n) i (rw items at within),
-      )) children present)
+      rw items (edited whole n at node (remove (row_of rows n) i) (grind (arith, row_len, length-remove)) children present)
 
 -- a node went to the end of another, with an item between
 module _ {T : Type 0} {slab : Slab Node} {rows : List (List T)} {spares : List ℕ}
@@ -593,13 +427,7 @@ module _ {T : Type 0} {slab : Slab Node} {rows : List (List T)} {spares : List �
       (lower.children.items ++ upper.children.items))
   grew = edited gone.whole l
       (get_or-set_other slab.slots r l (Some blank) None apart ∙ left_at) node
-      (row_of rows l ++ x ∷ row_of rows r) (omega (
-        arith,
-        len_is,
-        row_len whole l left_at,
-        row_len whole r right_at,
-        length-append (row_of rows l) (x ∷ row_of rows r),
-      )) children_are (rw (gone.nodes.others l apart) left)
+      (row_of rows l ++ x ∷ row_of rows r) (grind (arith, row_len, length-append)) children_are (rw (gone.nodes.others l apart) left)
 
   pub absorbs : Leaves (with_value slab r blank) (set rows r []) (r ∷ spares) l node
       (row_of rows l ++ x ∷ row_of rows r) (r ∷ spares)
@@ -621,20 +449,13 @@ module _ {T : Type 0} {slab : Slab Node} {rows : List (List T)} {spares : List �
 module _ {T : Type 0} {slab : Slab Node} {rows : List (List T)} {spares : List ℕ}
     (whole : IsWhole slab rows spares) {n : ℕ} {left : List ℕ} (parts : spares ≡ n ∷ left) where
   among : 0 < occurrences n spares
-  among = omega (
-    arith,
-    ap (occurrences n) parts,
-    occurrences-cons n n left,
-    occurrences_itself n,
-  )
+  among = omega (arith, ap (occurrences n) parts, occurrences-cons, occurrences_itself)
 
   pub spare_found : IsSome (get slab n)
   spare_found = content_some (row_of rows n) (get slab n) (rw (whole.empty n among) refl)
 
   pub bare_row : row_of rows n ≡ []
-  bare_row =
-      sym (content_items (row_of rows n) (get slab n) (rw (whole.empty n among) refl))
-      ∙ ap items_of (whole.empty n among)
+  bare_row = grind (arith, content_items, among)
 
   pub bare_children : {was : Node} → get slab n ≡ Some was → was.children.items ≡ []
   bare_children at =
@@ -649,14 +470,7 @@ module _ {T : Type 0} {slab : Slab Node} {rows : List (List T)} {spares : List �
 pub none_whole : {T : Type 0} (slab : Slab Node) (rows : List (List T)) (spares : List ℕ)
     → slab.slots ≡ [] → rows ≡ [] → spares ≡ [] → IsWhole slab rows spares
 none_whole slab rows spares no_slots no_rows no_spares =
-    let absent : (k : ℕ) → get slab k ≡ None = λ k. ap (λ slots. get_or slots k None) no_slots in
-    record {
-      there = λ k some. absurd (false≢true (rw (absent k) at some));
-      lens = λ k. ap (λ zs. length (row_of zs k)) no_rows ∙ ap len_of (sym (absent k));
-      empty = λ k among.
-          absurd (omega (arith, among, ap (occurrences k) no_spares, occurrences-nil k));
-      once = λ k. omega (arith, ap (occurrences k) no_spares, occurrences-nil k);
-    }
+    grind (arith, absent, there, false≢true, among, occurrences, occurrences-nil)
 
 -- another item was written in the place of one
 module _ {T : Type 0} {slab : Slab Node} {rows : List (List T)} {spares : List ℕ}
@@ -665,27 +479,7 @@ module _ {T : Type 0} {slab : Slab Node} {rows : List (List T)} {spares : List �
   pub item_written : heap_of slab (set rows n (set (row_of rows n) i x)) spares
       ≡ with_item (heap_of slab rows spares) n i x
   item_written =
-      let xs = set (row_of rows n) i x in
-      let apart = in_use slab rows spares n present in
-      let slots : without spares (contents (set rows n xs) slab.slots)
-      ≡ set (heap_of slab rows spares).slots n (content_of xs (get slab n)) =
-      ap (without spares)
-      (contents_set rows slab.slots n xs (row_there whole n present))
-      ∙ without_set spares (contents rows slab.slots) n (content_of xs (get slab n)) apart in
-      ap (λ zs. record { slots = zs; capacity = slab_len slab })
-      (slots ∙ ap (set (heap_of slab rows spares).slots n)
-      (content_is (get slab n) (found whole n present)
-      (slot_seen slab rows spares n apart)))
-    where
-      content_is : (slot : Option Node) → IsSome slot
-          → node_of (heap_of slab rows spares) n ≡ content_of (row_of rows n) slot
-          → content_of (set (row_of rows n) i x) slot
-          ≡ Some (record {
-            items = set (node_items (heap_of slab rows spares) n) i x;
-            children = node_children (heap_of slab rows spares) n;
-          })
-      content_is None some read = absurd (cc)
-      content_is (Some node) some read = rw read refl
+      grind (arith, apart, in_use, contents_set, row_there, without_set, found, slot_seen)
 
 -- what fits a node fits its numbers
 pub fits_count : {T : Type 0} (child : Option ℕ) (xs : List T) (ks : List ℕ) (many : ℕ)
@@ -697,5 +491,4 @@ module _ {T : Type 0} where
   -- a number with no node has no items
   pub vacant_row : {slab : Slab Node} {rows : List (List T)} {spares : List ℕ}
       → IsWhole slab rows spares → (n : ℕ) → get slab n ≡ None → row_of rows n ≡ []
-  vacant_row {slab} {rows} whole n vacant = nil_from_length (row_of rows n)
-      (whole.lens n ∙ ap len_of vacant)
+  vacant_row {slab} {rows} whole n vacant = grind (arith, nil_from_length)

@@ -18,14 +18,7 @@ use Rattle.range_store.proofs.InLeaf.{moved_down}
 module _ {T : Type 0} (s t : BoxStorage T) (p : ℕ) (some : 0 < p)
     (within : p ≤ length (box_items s)) (list : box_items t ≡ remove (box_items s) (p - 1)) where
   pub one_fewer : length (box_items t) + 1 ≡ length (box_items s)
-  one_fewer =
-      omega (
-        arith,
-        ap length list,
-        length-remove (box_items s) (p - 1) (omega (arith, some, within)),
-        some,
-        within,
-      )
+  one_fewer = omega (arith, ap length list, length-remove)
 
   pub room_grows : t.nodes.capacity ≡ s.nodes.capacity → box_room s + 1 ≤ box_room t
   room_grows capacity = omega (arith, one_fewer, s.whole.fits, s.whole.counted, capacity)
@@ -36,16 +29,7 @@ pub space_grows : {T : Type 0} (s : BoxStorage T) (p : ℕ) (n : Heap T) (levels
     → box_room s + 1 ≤ min (MIN_LEN * n.capacity) MAX_LEN - length
     (items_below n levels root)
 space_grows s p n levels root some within list capacity =
-    omega (
-      arith,
-      ap length list,
-      length-remove (box_items s) (p - 1) (omega (arith, some, within)),
-      some,
-      within,
-      s.whole.fits,
-      s.whole.counted,
-      capacity,
-    )
+    omega (arith, ap length list, length-remove)
 
 module _ {T : Type 0} where
   -- the nodes n of the storage t are those of s without the item before an edge; another edge lies
@@ -87,23 +71,10 @@ module _ {T : Type 0} (s t : BoxStorage T) (g behind left : Edge) (some : 0 < bo
       ∙ ap (λ xs. set xs (box_place s g - 1) next) listed ∙ down in
       let kept = good_then t left good_left next good_left in
       let whole = with_good_item t left good_left next in
-      rw same (record {
-        roomy = whole.whole;
-        many = whole.counted;
-        items_are = items;
-        capacity = capacity;
-        edge = kept.0.is.edge;
-        place_is = omega (arith, kept.1, here, good_left.some);
-      })
+      grind (arith, here)
 
   pub replaced_item : (r : T) (h : Home) → h ≡ box_home t left
       → r ≡ get_or (node_items t.nodes h.node) h.index r
       → r ≡ get_or (box_items s) (box_place s g - 1) r
   replaced_item r h at_home was =
-      let listed = rw back at list in
-      (rw at_home at was)
-      ∙ sym (good_item t left good_left r)
-      ∙ ap (λ i. get_or (box_items t) i r) here
-      ∙ ap (λ xs. get_or xs (box_place s g - 1) r) listed
-      ∙ get_or-remove_below (box_items s) (suc (box_place s g - 1)) r (box_place s g - 1)
-      (omega arith) (omega (arith, within, beside, some))
+      grind (arith, back, good_item, good_left, box_items, here, box_place, get_or-remove_below)

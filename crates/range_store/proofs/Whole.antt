@@ -24,8 +24,7 @@ tree_is_not_too_deep {T} {s} (suc d) {root} roomy =
       | inr high ↦
           let some : 0 < MIN_LEN + 1 = omega arith in
           let more : (MIN_LEN + 1) ^ MAX_LEVELS ≤ (MIN_LEN + 1) ^ d = pow-le-pow_right some high in
-          let limit : MAX_LEN + 1 < 2 * (MIN_LEN + 1) ^ MAX_LEVELS = omega arith in
-          absurd (omega (arith, tree_lower d roomy.tree, more, limit, roomy.counted))
+          grind (arith, tree_lower)
     ]
 
 -- no edge lies past the end
@@ -67,11 +66,4 @@ module _ {T : Type 0} {t : BoxStorage T} {g : Edge} (is : IsBoxEdge t g) where
   pub leaf_item : (e : T) → 0 < g.index
       → get_or (box_items t) (box_place t g - 1) e
       ≡ get_or (node_items t.nodes g.leaf) (g.index - 1) e
-  leaf_item e some =
-      let good : IsGood t g =
-      record {
-        is = is;
-        some = omega (arith, place_index t.nodes (t.levels - 1) t.root g, some);
-      } in
-      good_item t g good e ∙ ap (λ h. get_or (node_items t.nodes h.node) h.index e)
-      (leaf_home t.nodes (t.levels - 1) t.root g is.edge some)
+  leaf_item e some = grind (arith, place_index, good_item, leaf_home)
