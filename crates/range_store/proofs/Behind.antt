@@ -22,7 +22,7 @@ is_first : (g : Edge) → g.path ≡ 0 → g.index ≡ 0 → is_start g ≡ true
 is_first g path index = and_from _ _ (eq-eqb _ _ path) (eq-eqb _ _ index)
 
 is_later : (g : Edge) → 0 < g.path + g.index → is_start g ≡ false
-is_later g some = grind (arith, false_from_ne_true, start_parts)
+is_later g some = grind arith
 
 module _ {T : Type 0} (s : Heap T) where
   -- the edge at the end of a leaf
@@ -40,15 +40,15 @@ module _ {T : Type 0} (s : Heap T) where
 
   pub home_sets_out : {below number : ℕ} (edge : Edge) (home : Home) → IsEdge s below number edge
       → 0 < place s below number edge → HasHome below number edge below number edge home
-  home_sets_out {below} {number} edge home is some = grind (arith, place_of_start)
+  home_sets_out edge home is some = grind (arith, place_of_start)
 
   pub home_goes_on : {below number : ℕ} {edge : Edge} {left at : ℕ} {inner : Edge} {home : Home}
       → left ≢ 0 → ShapedBut 1 CAPACITY s left at → HasHome below number edge left at inner home
       → (i : ℕ) → i ≡ turn inner → (next : Home) → (i ≡ 0 → next ≡ home)
       → (0 < i → next ≡ record { node = at; index = i - 1 })
       → HasHome below number edge (left - 1) (node_child s at i) (inside inner) next
-  home_goes_on {below} {number} {edge} {left} {at} {inner} {home} above shaped has i i_is next stays
-      goes = grind (arith, below_inside, cases_eq, home_above, is_first, home_inside, is_later)
+  home_goes_on above shaped has i i_is next stays goes =
+      grind (arith, below_inside, home_above, home_inside)
 
   pub home_is_found : {below number : ℕ} {edge : Edge} (left at : ℕ) (inner : Edge) {home : Home}
       → left ≡ 0 → HasHome below number edge left at inner home → (next : Home)
@@ -56,8 +56,7 @@ module _ {T : Type 0} (s : Heap T) where
       → (0 < inner.index → next ≡ record { node = at; index = inner.index - 1 })
       → next ≡ home_of s below number edge
   unfolding IsEdge
-  home_is_found (suc left) at inner bottom has next stays goes = absurd (omega arith)
-  home_is_found zero at inner bottom has next stays goes = grind (arith, cases_eq, home_leaf)
+  home_is_found left at inner bottom has next stays goes = grind (arith, home_leaf)
 
   -- a subtree whose first edge stands behind so many items
   pub record BeginsBehind (below number : ℕ) (subtree : Subtree) (ahead : ℕ) : Type 0 where
@@ -88,7 +87,7 @@ module _ {T : Type 0} (s : Heap T) where
 
   pub sets_out : {below number : ℕ} (edge : Edge) → ShapedBut 1 CAPACITY s below number
       → IsEdge s below number edge → IsOnTheWay below number edge below number 0 1 edge None
-  sets_out {below} {number} edge shaped is = grind (arith, lies_itself, leaf_is)
+  sets_out edge shaped is = grind arith
 
   module _ {below number : ℕ} {edge : Edge} {left at path weight : ℕ} {inner : Edge}
       {behind : Option Subtree} (above : left ≢ 0)
@@ -109,22 +108,18 @@ module _ {T : Type 0} (s : Heap T) where
         → IsOnTheWay below number edge (left - 1) (kid i) (path + weight * i) (weight * PATH_BASE)
         (inside inner) later
     further later after =
-        let here = rw (← i_is) at (below_here above way.lies.shaped inner) in
-        record {
-          ahead = way.ahead + ahead_of s left at i;
-          lies = lies_in_child s at path weight way.ahead above way.lies i turn_low;
-          is = rw i_is (below_inside above way.lies.shaped inner way.is);
-          leaf_is = way.leaf_is;
-          index_is = way.index_is;
-          place_is = omega (arith, way.place_is, here);
-          after = rw level after;
-        }
+        grind (
+          arith,
+          below_here above way.lies.shaped inner,
+          lies_in_child s at path weight way.ahead above way.lies i turn_low,
+          below_inside above way.lies.shaped inner way.is,
+        )
 
     -- below the last child nothing else comes behind
     pub goes_by_the_last : length (node_items s at) ≤ i
         → IsOnTheWay below number edge (left - 1) (kid i) (path + weight * i) (weight * PATH_BASE)
         (inside inner) behind
-    goes_by_the_last last = grind (arith, past_last, turn_low, ahead_of, further)
+    goes_by_the_last last = grind (arith, past_last, turn_low, further)
 
     -- below another the next child does
     pub goes_by_another : i < length (node_items s at)
@@ -157,5 +152,5 @@ module _ {T : Type 0} (s : Heap T) where
       → ComesAfter below number behind (place s below number edge)
   comes_to_the_end {below} {number} {edge} (suc left) at path weight inner behind bottom way last =
       absurd (omega arith)
-  comes_to_the_end {below} {number} {edge} zero at path weight inner behind bottom way last =
+  comes_to_the_end zero at path weight inner behind bottom way last =
       grind (arith, leaf_is, items_below_leaf, leaf_place, leaf_index)

@@ -25,11 +25,10 @@ shaped_with low top enough fits shaped = grind arith
 
 pub shaped_within_wider : {T : Type 0} (low : ℕ) {least most : ℕ} (top : ℕ) {s : Heap T} {d n : ℕ}
     → low ≤ least → most ≤ top → ShapedBut least most s d n → ShapedBut low top s d n
-shaped_within_wider low top le le' shaped = grind (arith, shaped_with)
+shaped_within_wider low top le le' shaped = grind arith
 
 pub child_count_cases : (d k m : ℕ) → m ≡ child_count d k → (m ≡ 0) ⊎ (m ≡ k + 1)
-child_count_cases zero k m h = inl h
-child_count_cases (suc d) k m h = inr h
+child_count_cases d k m h = grind arith
 
 pub used_is : {T : Type 0} (s : Heap T) (d n : ℕ)
     → used s (suc d) n ≡ n ∷ flat_map (used s d) (node_children s n)
@@ -47,8 +46,7 @@ unfolding used
 used_leaf s n none = rw (nil_from_length (node_children s n) none) refl
 
 pub child_count_inner : (d k : ℕ) → 0 < d → child_count d k ≡ k + 1
-child_count_inner zero k inner = absurd (omega arith)
-child_count_inner (suc d) k inner = refl
+child_count_inner d k inner = grind arith
 
 pub weave_items_below : {T : Type 0} (s : Heap T) (d n : ℕ)
     → items_below s (suc d) n ≡ weave (node_items s n) (child_lists s d n)
@@ -74,8 +72,7 @@ module _ {T : Type 0} {least most : ℕ} {s : Heap T} {d n : ℕ} (inner : 0 < d
   pub length-before_more : (i : ℕ) → i < length (node_items s n)
       → length (before_child s d n (i + 1)) ≡ length (before_child s d n i) + length
       (items_below s d (node_child s n i)) + 1
-  length-before_more i within =
-      grind (arith, get_or-map, children_length, length-before_next, lists_length)
+  length-before_more i within = grind (arith, get_or-map, length-before_next, lists_length)
 
   -- after the last child stands nothing
   pub none_after_last : after_child s d n (length (node_items s n)) ≡ []

@@ -23,13 +23,12 @@ use Rattle.range_store.proofs.Room.{used_le}
 -- one item and one list more at the end
 weave_more : {X : Type 0} (xs : List X) (x : X) (ls : List (List X)) (l : List X)
     → length ls ≡ length xs + 1 → weave (xs ++ x ∷ []) (ls ++ l ∷ []) ≡ weave xs ls ++ x ∷ l
-weave_more xs x [] l many = absurd (omega arith)
-weave_more xs x (k ∷ ks) l many = grind (arith, weave_cut, append-nil)
+weave_more xs x ls l many = grind (arith, weave_cut, append-nil)
 
 -- a built node with enough items is one that is not the root
 pub built_shaped : {T : Type 0} {r s : Heap T} {d n many : ℕ} → IsBuilt r s d n many
     → MIN_LEN ≤ many → Shaped s (suc d) n
-built_shaped {T} {r} {s} {d} {n} built enough = grind (arith, Shaped-from_but, shaped_with)
+built_shaped built enough = grind (arith, Shaped-from_but)
 
 -- what a node, of which the rest of the heap is old, becomes with an item and perhaps a child more
 module _ {T : Type 0} {r s t : Heap T} {d n many : ℕ} (cs : List ℕ) (built : IsBuilt r s d n many)
@@ -41,10 +40,10 @@ module _ {T : Type 0} {r s t : Heap T} {d n many : ℕ} (cs : List ℕ) (built :
   ks = node_children s n
 
   agree : AgreeAt s t (used s (suc d) n)
-  agree = Moves-agree (used s (suc d) n) (λ k. omega (arith, built.moved.owned k, occurrences-nil)) moved
+  agree = Moves-agree (used s (suc d) n) (λ k. omega (arith, occurrences-nil)) moved
 
   pub built_kept : node_of t n ≡ node_of s n
-  built_kept = grind (arith, agree, occurrences, used_is, occurrences_here)
+  built_kept = grind (arith, agree)
 
   same : SameChildren s t d ks
   same =
@@ -66,7 +65,13 @@ module _ {T : Type 0} {r s t : Heap T} {d n many : ℕ} (cs : List ℕ) (built :
       (record {
         occur =
             λ k.
-            omega (arith, occurrences-append, ap (occurrences k) (used_is s d n), occurrences-cons, ap (occurrences k) used_all);
+            omega (
+              arith,
+              occurrences-append,
+              ap (occurrences k) (used_is s d n),
+              occurrences-cons,
+              ap (occurrences k) used_all,
+            );
         len = grind (arith, length-append, ap length (used_is s d n), ap length used_all);
       }) (Moves-then built.moved (Moves-beside old moved))
 
@@ -109,20 +114,11 @@ pub built_leaf : {T : Type 0} {r s : Heap T} {n : ℕ} {xs : List T} → Stores 
     → length xs ≤ CAPACITY → IsBuilt r s 0 n (length xs) × (items_below s (suc 0) n ≡ xs)
 built_leaf {T} {r} {s} {n} {xs} stored fits =
     let childless : length (node_children s n) ≡ 0 = ap length stored.children_are in
-    let built : IsBuilt r s 0 n (length xs) = record {
-      shape = record {
-        node =
-            record {
-              present = stored.present;
-              enough = omega arith;
-              fits = omega (arith, ap length stored.items_are, fits);
-              branches = childless;
-            };
-        children = rw stored.children_are (All-nil (Shaped s zero));
-      };
-      items = ap length stored.items_are;
-      moved = subst (Moves r s []) (sym (used_leaf s n childless)) (Stores-moves [] stored);
-    } in
+    let built : IsBuilt r s 0 n (length xs) = grind (
+      arith,
+      used_leaf s n childless,
+      Stores-moves [] stored,
+    ) in
     (built, items_below_leaf s n childless ∙ stored.items_are)
 
 -- a node above its first child
@@ -133,14 +129,14 @@ module _ {T : Type 0} {r s t : Heap T} (d : ℕ) {n : ℕ} (c : ℕ) (inner : 0 
   alone = append-nil (used s d c)
 
   above_agree : AgreeAt s t (flat_map (used s d) (c ∷ []))
-  above_agree k among = grind (arith, occurrences, alone, occurrences-nil)
+  above_agree k among = grind (arith, alone, occurrences-nil)
 
   above_holds : Holds s t d n [] (c ∷ [])
   above_holds = held_new stored above_agree
 
   pub begun_above : IsBuilt r t d n 0
   begun_above = record {
-    shape = grind (arith, held_shape, above_holds, child_count_inner, All-cons, All-nil);
+    shape = grind (arith, above_holds);
     items = ap length stored.items_are;
     moved = Moves-then moved (subst (λ zs. Moves s t (used s d c) zs)
         (sym (held_used above_holds ∙ ap (λ zs. n ∷ zs) alone)) (Stores-moves (used s d c) stored));
@@ -156,7 +152,7 @@ module _ {T : Type 0} {r s t : Heap T} {d n : ℕ} (c : ℕ) {many : ℕ} (inner
   one_moved = subst (Moves s t []) (sym (append-nil (used t d c))) moved
 
   branches : length (node_children s n) ≡ many + 1
-  branches = grind (arith, child_count_inner)
+  branches = grind arith
 
   pub node_kept : node_of t n ≡ node_of s n
   node_kept = built_kept (c ∷ []) built one_moved
@@ -168,13 +164,13 @@ module _ {T : Type 0} {r s t : Heap T} {d n : ℕ} (c : ℕ) {many : ℕ} (inner
   node_length = ap (λ node. length (items_of node)) node_kept ∙ built.items
 
   pub node_fits : FitsChild (Some c) (node_items t n) (node_children t n)
-  node_fits = grind (arith, node_kept, branches, node_length)
+  node_fits = grind (arith, node_kept)
 
   module _ {u : Heap T} (x : T) (room : many < CAPACITY) (shaped : Shaped t d c) (put : Writes t u n
       (insert (node_items t n) many x) (insert (node_children t n) (many + 1) c))
     where
       child_written : Writes t u n (node_items s n ++ x ∷ []) (node_children s n ++ c ∷ [])
-      child_written = grind (arith, node_kept, insert_end, branches)
+      child_written = grind (arith, node_kept, insert_end)
 
       below_one : All (Shaped t d) (c ∷ [])
       below_one = All-cons (Shaped t d) c [] shaped (All-nil (Shaped t d))
@@ -209,9 +205,7 @@ built_child {T} {r} {s} zero {n} {many} {count} some built enough size = absurd 
 built_child {T} {r} {s} (suc d) {n} {many} {count} some built' enough size' =
     let level : suc d - 1 ≡ d = omega arith in
     let built = rw level at built' in
-    let size = rw level at size' in
-    let shaped = built_shaped built enough in
-    grind (arith, used_le)
+    grind (arith, built_shaped built enough, used_le)
 
 pub child_level : {T : Type 0} (s : Heap T) (d n : ℕ) → 0 < d
     → items_below s (suc (d - 1)) n ≡ items_below s d n
@@ -222,16 +216,14 @@ pub taken_more : {X : Type 0} (all front rest later end now middle : List X) (x 
     → all ≡ front ++ rest → rest ≡ x ∷ later → later ≡ middle ++ end
     → now ≡ front ++ x ∷ middle → all ≡ now ++ end
 taken_more all front rest later end now middle x whole next below longer =
-    grind (arith, append_assoc, longer)
+    grind (arith, append_assoc)
 
 -- a tree that was built where there was none
 pub built_tree : {T : Type 0} {r s : Heap T} (levels : ℕ) {root d n many : ℕ} → levels ≡ 0
     → IsTree r levels root → IsBuilt r s d n many → 0 < many → IsTree s (d + 1) n
-built_tree {T} {r} {s} (suc e) {root} {d} {n} {many} none tree built some = absurd (omega arith)
-built_tree {T} {r} {s} zero {root} {d} none tree built some =
-    grind (arith, shaped_with, occurrences, used_none, occurrences-nil)
+built_tree levels none tree built some = grind (arith, used_none)
 
 -- all that was to be moved was
 pub all_taken : {X : Type 0} (all done rest : List X) → all ≡ done ++ rest
     → length done ≡ length all → done ≡ all
-all_taken all done rest parted same = grind (arith, moved_all, length-append, same)
+all_taken all done rest parted same = grind (arith, moved_all, length-append)

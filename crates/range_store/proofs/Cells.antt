@@ -29,11 +29,17 @@ turned_right : {A : Type 0} (i k : ℕ) (xs : List A) (x : A) (rest ys : List A)
     ys ≡ drop (length mid - 1) mid ++ take (length mid - 1) mid)
     → put_mid i k (xs ++ x ∷ rest) ys ≡ take i xs ++ x ∷ (drop i xs ++ rest)
 turned_right i k xs x rest ys within long turned =
-    let more = xs ++ x ∷ [] in
-    let longer : length more ≡ length xs + 1 = length-append xs (x ∷ []) in
-    let whole : xs ++ x ∷ rest ≡ more ++ rest = sym (append_assoc xs (x ∷ []) rest) in
-    let left = drop i xs in
-    grind (arith, left, length-append, part_is, drop-append-le, drop_at, take_at, part_put, take-append-le)
+    grind (
+      arith,
+      append_assoc xs (x ∷ []) rest,
+      length-append,
+      part_is,
+      drop-append-le,
+      drop_at,
+      take_at,
+      part_put,
+      take-append-le,
+    )
 
 module _ {T : Type 0} where
   pub items_in_full : (xs : List T) → items_in (full_cells xs) ≡ xs
@@ -71,16 +77,16 @@ module _ {T : Type 0} where
   standing (x ∷ xs) (suc i) within = grind (arith, standing xs i (omega arith))
 
   pub items_held : {row : List (Option T)} {xs : List T} → HoldsItems row xs → items_in row ≡ xs
-  items_held {row} {xs} h = grind (arith, filter_map-append, items_in_full, items_in_none, append-nil)
+  items_held h = grind (arith, filter_map-append, items_in_full, items_in_none, append-nil)
 
   pub row_length : {row : List (Option T)} {xs : List T} → HoldsItems row xs → length row ≡ CAPACITY
-  row_length {row} {xs} h = grind (arith, ap length h.cells_are, length-append, length-full, length-replicate)
+  row_length h = grind (arith, length-append, length-full, length-replicate)
 
   -- the cell at an index below the number of items
   pub cell_read : {row : List (Option T)} {xs : List T} → HoldsItems row xs → (i : ℕ)
       → i < length xs → (stands : Standing xs i) → (d : Option T)
       → get_or row i d ≡ Some stands.item
-  cell_read {row} {xs} h i within stands d = grind (arith, get_or_append_left, length-full)
+  cell_read h i within stands d = grind (arith, get_or_append_left, length-full)
 
   -- an item came to the others
   pub held_with : {old : List (Option T)} {xs : List T} (i k : ℕ) (item : T)
@@ -93,7 +99,7 @@ module _ {T : Type 0} where
       let longer = length-insert xs i item within in
       let cells = full_cells xs in
       let rest : List (Option T) = replicate (CAPACITY - length more) None in
-      let left : CAPACITY - length xs ≡ suc (CAPACITY - length more) = omega (arith, longer) in
+      let left : CAPACITY - length xs ≡ suc (CAPACITY - length more) = omega arith in
       let same : old ≡ cells ++ None ∷ rest =
       h.cells_are ∙ ap (λ n. cells ++ replicate n None) left in
       let many = length-full xs in
@@ -138,21 +144,16 @@ module _ {T : Type 0} where
         let fewer = length-remove xs i within in
         let many = length-full (remove xs i) in
         let stands = standing xs i within in
-        let more : suc (CAPACITY - length xs) ≡ CAPACITY - length (remove xs i) =
-        omega (arith, h.fits) in
-        record {
-          fits = omega (arith, h.fits);
-          cells_are = ap (λ l. set l end None) (left stands)
-              ∙ set_at (full_cells (remove xs i)) (Some stands.item)
-              (replicate (CAPACITY - length xs) None) None end (omega arith)
-              ∙ ap (λ n. full_cells (remove xs i) ++ replicate n None) more;
-        }
+        grind (
+          arith,
+          left stands,
+          set_at (full_cells (remove xs i)) (Some stands.item) (replicate (CAPACITY - length xs) None) None end (omega arith),
+        )
 
   -- another item stands for one
   pub held_set : {old : List (Option T)} {xs : List T} (i : ℕ) (item : T) → HoldsItems old xs
       → i < length xs → HoldsItems (set old i (Some item)) (set xs i item)
-  held_set {old} {xs} i item h within =
-      grind (arith, length-set, set-append_left, length-full, map-set)
+  held_set i item h within = grind (arith, length-set, set-append_left, length-full, map-set)
 
   -- a row with no item
   pub held_none : HoldsItems {T = T} (replicate CAPACITY None) []

@@ -63,33 +63,24 @@ module _ {T : Type 0} {s t : Heap T} {d n : ℕ} {xs : List T} {ks : List ℕ}
 pub held_after : {T : Type 0} {q r s t : Heap T} {d n : ℕ} {xs : List T} {ks : List ℕ}
     → Writes q r n xs ks → node_of t n ≡ node_of r n → AgreeAt s t (flat_map (used s d) ks)
     → Holds s t d n xs ks
-held_after {T} {q} {r} {s} {t} {d} {n} {xs} {ks} written kept agree = record {
-  present = rw kept written.present;
-  items_are = rw kept written.items_are;
-  children_are = rw kept written.children_are;
-  same = same_children s t d ks agree;
-}
+held_after {T} {q} {r} {s} {t} {d} {n} {xs} {ks} written kept agree =
+    grind (arith, same_children s t d ks agree)
 
 -- one that is new
 pub held_new : {T : Type 0} {r s t : Heap T} {d n : ℕ} {xs : List T} {ks : List ℕ}
     → Stores r t n xs ks → AgreeAt s t (flat_map (used s d) ks) → Holds s t d n xs ks
-held_new {T} {r} {s} {t} {d} {n} {xs} {ks} stored agree = record {
-  present = stored.present;
-  items_are = stored.items_are;
-  children_are = stored.children_are;
-  same = same_children s t d ks agree;
-}
+held_new {T} {r} {s} {t} {d} {n} {xs} {ks} stored agree =
+    grind (arith, same_children s t d ks agree)
 
 -- a part of the children of a node
 pub child_count_part : (d k m k' m' : ℕ) → m ≡ child_count d k → (m ≡ 0 → m' ≡ 0)
     → (m ≡ k + 1 → m' ≡ k' + 1) → m' ≡ child_count d k'
-child_count_part zero k m k' m' h none some = none h
-child_count_part (suc d) k m k' m' h none some = some h
+child_count_part d k m k' m' h none some = grind arith
 
 -- a leaf with other items
 pub bare_content : {T : Type 0} {least most : ℕ} {s : Heap T} {n : ℕ} (xs : List T)
     → ShapedBut least most s 0 n → Owned s 1 n → IsContent s 0 n xs (node_children s n)
-bare_content {T} {least} {most} {s} {n} xs shaped owned = grind (arith, occurrences, used_is)
+bare_content xs shaped owned = grind (arith, used_is)
 
 module _ {T : Type 0} {s : Heap T} (t : Heap T) {d n : ℕ} {xs : List T} {ks : List ℕ}
     (content : IsContent s d n xs ks) where
@@ -115,7 +106,7 @@ module _ {T : Type 0} {s : Heap T} (t : Heap T) {d n : ℕ} {xs : List T} {ks : 
       moved = subst (λ zs. Moves s t (n ∷ flat_map (used s d) ks) zs)
           (sym (append-nil (used t (suc d) n) ∙ held_used written_holds))
           (Writes-moves (flat_map (used s d) ks) written);
-      shape = λ least small enough. grind (arith, All-cons, held_shape, written_holds, All-nil);
+      shape = λ least small enough. grind (arith, written_holds);
     }
 
 -- the items before and after the one at `half`, in two nodes
@@ -131,7 +122,7 @@ module _ {T : Type 0} {s t : Heap T} {d n r : ℕ} (half : ℕ) {xs : List T} {k
 
   lists_fit : (length (map (items_below s d) ks) ≡ 0) ⊎
       (length (map (items_below s d) ks) ≡ length xs + 1)
-  lists_fit = grind (arith, child_count_cases, length-map)
+  lists_fit = grind (arith, length-map)
 
   pub left_items_below : items_below t (suc d) n ≡ weave (take half xs) (map (items_below s d) us)
   left_items_below = held_items_below left
@@ -161,13 +152,13 @@ module _ {T : Type 0} {s t : Heap T} {d n r : ℕ} (half : ℕ) {xs : List T} {k
       let both : flat_map (used s d) ks ≡ flat_map (used s d) us ++ flat_map (used s d) vs =
       ap (flat_map (used s d)) (sym (take-append-drop (half + 1) ks))
       ∙ flat_map-append (used s d) us vs in
-      grind (arith, left_used, right_used, occurrences-cons, occurrences, occurrences-append, append-nil, length-append)
+      grind (arith, left_used, right_used, occurrences-cons, occurrences-append, length-append)
 
   branches_left : length us ≡ child_count d half
-  branches_left = grind (arith, child_count_part, length-append, take-append-drop, length-take-le)
+  branches_left = grind (arith, length-take-le)
 
   branches_right : length vs ≡ child_count d (length xs - half - 1)
-  branches_right = grind (arith, child_count_part, length-drop)
+  branches_right = grind (arith, length-drop)
 
   left_length : length (take half xs) ≡ half
   left_length = length-take-le half xs (omega (arith, low))
@@ -179,10 +170,19 @@ module _ {T : Type 0} {s t : Heap T} {d n r : ℕ} (half : ℕ) {xs : List T} {k
       → length xs ≤ half + 1 + CAPACITY → (least : ℕ) → least ≤ MIN_LEN
       → All (ShapedBut least CAPACITY t d) (n ∷ r ∷ [])
   halves_shape least_left most_left least_right most_right least small = All-cons
-      (ShapedBut least CAPACITY t d) n (r ∷ []) (held_shape left least (omega (arith, left_length)) (omega (arith, left_length, most_left))
+      (ShapedBut least CAPACITY t d) n (r ∷ []) (held_shape left least (omega (
+        arith,
+        left_length,
+        least_left,
+        small,
+      )) (omega (arith, left_length, most_left))
       (branches_left ∙ ap (child_count d) (sym left_length))
       (All-take (Shaped s d) (half + 1) ks content.shaped)) (All-cons (ShapedBut least CAPACITY t d)
-      r [] (held_shape right least (omega (arith, right_length, least_right, small)) (omega (arith, right_length)) (branches_right ∙ ap (child_count d) (sym right_length)) (All-drop
+      r [] (held_shape right least (omega (arith, right_length, least_right, small)) (omega (
+        arith,
+        right_length,
+        most_right,
+      )) (branches_right ∙ ap (child_count d) (sym right_length)) (All-drop
       (Shaped s d) (half + 1) ks content.shaped)) (All-nil _))
 
 -- they are parts of the children
@@ -209,7 +209,7 @@ module _ {T : Type 0} {s t : Heap T} {d n half : ℕ} {xs : List T} {ks : List �
   cut_agree k among = grind (arith, content_apart, content_there)
 
   n_kept : node_of t n ≡ node_of cut.between n
-  n_kept = grind (arith, here_some)
+  n_kept = grind arith
 
   pub left_holds : Holds s t d n (take half xs) (take (half + 1) ks)
   left_holds = held_after cut.first n_kept (part_agree s t d (half + 1) ks cut_agree).0

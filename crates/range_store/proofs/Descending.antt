@@ -35,7 +35,7 @@ module _ {T : Type 0} (p : T → Bool) (s : Heap T) where
   -- it begins at the node itself
   pub begins : (below number : ℕ) → ShapedBut 1 CAPACITY s below number
       → Falls p (items_below s (suc below) number) → Descent below number below number 0 1
-  begins below number shaped falls = grind (arith, lies_itself)
+  begins below number shaped falls = grind arith
 
   pub descends : {below number left : ℕ} (at path weight : ℕ) → left ≢ 0
       → Descent below number left at path weight → (i : ℕ)
@@ -43,14 +43,13 @@ module _ {T : Type 0} (p : T → Bool) (s : Heap T) where
   descends {below} {number} {left} at path weight inner d i count =
       let back = level_of_children inner d.lies.shaped in
       let low : i ≤ length (node_items s at) =
-      omega (arith, count, count_by-le-length p (node_items s at)) in
-      let step = rw (← count) at (search_step p d.lies.shaped (omega (arith, inner)) d.falls) in
-      record {
-        ahead = d.ahead + ahead_of s left at i;
-        lies = lies_in_child s at path weight d.ahead inner d.lies i low;
-        falls = rw (← back) at (kid_falls p d.lies.shaped (omega (arith, inner)) i low d.falls);
-        count = rw back (omega (arith, d.count, step));
-      }
+      omega (arith, count_by-le-length p (node_items s at)) in
+      grind (
+        arith,
+        search_step p d.lies.shaped (omega arith) d.falls,
+        lies_in_child s at path weight d.ahead inner d.lies i low,
+        kid_falls p d.lies.shaped (omega arith) i low d.falls,
+      )
 
   -- a leaf ends the path down
   pub descent_ends : {below number : ℕ} (left at path weight : ℕ) → left ≡ 0
@@ -60,19 +59,9 @@ module _ {T : Type 0} (p : T → Bool) (s : Heap T) where
   descent_ends {below} {number} zero at path weight bottom d i count =
       let all = items_below_leaf s at d.lies.shaped.node.branches in
       let low : i ≤ length (node_items s at) =
-      omega (arith, count, count_by-le-length p (node_items s at)) in
+      omega (arith, count_by-le-length p (node_items s at)) in
       let e : Edge = record { path = 0; leaf = at; index = i } in
-      let is = leaf_edge s at e refl refl low in
-      let path_is : path + weight * 0 ≡ path = omega arith in
-      let found = d.lies.place_is e is in
-      let sum : d.ahead + place s zero at e ≡ count_by p (items_below s (suc below) number) =
-      omega (arith, leaf_place s at e, count, ap (count_by p) all, d.count) in
-      record {
-        edge = rw path_is at (d.lies.edge e is);
-        count =
-            ap (λ w. place s below number (record { path = w; leaf = at; index = i })) (sym path_is)
-            ∙ found ∙ sum;
-      }
+      grind (arith, leaf_edge s at e refl refl low, leaf_place s at e)
 
 -- the steps of a node come to those of the nodes above
 pub adds_more : {first before after : ℕ} (below left : ℕ) → left ≢ 0 → left ≤ below

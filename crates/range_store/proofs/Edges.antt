@@ -79,16 +79,17 @@ place_inside s d n g = refl
 -- no edge lies past the end
 pub place_within : {T : Type 0} {s : Heap T} (d : ℕ) {n : ℕ} (g : Edge) {least most : ℕ}
     → ShapedBut least most s d n → IsEdge s d n g → place s d n g ≤ length (items_below s (suc d) n)
-place_within {T} {s} zero {n} g {least} {most} shaped is = omega (arith, leaf_place, leaf_index, ap length (items_below_leaf s n shaped.node.branches))
+place_within {T} {s} zero {n} g {least} {most} shaped is =
+    omega (arith, leaf_place, leaf_index, ap length (items_below_leaf s n shaped.node.branches))
 place_within {T} {s} (suc d) {n} g {least} {most} shaped is =
     let xs = node_items s n in
     let lists = child_lists s (suc d) n in
     let i = turn g in
     let kid = node_child s n i in
-    let low : i ≤ length xs = omega (arith, turn_within s d n g is, shaped.node.branches) in
+    let low : i ≤ length xs = omega (arith, turn_within s d n g is) in
     let further = place_within d (inside g) (kid_shaped d i shaped low) (edge_inside s d n g is) in
     let whole = items_below_at (omega arith) shaped i low in
-    grind (arith, place_inside, ap length whole, length-append)
+    grind (arith, place_inside, length-append)
 
 module _ {T : Type 0} where
   -- an edge is the same in two slabs that agree at the nodes below
@@ -99,10 +100,17 @@ module _ {T : Type 0} where
 pub same_edge : {T : Type 0} (s t : Heap T) (d n : ℕ) (g : Edge) → AgreeAt s t (used s (suc d) n)
     → IsEdge s d n g → SameEdge s t d n g
 unfolding used IsEdge place
-same_edge s t zero n g agree is = grind (arith, occurrences_here)
+same_edge s t zero n g agree is =
+    let here : node_of t n ≡ node_of s n =
+    agree n (occurrences_here n (flat_map (used s zero) (node_children s n))) in
+    record { edge = λ h. rw here h; place = refl }
 same_edge s t (suc d) n g agree is =
     let ks = node_children s n in
     let here : node_of t n ≡ node_of s n =
     agree n (occurrences_here n (flat_map (used s (suc d)) ks)) in
     let below = AgreeAt-right s t (n ∷ []) (flat_map (used s (suc d)) ks) agree in
-    grind (arith, same_children, agree_kid, same_edge s t d (get_or ks (turn g) 0) (inside g) (agree_kid s t (suc d) (turn g) ks below is.0) is.1)
+    let lists = (same_children s t (suc d) ks below).items_below_same in
+    let kid =
+    same_edge s t d (get_or ks (turn g) 0) (inside g)
+    (agree_kid s t (suc d) (turn g) ks below is.0) is.1 in
+    record { edge = λ h. rw here (h.0, kid.edge h.1); place = rw (here, lists, kid.place) refl }

@@ -9,10 +9,7 @@ use Rattle.range_store.specs.Written.{set_parts}
 pub remove_behind : {T : Type 0} (front back : List T) (x : T) (place : ℕ) → length front ≡ place
     → remove (front ++ x ∷ back) place ≡ front ++ back
 remove_behind front back x place e =
-    let at_zero : place - place ≡ 0 = omega arith in
-    let step : remove (front ++ x ∷ back) place ≡ front ++ remove (x ∷ back) (place - place) =
-    remove-append_right front (x ∷ back) place place e (omega arith) in
-    rw at_zero at step
+    grind (arith, remove-append_right front (x ∷ back) place place e (omega arith))
 
 -- a run with one more item removed
 pub removed_one : {T : Type 0} (before now new : List T) (place i r : ℕ) (d : T)
@@ -44,13 +41,7 @@ replaced_run before now new place left less x was fewer within done =
     let whole : now ≡ (take place before ++ x ∷ []) ++ drop (place + (left - less)) before =
     grind (arith, append_assoc)
     in
-    let kept : take (place + 1) now ≡ take place before ++ x ∷ [] = grind (arith, take_at) in
-    let rest : drop (place + 1) now ≡ drop (place + (left - less)) before =
-    grind (arith, drop_at) in
-    let tail : drop (place + 1 + less) now ≡ drop (place + left) before =
-    sym (drop-drop less (place + 1) now)
-    ∙ (grind (arith, drop-drop)) in
-    grind (arith, append_assoc)
+    grind (arith, take_at, drop_at, drop-drop less (place + 1) now, drop-drop, append_assoc)
 
 module _ {X : Type 0} where
   pub without_last : (xs : List X) (n : ℕ) → length xs ≤ n + 1 → remove xs n ≡ take n xs

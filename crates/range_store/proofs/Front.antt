@@ -18,8 +18,7 @@ module _ {X : Type 0} (p : X → Bool) where
   count-no x xs fails = count-cons x xs ∙ rw fails (omega arith)
 
   pub true_or_false : (b : Bool) → (b ≡ true) ⊎ (b ≡ false)
-  true_or_false true = inl refl
-  true_or_false false = inr refl
+  true_or_false b = grind arith
 
   pub falls_true : (xs : List X) (i : ℕ) (d : X) → Falls p xs → i < length xs
       → p (get_or xs i d) ≡ true → i + 1 ≤ count_by p xs
@@ -27,15 +26,15 @@ module _ {X : Type 0} (p : X → Bool) where
   falls_true [] i d falls within holds = absurd (omega arith)
   falls_true (x ∷ xs) zero d falls within holds = omega (arith, count-yes x xs holds)
   falls_true (x ∷ xs) (suc i) d falls within holds =
-      grind (arith, true_or_false, count-yes, falls_true xs i d falls.1 (omega arith) holds)
+      grind (arith, count-yes, falls_true xs i d falls.1 (omega arith) holds)
 
   pub falls_false : (xs : List X) (i : ℕ) (d : X) → Falls p xs → i < length xs
       → p (get_or xs i d) ≡ false → count_by p xs ≤ i
   unfolding Falls
   falls_false [] i d falls within fails = absurd (omega arith)
-  falls_false (x ∷ xs) zero d falls within fails = omega (arith, count-no x xs fails, falls.0 fails)
+  falls_false (x ∷ xs) zero d falls within fails = omega (arith, count-no x xs fails)
   falls_false (x ∷ xs) (suc i) d falls within fails =
-      grind (arith, true_or_false, count-yes, count-no, falls_false xs i d falls.1 (omega arith) fails)
+      grind (arith, count-yes, falls_false xs i d falls.1 (omega arith) fails)
 
   pub count-append : (xs ys : List X) → count_by p (xs ++ ys) ≡ count_by p xs + count_by p ys
   count-append xs ys = sum_by-append (λ y. cond (p y) 1 0) xs ys
@@ -49,8 +48,7 @@ module _ {X : Type 0} (p : X → Bool) where
   pub falls_parts : (xs ys : List X) → Falls p (xs ++ ys) → FallsParts xs ys
   unfolding Falls
   falls_parts [] ys falls = record { front = tt; back = falls; none = λ less. absurd (omega arith) }
-  falls_parts (x ∷ xs) ys falls =
-      grind (arith, count-append, true_or_false, count-yes, falls_parts xs ys falls.1)
+  falls_parts (x ∷ xs) ys falls = grind (arith, count-append, count-yes, falls_parts xs ys falls.1)
 
   none_counted : (xs : List X) → ((k : ℕ) (d : X) → k < length xs → p (get_or xs k d) ≡ false)
       → count_by p xs ≡ 0
@@ -86,7 +84,7 @@ module _ {X : Type 0} (p : X → Bool) where
             | inr fails ↦
                 grind (arith, falls_false, count_by-le-length)
           ]),
-      (grind (arith, true_or_false, falls_true)),
+      (grind (arith, falls_true)),
     ),
   )
 
@@ -105,14 +103,7 @@ module _ {X : Type 0} (p : X → Bool) (xs : List X) where
   pub told : (i : ℕ) (d : X) → Falls p xs → i < length xs → (answer : Bool)
       → answer ≡ p (get_or xs i d)
       → (i + 1 ≤ count_by p xs → answer ≡ true) × (count_by p xs ≤ i → answer ≡ false)
-  told i d falls within true is = (
-    λ low. refl,
-    λ high. absurd (omega (arith, high, falls_true p xs i d falls within (sym is))),
-  )
-  told i d falls within false is = (
-    λ low. absurd (omega (arith, low, falls_false p xs i d falls within (sym is))),
-    λ high. refl,
-  )
+  told i d falls within answer is = grind (arith, falls_true, falls_false)
 
 -- a test that all items pass, and one that none does
 pub count_all : {X : Type 0} (xs : List X) → count_by (λ _. true) xs ≡ length xs

@@ -108,21 +108,19 @@ pub settled_replaces : {T : Type 0} {s t u : Heap T} {b n : ℕ} {xs : List T} {
     → Moves s t (used s (suc b) n) (n ∷ flat_map (used t b) ks)
     → weave xs (map (items_below t b) ks) ≡ list → length (node_items s n) ≤ length xs
     → Settles t u b n xs ks split → Replaces s u b n split list
-settled_replaces {T} {s} {t} {u} {b} {n} {xs} {ks} list {split} moved listed more settles = grind (arith, Moves-then)
+settled_replaces list {split} moved listed more settles = grind arith
 
 -- with all capacity that the item needs there is some for a cut
 pub content_room : {T : Type 0} {s t : Heap T} {b n : ℕ} {xs : List T} {ks : List ℕ}
     → Moves s t (used s (suc b) n) (n ∷ flat_map (used t b) ks) → IsContent t b n xs ks
     → length (weave xs (map (items_below t b) ks)) ≡ length (items_below s (suc b) n) + 1
     → HasTreeRoom s (suc b) n 1 → CAPACITY < length xs → HasRoomFor t 1
-content_room {T} {s} {t} {b} {n} {xs} {ks} moved content longer room over =
-    grind (arith, length-weave, child_count_cases, length-map, children_le)
+content_room moved content longer room over = grind (arith, length-weave, length-map, children_le)
 
 -- what stands in the place of a node
 pub tops_many : {T : Type 0} (k : ℕ) (cut : Option (Split T))
     → length (tops k cut) ≡ length (separators cut) + 1
-tops_many k None = refl
-tops_many k (Some cut) = refl
+tops_many k cut = grind arith
 
 pub weave_tops : {T : Type 0} (fore back : List T) (L R : List (List T)) (f : ℕ → List T) (k : ℕ)
     (cut : Option (Split T)) → length fore ≡ length L
@@ -187,10 +185,10 @@ module _ {T : Type 0} {s t : Heap T} {b n i rest : ℕ} {item : T} {split : Opti
   ks_parts = list_splits_at ks i 0 (omega (arith, many))
 
   kid_shape : ShapedBut MIN_LEN CAPACITY s (b - 1) kid
-  kid_shape = Shaped-but s (b - 1) kid (grind (arith, level, many))
+  kid_shape = Shaped-but s (b - 1) kid (grind arith)
 
   grown_run : Runs s t b n us (kid ∷ []) vs (tops kid split)
-  grown_run = grind (arith, ks_parts, append-nil, level)
+  grown_run = grind (arith, ks_parts, append-nil)
 
   pub grown_kept : node_of t n ≡ node_of s n
   grown_kept = run_kept grown_run
@@ -201,7 +199,7 @@ module _ {T : Type 0} {s t : Heap T} {b n i rest : ℕ} {item : T} {split : Opti
   tops_shaped : All (Shaped t b) (tops kid split)
   tops_shaped =
       let but = grows.child.shape MIN_LEN (omega arith) (enough split) in
-      grind (arith, level, All-weaker, Shaped-from_but)
+      grind (arith, Shaped-from_but)
     where
       enough : (cut : Option (Split T)) → EnoughFor MIN_LEN cut (length (node_items s kid))
       enough None = kid_shape.node.enough
@@ -214,7 +212,13 @@ module _ {T : Type 0} {s t : Heap T} {b n i rest : ℕ} {item : T} {split : Opti
   front_many = length-take-le i xs grows.low
 
   pub grown_content : IsContent t b n new_xs new_ks
-  grown_content = run_content grown_run new_xs (grind (arith, child_count_inner, length-append, tops_many, us_many, front_many, length-drop, many)) (All-take (Shaped s b) i ks grows.shaped.children) tops_shaped
+  grown_content = run_content grown_run new_xs (grind (
+    arith,
+    length-append,
+    us_many,
+    front_many,
+    length-drop,
+  )) (All-take (Shaped s b) i ks grows.shaped.children) tops_shaped
       (All-drop (Shaped s b) (i + 1) ks grows.shaped.children)
 
   abbrev lists : List (List T)
@@ -272,12 +276,14 @@ pub kid_owned : {T : Type 0} (s : Heap T) (b n i : ℕ) → Owned s (suc b) n
 kid_owned s b n i owned low k =
     let ks = node_children s n in
     let kid = get_or ks i 0 in
-    let us = flat_map (used s b) (take i ks) in
-    let vs = flat_map (used s b) (drop (i + 1) ks) in
-    let all : flat_map (used s b) ks ≡ us ++ (used s b kid ++ vs) =
-    ap (flat_map (used s b)) (list_splits_at ks i 0 low)
-    ∙ flat_map-append (used s b) (take i ks) (kid ∷ drop (i + 1) ks) in
-    omega (arith, owned k, ap (occurrences k) (used_is s b n), occurrences-cons, ap (occurrences k) all, occurrences-append)
+    grind (
+      arith,
+      list_splits_at ks i 0 low,
+      flat_map-append (used s b) (take i ks) (kid ∷ drop (i + 1) ks),
+      used_is s b n,
+      occurrences-cons,
+      occurrences-append,
+    )
 
 -- a child that was not cut leaves the node as it is
 module _ {T : Type 0} {s t : Heap T} {b n i rest : ℕ} {item : T}
@@ -333,6 +339,5 @@ module _ {T : Type 0} {s t : Heap T} {b n i rest : ℕ} {item : T} {split : Spli
 
   pub some_children : take i (node_children s n) ++ (node_child s n i ∷ split.right ∷ drop (i + 1)
       (node_children s n)) ≡ insert (node_children t n) (i + 1) split.right
-  some_children = sym (with_right (node_children s n) i split.right (grind (arith, children_length)))
-      ∙ ap (λ zs. insert zs (i + 1) split.right)
-      (sym (ap children_of (grown_kept grows)))
+  some_children =
+      grind (arith, with_right (node_children s n) i split.right (grind arith), grown_kept grows)

@@ -24,20 +24,18 @@ module _ {T : Type 0} where
   content_is : (node : Option (Content T)) (xs : List T) (ks : List ℕ) → IsSome node
       → items_of node ≡ xs → children_of node ≡ ks
       → node ≡ Some (record { items = xs; children = ks })
-  content_is None xs ks present items children = absurd (cc)
-  content_is (Some node) xs ks present items children = grind arith
+  content_is node xs ks present items children = grind arith
 
   written_is : {s t : Heap T} {n : ℕ} {xs : List T} {ks : List ℕ} → Writes s t n xs ks
       → node_of t n ≡ Some (record { items = xs; children = ks })
-  written_is {s} {t} {n} {xs} {ks} writes = grind (arith, content_is)
+  written_is writes = grind arith
 
   -- a write between two heaps that differ from two others at another node alone
   writes_along : {s t : Heap T} (u v : Heap T) {n : ℕ} (m : ℕ) {xs : List T} {ks : List ℕ} → n ≢ m
       → Writes s t n xs ks → ((k : ℕ) → k ≢ m → node_of u k ≡ node_of s k)
       → ((k : ℕ) → k ≢ m → node_of v k ≡ node_of t k) → node_of v m ≡ node_of u m
       → node_count v ≡ node_count u → v.capacity ≡ u.capacity → Writes u v n xs ks
-  writes_along {s} {t} u v {n} m apart writes before after here len capacity =
-      grind (arith, cases_eq)
+  writes_along u v {n} m apart writes before after here len capacity = grind arith
 
   module _ (s t u : Heap T) (n m : ℕ) (xs : List T) (ks : List ℕ) (apart : m ≢ n) where
     -- two writes of different nodes
@@ -53,7 +51,7 @@ module _ {T : Type 0} where
         let between = with_slot s m (Some (record { items = ys; children = ls })) in
         let first : Writes s between m ys ls = writes_slot s m
         (record { items = ys; children = ls }) present in
-        grind (arith, writes_along, written_is)
+        grind arith
 
     pub record RemovesFirst : Type 0 where
       pub between : Heap T
@@ -61,7 +59,7 @@ module _ {T : Type 0} where
       pub second : Writes between u n xs ks
 
     pub remove_first : Writes s t n xs ks → Removes t u m → RemovesFirst
-    remove_first one two = grind (arith, removes_slot, writes_along)
+    remove_first one two = grind (arith, removes_slot)
 
     pub record RemovesLast : Type 0 where
       pub between : Heap T
@@ -75,4 +73,4 @@ module _ {T : Type 0} where
         let between = with_slot s n (Some (record { items = xs; children = ks })) in
         let first : Writes s between n xs ks = writes_slot s n
         (record { items = xs; children = ks }) present in
-        grind (arith, cases_eq, written_is)
+        grind arith

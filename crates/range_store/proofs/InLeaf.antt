@@ -14,8 +14,7 @@ use Rattle.range_store.proofs.Rank.{kid_shaped}
 
 -- a leaf has no child to be taken
 pub no_child_gone : (ks : List ℕ) → length ks ≡ 0 → remove ks 0 ≡ ks
-no_child_gone [] none = refl
-no_child_gone (k ∷ ks) none = absurd (omega arith)
+no_child_gone ks none = grind arith
 
 -- what stands before it there stands before it below the node
 pub place_index : {T : Type 0} (s : Heap T) (d n : ℕ) (g : Edge) → g.index ≤ place s d n g
@@ -35,27 +34,35 @@ module _ {T : Type 0} where
 pub leaf_of_edge : {T : Type 0} {s : Heap T} (d : ℕ) {n : ℕ} (g : Edge) → ShapedBut 1 CAPACITY s d n
     → IsEdge s d n g → IsLeafOf s g
 unfolding IsEdge
-leaf_of_edge {T} {s} zero {n} g shaped is = grind arith
+leaf_of_edge zero {n} g shaped is = grind arith
 leaf_of_edge {T} {s} (suc d) {n} g shaped is =
-    let low : turn g ≤ length (node_items s n) = omega (arith, is.0, shaped.node.branches) in
-    grind (arith, shaped_within_wider, kid_shaped, leaf_of_edge d (inside g) (shaped_within_wider 1 CAPACITY (omega arith) (omega arith) (kid_shaped d (turn g) shaped low)) is.1)
+    let low : turn g ≤ length (node_items s n) = omega arith in
+    grind (
+      arith,
+      leaf_of_edge d (inside g) (shaped_within_wider 1 CAPACITY (omega arith) (omega arith) (kid_shaped d (turn g) shaped low)) is.1,
+    )
 
 -- another edge in it
 pub leaf_beside : {T : Type 0} (s : Heap T) (d n : ℕ) (g h : Edge) → h.leaf ≡ g.leaf
     → h.path ≡ g.path → h.index ≤ length (node_items s g.leaf) → IsEdge s d n g
     → IsEdge s d n h × (place s d n h + g.index ≡ place s d n g + h.index)
 unfolding IsEdge place
-leaf_beside s zero n g h leaf path index is = grind arith
+leaf_beside s zero n g h leaf path index is =
+    let within : h.index ≤ length (node_items s n) = rw is.0 at index in
+    ((leaf ∙ is.0, path ∙ is.1, within), omega arith)
 leaf_beside s (suc d) n g h leaf path index is =
-    grind (arith, leaf_beside s d (node_child s n (turn g)) (inside g) (inside h) leaf (ap (λ w. w / PATH_BASE) path) index is.1)
+    let first : turn h ≡ turn g = ap (λ w. w % PATH_BASE) path in
+    let rest =
+    leaf_beside s d (node_child s n (turn g)) (inside g)
+    (inside h) leaf (ap (λ w. w / PATH_BASE) path) index is.1 in
+    rw first ((is.0, rest.0), omega (arith, rest.1))
 
 -- the item before it
 pub leaf_home : {T : Type 0} (s : Heap T) (d n : ℕ) (g : Edge) → IsEdge s d n g → 0 < g.index
     → home_of s d n g ≡ record { node = g.leaf; index = g.index - 1 }
 unfolding IsEdge home_of
 leaf_home s zero n g is some = rw is.0 refl
-leaf_home s (suc d) n g is some =
-    grind (arith, and_right, ne_eqb, leaf_home s d _ (inside g) is.1 some)
+leaf_home s (suc d) n g is some = grind (arith, leaf_home s d _ (inside g) is.1 some)
 
 -- an item that takes the place of its predecessor, once it was taken out
 pub moved_down : {X : Type 0} (xs : List X) (q : ℕ) (y : X) → suc q < length xs

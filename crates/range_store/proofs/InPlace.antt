@@ -56,17 +56,12 @@ module _ {T : Type 0} {s t : Heap T} {n : ℕ} (g : Edge) {items : List T}
         rest = [];
         was = rw at (items_below_leaf s n shaped.node.branches ∙ sym (append-nil (node_items s n)));
         place_is = omega (arith, leaf_place s n g);
-        rewritten = record {
-          listed = held_items_below holds
-              ∙ ap (λ zs. weave items (map (items_below s zero) zs)) childless
-              ∙ sym (append-nil items);
-          moved = grind (arith, used_is, held_used, holds, Writes-moves);
-          shape = λ least small old. grind (arith, held_shape, holds);
-        };
+        rewritten =
+            grind (arith, held_items_below holds, append-nil items, held_used, holds, Writes-moves);
         edges =
             λ h leaf path index. (
               leaf_edge t n h (leaf ∙ at) (path ∙ first)
-                  (omega (arith, index, ap length holds.items_are)),
+                  (omega (arith, ap length holds.items_are)),
               omega (arith, leaf_place t n h),
             );
       }
@@ -87,7 +82,7 @@ module _ {T : Type 0} {s t : Heap T} {d n : ℕ} (g : Edge) {items : List T}
     behind = after_child s (suc d) n (turn g)
 
     anew : ListsAnew s t (suc d) n (turn g) (below.front ++ (items ++ below.rest))
-    anew = grind (arith, inner, shaped, owned)
+    anew = grind arith
 
     kept : node_of t n ≡ node_of s n
     kept = kid_kept anew
@@ -103,15 +98,14 @@ module _ {T : Type 0} {s t : Heap T} {d n : ℕ} (g : Edge) {items : List T}
       was = items_below_at (omega arith) shaped (turn g) low
           ∙ ap (λ zs. fore ++ (zs ++ behind)) below.was
           ∙ regroup fore below.front (node_items s g.leaf) below.rest behind;
-      place_is =
-          omega (arith, place_inside s d n g, below.place_is, length-append fore below.front);
+      place_is = omega (arith, place_inside s d n g, length-append fore below.front);
       rewritten = record {
         listed = kid_listed anew ∙ regroup fore below.front items below.rest behind;
         moved = kid_moved anew;
-        shape = λ least small old. grind (arith, IsNode-same, kept, kid_children, anew, kid_now);
+        shape = λ least small old. grind (arith, kept, kid_children, kid_now);
       };
       edges = λ h leaf path index.
-          grind (arith, leaf, kept, place_inside, kid_front, anew, edge_above, length-append);
+          grind (arith, kept, place_inside, kid_front, edge_above, length-append);
     }
 
 pub leaf_edit : {T : Type 0} {s t : Heap T} (d : ℕ) {n : ℕ} (g : Edge) {items : List T}
@@ -123,10 +117,12 @@ unfolding IsEdge
 leaf_edit {T} {s} {t} zero {n} g {items} fits enough shaped owned is written = edited_here g fits
     (rw is.0 at enough) shaped owned (rw is.0 at written) is.0 is.1
 leaf_edit {T} {s} {t} (suc d) {n} g {items} fits enough shaped owned is written =
-    let low : turn g ≤ length (node_items s n) = omega (arith, is.0, shaped.node.branches) in
+    let low : turn g ≤ length (node_items s n) =
+    omega (arith, is.0, shaped.node.branches) in
     let kid_whole = shaped_within_wider 1 CAPACITY (omega arith) (omega arith)
     (kid_shaped d (turn g) shaped low) in
-    grind (arith, edited_above, shaped, owned, kid_owned, leaf_edit d (inside g) fits enough kid_whole (kid_owned s (suc d) n (turn g) owned is.0) is.1 written)
+    edited_above g shaped owned low is.0 (leaf_edit d (inside g) fits enough kid_whole
+    (kid_owned s (suc d) n (turn g) owned is.0) is.1 written)
 
 -- an item more, before the edge
 module _ {T : Type 0} {s t : Heap T} {d n : ℕ} (item : T) {g : Edge}
@@ -143,8 +139,7 @@ module _ {T : Type 0} {s t : Heap T} {d n : ℕ} {g : Edge}
   pub removed_in_leaf : edit.front ++ (remove (node_items s g.leaf) (g.index - 1) ++ edit.rest)
       ≡ remove (items_below s (suc d) n) (place s d n g - 1)
   removed_in_leaf =
-      let at : length edit.front + (g.index - 1) ≡ place s d n g - 1 =
-      omega (arith, edit.place_is, some) in
+      let at : length edit.front + (g.index - 1) ≡ place s d n g - 1 = omega arith in
       grind (arith, remove_middle)
 
 -- the leaf of an edge of a whole tree, with an item more or less
@@ -176,7 +171,7 @@ module _ {T : Type 0} {t : BoxStorage T} (new : Heap T) {g : Edge} (is : IsBoxEd
       (edit : IsLeafEdit t.nodes new (t.levels - 1) t.root g now)
       → edit.front ++ (now ++ edit.rest) ≡ list → h.leaf ≡ g.leaf → h.path ≡ g.path
       → h.index ≤ length now → IsLeafChange list h h.index
-  leaf_change_lists list h edit same at path within = grind (arith, rewritten_tree)
+  leaf_change_lists list h edit same at path within = grind arith
 
   pub put_in_leaf : (item : T) (h : Edge) → length items < CAPACITY
       → Writes t.nodes new g.leaf (insert items g.index item) (node_children t.nodes g.leaf)

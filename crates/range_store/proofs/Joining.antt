@@ -23,17 +23,11 @@ use Rattle.range_store.proofs.Seats.{seat_run}
 weave_join : {T : Type 0} (xs : List T) (x : T) (ys : List T) (ks ls : List (List T)) (d : ℕ)
     → length ks ≡ child_count d (length xs) → length ls ≡ child_count d (length ys)
     → weave (xs ++ x ∷ ys) (ks ++ ls) ≡ weave xs ks ++ (x ∷ weave ys ls)
-weave_join xs x ys [] [] zero same same' = refl
-weave_join xs x ys [] (l ∷ ls) zero same same' = absurd (omega arith)
-weave_join xs x ys (k ∷ ks) ls zero same same' = absurd (omega arith)
-weave_join xs x ys [] ls (suc d) same same' = absurd (omega arith)
-weave_join xs x ys (k ∷ ks) [] (suc d) same same' = absurd (omega arith)
-weave_join xs x ys (k ∷ ks) (l ∷ ls) (suc d) same same' = weave_cut xs x ys k ks l ls (omega arith)
+weave_join xs x ys ks ls d same same' = grind (arith, weave_cut)
 
 child_count-join : (d a b m n : ℕ) → m ≡ child_count d a → n ≡ child_count d b
     → m + n ≡ child_count d (a + (1 + b))
-child_count-join zero a b m n h h' = omega arith
-child_count-join (suc d) a b m n h h' = omega arith
+child_count-join d a b m n h h' = grind arith
 
 module _ {T : Type 0} {s : Heap T} {d l r : ℕ} (x : T) (pair : IsPair s d l r) where
   abbrev xs : List T
@@ -49,12 +43,11 @@ module _ {T : Type 0} {s : Heap T} {d l r : ℕ} (x : T) (pair : IsPair s d l r)
   both = flat_map-append (used s d) (node_children s l) (node_children s r)
 
   pub pair_nodes : SameNodes (used s (suc d) l ++ used s (suc d) r) (r ∷ l ∷ F)
-  pair_nodes =
-      grind (arith, used_is, occurrences-append, occurrences-cons, occurrences, both, length-append)
+  pair_nodes = grind (arith, used_is, occurrences-append, occurrences-cons, both, length-append)
 
   occur_pair : (k : ℕ)
       → occurrences k (r ∷ []) + (occurrences k (l ∷ []) + occurrences k F) ≤ here s k
-  occur_pair k = omega (arith, pair.owned k, pair_nodes.occur k, occurrences-cons)
+  occur_pair k = omega (arith, pair_nodes.occur k, occurrences-cons)
 
   pub pair_apart : l ≢ r
   pair_apart same =
@@ -76,7 +69,7 @@ module _ {T : Type 0} {s : Heap T} {d l r : ℕ} (x : T) (pair : IsPair s d l r)
     shaped =
         All-append (Shaped s d) (node_children s l)
         (node_children s r) pair.left.children pair.right.children;
-    branches = grind (arith, length-append, child_count-join, one);
+    branches = grind (arith, length-append);
     owned = λ k. omega (arith, occur_pair k, occurrences-cons k l F);
   }
 
@@ -118,7 +111,7 @@ module _ {T : Type 0} {s : Heap T} {d l r : ℕ} (x : T) (pair : IsPair s d l r)
           (Moves-like (r ∷ l ∷ F) (r ∷ l ∷ F) swapped swapped (Writes-moves (r ∷ F) written))
           (Removes-moves (l ∷ F) removed));
       shaped = All-cons (Shaped u (suc d)) l [] (Shaped-from_but u d l (held_shape united_holds
-          MIN_LEN (omega (arith, pair_length, pair.enough)) (omega (arith, few))
+          MIN_LEN (omega (arith, pair_length)) (omega arith)
           pair_content.branches pair_content.shaped)) (All-nil _);
     }
 
@@ -154,7 +147,7 @@ module _ {T : Type 0} {s : Heap T} {d l r : ℕ} (x : T) (pair : IsPair s d l r)
       shaped =
           let but = halves_shape half pair_content low shared_left shared_right least_left most_left
           least_right most_right MIN_LEN (omega arith) in
-          grind (arith, All-weaker, Shaped-from_but);
+          grind (arith, Shaped-from_but);
     })
 
 -- the seat of an edge among the items of both, from that in the left or in the right one
@@ -170,7 +163,7 @@ module _ {T : Type 0} (s : Heap T) (l : ℕ) (x : T) (r : ℕ) (g : Edge) where
       × (seat_place s d all_items all_children (seat_of d g) (inside g) ≡ place s d l g)
   unfolding IsEdge place IsSeat seat_place
   seat_from_left zero pair is = (
-    omega (arith, is.2, length-append (node_items s l) (x ∷ node_items s r)),
+    omega (arith, length-append (node_items s l) (x ∷ node_items s r)),
     refl,
   )
   seat_from_left (suc e) pair is =

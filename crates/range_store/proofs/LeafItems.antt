@@ -47,11 +47,10 @@ module _ {T : Type 0} {t : BoxStorage T} {g : Edge} (is : IsBoxEdge t g) where
       let end = at_index (length leaf_items) (omega arith) in
       let most = edge_within end.0 in
       same_lists _ _
-      (grind (arith, length-drop, length-take, box_place, box_items))
+      (grind (arith, length-drop, length-take))
       (λ k d low.
-      let here : g.index + k < length leaf_items =
-      omega (arith, low, length-drop g.index leaf_items) in
-      let next = at_index (g.index + k + 1) (omega (arith, here)) in
+      let here : g.index + k < length leaf_items = omega (arith, length-drop g.index leaf_items) in
+      let next = at_index (g.index + k + 1) (omega arith) in
       let at : box_place t (record g { index = g.index + k + 1 }) - 1 ≡ box_place t g + k =
-      omega (arith, next.1) in
-      grind (arith, get_or-drop, leaf_item, box_items, box_place, get_or-take))
+      omega arith in
+      grind (arith, get_or-drop, leaf_item, get_or-take))

@@ -28,7 +28,12 @@ module _ {T : Type 0} {s : Heap T} {n : ℕ} (i : ℕ) (item : T) (shaped : Shap
   pub leaf_longer : i ≤ length (node_items s n) → length (weave (insert (node_items s n) i item)
       (child_lists s 0 n)) ≡ length (items_below s 1 n) + 1
   leaf_longer low =
-      omega (arith, ap length leaf_listed, ap (λ zs. length (insert zs i item)) (items_below_leaf s n shaped.node.branches), length-insert, ap length (items_below_leaf s n shaped.node.branches))
+      omega (
+        arith,
+        ap length leaf_listed,
+        length-insert,
+        ap length (items_below_leaf s n shaped.node.branches),
+      )
 
 pub leaf_seat : {T : Type 0} (s : Heap T) (xs : List T) (ks : List ℕ) (i : ℕ) (g : Edge)
     → i ≤ length xs → IsSeat s 0 xs ks i g

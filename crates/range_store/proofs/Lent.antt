@@ -103,11 +103,10 @@ module _ {T : Type 0} {s : BoxStorage T} {edge : Edge} (good : IsGood s edge) wh
   pub item_home : (home : Home) → home ≡ box_home s edge → (x : T)
       → x ≡ get_or (node_items s.nodes home.node) home.index x
       → x ≡ get_or (box_items s) (box_rank s edge) x
-  item_home home at x here = grind (arith, good_item, box_items, rank_is)
+  item_home home at x here = grind (arith, good_item)
 
 -- nodes of the same shape keep the positions
 pub good_same : {T : Type 0} {s : BoxStorage T} (t : BoxStorage T) → SameShape s.nodes t.nodes
     → t.levels ≡ s.levels → t.root ≡ s.root → (q : Edge) → IsGood s q → IsGood t q ×
     (box_rank t q ≡ box_rank s q)
-good_same {T} {s} t shape levels root q good =
-    grind (arith, box_place, place_same, edge_same, rank_is)
+good_same t shape levels root q good = grind (arith, place_same, edge_same)

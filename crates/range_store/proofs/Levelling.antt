@@ -65,7 +65,7 @@ module _ {T : Type 0} {s : Heap T} {low n j : ℕ} (x : T) (levelled : IsLevelle
     right = levelled.right;
     owned =
         λ k.
-        omega (arith, levelled.owned k, ap (occurrences k) (used_old same_run), occurrences-cons, occurrences-append, ap (occurrences k) (append-nil (used s (suc low) r)));
+        omega (arith, ap (occurrences k) (used_old same_run), occurrences-cons, occurrences-append);
     enough = levelled.enough;
     fits = levelled.fits;
   }
@@ -83,22 +83,25 @@ module _ {T : Type 0} {s : Heap T} {low n j : ℕ} (x : T) (levelled : IsLevelle
         ++ drop (j + 2) (node_children s n))
 
     few : (cut : Option (Split T)) → length (separators cut) ≤ 1
-    few None = omega arith
-    few (Some cut) = omega arith
+    few cut = grind arith
 
     pub new_length : length new_xs + 1 ≡ length xs + length (separators split)
     new_length =
-        omega (
+        grind (
           arith,
           length-append (take j xs) (separators split ++ drop (j + 1) xs),
-          length-append (separators split) (drop (j + 1) xs),
           front_many,
           length-drop (j + 1) xs,
-          levelled.within,
         )
 
     new_content : IsContent t (suc low) n new_xs new_ks
-    new_content = run_content pair_run new_xs (grind (arith, new_length, length-append, tops_many, us_many, length-drop, many))
+    new_content = run_content pair_run new_xs (grind (
+      arith,
+      new_length,
+      length-append,
+      us_many,
+      length-drop,
+    ))
         levelled.before rejoins.shaped levelled.behind
 
     woven_old : items_below s (suc (suc low)) n

@@ -35,12 +35,10 @@ but_sizes : {T : Type 0} {least most : ℕ} {s : Heap T} (d : ℕ) {n : ℕ}
     → ((least + 1) * (MIN_LEN + 1) ^ d ≤ length (items_below s (suc d) n) + 1)
     × (length (items_below s (suc d) n) + 1 ≤ (most + 1) * (CAPACITY + 1) ^ d)
 but_sizes {T} {least} {most} {s} zero {n} below shaped = (
-  omega (arith, mul-one (least + 1), items_below_size shaped, shaped.node.enough),
+  omega (arith, items_below_size shaped),
   omega (
     arith,
-    mul-one (most + 1),
     items_below_size shaped,
-    shaped.node.fits,
     ap (λ zs. sizes s zero zs) (nil_from_length (node_children s n) shaped.node.branches),
   ),
 )
@@ -49,20 +47,17 @@ but_sizes {T} {least} {most} {s} (suc d) {n} below shaped =
     let p = (MIN_LEN + 1) ^ suc d in
     let q = (CAPACITY + 1) ^ suc d in
     let all = children_sizes s (suc d) p q below ks shaped.children in
-    let enough : least + 1 ≤ length ks = omega (arith, shaped.node.enough, shaped.node.branches) in
-    let fits : length ks ≤ most + 1 = omega (arith, shaped.node.fits, shaped.node.branches) in
+    let enough : least + 1 ≤ length ks = omega arith in
+    let fits : length ks ≤ most + 1 = omega arith in
     let size = items_below_size shaped in
-    grind (arith, mul-le-mul_right, le_trans)
+    grind (arith, mul-le-mul_right)
 
 items_sizes : {T : Type 0} (s : Heap T) (d n : ℕ) → Shaped s d n
     → ((MIN_LEN + 1) ^ d ≤ length (items_below s d n) + 1)
     × (length (items_below s d n) + 1 ≤ (CAPACITY + 1) ^ d)
 items_sizes s zero n shaped = (omega arith, omega (arith, ap length (items_below_none s n)))
 items_sizes s (suc d) n shaped =
-    let both = but_sizes d (items_sizes s d) (Shaped-but s d n shaped) in (
-      omega (arith, pow-suc (MIN_LEN + 1) d, mul_comm (MIN_LEN + 1) ((MIN_LEN + 1) ^ d), both.0),
-      omega (arith, pow-suc (CAPACITY + 1) d, mul_comm (CAPACITY + 1) ((CAPACITY + 1) ^ d), both.1),
-    )
+    grind (arith, but_sizes d (items_sizes s d) (Shaped-but s d n shaped))
 
 -- a tree that is not empty
 pub tree_lower : {T : Type 0} {s : Heap T} (d : ℕ) {root : ℕ} → IsTree s (suc d) root
@@ -82,8 +77,7 @@ pow_more (suc d) = omega (arith, pow-suc (MIN_LEN + 1) d, pow_more d)
 
 pub levels_le : {T : Type 0} {s : Heap T} (levels : ℕ) {root : ℕ} → IsTree s levels root
     → levels ≤ length (items_below s levels root)
-levels_le {T} {s} zero {root} tree = omega arith
-levels_le {T} {s} (suc d) {root} tree = omega (arith, tree_lower d tree, pow_more d)
+levels_le levels tree = grind (arith, tree_lower, pow_more)
 
 pub empty_levels : {T : Type 0} {s : Heap T} {levels root : ℕ} → IsTree s levels root
     → length (items_below s levels root) ≡ 0 → levels ≡ 0
@@ -92,8 +86,11 @@ empty_levels {T} {s} {levels} {root} tree none = omega (arith, levels_le levels 
 pub levels_least : {T : Type 0} {s : Heap T} (levels : ℕ) {root : ℕ} → IsTree s levels root
     → 0 < length (items_below s levels root)
     → 2 * (MIN_LEN + 1) ^ (levels - 1) ≤ length (items_below s levels root) + 1
-levels_least {T} {s} zero {root} tree some = absurd (omega (arith, ap length (items_below_none s root)))
-levels_least {T} {s} (suc d) {root} tree some = grind (arith, tree_lower)
+levels_least {T} {s} zero {root} tree some = absurd (omega (
+  arith,
+  ap length (items_below_none s root),
+))
+levels_least (suc d) {root} tree some = grind (arith, tree_lower)
 
 pub levels_most : {T : Type 0} {s : Heap T} (levels : ℕ) {root : ℕ} → IsTree s levels root
     → 0 < length (items_below s levels root)
@@ -103,4 +100,4 @@ levels_most {T} {s} (suc d) {root} tree some = tree_upper d tree
 
 pub has_levels : {T : Type 0} {s : Heap T} {levels root : ℕ} → IsTree s levels root
     → HasLevels (length (items_below s levels root)) levels
-has_levels {T} {s} {levels} {root} tree = grind (arith, empty_levels, levels_least, levels_most)
+has_levels tree = grind (arith, empty_levels, levels_least, levels_most)

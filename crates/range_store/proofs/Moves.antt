@@ -31,15 +31,15 @@ Moves-none s us =
 -- what is under a number once the first step was made
 pub Moves-kept : {T : Type 0} {s t : Heap T} {us vs : List ℕ} → Moves s t us vs → (k : ℕ)
     → occurrences k us ≡ 0 → IsSome (node_of s k) → (occurrences k vs ≡ 0) × IsSome (node_of t k)
-Moves-kept {T} {s} {t} m k unused present = grind (arith, here_some, here_le)
+Moves-kept m k unused present = grind arith
 
 pub Moves-then : {T : Type 0} {r s t : Heap T} {us vs ws : List ℕ} → Moves r s us vs
     → Moves s t vs ws → Moves r t us ws
-Moves-then {T} {r} {s} {t} {us} {vs} first second = grind (arith, Moves-kept)
+Moves-then first second = grind arith
 
 pub Moves-beside : {T : Type 0} {s t : Heap T} {us vs : List ℕ} (ws : List ℕ) → Moves s t us vs
     → Moves s t (us ++ ws) (vs ++ ws)
-Moves-beside {T} {s} {t} {us} {vs} ws m = grind (arith, occurrences-append, length-append)
+Moves-beside ws m = grind (arith, occurrences-append, length-append)
 
 -- the same items_below, in another order
 pub record SameNodes (us vs : List ℕ) : Type 0 where
@@ -52,17 +52,17 @@ Moves-like us' vs' before after m = grind arith
 
 pub Writes-moves : {T : Type 0} {s t : Heap T} {n : ℕ} {xs : List T} {ks : List ℕ} (us : List ℕ)
     → Writes s t n xs ks → Moves s t (n ∷ us) (n ∷ us)
-Writes-moves {T} {s} {t} {n} us w = grind (arith, cases_eq, here_some, other_than)
+Writes-moves us w = grind (arith, other_than)
 
 pub Stores-moves : {T : Type 0} {s t : Heap T} {n : ℕ} {xs : List T} {ks : List ℕ} (us : List ℕ)
     → Stores s t n xs ks → Moves s t us (n ∷ us)
-Stores-moves {T} {s} {t} {n} us w = grind (arith, cases_eq, here_some, occurrences-cons, occurrences_itself, occurrences_other)
+Stores-moves us w = grind (arith, occurrences-cons, occurrences_itself, occurrences_other)
 
 pub Removes-moves : {T : Type 0} {s t : Heap T} {n : ℕ} (us : List ℕ) → Removes s t n
     → Moves s t (n ∷ us) us
-Removes-moves {T} {s} {t} {n} us w = grind (arith, cases_eq, here_some, occurrences-cons, occurrences_itself, occurrences_other, other_than)
+Removes-moves us w = grind (arith, occurrences-cons, occurrences_itself, occurrences_other)
 
 -- the nodes that are none of these stay
 pub Moves-agree : {T : Type 0} {s t : Heap T} {us vs : List ℕ} (ws : List ℕ)
     → ((k : ℕ) → occurrences k us + occurrences k ws ≤ here s k) → Moves s t us vs → AgreeAt s t ws
-Moves-agree {T} {s} ws once m k among = grind (arith, here_le, some_from_here)
+Moves-agree ws once m k among = grind arith

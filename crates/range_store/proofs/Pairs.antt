@@ -13,8 +13,7 @@ use Rattle.range_store.proofs.Levelling.{pair_of}
 
 pub seat_low : {T : Type 0} {s : Heap T} (low : ℕ) {k : ℕ} (g : Edge) {least : ℕ}
     → ShapedBut least CAPACITY s low k → IsEdge s low k g → seat_of low g ≤ length (node_items s k)
-seat_low {T} {s} zero {k} g {least} shaped is = leaf_index s k g is
-seat_low {T} {s} (suc d) {k} g shaped is = omega (arith, turn_within)
+seat_low low g shaped is = grind (arith, leaf_index, turn_within)
 
 -- the seat of an edge below one of two neighbours, in either of them and among what both have
 pub near_seat : {T : Type 0} {s : Heap T} {low n j : ℕ} (i : ℕ) (g : Edge) → IsLevelled s low n j
@@ -22,16 +21,10 @@ pub near_seat : {T : Type 0} {s : Heap T} {low n j : ℕ} (i : ℕ) (g : Edge) �
     → child_size s n j + 1 + child_size s n (j + 1) ≤ CAPACITY → (seat_of low g ≤ CAPACITY) ×
     ((q : ℕ) → (i - j ≡ 0 → q ≡ seat_of low g) →
     (0 < i - j → q ≡ child_size s n j + 1 + seat_of low g) → q ≤ CAPACITY)
-near_seat {T} {s} {low} {n} {j} i g levelled (inl same) is few =
-    let low' = seat_low low g levelled.left (rw same at is) in (
-      omega (arith, low', few),
-      λ q first second. omega (arith, first (omega (arith, same)), low', few),
-    )
+near_seat {T} {s} {low} i g levelled (inl same) is few =
+    grind (arith, seat_low low g levelled.left (rw same at is))
 near_seat {T} {s} {low} i g levelled (inr next) is few =
-    let low' = seat_low low g levelled.right (rw next at is) in (
-      omega (arith, low', few),
-      λ q first second. omega (arith, second (omega (arith, next)), low', few),
-    )
+    grind (arith, seat_low low g levelled.right (rw next at is))
 
 module _ {T : Type 0} {s : Heap T} {low n j : ℕ} (x : T) (levelled : IsLevelled s low n j)
     (here : x ≡ get_or (node_items s n) j x) where
@@ -66,12 +59,10 @@ module _ {T : Type 0} {s : Heap T} {low n j : ℕ} (x : T) (levelled : IsLevelle
       wide_children q (inside g) ≡ seat_place s (suc low) xs ks i g)
   unfolding seat_place
   pair_seat i g q (inl same) is left right =
-      let at : q ≡ seat_of low g = left (omega (arith, same)) in
-      let seat = seat_from_left s l x r g low (pair_of x levelled here) (rw same at is) in
-      rw (at, same) (seat.0, omega (arith, seat.1))
+      grind (arith, seat_from_left s l x r g low (pair_of x levelled here) (rw same at is))
   pair_seat i g q (inr next) is left right =
-      let at : q ≡ length (node_items s l) + 1 + seat_of low g =
-      right (omega (arith, next)) in
-      let seat =
-      seat_from_right s l x r g low (pair_of x levelled here) (rw next at is) in
-      rw (at, next) (seat.0, omega (arith, seat.1, rest_before))
+      grind (
+        arith,
+        seat_from_right s l x r g low (pair_of x levelled here) (rw next at is),
+        rest_before,
+      )

@@ -25,7 +25,7 @@ unfolding home_of
 home_step s d n g = refl
 
 pub start_parts : (g : Edge) → is_start g ≡ true → (g.path ≡ 0) × (g.index ≡ 0)
-start_parts g start = grind (arith, and_parts, eqb-true)
+start_parts g start = grind arith
 
 -- nothing stands before an edge just where it is a start
 pub stands_first : {T : Type 0} (s : Heap T) (d n : ℕ) (g : Edge) → is_start g ≡ true
@@ -36,9 +36,9 @@ pub not_start : {T : Type 0} {s : Heap T} {d n : ℕ} (g : Edge) → ShapedBut 1
     → IsEdge s d n g → is_start g ≡ false → 0 < place s d n g
 not_start {T} {s} {d} {n} g shaped is later =
     elim (cases_eq (place s d n g) 0) [
-      | inr some ↦ omega (arith, some)
+      | inr some ↦ omega arith
       | inl none ↦ let start =
-          start_of_place s 1 CAPACITY d n g shaped is none in grind (arith, both_ways, and_from, eq-eqb)
+          start_of_place s 1 CAPACITY d n g shaped is none in grind arith
     ]
 
 module _ {T : Type 0} {s : Heap T} {b n : ℕ} (inner : b ≢ 0)
@@ -58,12 +58,7 @@ module _ {T : Type 0} {s : Heap T} {b n : ℕ} (inner : b ≢ 0)
       (kid_shaped (b - 1) i deeper low)
 
   pub below_turn : (g : Edge) → IsEdge s b n g → turn g ≤ length (node_items s n)
-  below_turn g is =
-      omega (
-        arith,
-        turn_within s (b - 1) n g (rw (← level_of_children) at is),
-        children_length (omega arith) shaped,
-      )
+  below_turn g is = grind (arith, turn_within s (b - 1) n g (rw (← level_of_children) at is))
 
   pub below_inside : (g : Edge) → IsEdge s b n g
       → IsEdge s (b - 1) (node_child s n (turn g)) (inside g)
@@ -92,13 +87,12 @@ module _ {T : Type 0} {s : Heap T} {b n : ℕ} (inner : b ≢ 0)
   pub past_last : (i : ℕ) → i ≡ length (node_items s n) → length (before_child s b n i) + length
       (items_below s b (node_child s n i)) ≡ length (items_below s (suc b) n)
   past_last i last =
-      let xs = node_items s n in
-      let lists = child_lists s b n in
-      let kid = node_child s n i in
-      let whole = items_below_at (omega arith) shaped i (omega arith) in
-      let none : length (after xs lists i) ≡ 0 = rw last
-      (ap length (none_after_last (omega arith) shaped)) in
-      grind (arith, ap length whole, length-append)
+      grind (
+        arith,
+        items_below_at (omega arith) shaped i (omega arith),
+        none_after_last (omega arith) shaped,
+        length-append,
+      )
 
   -- an edge at the end of the child at i is one before the next child
   pub before_next : (i : ℕ) → i < length (node_items s n) → length (before_child s b n (i + 1))
@@ -108,8 +102,8 @@ module _ {T : Type 0} {s : Heap T} {b n : ℕ} (inner : b ≢ 0)
   -- where the item before an edge stands, which begins a child or goes further down
   pub home_above : (g : Edge) → is_start (inside g) ≡ true
       → home_of s b n g ≡ record { node = n; index = turn g - 1 }
-  home_above g start = grind (arith, home_step, level_of_children)
+  home_above g start = grind (arith, home_step)
 
   pub home_inside : (g : Edge) → is_start (inside g) ≡ false
       → home_of s b n g ≡ home_of s (b - 1) (node_child s n (turn g)) (inside g)
-  home_inside g later = grind (arith, home_step, level_of_children)
+  home_inside g later = grind (arith, home_step)

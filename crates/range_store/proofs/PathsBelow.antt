@@ -45,7 +45,7 @@ module _ {T : Type 0} (s : Heap T) where
 
   pub lies_itself : {below number : ℕ} → ShapedBut 1 CAPACITY s below number
       → LiesBelow below number below number 0 1 0
-  lies_itself {below} {number} shaped = grind arith
+  lies_itself shaped = grind arith
 
   pub lies_in_child : {below number left : ℕ} (at path weight ahead : ℕ) → left ≢ 0
       → LiesBelow below number left at path weight ahead → (i : ℕ)

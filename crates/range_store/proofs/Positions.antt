@@ -11,42 +11,29 @@ use Rattle.range_store.specs.declared.btree.BoxStorage.{BoxStorage}
 use Rattle.range_store.specs.declared.btree.path.Edge.{Edge}
 use Rattle.range_store.proofs.Front.{falling_front}
 
-module _ {X : Type 0} where
-  remove_last : (xs : List X) (j : ℕ) (d : X) → j + 1 ≡ length xs
-      → remove xs j ++ (get_or xs j d ∷ []) ≡ xs
-  remove_last [] j d last = absurd (omega arith)
-  remove_last (x ∷ []) zero d last = refl
-  remove_last (x ∷ []) (suc j) d last = absurd (omega arith)
-  remove_last (x ∷ y ∷ xs) zero d last = absurd (omega arith)
-  remove_last (x ∷ y ∷ xs) (suc j) d last =
-      ap (λ zs. x ∷ zs) (remove_last (y ∷ xs) j d (omega arith))
-
 module _ {T : Type 0} (s : BoxStorage T) where
   -- an edge after an item stands for that
   pub good_from : {edge : Edge} → IsBoxEdge s edge → 0 < box_place s edge → IsGood s edge ×
       (box_rank s edge + 1 ≡ box_place s edge)
-  good_from {edge} is some = grind (arith, rank_is)
+  good_from is some = grind arith
 
   pub next_at : (rank : ℕ) (edge : Option Edge) → IsNextEdge s edge rank
       → IsAt (IsGood s) (box_rank s) (length (box_items s)) edge rank
-  next_at rank None at = at
-  next_at rank (Some edge) at = grind (arith, good_from)
+  next_at rank edge at = grind arith
 
   -- the edge after an item, or none, from what is known below the root
   pub next_from : (rank : ℕ) → 0 < s.levels → (edge : Option Edge)
       → MatchOption edge (rank ≡ length (items_below s.nodes (suc (s.levels - 1)) s.root))
       (λ h. IsEdge s.nodes (s.levels - 1) s.root h
       × (place s.nodes (s.levels - 1) s.root h ≡ rank + 1)) → IsNextEdge s edge rank
-  next_from rank some None none = grind arith
-  next_from rank some (Some h) is = (record { some = some; edge = is.0 }, is.1)
+  next_from rank some edge is = grind arith
 
   -- the edge after all items, if there are any
   pub end_place : (edge : Option Edge)
       → MatchOption edge (box_items s ≡ [])
       (λ g. IsBoxEdge s g × (box_place s g ≡ length (box_items s)))
       → edge_or_end s edge ≡ length (box_items s)
-  end_place None h = refl
-  end_place (Some g) h = h.1
+  end_place edge h = grind arith
 
   -- the edge after the items that pass, as a position of the last of them
   pub front_found : (test : T → Bool) → Falls test (box_items s) → (edge : Option Edge)
@@ -54,5 +41,4 @@ module _ {T : Type 0} (s : BoxStorage T) where
       (λ g. IsBoxEdge s g × (0 < box_place s g) × (box_place s g ≡ count_by test (box_items s)))
       → MatchOption edge (IsFrontOf test (box_items s) 0)
       (λ p. IsGood s p × IsFrontOf test (box_items s) (box_rank s p + 1))
-  front_found test falls None none = rw none at (falling_front test (box_items s) falls)
-  front_found test falls (Some g) found = grind (arith, good_from, falling_front, box_items)
+  front_found test falls edge found = grind (arith, falling_front)

@@ -15,20 +15,18 @@ unfolding used
 used_none s n = refl
 
 pub IsTree-none : {T : Type 0} (s : Heap T) (root : ℕ) → s.slots ≡ [] → IsTree s zero root
-IsTree-none s root empty = grind (arith, occurrences, used_none, occurrences-nil)
+IsTree-none s root empty = grind (arith, used_none, occurrences-nil)
 
 -- an empty tree has no node
 pub nothing_stored : {T : Type 0} {s : Heap T} (levels : ℕ) {root : ℕ} → levels ≡ 0
     → IsTree s levels root → node_count s ≡ 0
-nothing_stored {T} {s} zero {root} none tree = omega (arith, tree.len, ap length (used_none s root))
-nothing_stored (suc d) none tree = absurd (omega arith)
+nothing_stored levels none tree = grind (arith, used_none)
 
 -- an empty tree leaves all capacity free
 pub first_room : {T : Type 0} {s : Heap T} (levels : ℕ) {root : ℕ} → levels ≡ 0
     → IsTree s levels root → length (items_below s levels root) + 1 ≤ MIN_LEN * s.capacity
     → node_count s + 1 ≤ s.capacity
-first_room {T} {s} zero {root} none tree room = omega (arith, tree.len, ap length (used_none s root), room)
-first_room (suc d) none tree room = absurd (omega arith)
+first_room levels none tree room = grind (arith, used_none)
 
 pub kid_shaped : {T : Type 0} {least most : ℕ} {s : Heap T} (d : ℕ) {n : ℕ} (i : ℕ)
     → ShapedBut least most s (suc d) n → i ≤ length (node_items s n)

@@ -18,11 +18,11 @@ sizes s d ns = sum_by length (map (items_below s d) ns)
 
 pub sizes-append : {T : Type 0} (s : Heap T) (d : ℕ) (us vs : List ℕ)
     → sizes s d (us ++ vs) ≡ sizes s d us + sizes s d vs
-sizes-append {T} s d us vs = grind (arith, map-append, sum_by-append)
+sizes-append s d us vs = grind (arith, map-append, sum_by-append)
 
 pub items_below_size : {T : Type 0} {least most : ℕ} {s : Heap T} {d n : ℕ}
     → ShapedBut least most s d n → length (items_below s (suc d) n) ≡ length (node_items s n) + sizes s d (node_children s n)
-items_below_size {T} {least} {most} {s} {d} {n} shaped = grind (arith, weave_items_below, length-weave, child_count_cases, length-map)
+items_below_size shaped = grind (arith, weave_items_below, length-weave, length-map)
 
 children_le_from : {T : Type 0} (s : Heap T) (d : ℕ)
     → ((n : ℕ) → Shaped s d n → MIN_LEN * length (used s d n) ≤ length (items_below s d n))
@@ -43,12 +43,10 @@ unfolding used items_below
 used_le s zero n shaped = omega arith
 used_le s (suc d) n shaped =
     let but = Shaped-but s d n shaped in
-    omega (
+    grind (
       arith,
-      ap length (used_is s d n),
       items_below_size but,
       children_le_from s d (used_le s d) (node_children s n) but.children,
-      but.node.enough,
     )
 
 pub children_le : {T : Type 0} (s : Heap T) (d : ℕ) (ns : List ℕ) → All (Shaped s d) ns
@@ -64,7 +62,7 @@ HasTreeRoom-child {T} {most} {s} {d} {n} i {more} inner within shaped room =
     let kid = get_or ks i 0 in
     let many : length ks ≡ length (node_items s n) + 1 = children_length inner shaped in
     let three : ks ≡ take i ks ++ (kid ∷ drop (i + 1) ks) =
-    list_splits_at ks i 0 (omega (arith, many)) in
+    list_splits_at ks i 0 (omega arith) in
     let sizes_all : sizes s d ks
     ≡ sizes s d (take i ks) + (length (items_below s d kid) + sizes s d (drop (i + 1) ks)) =
     ap (sizes s d) three ∙ sizes-append s d (take i ks) (kid ∷ drop (i + 1) ks)
@@ -82,7 +80,7 @@ HasTreeRoom-child {T} {most} {s} {d} {n} i {more} inner within shaped room =
     omega (arith, ap length (used_is s d n), items_below_size) in
     record {
       filled = kept;
-      few = few_from d kid kept (shaped.children i 0 (omega (arith, many))) inner;
+      few = few_from d kid kept (shaped.children i 0 (omega arith)) inner;
     }
   where
     few_from : (b m : ℕ)
@@ -91,4 +89,4 @@ HasTreeRoom-child {T} {most} {s} {d} {n} i {more} inner within shaped room =
         → MIN_LEN * node_count s + (length (items_below s b m) + more) + 1
         ≤ MIN_LEN * s.capacity + MIN_LEN * length (used s b m) + length (node_items s m)
     few_from zero m kept known some = absurd (omega arith)
-    few_from (suc b) m kept known some = omega (arith, kept, (Shaped-but s b m known).node.enough)
+    few_from (suc b) m kept known some = omega (arith, (Shaped-but s b m known).node.enough)

@@ -24,8 +24,7 @@ use Rattle.range_store.proofs.Seats.{seat_written}
 -- a stored node is the only new one
 Stores-here : {T : Type 0} {s t : Heap T} {n : ℕ} {xs : List T} {ks : List ℕ} → Stores s t n xs ks
     → (k : ℕ) → here t k ≡ here s k + occurrences k (n ∷ [])
-Stores-here {T} {s} {t} {n} stored k =
-    grind (arith, cases_eq, here_some, occurrences_itself, occurrences, occurrences_other)
+Stores-here stored k = grind (arith, occurrences_itself, occurrences_other)
 
 pub first_tree : {T : Type 0} {s t : Heap T} (levels : ℕ) {root n : ℕ} (item : T) → levels ≡ 0
     → IsTree s levels root → Stores s t n (item ∷ []) [] → IsTree t 1 n ×
@@ -34,27 +33,19 @@ first_tree {T} {s} {t} (suc d) {root} {n} item none tree stored = absurd (omega 
 first_tree {T} {s} {t} zero {root} {n} item none tree stored =
     let childless : length (node_children t n) ≡ 0 = ap length stored.children_are in
     let whole : IsTree t 1 n = record {
-      shaped = grind (arith, All-nil);
+      shaped = grind arith;
       once =
           λ k.
           omega (
             arith,
             ap (occurrences k) (used_leaf t n childless),
             Stores-here stored k,
-            tree.once k,
             ap (occurrences k) (used_none s root),
             occurrences-nil k,
           );
       len = omega (arith, ap length (used_leaf t n childless), ap length (used_none s root));
     } in
     (whole, items_below_leaf t n childless ∙ stored.items_are)
-
--- capacity for one more number is capacity for the nodes that it needs
-pub one_more : {T : Type 0} (s : Heap T) (levels root : ℕ) → 0 < levels → IsTree s levels root
-    → 1 ≤ MIN_LEN * s.capacity - length (items_below s levels root)
-    → HasTreeRoom s (suc (levels - 1)) root 1
-one_more s zero root some tree room = absurd (omega arith)
-one_more s (suc d) root some tree room = grind arith
 
 module _ {T : Type 0} where
   -- a tree with this list
@@ -67,7 +58,7 @@ pub grown_whole : {T : Type 0} {s : Heap T} {levels root : ℕ} {list : List T} 
     → IsGrown s levels root list → len ≡ length list → length list ≤ MIN_LEN * s.capacity
     → length list ≤ MAX_LEN
     → IsRoomy s levels root × (len ≡ length (items_below s levels root)) × HasLevels len levels
-grown_whole {T} {s} {levels} {root} len grown many fits counted = grind (arith, has_levels)
+grown_whole len grown many fits counted = grind (arith, has_levels)
 
 module _ {T : Type 0} {s t : Heap T} {d root : ℕ} {list : List T} (tree : IsTree s (suc d) root)
     (step : Replaces s t d root None list) where
@@ -75,18 +66,11 @@ module _ {T : Type 0} {s t : Heap T} {d root : ℕ} {list : List T} (tree : IsTr
   whole = append-nil (used t (suc d) root)
 
   kept_tree : IsTree t (suc d) root
-  kept_tree = grind (arith, All-head, occurrences, whole)
+  kept_tree = grind (arith, whole)
 
 pub kept_root : {T : Type 0} {s t : Heap T} (levels : ℕ) {root : ℕ} {list : List T} → 0 < levels
     → IsTree s levels root → Replaces s t (levels - 1) root None list → IsGrown t levels root list
-kept_root {T} {s} {t} zero {root} {list} some tree step = absurd (omega arith)
-kept_root {T} {s} {t} (suc d) {root} {list} some tree step' =
-    let level : suc d - 1 ≡ d = omega arith in
-    let step = rw level at step' in
-    record {
-      tree = kept_tree tree step;
-      items_are = sym (append-nil (items_below t (suc d) root)) ∙ step.listed;
-    }
+kept_root levels some tree step' = grind (arith, append-nil)
 
 pub kept_edge : {T : Type 0} (t : Heap T) (d root side : ℕ) (g : Edge)
     → IsSeat t (suc d) [] (root ∷ []) side g
@@ -104,13 +88,13 @@ module _ {T : Type 0} {s t u : Heap T} {d root n : ℕ} (split : Split T) {list 
   once_before k = omega (arith, step.moved.owned k, tree.once k)
 
   agree : AgreeAt t u (flat_map (used t (suc d)) ts)
-  agree k among = grind (arith, once_before)
+  agree k among = grind arith
 
   holds : Holds t u (suc d) n (split.middle ∷ []) ts
   holds = held_new stored agree
 
   ts_shaped : All (Shaped t (suc d)) ts
-  ts_shaped = grind (arith, All-weaker, Shaped-from_but)
+  ts_shaped = grind (arith, Shaped-from_but)
 
   used_now : used u (suc (suc d)) n ≡ n ∷ flat_map (used t (suc d)) ts
   used_now = held_used holds
@@ -119,8 +103,8 @@ module _ {T : Type 0} {s t u : Heap T} {d root n : ℕ} (split : Split T) {list 
   taller_tree =
       record {
         shaped = held_shape holds 1 (omega arith) (omega arith) refl ts_shaped;
-        once = λ k. grind (arith, ap (occurrences k) used_now, occurrences-cons, once_before, Stores-here);
-        len = omega (arith, ap length used_now, stored.len, step.moved.len, tree.len);
+        once = λ k. grind (arith, ap (occurrences k) used_now, occurrences-cons, Stores-here);
+        len = omega (arith, ap length used_now);
       }
 
   taller_items_below : items_below u (suc (suc d)) n ≡ list
@@ -143,10 +127,7 @@ taller_root {T} {s} {t} {u} (suc d) {root} {n} split {list} some tree step' stor
     let level : suc d - 1 ≡ d = omega arith in
     let more : suc d + 1 ≡ suc (suc d) = omega arith in
     let step = rw level at step' in
-    rw more (record {
-      tree = taller_tree split tree step stored;
-      items_are = taller_items_below split tree step stored;
-    })
+    grind (arith, taller_tree split tree step stored, taller_items_below split tree step stored)
 
 pub taller_edge : {T : Type 0} {s t u : Heap T} (levels : ℕ) {root n : ℕ} (side : ℕ)
     (split : Split T) {list : List T} (g h : Edge) → 0 < levels → IsTree s levels root
@@ -161,27 +142,11 @@ taller_edge {T} {s} {t} {u} (suc d) {root} {n} side split {list} g h some tree s
     let level : suc d - 1 ≡ d = omega arith in
     let lower : suc d + 1 - 1 ≡ suc d = omega arith in
     let step = rw level at step' in
-    rw (
-      level,
-      lower,
-    ) (taller_seat split tree step stored side g h at within (rw level at seat'))
+    grind (arith, taller_seat split tree step stored side g h at within (rw level at seat'))
 
 -- after a cut of the root there is capacity for a new one
 pub taller_room : {T : Type 0} {s t : Heap T} (levels : ℕ) {root : ℕ} (split : Split T)
     {list : List T} → 0 < levels → length list ≤ MIN_LEN * s.capacity → IsTree s levels root
     → Replaces s t (levels - 1) root (Some split) list → HasRoomFor t 1
-taller_room {T} {s} {t} zero {root} split {list} some room tree step = absurd (omega arith)
-taller_room {T} {s} {t} (suc d) {root} split some room tree step' =
-    let level : suc d - 1 ≡ d = omega arith in
-    let step = rw level at step' in
-    let ts = root ∷ split.right ∷ [] in
-    let shaped =
-    All-weaker (ShapedBut MIN_LEN CAPACITY t d) (Shaped t (suc d))
-    (λ k. Shaped-from_but t d k) ts (step.shape MIN_LEN (omega arith) tt) in
-    let left =
-    used_le t (suc d) root (All-head (Shaped t (suc d)) root (split.right ∷ []) shaped) in
-    let right =
-    used_le t (suc d) split.right
-    (All-head (Shaped t (suc d)) split.right []
-    (All-tail (Shaped t (suc d)) root (split.right ∷ []) shaped)) in
-    grind (arith, length-append, append-nil)
+taller_room levels split some room tree step' =
+    grind (arith, Shaped-from_but, used_le, length-append)

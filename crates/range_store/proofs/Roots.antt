@@ -29,17 +29,23 @@ list_of_one (k ∷ j ∷ ks) one = absurd (omega arith)
 -- what stands under each number once the root went
 here_without : {T : Type 0} {s t : Heap T} {root : ℕ} → here s root ≡ 1 → Removes s t root → (k : ℕ)
     → here t k + occurrences k (root ∷ []) ≡ here s k
-here_without {T} {s} {t} {root} present gone k =
-    grind (arith, cases_eq, occurrences_itself, occurrences, occurrences_other)
+here_without present gone k = grind (arith, occurrences_itself, occurrences_other)
 
 -- a tree of one level that lost its last item
 pub empty_root_leaves_nothing : {T : Type 0} {s t : Heap T} (levels : ℕ) {root : ℕ} → levels ≡ 1
     → IsLooseTree s levels root → length (node_items s root) ≡ 0 → Removes s t root
     → IsTree t 0 0 × (items_below t 0 0 ≡ items_below s levels root)
-empty_root_leaves_nothing {T} {s} {t} zero {root} one loose empty gone = absurd (omega arith)
-empty_root_leaves_nothing {T} {s} {t} (suc (suc d)) {root} one loose empty gone = absurd (omega arith)
-empty_root_leaves_nothing {T} {s} {t} (suc zero) {root} one loose empty gone =
-    grind (arith, used_leaf, occurrences, here_without, here_some, used_none, occurrences-nil, items_below_none, nil_from_length, items_below_leaf)
+empty_root_leaves_nothing levels one loose empty gone =
+    grind (
+      arith,
+      used_leaf,
+      here_without,
+      used_none,
+      occurrences-nil,
+      items_below_none,
+      nil_from_length,
+      items_below_leaf,
+    )
 
 -- a taller tree whose root has one child alone
 module _ {T : Type 0} {s t : Heap T} {e root : ℕ} (loose : IsLooseTree s (suc (suc e)) root)
@@ -51,18 +57,16 @@ module _ {T : Type 0} {s t : Heap T} {e root : ℕ} (loose : IsLooseTree s (suc 
 
   occurs : (k : ℕ) → occurrences k (root ∷ [])
       + occurrences k (used s (suc e) (node_child s root 0)) ≡ here s k
-  occurs k = omega (arith, loose.once k, ap (occurrences k) used_all, occurrences-cons)
+  occurs k = omega (arith, ap (occurrences k) used_all, occurrences-cons)
 
   agree : AgreeAt s t (used s (suc e) (node_child s root 0))
-  agree k among = gone.others k (λ at.
-      let itself : occurrences k (root ∷ []) ≡ 1 = rw (← at) (occurrences_itself k) in
-      grind (arith, here_some, occurs))
+  agree k among = grind (arith, occurrences_itself k, occurs)
 
 pub only_child_is_root : {T : Type 0} {s t : Heap T} (levels : ℕ) {root : ℕ} → levels ≢ 1
     → IsLooseTree s levels root → length (node_items s root) ≡ 0 → Removes s t root
     → IsTree t (levels - 1) (node_child s root 0) × (items_below t
     (levels - 1) (node_child s root 0) ≡ items_below s levels root)
-only_child_is_root {T} {s} {t} zero {root} more loose empty gone = absurd (omega (arith, loose.some))
+only_child_is_root {T} {s} {t} zero {root} more loose empty gone = absurd (omega arith)
 only_child_is_root {T} {s} {t} (suc zero) {root} more loose empty gone = absurd (more refl)
 only_child_is_root {T} {s} {t} (suc (suc e)) {root} more loose empty gone =
     let level : suc (suc e) - 1 ≡ suc e = omega arith in
@@ -70,21 +74,16 @@ only_child_is_root {T} {s} {t} (suc (suc e)) {root} more loose empty gone =
     let ks = node_children s root in
     let kid = node_child s root 0 in
     let one : node_children s root ≡ kid ∷ [] =
-    list_of_one ks (omega (arith, shaped.node.branches, empty)) in
+    list_of_one ks (omega arith) in
     let same : SameBelow s t (suc e) kid = same_below s t (suc e) kid (agree loose one gone) in
-    let kid_shaped : Shaped s (suc e) kid = shaped.children 0 0 (omega (arith, ap length one)) in
+    let kid_shaped : Shaped s (suc e) kid = shaped.children 0 0 (omega arith) in
     let tree : IsTree t (suc e) kid = record {
       shaped = shaped_within_wider 1 CAPACITY (omega arith) (omega arith)
           (Shaped-but t e kid (same.shaped_same kid_shaped));
       once =
           λ k.
-          omega (
-            arith,
-            occurs loose one gone k,
-            here_without (here_some s root gone.was) gone k,
-            ap (occurrences k) same.used_same,
-          );
-      len = omega (arith, gone.len, loose.len, ap length (used_all loose one gone), ap length same.used_same);
+          grind (arith, occurs loose one gone k, here_without (here_some s root gone.was) gone k);
+      len = omega (arith, ap length (used_all loose one gone), ap length same.used_same);
     } in
     grind (arith, weave_items_below, nil_from_length, append-nil)
 
@@ -94,7 +93,7 @@ pub lowered_edge : {T : Type 0} {s t : Heap T} (levels : ℕ) {root : ℕ} (g : 
     → IsEdge s (levels - 1) root g
     → IsEdge t (levels - 1 - 1) (node_child s root 0) (inside g) × (place t
     (levels - 1 - 1) (node_child s root 0) (inside g) ≡ place s (levels - 1) root g)
-lowered_edge {T} {s} {t} zero {root} g more loose empty gone is = absurd (omega (arith, loose.some))
+lowered_edge {T} {s} {t} zero {root} g more loose empty gone is = absurd (omega arith)
 lowered_edge {T} {s} {t} (suc zero) {root} g more loose empty gone is = absurd (more refl)
 lowered_edge {T} {s} {t} (suc (suc e)) {root} g more loose empty gone is' =
     let level : suc (suc e) - 1 ≡ suc e = omega arith in
@@ -103,13 +102,10 @@ lowered_edge {T} {s} {t} (suc (suc e)) {root} g more loose empty gone is' =
     let is = rw level at is' in
     let ks = node_children s root in
     let kid = get_or ks 0 0 in
-    let one : ks ≡ kid ∷ [] = list_of_one ks (omega (arith, shaped.node.branches, empty)) in
-    let first : turn g ≡ 0 =
-    omega (arith, turn_within s e root g is, shaped.node.branches, empty) in
+    let one : ks ≡ kid ∷ [] = list_of_one ks (omega arith) in
+    let first : turn g ≡ 0 = omega (arith, turn_within s e root g is) in
     let below : IsEdge s e kid (inside g) = rw first at (edge_inside s e root g is) in
-    let same : SameEdge s t e kid (inside g) =
-    same_edge s t e kid (inside g) (agree loose one gone) below in
-    grind (arith, place_inside)
+    grind (arith, same_edge s t e kid (inside g) (agree loose one gone) below, place_inside)
 
 pub tree_owned : {T : Type 0} {s : Heap T} {levels root : ℕ} → IsTree s levels root → (k : ℕ)
     → occurrences k (used s levels root) ≤ here s k
@@ -119,13 +115,4 @@ tree_owned tree k = omega (arith, tree.once k)
 pub rewritten_tree : {T : Type 0} {s t : Heap T} (levels : ℕ) {root : ℕ} {list : List T}
     → 0 < levels → IsTree s levels root → IsRewritten s t (levels - 1) root list
     → IsTree t levels root × (items_below t levels root ≡ list)
-rewritten_tree {T} {s} {t} zero {root} {list} some tree step = absurd (omega arith)
-rewritten_tree {T} {s} {t} (suc d) {root} some tree step' =
-    let level : suc d - 1 ≡ d = omega arith in
-    let step = rw level at step' in
-    let whole : IsTree t (suc d) root = record {
-      shaped = step.shape 1 (omega arith) tree.shaped;
-      once = λ k. omega (arith, step.moved.owned k, tree.once k);
-      len = omega (arith, step.moved.len, tree.len);
-    } in
-    (whole, step.listed)
+rewritten_tree levels some tree step' = grind arith

@@ -39,22 +39,17 @@ drop_children (suc d) a b ks ls many many' = drop-append-add ks ls (a + 2) 1 (om
 
 take_fewer : (d a b : ℕ) (ks ls : List ℕ) → length ks ≡ child_count d a
     → length ls ≡ child_count d b → take a (ks ++ ls) ≡ take a ks
-take_fewer zero a b ks [] many many' = ap (take a) (append-nil ks)
-take_fewer zero a b ks (l ∷ ls) many many' = absurd (omega arith)
-take_fewer (suc d) a b ks ls many many' = take-append-le a ks ls (omega arith)
+take_fewer d a b ks ls many many' = grind (arith, take-append-le)
 
 drop_fewer : (d a b : ℕ) (ks ls : List ℕ) → length ks ≡ child_count d a
     → length ls ≡ child_count d b → drop a (ks ++ ls) ≡ drop a ks ++ ls
-drop_fewer zero a b ks [] many many' = ap (drop a) (append-nil ks) ∙ sym (append-nil (drop a ks))
-drop_fewer zero a b ks (l ∷ ls) many many' = absurd (omega arith)
-drop_fewer (suc d) a b ks ls many many' = drop-append-le a ks ls (omega arith)
+drop_fewer d a b ks ls many many' = grind (arith, drop-append-le)
 
 -- an edge that lies at another index of its leaf, or goes through another child first
 pub moved_path : (low leaf index : ℕ) (g e : Edge)
     → (low ≡ 0 → g ≡ record { leaf = leaf; path = 0; index = index })
     → (0 < low → inside g ≡ inside e) → e.path < 2 ^ 56 → g.path < 2 ^ 60
-moved_path zero leaf index g e at into small = rw (at refl) (omega arith)
-moved_path (suc low) leaf index g e at into small = grind arith
+moved_path low leaf index g e at into small = grind arith
 
 module _ {T : Type 0} {s : Heap T} {low n j : ℕ} (levelled : IsLevelled s low n j) where
   abbrev l : ℕ
@@ -169,12 +164,7 @@ module _ {T : Type 0} {s : Heap T} {low n j : ℕ} (levelled : IsLevelled s low 
       joined = united_rejoins x pair first second few
 
       detached : Writes t u n (take j xs ++ drop (j + 1) xs) (take j ks ++ (l ∷ drop (j + 2) ks))
-      detached =
-          let far : j + 1 + 1 ≡ j + 2 = omega arith in
-          let kids : remove ks (j + 1) ≡ take j ks ++ (l ∷ drop (j + 2) ks) =
-          remove_parts ks (j + 1) ∙ ap (λ m. take (j + 1) ks ++ drop m ks) far
-          ∙ pair_children x levelled here joined None in
-          rw (sym (remove_parts xs j), sym kids) parent
+      detached = grind (arith, pair_children x levelled here joined None, remove_parts xs j)
 
       merged_shrinks : Shrinks s u (suc low) n (items_below s (suc (suc low)) n)
       merged_shrinks = levelled_shrinks x levelled here joined detached
@@ -198,7 +188,7 @@ module _ {T : Type 0} {s : Heap T} {low n j : ℕ} (levelled : IsLevelled s low 
   kid_apart i low' same =
       let F = flat_map (used s (suc low)) ks in
       let inner = used_kid_le s (suc low) i ks n low' in
-      grind (arith, occurrences, used_is, occurrences_here, occurrences-cons, occurrences_itself, here_le)
+      grind (arith, used_is, occurrences_here, occurrences-cons, occurrences_itself, here_le)
 
   pub has_pair : HasPair s n j
   has_pair = record {
@@ -225,11 +215,7 @@ module _ {T : Type 0} {s : Heap T} {low n j : ℕ} (levelled : IsLevelled s low 
       → (d ≡ 0 → e ≡ record { leaf = k; path = 0; index = seat_of d e })
       × (0 < d → turn e ≡ seat_of d e)
   unfolding IsEdge
-  edge_itself zero k e is = (
-    (λ _. let at : e ≡ record { leaf = k; path = e.path; index = e.index } = rw (← is.0) refl in grind arith),
-    (λ some. absurd (omega arith)),
-  )
-  edge_itself (suc d) k e is = ((λ none. absurd (omega arith)), (λ _. refl))
+  edge_itself d k e is = grind arith
 
   -- the child at j lent an item to the one after it
   module _ {u : Heap T} (rotates : RotatesRight s u n j) (spare : MIN_LEN < child_size s n j) where
@@ -240,23 +226,16 @@ module _ {T : Type 0} {s : Heap T} {low n j : ℕ} (levelled : IsLevelled s low 
         rotates.up (a - 1)
     to_right =
         let more = rotates.down ∷ rights in
-        let long = length-append lefts more in
-        let fore : length (take (a - 1) lefts) ≡ a - 1 =
-        length-take-le (a - 1) lefts (omega arith) in
-        record {
-          first = grind (arith, take-append-le, one, take_fewer);
-          second = rw (
-            drop-append-add lefts more (a - 1 + 1) 0 (omega (arith, spare)),
-            one,
-            drop_fewer low a b _ _ levelled.left.node.branches levelled.right.node.branches,
-          ) rotates.rotates.right;
-          middle = grind (arith, get_or_append_left, item_behind);
-          parent = rotates.rotates.parent;
-          least = omega (arith, spare);
-          most = omega (arith, levelled.left.node.fits);
-          rest = omega (arith, long, spare, levelled.right.node.enough);
-          few = omega (arith, long, spare, levelled.fits);
-        }
+        grind (
+          arith,
+          length-append lefts more,
+          length-take-le (a - 1) lefts (omega arith),
+          take-append-le,
+          drop-append-add lefts more (a - 1 + 1) 0 (omega arith),
+          drop_fewer,
+          get_or_append_left,
+          item_behind,
+        )
 
     pub next_shrinks : Shrinks s u (suc low) n (items_below s (suc (suc low)) n)
     next_shrinks = shrunk rotates.down rotates.down_is to_right
@@ -288,24 +267,14 @@ module _ {T : Type 0} {s : Heap T} {low n j : ℕ} (levelled : IsLevelled s low 
         let more = rotates.down ∷ rights in
         let long = length-append lefts more in
         let next : a + 1 + 1 ≡ a + 2 = omega arith in
-        record {
-          first = rw (
-            take-append-add lefts more (a + 1) 1 refl,
-            next,
-            take_children low a b _ _ levelled.left.node.branches levelled.right.node.branches,
-          ) rotates.rotates.left;
-          second = rw (
-            drop-append-add lefts more (a + 1 + 1) 2 next,
-            next,
-            drop_children low a b _ _ levelled.left.node.branches levelled.right.node.branches,
-          ) rotates.rotates.right;
-          middle = grind (arith, get_or-append-add);
-          parent = rotates.rotates.parent;
-          least = omega (arith, levelled.left.node.enough);
-          most = omega (arith, spare, levelled.fits);
-          rest = omega (arith, long, spare);
-          few = omega (arith, long, levelled.right.node.fits);
-        }
+        grind (
+          arith,
+          take-append-add lefts more (a + 1) 1 refl,
+          take_children,
+          drop-append-add lefts more (a + 1 + 1) 2 next,
+          drop_children,
+          get_or-append-add,
+        )
 
     pub previous_shrinks : Shrinks s u (suc low) n (items_below s (suc (suc low)) n)
     previous_shrinks = shrunk rotates.down rotates.down_is to_left
@@ -328,12 +297,7 @@ module _ {T : Type 0} {s : Heap T} {low n j : ℕ} (levelled : IsLevelled s low 
   module _ {u : Heap T} (merges : Merges s u n j)
       (few : child_size s n j + 1 + child_size s n (j + 1) ≤ CAPACITY) where
     fits : length (node_items s l ++ (merges.down ∷ node_items s r)) ≤ CAPACITY
-    fits =
-        omega (
-          arith,
-          length-append (node_items s l) (merges.down ∷ node_items s r),
-          few,
-        )
+    fits = omega (arith, length-append (node_items s l) (merges.down ∷ node_items s r))
 
     pub joined_shrinks : Shrinks s u (suc low) n (items_below s (suc (suc low)) n)
     joined_shrinks = merged_shrinks merges.down merges.down_is merges.left merges.right

@@ -67,7 +67,17 @@ moved_last rows now from to left from_there to_there apart some few was item is 
     less_left rows from to from_there to_there apart now xs tail was (left - 1)
     (omega (arith, length-take-le left source few))
     ∙ ap (λ zs. set (set rows from zs) to tail) (take-take (left - 1) left source (omega arith)) in
-    grind (arith, left_row, get_or-take, right_anew, right_row, insert-append_left, insert_end, append_assoc, drop-cons)
+    grind (
+      arith,
+      left_row,
+      get_or-take,
+      right_anew,
+      right_row,
+      insert-append_left,
+      insert_end,
+      append_assoc,
+      drop-cons,
+    )
 
 -- a full row was cut in two, and an item put among those of one half
 module _ {T : Type 0} (rows one two three : List (List T)) (l r : ℕ) (l_there : l < length rows)

@@ -35,7 +35,7 @@ module _ {T : Type 0} where
 
     module _ (less : n < many) {i : ℕ} (within : i < length (row_of (rows_in many cells) n)) where
       row_there : n < rows.there
-      row_there = grind (arith, cases_lt, rows_read, cells_past)
+      row_there = grind (arith, rows_read, cells_past)
 
       -- what a row with an item holds
       pub row_held : HoldsItems (cells_of cells n) (row_of (rows_in many cells) n)
@@ -68,18 +68,16 @@ module _ {T : Type 0} where
   module _ {many : ℕ} {cells new : List (Option T)} (rows : IsRows many cells) {n : ℕ}
       (within : n < many) {items : List T} (rewrites : Rewrites cells new n items) where
     held_anew : (m : ℕ) → m < rows.there → HoldsItems (cells_of new m) (items_in (cells_of new m))
-    held_anew m within = grind (arith, cases_eq, items_held)
+    held_anew m within = grind (arith, items_held)
 
     row_written : IsRowWritten many cells new n items
     row_written =
         let long = length-rows many cells in
-        record {
-          rows = grind (arith, held_anew);
-          is = ext_get_or [] (rows_in many new) (set (rows_in many cells) n items)
-              (length-rows many new ∙ sym (length-set (rows_in many cells) n items ∙ long))
-              (grind (arith, length-rows, cases_eq, rows_read, items_held, get_or-set_same, get_or-set_other));
-          len = rewrites.len;
-        }
+        grind (
+          arith,
+          held_anew,
+          ext_get_or [] (rows_in many new) (set (rows_in many cells) n items) (length-rows many new ∙ sym (length-set (rows_in many cells) n items ∙ long)) (grind (arith, length-rows, rows_read, items_held, get_or-set_same, get_or-set_other)),
+        )
 
   -- the cells of a number were written at once
   all_written : (n : ℕ) (cells : List (Option T)) {part : List (Option T)} {items : List T}
@@ -90,31 +88,30 @@ module _ {T : Type 0} where
       let front = take (CAPACITY * n) cells in
       let back = drop CAPACITY (drop (CAPACITY * n) cells) in
       let start : length front ≡ CAPACITY * n =
-      length-take-le (CAPACITY * n) cells (omega (arith, within)) in
+      length-take-le (CAPACITY * n) cells (omega arith) in
       let here : cells_of (put_mid (CAPACITY * n) CAPACITY cells part) n ≡ part =
       simp (drop_at, take_at) in
       record {
-        len = omega (
-          arith,
-          within,
-          length-append front (part ++ back),
-          length-append part back,
-          length-drop CAPACITY (drop (CAPACITY * n) cells),
-          length-drop (CAPACITY * n) cells,
-          start,
-        );
+        len =
+            omega (
+              arith,
+              length-append front (part ++ back),
+              length-append part back,
+              length-drop CAPACITY (drop (CAPACITY * n) cells),
+              length-drop (CAPACITY * n) cells,
+            );
         others = λ m other.
             elim (cases_lt m n) [
               | inl less ↦
                   sym (grind (arith, drop-take))
                   ∙ ap (drop (CAPACITY * m))
                   (take-put_mid_below (CAPACITY * n) CAPACITY cells part
-                  (CAPACITY * m + CAPACITY) (omega arith) (omega (arith, within)))
+                  (CAPACITY * m + CAPACITY) (omega arith) (omega arith))
                   ∙ drop-take (CAPACITY * m) CAPACITY cells
               | inr past ↦
                   ap (take CAPACITY)
                   (drop-put_mid (CAPACITY * n) CAPACITY cells part (CAPACITY * m) (omega arith)
-                  (omega (arith, within)) long)
+                  (omega arith) long)
             ];
         here = rw here holds;
       }
@@ -144,21 +141,19 @@ module _ {T : Type 0} where
       → Rewrites cells (set cells (CAPACITY * n + i) (Some item)) n (set items i item)
   cell_rewritten n i cells {items} item within holds =
       let cell : Option T = Some item in
-      let less : i < CAPACITY = omega (arith, holds.fits) in
+      let less : i < CAPACITY = omega arith in
       let here : cells_of (set cells (CAPACITY * n + i) cell) n ≡ set (cells_of cells n) i cell =
-      grind (arith, drop-set-add, take_set) in
+      grind (arith, drop-set-add) in
       record {
         len = length-set cells (CAPACITY * n + i) cell;
         others = λ m other.
-            elim (cases_lt m n) [
-              | inl before ↦
-                  sym (drop-take (CAPACITY * m) CAPACITY (set cells (CAPACITY * n + i) cell))
-                  ∙ ap (drop (CAPACITY * m))
-                  (grind (arith, take-set-le))
-                  ∙ drop-take (CAPACITY * m) CAPACITY cells
-              | inr past ↦
-                  grind (arith, drop-set-lt)
-            ];
+            grind (
+              arith,
+              drop-take (CAPACITY * m) CAPACITY (set cells (CAPACITY * n + i) cell),
+              take-set-le,
+              drop-take (CAPACITY * m) CAPACITY cells,
+              drop-set-lt,
+            );
         here = rw here (held_set i item holds within);
       }
 
@@ -201,12 +196,10 @@ module _ {T : Type 0} where
           arith,
           length-append cells (replicate skipped None),
           length-replicate {A = Option T} skipped None,
-          rows.cells_are,
-          past,
         ) in
         ap (λ cs. cells_of cs m) parts
         ∙ ap (take CAPACITY) (drop_at front (replicate (missing - skipped) None) (CAPACITY * m) long)
-        ∙ take-replicate CAPACITY (missing - skipped) None (omega (arith, rows.cells_are, past, least))
+        ∙ take-replicate CAPACITY (missing - skipped) None (omega arith)
 
     pub topped_rows : IsRows many topped
     topped_rows =
@@ -215,30 +208,23 @@ module _ {T : Type 0} where
               grind (arith, append-nil)
           | inr past ↦ record {
             there = suc n;
-            few = omega (arith, within);
-            cells_are = omega (arith, length-topped, rows.cells_are, past);
+            few = omega arith;
+            cells_are = omega (arith, length-topped);
             held = λ m least.
-                grind (arith, cases_lt, old_cells, new_cells, held_none);
+                grind (arith, old_cells, new_cells);
           }
         ]
 
     none_new : (m : ℕ) → rows.there ≤ m → items_in (cells_of topped m) ≡ []
-    none_new m past = grind (arith, cases_lt, drop_all, length-topped, new_cells)
+    none_new m past = grind (arith, drop_all, length-topped, new_cells)
 
     pub topped_same : rows_in many topped ≡ rows_in many cells
     topped_same =
         let long = length-rows many topped in
-        ext_get_or [] (rows_in many topped) (rows_in many cells)
-        (long ∙ sym (length-rows many cells))
-        (λ m below.
-        rows_read many topped m (omega (arith, long, below))
-        ∙ elim (cases_lt m rows.there) [
-          | inl less ↦ ap items_in (old_cells m less)
-          | inr past ↦
-              none_new m (omega (arith, past))
-              ∙ sym (ap items_in (cells_past rows m (omega (arith, past))))
-        ]
-        ∙ sym (rows_read many cells m (omega (arith, long, below))))
+        grind (
+          arith,
+          ext_get_or [] (rows_in many topped) (rows_in many cells) (long ∙ sym (length-rows many cells)) (λ m below. rows_read many topped m (omega arith) ∙ elim (cases_lt m rows.there) [ inl less ↦ ap items_in (old_cells m less) | inr past ↦ none_new m (omega arith) ∙ sym (ap items_in (cells_past rows m (omega arith))) ] ∙ sym (rows_read many cells m (omega arith))),
+        )
 
     pub topped_held : HoldsItems (cells_of topped n) (row_of (rows_in many cells) n)
     topped_held =
@@ -253,20 +239,17 @@ module _ {T : Type 0} where
     added_kept n =
         elim (cases_lt n many) [
           | inl less ↦
-              rows_read more cells n (omega (arith, less, long)) ∙ sym (rows_read many cells n less)
+              rows_read more cells n (omega arith) ∙ sym (rows_read many cells n less)
           | inr past ↦
               elim (cases_lt n more) [
                 | inl new ↦
                     rows_read more cells n new
-                    ∙ ap items_in (cells_past rows n (omega (arith, past, rows.few)))
+                    ∙ ap items_in (cells_past rows n (omega arith))
                     ∙ sym (grind (arith, get_or_past, length-rows))
                 | inr other ↦
                     grind (arith, get_or_past, length-rows)
               ]
         ]
-
-  pub no_rows : (many : ℕ) (cells : List (Option T)) → many ≡ 0 → cells ≡ [] → IsRows many cells
-  no_rows many cells none empty = grind arith
 
   pub rows_none : (cells : List (Option T)) → rows_in 0 cells ≡ []
   unfolding rows_in

@@ -15,7 +15,7 @@ module _ {T : Type 0} (p : T → Bool) where
   count-rest_of xs [] same = omega arith
   count-rest_of [] (j ∷ ks) same = absurd (omega arith)
   count-rest_of (x ∷ xs) (j ∷ ks) same =
-      grind (arith, count-append, true_or_false, count-yes, count-no, count-rest_of xs ks (omega arith))
+      grind (arith, count-append, count-yes, count-rest_of xs ks (omega arith))
 
   falls_rest_of : (xs : List T) (ks : List (List T)) → length ks ≡ length xs
       → Falls p (rest_of xs ks) → Falls p xs
@@ -29,10 +29,7 @@ module _ {T : Type 0} (p : T → Bool) where
 
   pub falls_weave : (xs : List T) (ks : List (List T))
       → (length ks ≡ 0) ⊎ (length ks ≡ length xs + 1) → Falls p (weave xs ks) → Falls p xs
-  falls_weave xs [] fits falls = falls
-  falls_weave xs (k ∷ ks) (inl none) falls = absurd (omega (arith, none))
-  falls_weave xs (k ∷ ks) (inr many) falls =
-      falls_rest_of xs ks (omega (arith, many)) (falls_parts p k (rest_of xs ks) falls).back
+  falls_weave xs ks fits falls = grind (arith, falls_rest_of, falls_parts)
 
   -- the list after the items that pass holds the rest of what passes
   pub count-weave : (xs : List T) (ks : List (List T)) → length ks ≡ length xs + 1
@@ -47,7 +44,14 @@ module _ {T : Type 0} (p : T → Bool) where
   count-weave (x ∷ xs) (k ∷ j ∷ ks) many falls =
       let tail = weave xs (j ∷ ks) in
       let parts = falls_parts p k (x ∷ tail) falls in
-      grind (arith, count-append, true_or_false, count-yes, length-append, count_by-le-length, cases_lt, count-rest_of, count-no, count-weave xs (j ∷ ks) (omega arith) parts.back.1)
+      grind (
+        arith,
+        count-append,
+        count-yes,
+        length-append,
+        count_by-le-length,
+        count-weave xs (j ∷ ks) (omega arith) parts.back.1,
+      )
 
 pub fits_weave : {T : Type 0} (s : Heap T) (d n : ℕ)
     → length (node_children s n) ≡ child_count d (length (node_items s n))
@@ -63,10 +67,7 @@ module _ {T : Type 0} (p : T → Bool) {least most : ℕ} {s : Heap T} {d n : �
 
   module _ (inner : 0 < d) (i : ℕ) (within : i ≤ length (node_items s n)) where
     pub kid_falls : Falls p (items_below s (suc d) n) → Falls p (items_below s d (node_child s n i))
-    kid_falls falls =
-        let lists = child_lists s d n in
-        let whole = items_below_at inner shaped i within in
-        grind (arith, falls_parts)
+    kid_falls falls = grind (arith, items_below_at inner shaped i within, falls_parts)
 
   pub search_step : 0 < d → Falls p (items_below s (suc d) n)
       → count_by p (items_below s (suc d) n) ≡ length (before_child s d n

@@ -32,8 +32,7 @@ module _ {T : Type 0} (s t : Heap T) (n : ℕ) (xs : List T) (ks : List ℕ) (i 
 pub seat_small : {T : Type 0} (s : Heap T) (d : ℕ) (xs : List T) (ks : List ℕ) (i : ℕ) (g : Edge)
     → length ks ≡ child_count d (length xs) → IsSeat s d xs ks i g → i ≤ length xs
 unfolding IsSeat
-seat_small s zero xs ks i g branches seat = seat
-seat_small s (suc d) xs ks i g branches seat = omega (arith, seat.0, branches)
+seat_small s d xs ks i g branches seat = grind arith
 
 pub seat_path : {T : Type 0} (s : Heap T) (d : ℕ) (xs : List T) (ks : List ℕ) (i : ℕ) (g : Edge)
     → d < MAX_LEVELS → 0 < d → IsSeat s d xs ks i g → g.path < 2 ^ 60
@@ -56,10 +55,8 @@ module _ {T : Type 0} (s : Heap T) (half : ℕ) (xs : List T) (ks : List ℕ) (i
       → IsSeat s d (take half xs) (take (half + 1) ks) i g
       × (seat_place s d (take half xs) (take (half + 1) ks) i g ≡ seat_place s d xs ks i g)
   unfolding IsSeat seat_place
-  seat_left zero branches small seat =
-      (omega (arith, small, length-take-le half xs (omega arith)), refl)
-  seat_left (suc d) branches small seat =
-      grind (arith, get_or-take, length-map, length-before, length-take-le, take-take, lists_take)
+  seat_left d branches small seat =
+      grind (arith, length-take-le, get_or-take, take-take, lists_take)
 
   -- or in the second part
   pub seat_right : (d : ℕ) → length ks ≡ child_count d (length xs) → half < i → IsSeat s d xs ks i g
@@ -67,10 +64,20 @@ module _ {T : Type 0} (s : Heap T) (half : ℕ) (xs : List T) (ks : List ℕ) (i
       × (length (weave (take half xs) (map (items_below s d) (take (half + 1) ks))) + 1 + seat_place
       s d (drop (half + 1) xs) (drop (half + 1) ks) (i - half - 1) g ≡ seat_place s d xs ks i g)
   unfolding IsSeat seat_place
-  seat_right zero branches large seat =
-      grind (arith, nil_from_length, take_all, length-drop, length-take-le)
-  seat_right (suc d) branches large seat =
-      grind (arith, length-map, get_or-drop, length-before, length-drop, take-add, sum_by-append, length-weave, length-take-le, lists_take, lists_drop)
+  seat_right d branches large seat =
+      grind (
+        arith,
+        length-drop,
+        length-take-le,
+        length-map,
+        get_or-drop,
+        length-before,
+        take-add,
+        sum_by-append,
+        length-weave,
+        lists_take,
+        lists_drop,
+      )
 
 -- an edge below a node, or below the one after it, among the two
 module _ {T : Type 0} (s : Heap T) (d n : ℕ) (g : Edge) where
@@ -78,8 +85,7 @@ module _ {T : Type 0} (s : Heap T) (d n : ℕ) (g : Edge) where
       → IsSeat s (suc d) (separators split) (tops n split) 0 g
       × (seat_place s (suc d) (separators split) (tops n split) 0 g ≡ place s d n g)
   unfolding IsSeat seat_place
-  seat_alone None is = ((omega arith, is), omega arith)
-  seat_alone (Some split) is = ((omega arith, is), omega arith)
+  seat_alone split is = grind arith
 
   pub seat_beside : (split : Split T) → IsEdge s d split.right g
       → IsSeat s (suc d) (separators (Some split)) (tops n (Some split)) 1 g
@@ -113,21 +119,19 @@ module _ {T : Type 0} (s : Heap T) (d : ℕ) (us ts vs : List ℕ) (xs seps ys :
         arith,
         length-append (map f us) (map f ts ++ map f vs),
         length-append (map f ts) (map f vs),
-        us_many,
-        ts_many,
         length-map vs f,
       ) in
       let all =
       length-before (xs ++ (seps ++ ys)) (map f us ++ (map f ts ++ map f vs)) (i + j)
-      (grind (arith, length-append)) (omega (arith, whole, seat.0, more)) in
+      (grind (arith, length-append)) (omega arith) in
       let inner =
-      length-before seps (map f ts) j (omega (arith, seat.0, more))
-      (omega (arith, ts_many, seat.0, more)) in
+      length-before seps (map f ts) j (omega arith)
+      (omega arith) in
       let first : take (i + j) (map f us ++ (map f ts ++ map f vs)) ≡ map f us
       ++ take j (map f ts) =
-      take-append-add (map f us) (map f ts ++ map f vs) (i + j) j (omega (arith, us_many))
+      take-append-add (map f us) (map f ts ++ map f vs) (i + j) j (omega arith)
       ∙ ap (λ zs. map f us ++ zs)
-      (take-append-le j (map f ts) (map f vs) (omega (arith, ts_many, seat.0, more))) in
+      (take-append-le j (map f ts) (map f vs) (omega arith)) in
       grind (arith, sum_by-append, length-append)
 
 pub seat_side : {T : Type 0} (s : Heap T) (d : ℕ) (xs : List T) (ks : List ℕ) (i : ℕ) (g : Edge)

@@ -24,31 +24,16 @@ quotient n k some = (n % k, omega arith, omega arith)
 others_fit : (others share left high : ℕ) → left ≤ others
     → (others + 1) * share + left + (others + 1) ≤ (others + 1) * high → share < high
     → others * share + left + others ≤ others * high
-others_fit others share left high few all fits = grind (arith, cases_lt, mul-le-mul_left)
+others_fit others share left high few all fits = grind (arith, mul-le-mul_left)
 
 pub share_is : {rest : ℕ} (others : ℕ) {low high : ℕ} → CanBeShared rest (others + 1) low high
     → IsShare rest others low high (rest / (others + 1))
 share_is {rest} others {low} {high} can =
     let q = rest / (others + 1) in
     let parts = quotient rest (others + 1) (omega arith) in
-    let enough : low ≤ q = grind (arith, le-div, mul_comm) in
-    let fits : q < high = grind (arith, div_below, mul_comm) in
-    let left : rest - q ≡ others * q + parts.0 = omega (arith, parts.1) in
-    record {
-      enough = enough;
-      fits = fits;
-      within = omega (arith, parts.1);
-      others_can = record {
-        enough = omega (arith, left, mul-le-mul_left others enough);
-        fits =
-            omega (
-              arith,
-              left,
-              others_fit others q parts.0 high (omega (arith, parts.2))
-                  (omega (arith, parts.1, can.fits)) fits,
-            );
-      };
-    }
+    let enough : low ≤ q = grind arith in
+    let fits : q < high = grind arith in
+    grind arith
 
 -- a node with `many` items, over children that have fewer than `width` each
 pub can_be_shared : (inner width many count : ℕ) → width ≡ inner * (CAPACITY + 1) → 0 < inner
@@ -56,7 +41,7 @@ pub can_be_shared : (inner width many count : ℕ) → width ≡ inner * (CAPACI
     → CanBeShared (count - many) (many + 1) (MIN_LEN * inner) ((CAPACITY + 1) * inner)
 can_be_shared inner width many count is some more least most =
     let each = ap (λ m. many * m) is in
-    grind (arith, mul-le-mul_right, mul-le-mul_left)
+    grind arith
 
 -- how many items the node has
 pub record IsCut (width count many : ℕ) : Type 0 where
@@ -67,7 +52,7 @@ pub record IsCut (width count many : ℕ) : Type 0 where
 
 pub cut_is : (width count : ℕ) → 0 < width → width ≤ count → count < (CAPACITY + 1) * width
     → IsCut width count (count / width)
-cut_is width count some least most = grind (arith, quotient, le-div, div_below)
+cut_is width count some least most = grind arith
 
 -- a child has as many items as a node needs that is not the root
 pub cut_enough : {inner share : ℕ} → 0 < inner → MIN_LEN * inner ≤ share → MIN_LEN ≤ share / inner
@@ -78,27 +63,17 @@ pub width_some : (width below : ℕ) → width ≡ (CAPACITY + 1) ^ below → 0 
 width_some width below is = omega (arith, is, one-le-pow below (CAPACITY + 1) (omega arith))
 
 pub leaf_width : {width below : ℕ} → below ≡ 0 → width ≡ (CAPACITY + 1) ^ below → width ≡ 1
-leaf_width {below = zero} none is = is
-leaf_width {below = suc d} none is = absurd (omega arith)
+leaf_width none is = grind arith
 
 pub leaf_cut : {width below : ℕ} (count : ℕ) → below ≡ 0 → width ≡ (CAPACITY + 1) ^ below
     → count / width ≡ count
-leaf_cut count none is = grind (arith, leaf_width)
+leaf_cut count none is = grind arith
 
 pub inner_is : (width below : ℕ) → 0 < below → width ≡ (CAPACITY + 1) ^ below
     → (width / (CAPACITY + 1) ≡ (CAPACITY + 1) ^ (below - 1))
     × (width ≡ width / (CAPACITY + 1) * (CAPACITY + 1))
 inner_is width zero some is = absurd (omega arith)
-inner_is width (suc d) some is = grind (arith, pow-suc)
-
--- a tree of one level more
-pub wider : (width below count : ℕ) → width ≡ (CAPACITY + 1) ^ below → below < width
-    → CAPACITY < count / width
-    → (width * (CAPACITY + 1) ≡ (CAPACITY + 1) ^ (below + 1))
-    × (below + 1 < width * (CAPACITY + 1)) × (width * (CAPACITY + 1) ≤ count)
-wider width below count is deep full =
-    let next : below + 1 ≡ suc below = omega arith in
-    grind (arith, quotient, pow-suc, mul-le-mul_left)
+inner_is width (suc d) some is = grind arith
 
 -- a node that is no leaf, over children of which each has fewer than 12 times `inner` items
 pub record IsBranch (width below count inner many : ℕ) : Type 0 where
@@ -111,8 +86,7 @@ pub record IsBranch (width below count inner many : ℕ) : Type 0 where
 pub branch_is : {width below count : ℕ} → 0 < below → width ≡ (CAPACITY + 1) ^ below
     → width ≤ count → count < (CAPACITY + 1) * width
     → IsBranch width below count (width / (CAPACITY + 1)) (count / width)
-branch_is {width} {below} {count} some is least most =
-    grind (arith, inner_is, one-le-pow, cut_is, width_some, mul-le-mul_left, can_be_shared)
+branch_is some is least most = grind (arith, inner_is, cut_is, can_be_shared)
 
 -- the share of the first child
 pub first_share : {width below count inner many : ℕ} → IsBranch width below count inner many →

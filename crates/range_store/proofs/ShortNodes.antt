@@ -40,7 +40,7 @@ module _ {T : Type 0} (s : Heap T) (low n i : ℕ) (m : MayBeRebalanced s low n 
       subst (All Present) (sym kids)
       (All-append Present (take i ks) (kid ∷ drop (i + 1) ks)
       (All-weaker P Present present_of (take i ks) m.before)
-      (grind (arith, All-cons, All-weaker, present_of)))
+      (grind (arith, present_of)))
 
   pub stays_balanced : MIN_LEN ≤ length (node_items s kid)
       → Shrinks s s (suc low) n (items_below s (suc (suc low)) n)
@@ -51,34 +51,26 @@ module _ {T : Type 0} (s : Heap T) (low n i : ℕ) (m : MayBeRebalanced s low n 
       subst (All P) (sym kids)
       (All-append P (take i ks) (kid ∷ drop (i + 1) ks) m.before
       (All-cons P kid (drop (i + 1) ks) here m.behind)) in
-      grind (arith, Moves-none)
+      grind arith
 
   loose : (c : ℕ) → Shaped s (suc low) c → ShapedBut (MIN_LEN - 1) CAPACITY s low c
-  loose c shaped = grind (arith, shaped_within_wider, Shaped-but)
+  loose c shaped = grind (arith, Shaped-but)
 
   with_behind : i < length xs → length (node_items s kid) < MIN_LEN → IsLevelled s low n i
   with_behind within short =
       let two : drop (i + 1) ks ≡ get_or ks (i + 1) 0 ∷ drop (i + 1 + 1) ks =
-      drop_more ks (i + 1) 0 (omega (arith, many)) in
+      drop_more ks (i + 1) 0 (omega arith) in
       let far : i + 1 + 1 ≡ i + 2 = omega arith in
       let behind = subst (All P) two m.behind in
       let next = All-head P (get_or ks (i + 1) 0) (drop (i + 1 + 1) ks) behind in
-      let next' = Shaped-but s low (get_or ks (i + 1) 0) next in
-      record {
-        node = m.node;
-        owned = m.owned;
-        within = within;
-        before = m.before;
-        left = m.child;
-        right = loose (get_or ks (i + 1) 0) next;
-        behind = rw far at (All-tail P (get_or ks (i + 1) 0) (drop (i + 1 + 1) ks) behind);
-        enough = omega (arith, m.child.node.enough, next'.node.enough);
-        fits = omega (arith, short, next'.node.fits);
-      }
+      grind (
+        arith,
+        Shaped-but s low (get_or ks (i + 1) 0) next,
+        All-tail P (get_or ks (i + 1) 0) (drop (i + 1 + 1) ks) behind,
+      )
 
   with_before : (j : ℕ) → j + 1 ≡ i → length (node_items s kid) < MIN_LEN → IsLevelled s low n j
-  with_before j next short =
-      grind (arith, get_or-take, length-take-le, many, Shaped-but, take-take, All-take, loose)
+  with_before j next short = grind (arith, get_or-take, length-take-le, Shaped-but, loose)
 
   pub pair_levelled : (j : ℕ) → j < length xs → (j ≡ i) ⊎ (j + 1 ≡ i)
       → length (node_items s kid) < MIN_LEN → IsLevelled s low n j

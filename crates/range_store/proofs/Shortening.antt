@@ -62,10 +62,7 @@ module _ {T : Type 0} {s t : Heap T} {b n i : ℕ} {list : List T}
   kid_kept = run_kept kid_run
 
   pub kid_moved : Moves s t (used s (suc b) n) (used t (suc b) n)
-  kid_moved =
-      let now : used t (suc b) n ≡ n ∷ flat_map (used t b) (us ++ (kid ∷ vs)) =
-      grind (arith, used_is, kid_kept, ks_parts) in
-      subst (λ zs. Moves s t (used s (suc b) n) zs) (sym now) (run_moved kid_run)
+  kid_moved = grind (arith, used_is, kid_kept, ks_parts, run_moved kid_run)
 
   pub kid_owned_after : Owned t (suc b) n
   kid_owned_after k = omega (arith, kid_moved.owned k, anew.owned k)
@@ -79,7 +76,7 @@ module _ {T : Type 0} {s t : Heap T} {b n i : ℕ} {list : List T}
       let R = map (items_below s b) vs in
       let woven =
       weave_splice (take i xs) [] (drop i xs) L (items_below t b kid) [] R
-      (grind (arith, length-take-le, many, length-map)) refl in
+      (grind (arith, length-take-le, length-map)) refl in
       let middle =
       ap (λ zs. front_of (take i xs) L ++ (zs ++ rest_of (drop i xs) R))
       (append-nil (items_below t b kid) ∙ anew.listed) in
@@ -97,10 +94,7 @@ module _ {T : Type 0} {s t : Heap T} {b n i : ℕ} {list : List T}
 
   -- what stands before the child
   pub kid_front : length (before_child t b n i) ≡ length (before xs lists i)
-  kid_front =
-      let same : map (items_below t b) us ≡ take i lists = (same_before kid_run).items_below_same
-      ∙ sym (take-map (items_below s b) i ks) in
-      grind (arith, length-before, many, length-map, kid_kept, take-map)
+  kid_front = grind (arith, same_before kid_run, kid_kept, take-map)
 
   pub kid_children : Shaped t b kid → All (Shaped t b) (node_children t n)
   kid_children shape =
@@ -130,14 +124,14 @@ pub leaf_shrinks : {T : Type 0} {s t : Heap T} {n : ℕ} (q : ℕ) → ShapedBut
     → Owned s 1 n → q < length (node_items s n)
     → Writes s t n (remove (node_items s n) q) (node_children s n)
     → Shrinks s t 0 n (remove (items_below s 1 n) q)
-leaf_shrinks {T} {s} {t} {n} q shaped owned within written =
-    grind (arith, length-remove, bare_content, written_holds, nil_from_length, held_items_below, items_below_leaf, used_is, held_used, Writes-moves, held_shape)
+leaf_shrinks q shaped owned within written =
+    grind (arith, length-remove, nil_from_length, items_below_leaf, used_is, Writes-moves)
 
 -- an item below a child went
 pub lists_shorter : {T : Type 0} {s t : Heap T} {b n i : ℕ} {list : List T} → b ≢ 0
     → ShapedBut 1 CAPACITY s b n → Owned s (suc b) n → i ≤ length (node_items s n)
     → Shrinks s t (b - 1) (node_child s n i) list → ListsAnew s t b n i list
-lists_shorter {T} {s} {t} {b} inner shaped owned low child = grind arith
+lists_shorter inner shaped owned low child = grind arith
 
 -- and the child was rebalanced
 pub shorter_child_shrinks_node : {T : Type 0} {s t u : Heap T} {b n i : ℕ} (q : ℕ)
@@ -147,14 +141,11 @@ pub shorter_child_shrinks_node : {T : Type 0} {s t u : Heap T} {b n i : ℕ} (q 
     → Shrinks s u b n (remove (items_below s (suc b) n) (length (before_child s b n i) + q))
 shorter_child_shrinks_node {T} {s} {t} {u} {b} {n} {i} q anew within rebalanced =
     let back : suc (b - 1) ≡ b = omega arith in
-    let lists = child_lists s b n in
-    let fore = before (node_items s n) lists i in
-    let kept = kid_kept anew in
-    record {
-      listed =
-          (rw back at rebalanced.listed) ∙ (rw back at (kid_listed anew))
-          ∙ sym (grind (arith, remove_middle)) ∙ ap (λ zs. remove zs (length fore + q))
-          (sym (items_below_at (omega arith) anew.shaped i anew.low));
-      moved = Moves-then (kid_moved anew) (rw back at rebalanced.moved);
-      shape = λ least more. rw back at (rebalanced.shape least (rw kept more));
-    }
+    grind (
+      arith,
+      kid_kept anew,
+      kid_listed anew,
+      remove_middle,
+      items_below_at (omega arith) anew.shaped i anew.low,
+      Moves-then (kid_moved anew) (rw back at rebalanced.moved),
+    )

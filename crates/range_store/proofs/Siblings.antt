@@ -11,8 +11,7 @@ use Rattle.range_store.proofs.Heaps.{item_other, write_first, remove_first, remo
 
 module _ {X : Type 0} where
   first_and_rest : (xs : List X) (x : X) → 0 < length xs → x ≡ get_or xs 0 x → xs ≡ x ∷ drop 1 xs
-  first_and_rest [] x some is = absurd (omega arith)
-  first_and_rest (y ∷ ys) x some is = ap (λ z. z ∷ ys) (sym is)
+  first_and_rest xs x some is = grind arith
 
   last_and_front : (xs : List X) (x : X) (n : ℕ) → length xs ≡ n + 1 → x ≡ get_or xs n x
       → xs ≡ take n xs ++ x ∷ []
@@ -22,10 +21,7 @@ module _ {X : Type 0} where
 end_child : {X : Type 0} (below : ℕ) (xs : List X) (ks : List ℕ) (zs : List X) (ls : List ℕ)
     → length ks ≡ child_count below (length xs) → length ls ≡ child_count below (length zs)
     → with_child ks (length xs + 1) (slice_get ls 0) ≡ ks ++ take 1 ls
-end_child zero xs ks zs [] many others = sym (append-nil ks)
-end_child zero xs ks zs (l ∷ ls) many others = absurd (omega (arith, others))
-end_child (suc below) xs ks zs [] many others = absurd (omega (arith, others))
-end_child (suc below) xs ks zs (l ∷ ls) many others = grind (arith, insert_end)
+end_child below xs ks zs ls many others = grind (arith, insert_end, nil_from_length)
 
 -- the children with the last of others at the front
 front_child : {X : Type 0} (below : ℕ) (ks : List ℕ) (zs : List X) (ls : List ℕ)
@@ -38,15 +34,7 @@ front_child (suc below) ks zs ls others =
     grind (arith, drop_more, drop_all)
 
 few_children : (below k m : ℕ) → m ≡ child_count below k → m ≤ k + 1
-few_children zero k m many = omega (arith, many)
-few_children (suc below) k m many = omega (arith, many)
-
--- the other child is as it was
-module _ {T : Type 0} {s t u : Heap T} {n i : ℕ} (pair : HasPair s n i) (up : T) {l r : ℕ}
-    (left_is : l ≡ node_child s n i) (right_is : r ≡ node_child s n (i + 1))
-    (after : u ≡ with_item t n i up) {xs : List T} {ks : List ℕ} where
-  pub left_kept : Writes s t r xs ks → node_of u l ≡ node_of s (node_child s n i)
-  left_kept writes = grind (arith, item_other)
+few_children below k m many = grind arith
 
 module _ {T : Type 0} {s : Heap T} (t u v : Heap T) {n i : ℕ} (pair : HasPair s n i) (down up : T) where
   abbrev l : ℕ
@@ -78,7 +66,7 @@ module _ {T : Type 0} {s : Heap T} (t u v : Heap T) {n i : ℕ} (pair : HasPair 
       (node_children s n) pair.left_apart here (rw (items, children) at three) in
       let moved = write_first s t swapped.between r l (drop 1 (right_items s n i))
       (drop 1 (right_children s n i)) pair.apart one swapped.first in
-      grind (arith, first_and_rest)
+      grind arith
 
   pub rotated_right : up ≡ get_or (left_items s n i) (length (left_items s n i) - 1) up
       → 0 < length (left_items s n i) → down ≡ get_or (node_items t n) i down
@@ -92,8 +80,14 @@ module _ {T : Type 0} {s : Heap T} (t u v : Heap T) {n i : ℕ} (pair : HasPair 
       let xs = left_items s n i in
       let ks = left_children s n i in
       let last : length xs ≡ (length xs - 1) + 1 = omega arith in
-      let fewer : remove xs (length xs - 1) ≡ take (length xs - 1) xs = grind (arith, without_last) in
-      let fewer_children : remove ks (length xs) ≡ take (length xs) ks = grind (arith, without_last, few_children) in
+      let fewer : remove xs (length xs - 1) ≡ take (length xs - 1) xs = grind (
+        arith,
+        without_last,
+      ) in
+      let fewer_children : remove ks (length xs) ≡ take (length xs) ks = grind (
+        arith,
+        without_last,
+      ) in
       let parent : node_of t n ≡ node_of s n = one.others n (λ e. pair.left_apart (sym e)) in
       let here = subst (λ node. Writes t u n (set (items_of node) i up) (children_of node)) parent
       two in

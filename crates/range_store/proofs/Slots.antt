@@ -8,7 +8,7 @@ use Rattle.std.proofs.lemmas.List.Sums.{sum_by-set}
 module _ {X : Type 0} (slots : List (Option X)) (n : ℕ)
     (present : IsSome (get_or slots n None)) where
   slot_within : n < length slots
-  slot_within = grind (arith, cases_lt, get_or_past, false≢true)
+  slot_within = grind (arith, get_or_past)
 
   pub slot_read : (slot : Option X) → get_or (set slots n slot) n None ≡ slot
   slot_read slot = get_or-set_same slots n slot None slot_within

@@ -15,11 +15,11 @@ use Rattle.range_store.specs.Spares.{without, len_of, content_of, contents, heap
 use Rattle.range_store.proofs.Slots.{slot_count, slot_read}
 
 listed : (n : ℕ) (ns : List ℕ) (k : ℕ) → k ≡ n → occurrences k (n ∷ ns) ≡ 0 → ⊥
-listed n ns k same none = grind (arith, occurrences, occurrences_here)
+listed n ns k same none = grind (arith, occurrences_here)
 
 module _ {X : Type 0} where
   set_none : (slots : List (Option X)) (n : ℕ) → get_or (set slots n None) n None ≡ None
-  set_none slots n = grind (arith, cases_lt, get_or-set_same, get_or_past, length-set)
+  set_none slots n = grind (arith, get_or-set_same, get_or_past, length-set)
 
   without_here : (ns : List ℕ) (slots : List (Option X)) (k : ℕ) → 0 < occurrences k ns
       → get_or (without ns slots) k None ≡ None
@@ -29,7 +29,9 @@ module _ {X : Type 0} where
       elim (cases_eq k n) [
         | inl same ↦ rw same (set_none (without ns slots) n)
         | inr other ↦
-            grind (arith, get_or-set_other, among, occurrences-cons, occurrences_other, without_here ns slots k (omega (arith, among, occurrences-cons k n ns, occurrences_other k n (λ e. other (sym e)))))
+            get_or-set_other (without ns slots) n k None None other
+            ∙ without_here ns slots k
+            (omega (arith, among, occurrences-cons k n ns, occurrences_other k n (λ e. other (sym e))))
       ]
 
   without_other : (ns : List ℕ) (slots : List (Option X)) (k : ℕ) → occurrences k ns ≡ 0
@@ -37,7 +39,9 @@ module _ {X : Type 0} where
   unfolding without
   without_other [] slots k none = refl
   without_other (n ∷ ns) slots k none =
-      grind (arith, get_or-set_other, listed, occurrences-cons, without_other ns slots k (omega (arith, none, occurrences-cons k n ns)))
+      get_or-set_other (without ns slots) n k None None
+      (λ same. absurd (listed n ns k same none))
+      ∙ without_other ns slots k (omega (arith, none, occurrences-cons k n ns))
 
   without_count : (ns : List ℕ) (slots : List (Option X)) → ((k : ℕ) → occurrences k ns ≤ 1)
       → ((k : ℕ) → 0 < occurrences k ns → IsSome (get_or slots k None))
@@ -49,14 +53,22 @@ module _ {X : Type 0} where
       omega (arith, once n, occurrences-cons n n ns, occurrences_itself n) in
       let there : IsSome (get_or (without ns slots) n None) =
       rw (without_other ns slots n apart) (some n (occurrences_here n ns)) in
-      grind (arith, slot_count, without_count ns slots (λ k. omega (arith, once k, occurrences-cons k n ns)) (λ k among. some k (omega (arith, among, occurrences-cons k n ns))))
+      omega (
+        arith,
+        slot_count (without ns slots) n there None,
+        without_count ns slots (λ k. omega (arith, once k, occurrences-cons k n ns))
+            (λ k among. some k (omega (arith, among, occurrences-cons k n ns))),
+      )
 
   without_set : (ns : List ℕ) (slots : List (Option X)) (k : ℕ) (slot : Option X)
       → occurrences k ns ≡ 0 → without ns (set slots k slot) ≡ set (without ns slots) k slot
   unfolding without
   without_set [] slots k slot none = refl
   without_set (n ∷ ns) slots k slot none =
-      grind (arith, occurrences-cons, set_comm, listed, without_set ns slots k slot (omega (arith, none, occurrences-cons k n ns)))
+      ap (λ zs. set zs n None)
+      (without_set ns slots k slot (omega (arith, none, occurrences-cons k n ns)))
+      ∙ set_comm (without ns slots) k n slot None
+      (λ same. absurd (listed n ns k same none))
 
 module _ {X : Type 0} where
   module _ (s : Slab X) (n : ℕ) (present : IsSome (get s n)) (new : X) where
@@ -71,13 +83,11 @@ module _ {X : Type 0} where
 
 module _ {T : Type 0} where
   content_some : (xs : List T) (slot : Option Node) → IsSome (content_of xs slot) → IsSome slot
-  content_some xs None present = absurd (cc)
-  content_some xs (Some node) present = refl
+  content_some xs slot present = grind arith
 
   content_items : (xs : List T) (slot : Option Node) → IsSome (content_of xs slot)
       → items_of (content_of xs slot) ≡ xs
-  content_items xs None present = absurd (cc)
-  content_items xs (Some node) present = refl
+  content_items xs slot present = grind arith
 
   contents_read : (rows : List (List T)) (slots : List (Option Node)) (k : ℕ)
       → get_or (contents rows slots) k None ≡ content_of (row_of rows k) (get_or slots k None)
@@ -90,17 +100,26 @@ module _ {T : Type 0} where
 
   content_bit : (xs : List T) (slot : Option Node)
       → is_some (content_of xs slot) ≡ is_some slot
-  content_bit xs None = refl
-  content_bit xs (Some node) = refl
+  content_bit xs slot = grind arith
 
   count_contents : (rows : List (List T)) (slots : List (Option Node))
       → count_by is_some (contents rows slots) ≡ count_by is_some slots
   unfolding contents
   count_contents rows [] = refl
   count_contents [] (slot ∷ slots) =
-      omega (arith, sum_by-cons, ap {B = ℕ} (λ b. cond b 1 0) (content_bit [] slot), count_contents [] slots)
+      omega (
+        arith,
+        sum_by-cons,
+        ap {B = ℕ} (λ b. cond b 1 0) (content_bit [] slot),
+        count_contents [] slots,
+      )
   count_contents (xs ∷ rows) (slot ∷ slots) =
-      omega (arith, sum_by-cons, ap {B = ℕ} (λ b. cond b 1 0) (content_bit xs slot), count_contents rows slots)
+      omega (
+        arith,
+        sum_by-cons,
+        ap {B = ℕ} (λ b. cond b 1 0) (content_bit xs slot),
+        count_contents rows slots,
+      )
 
   contents_set : (rows : List (List T)) (slots : List (Option Node)) (n : ℕ) (xs : List T)
       → n < length rows
@@ -128,7 +147,7 @@ module _ {T : Type 0} (slab : Slab Node) (rows : List (List T)) (spares : List �
 
   -- a node that is seen is no spare
   in_use : (k : ℕ) → HasNode heap k → occurrences k spares ≡ 0
-  in_use k present = grind (arith, cases_eq, occurrences, false≢true, spare_read)
+  in_use k present = grind (arith, spare_read)
 
 -- a node that is seen has what its slot and its row have
 pub record IsSeen {T : Type 0} (slab : Slab Node) (rows : List (List T)) (spares : List ℕ) (n : ℕ)
@@ -140,11 +159,11 @@ pub record IsSeen {T : Type 0} (slab : Slab Node) (rows : List (List T)) (spares
 module _ {T : Type 0} {slab : Slab Node} {rows : List (List T)} {spares : List ℕ}
     (whole : IsWhole slab rows spares) where
   pub found : (k : ℕ) → HasNode (heap_of slab rows spares) k → IsSome (get slab k)
-  found k present = grind (arith, content_some, slot_seen, in_use)
+  found k present = grind (arith, slot_seen)
 
   pub items_seen : (k : ℕ) → HasNode (heap_of slab rows spares) k
       → node_items (heap_of slab rows spares) k ≡ row_of rows k
-  items_seen k present = grind (arith, slot_seen, in_use, content_items)
+  items_seen k present = grind (arith, slot_seen, in_use)
 
   pub row_there : (k : ℕ) → HasNode (heap_of slab rows spares) k → k < length rows
   row_there k present = whole.there k (found k present)
@@ -154,7 +173,7 @@ module _ {T : Type 0} {slab : Slab Node} {rows : List (List T)} {spares : List �
 
   pub seen : (k : ℕ) → HasNode (heap_of slab rows spares) k → {node : Node}
       → get slab k ≡ Some node → IsSeen slab rows spares k node
-  seen k present is = grind (arith, items_seen, slot_seen, in_use, row_len)
+  seen k present is = grind (arith, slot_seen, in_use)
 
   pub counted : node_count (heap_of slab rows spares) + length spares ≡ slab_len slab
   counted =
@@ -185,10 +204,10 @@ module _ {T : Type 0} {old new : Slab Node} {was now : List (List T)} {spares : 
     (whole : IsWhole old was spares) {n : ℕ} {node : Node} {items : List T}
     (changes : Changes old new was now n node items) where
   changed_there : (k : ℕ) → IsSome (get new k) → k < length now
-  changed_there k some = grind (arith, cases_eq)
+  changed_there k some = grind arith
 
   changed_lens : (k : ℕ) → length (row_of now k) ≡ len_of (get new k)
-  changed_lens k = grind (arith, cases_eq)
+  changed_lens k = grind arith
 
   unchanged : (k : ℕ) → k ≢ n
       → content_of (row_of now k) (get new k) ≡ content_of (row_of was k) (get old k)
@@ -204,14 +223,13 @@ module _ {T : Type 0} {old new : Slab Node} {was now : List (List T)} {spares : 
     there = changed_there;
     lens = changed_lens;
     empty = λ k among.
-        grind (arith, unchanged, apart, occurrences, among);
-    once = λ k. omega (arith, fewer k, whole.once k);
+        grind arith;
+    once = λ k. omega arith;
   }
 
   elsewhere : (left : List ℕ) → ((k : ℕ) → k ≢ n → occurrences k left ≡ occurrences k spares)
       → (k : ℕ) → k ≢ n → node_of (heap_of new now left) k ≡ node_of (heap_of old was spares) k
-  elsewhere left alike k differs =
-      grind (arith, cases_eq, occurrences, slot_seen, unchanged, spare_read)
+  elsewhere left alike k differs = grind (arith, slot_seen, spare_read)
 
   -- the number became a spare, with nothing
   more_whole : (left : List ℕ)
@@ -221,9 +239,9 @@ module _ {T : Type 0} {old new : Slab Node} {was now : List (List T)} {spares : 
     there = changed_there;
     lens = changed_lens;
     empty = λ k among.
-        grind (arith, cases_eq, changed, no_items, unchanged, among, told, occurrences_other);
+        grind (arith, occurrences_other);
     once = λ k.
-        grind (arith, cases_eq, told, apart, occurrences_itself, occurrences_other);
+        grind (arith, occurrences_itself, occurrences_other);
   }
 
   module _ (len : slab_len new ≡ slab_len old) where
@@ -239,7 +257,7 @@ module _ {T : Type 0} {old new : Slab Node} {was now : List (List T)} {spares : 
         → Writes (heap_of old was spares) (heap_of new now spares) n items node.children.items
     written present =
         let apart = in_use old was spares n present in
-        grind (arith, here, apart, elsewhere, counted, written_whole)
+        grind (arith, here, apart, elsewhere, counted)
 
     -- a spare got what a new node has
     module _ {left : List ℕ} (parts : spares ≡ n ∷ left) where
@@ -255,7 +273,17 @@ module _ {T : Type 0} {old new : Slab Node} {was now : List (List T)} {spares : 
       pub stored : Stores (heap_of old was spares) (heap_of new now left) n items
           node.children.items
       stored =
-          grind (arith, here, spare_apart, spare_read, told, occurrences_itself, elsewhere, occurrences_other, counted, stored_whole)
+          let read = here left spare_apart in
+          record {
+            fresh = spare_read old was spares n (omega (arith, told n, occurrences_itself n));
+            present = rw read refl;
+            items_are = ap items_of read;
+            children_are = ap children_of read;
+            others = elsewhere left
+                (λ k differs. omega (arith, told k, occurrences_other k n (λ e. differs (sym e))));
+            len = omega (arith, counted whole, counted stored_whole, len, ap length parts);
+            capacity = len;
+          }
 
     -- a node became a spare
     module _ (present : HasNode (heap_of old was spares) n) (no_items : items ≡ [])
@@ -275,7 +303,7 @@ module _ {T : Type 0} {old new : Slab Node} {was now : List (List T)} {spares : 
         was = present;
         gone = grind (arith, spare_read, longer, occurrences_itself);
         others = grind (arith, elsewhere, longer, occurrences_other);
-        len = omega (arith, counted whole, counted freed_whole, len);
+        len = omega (arith, counted whole, counted freed_whole);
         capacity = len;
       }
 
@@ -283,14 +311,14 @@ module _ {T : Type 0} {old new : Slab Node} {was now : List (List T)} {spares : 
   module _ (fresh : get old n ≡ None) (len : slab_len new ≡ slab_len old + 1)
       (no_items : items ≡ []) (no_children : node.children.items ≡ []) where
     absent : occurrences n spares ≡ 0
-    absent = grind (arith, cases_eq, occurrences, false≢true)
+    absent = grind arith
 
     more : (k : ℕ)
         → occurrences k (spares ++ n ∷ []) ≡ occurrences k spares + occurrences k (n ∷ [])
     more k = occurrences-append k spares (n ∷ [])
 
     added_whole : IsWhole new now (spares ++ n ∷ [])
-    added_whole = grind (arith, more_whole, more, absent, no_items)
+    added_whole = grind (arith, more_whole, more)
 
     pub added : IsWhole new now (spares ++ n ∷ [])
         × SameNodes (heap_of old was spares) (heap_of new now (spares ++ n ∷ []))
@@ -298,8 +326,8 @@ module _ {T : Type 0} {old new : Slab Node} {was now : List (List T)} {spares : 
       added_whole,
       record {
         nodes = λ k.
-            grind (arith, cases_eq, spare_read, more, occurrences_itself, slot_seen, absent, elsewhere, occurrences_other);
-        len = omega (arith, counted whole, counted added_whole, len, length-append spares (n ∷ []));
+            grind (arith, spare_read, more, occurrences_itself, slot_seen, occurrences_other);
+        len = omega (arith, counted whole, counted added_whole, length-append spares (n ∷ []));
       },
     )
 
@@ -321,11 +349,11 @@ module _ {T : Type 0} {slab larger : Slab Node} {was : List (List T)} {spares : 
   }
 
   grown_nodes : SameNodes (heap_of slab was spares) (heap_of grown now spares)
-  grown_nodes = grind (arith, cases_eq, occurrences, slot_seen, spare_read, counted, grown_whole)
+  grown_nodes = grind (arith, slot_seen, spare_read, counted)
 
   pub roomier : IsWhole larger now spares
       × SameNodes (heap_of slab was spares) (heap_of larger now spares)
-  roomier = grind (arith, grown_whole, grown_nodes)
+  roomier = grind (arith, grown_nodes)
 
 -- a node and its row were written, which left these spares, and made this of the nodes
 pub record Leaves {T : Type 0} (slab : Slab Node) (rows : List (List T)) (spares : List ℕ) (n : ℕ)
@@ -344,7 +372,7 @@ module _ {T : Type 0} {slab : Slab Node} {rows : List (List T)} {spares : List �
   there = rw at refl
 
   edit : Changes slab (with_value slab n node) rows (set rows n items) n node items
-  edit = grind (arith, value_updates, there, here, get_or-set_same, get_or-set_other, length-set)
+  edit = grind (arith, value_updates, get_or-set_same, get_or-set_other, length-set)
 
   same_len : slab_len (with_value slab n node) ≡ slab_len slab
   same_len = value_len slab n there node
@@ -361,11 +389,8 @@ module _ {T : Type 0} {slab : Slab Node} {rows : List (List T)} {spares : List �
   -- a spare got what a new node has
   pub filled : {left : List ℕ} → spares ≡ n ∷ left
       → Leaves slab rows spares n node items left (λ old new. Stores old new n items ks)
-  filled {left} parts = record {
-    whole = stored_whole whole edit same_len parts;
-    nodes = rw (← children_are) (stored whole edit same_len parts);
-    len = same_len;
-  }
+  filled {left} parts =
+      grind (arith, stored_whole whole edit same_len parts, stored whole edit same_len parts)
 
   -- a node became a spare
   pub emptied : HasNode (heap_of slab rows spares) n → items ≡ [] → ks ≡ []
@@ -400,7 +425,10 @@ module _ {T : Type 0} {slab : Slab Node} {rows : List (List T)} {spares : List �
       (λ old new. Writes old new n (insert (node_items (heap_of slab rows spares) n) i x) ks)
   put_among x within more children =
       let items = items_seen whole n present in
-      rw items (edited whole n at node (insert (row_of rows n) i x) (grind (arith, more, row_len, length-insert)) children present)
+      rw items (edited whole n at node (insert (row_of rows n) i x) (grind (
+        arith,
+        length-insert,
+      )) children present)
 
   pub taken_out : i < length (node_items (heap_of slab rows spares) n) → node.len + 1 ≡ was.len
       → {ks : List ℕ} → node.children.items ≡ ks
@@ -408,7 +436,10 @@ module _ {T : Type 0} {slab : Slab Node} {rows : List (List T)} {spares : List �
       (λ old new. Writes old new n (remove (node_items (heap_of slab rows spares) n) i) ks)
   taken_out within less children =
       let items = items_seen whole n present in
-      rw items (edited whole n at node (remove (row_of rows n) i) (grind (arith, row_len, length-remove)) children present)
+      rw items (edited whole n at node (remove (row_of rows n) i) (grind (
+        arith,
+        length-remove,
+      )) children present)
 
 -- a node went to the end of another, with an item between
 module _ {T : Type 0} {slab : Slab Node} {rows : List (List T)} {spares : List ℕ}
@@ -427,7 +458,10 @@ module _ {T : Type 0} {slab : Slab Node} {rows : List (List T)} {spares : List �
       (lower.children.items ++ upper.children.items))
   grew = edited gone.whole l
       (get_or-set_other slab.slots r l (Some blank) None apart ∙ left_at) node
-      (row_of rows l ++ x ∷ row_of rows r) (grind (arith, row_len, length-append)) children_are (rw (gone.nodes.others l apart) left)
+      (row_of rows l ++ x ∷ row_of rows r) (grind (
+        arith,
+        length-append,
+      )) children_are (rw (gone.nodes.others l apart) left)
 
   pub absorbs : Leaves (with_value slab r blank) (set rows r []) (r ∷ spares) l node
       (row_of rows l ++ x ∷ row_of rows r) (r ∷ spares)
@@ -455,7 +489,7 @@ module _ {T : Type 0} {slab : Slab Node} {rows : List (List T)} {spares : List �
   spare_found = content_some (row_of rows n) (get slab n) (rw (whole.empty n among) refl)
 
   pub bare_row : row_of rows n ≡ []
-  bare_row = grind (arith, content_items, among)
+  bare_row = grind (arith, among)
 
   pub bare_children : {was : Node} → get slab n ≡ Some was → was.children.items ≡ []
   bare_children at =
@@ -469,8 +503,7 @@ module _ {T : Type 0} {slab : Slab Node} {rows : List (List T)} {spares : List �
 -- no node at all
 pub none_whole : {T : Type 0} (slab : Slab Node) (rows : List (List T)) (spares : List ℕ)
     → slab.slots ≡ [] → rows ≡ [] → spares ≡ [] → IsWhole slab rows spares
-none_whole slab rows spares no_slots no_rows no_spares =
-    grind (arith, absent, there, false≢true, among, occurrences, occurrences-nil)
+none_whole slab rows spares no_slots no_rows no_spares = grind (arith, occurrences-nil)
 
 -- another item was written in the place of one
 module _ {T : Type 0} {slab : Slab Node} {rows : List (List T)} {spares : List ℕ}
@@ -478,17 +511,15 @@ module _ {T : Type 0} {slab : Slab Node} {rows : List (List T)} {spares : List �
     (present : HasNode (heap_of slab rows spares) n) where
   pub item_written : heap_of slab (set rows n (set (row_of rows n) i x)) spares
       ≡ with_item (heap_of slab rows spares) n i x
-  item_written =
-      grind (arith, apart, in_use, contents_set, row_there, without_set, found, slot_seen)
+  item_written = grind (arith, in_use, contents_set, row_there, without_set, found, slot_seen)
 
 -- what fits a node fits its numbers
 pub fits_count : {T : Type 0} (child : Option ℕ) (xs : List T) (ks : List ℕ) (many : ℕ)
     → many ≡ length xs → FitsChild child xs ks → FitsCount child many ks
-fits_count None xs ks many is fits = fits
-fits_count (Some k) xs ks many is fits = omega arith
+fits_count child xs ks many is fits = grind arith
 
 module _ {T : Type 0} where
   -- a number with no node has no items
   pub vacant_row : {slab : Slab Node} {rows : List (List T)} {spares : List ℕ}
       → IsWhole slab rows spares → (n : ℕ) → get slab n ≡ None → row_of rows n ≡ []
-  vacant_row {slab} {rows} whole n vacant = grind (arith, nil_from_length)
+  vacant_row whole n vacant = grind (arith, nil_from_length)

@@ -61,20 +61,15 @@ module _ {T : Type 0} (s t : BoxStorage T) (g behind left : Edge) (some : 0 < bo
       → n ≡ with_item t.nodes h.node h.index next → t.nodes.capacity ≡ s.nodes.capacity
       → next ≡ get_or (box_items s) (box_place s behind - 1) next → IsReplaced s t g n left
   replaced next n h at_home written capacity was =
-      let same = written ∙ ap (λ z. with_item t.nodes z.node z.index next) at_home in
-      let down =
-      moved_down (box_items s) (box_place s g - 1) next
-      (omega (arith, within, beside, some)) (rw back at was) in
-      let listed = rw back at list in
-      let items =
-      written_items t left good_left next ∙ ap (λ i. set (box_items t) i next) here
-      ∙ ap (λ xs. set xs (box_place s g - 1) next) listed ∙ down in
-      let kept = good_then t left good_left next good_left in
-      let whole = with_good_item t left good_left next in
-      grind (arith, here)
+      grind (
+        arith,
+        moved_down (box_items s) (box_place s g - 1) next (omega arith) (rw back at was),
+        written_items t left good_left next,
+        good_then t left good_left next good_left,
+        with_good_item t left good_left next,
+      )
 
   pub replaced_item : (r : T) (h : Home) → h ≡ box_home t left
       → r ≡ get_or (node_items t.nodes h.node) h.index r
       → r ≡ get_or (box_items s) (box_place s g - 1) r
-  replaced_item r h at_home was =
-      grind (arith, back, good_item, good_left, box_items, here, box_place, get_or-remove_below)
+  replaced_item r h at_home was = grind (arith, good_item, get_or-remove_below)

@@ -17,10 +17,10 @@ use Rattle.range_store.specs.Written.{root_shaped}
 -- so many levels as a path has digits are enough for all items that a tree may have
 pub tree_is_not_too_deep : {T : Type 0} {s : Heap T} (levels : ℕ) {root : ℕ} → IsRoomy s levels root
     → levels - 1 < MAX_LEVELS
-tree_is_not_too_deep {T} {s} zero {root} roomy = omega arith
+tree_is_not_too_deep zero {root} roomy = omega arith
 tree_is_not_too_deep {T} {s} (suc d) {root} roomy =
     elim (cases_lt d MAX_LEVELS) [
-      | inl low ↦ omega (arith, low)
+      | inl low ↦ omega arith
       | inr high ↦
           let some : 0 < MIN_LEN + 1 = omega arith in
           let more : (MIN_LEN + 1) ^ MAX_LEVELS ≤ (MIN_LEN + 1) ^ d = pow-le-pow_right some high in
