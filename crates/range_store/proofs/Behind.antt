@@ -18,12 +18,6 @@ use Rattle.range_store.specs.Written.{place_of_start}
 use Rattle.range_store.proofs.Paths.{level_of_children, below_turn, below_inside, below_here, home_above, home_inside, home_leaf, past_last, before_next, start_parts}
 use Rattle.range_store.proofs.PathsBelow.{ahead_of, LiesBelow, lies_itself, lies_in_child, first_below}
 
-is_first : (g : Edge) → g.path ≡ 0 → g.index ≡ 0 → is_start g ≡ true
-is_first g path index = and_from _ _ (eq-eqb _ _ path) (eq-eqb _ _ index)
-
-is_later : (g : Edge) → 0 < g.path + g.index → is_start g ≡ false
-is_later g some = grind arith
-
 module _ {T : Type 0} (s : Heap T) where
   -- the edge at the end of a leaf
   abbrev pub leaf_end : Edge → Edge
@@ -98,9 +92,6 @@ module _ {T : Type 0} (s : Heap T) where
 
     pub turn_low : i ≤ length (node_items s at)
     turn_low = rw i_is (below_turn above way.lies.shaped inner way.is)
-
-    level : suc (left - 1) ≡ left
-    level = level_of_children above way.lies.shaped
 
     further : (later : Option Subtree)
         → ComesAfter below number later

@@ -72,11 +72,6 @@ pub held_new : {T : Type 0} {r s t : Heap T} {d n : ℕ} {xs : List T} {ks : Lis
 held_new {T} {r} {s} {t} {d} {n} {xs} {ks} stored agree =
     grind (arith, same_children s t d ks agree)
 
--- a part of the children of a node
-pub child_count_part : (d k m k' m' : ℕ) → m ≡ child_count d k → (m ≡ 0 → m' ≡ 0)
-    → (m ≡ k + 1 → m' ≡ k' + 1) → m' ≡ child_count d k'
-child_count_part d k m k' m' h none some = grind arith
-
 -- a leaf with other items
 pub bare_content : {T : Type 0} {least most : ℕ} {s : Heap T} {n : ℕ} (xs : List T)
     → ShapedBut least most s 0 n → Owned s 1 n → IsContent s 0 n xs (node_children s n)

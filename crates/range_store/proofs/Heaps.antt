@@ -21,22 +21,6 @@ module _ {T : Type 0} where
       → node_of (with_item s n i x) k ≡ node_of s k
   item_other s n i k x other = grind (arith, get_or-set_other)
 
-  content_is : (node : Option (Content T)) (xs : List T) (ks : List ℕ) → IsSome node
-      → items_of node ≡ xs → children_of node ≡ ks
-      → node ≡ Some (record { items = xs; children = ks })
-  content_is node xs ks present items children = grind arith
-
-  written_is : {s t : Heap T} {n : ℕ} {xs : List T} {ks : List ℕ} → Writes s t n xs ks
-      → node_of t n ≡ Some (record { items = xs; children = ks })
-  written_is writes = grind arith
-
-  -- a write between two heaps that differ from two others at another node alone
-  writes_along : {s t : Heap T} (u v : Heap T) {n : ℕ} (m : ℕ) {xs : List T} {ks : List ℕ} → n ≢ m
-      → Writes s t n xs ks → ((k : ℕ) → k ≢ m → node_of u k ≡ node_of s k)
-      → ((k : ℕ) → k ≢ m → node_of v k ≡ node_of t k) → node_of v m ≡ node_of u m
-      → node_count v ≡ node_count u → v.capacity ≡ u.capacity → Writes u v n xs ks
-  writes_along u v {n} m apart writes before after here len capacity = grind arith
-
   module _ (s t u : Heap T) (n m : ℕ) (xs : List T) (ks : List ℕ) (apart : m ≢ n) where
     -- two writes of different nodes
     pub record WritesFirst (ys : List T) (ls : List ℕ) : Type 0 where

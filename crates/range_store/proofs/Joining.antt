@@ -25,10 +25,6 @@ weave_join : {T : Type 0} (xs : List T) (x : T) (ys : List T) (ks ls : List (Lis
     → weave (xs ++ x ∷ ys) (ks ++ ls) ≡ weave xs ks ++ (x ∷ weave ys ls)
 weave_join xs x ys ks ls d same same' = grind (arith, weave_cut)
 
-child_count-join : (d a b m n : ℕ) → m ≡ child_count d a → n ≡ child_count d b
-    → m + n ≡ child_count d (a + (1 + b))
-child_count-join d a b m n h h' = grind arith
-
 module _ {T : Type 0} {s : Heap T} {d l r : ℕ} (x : T) (pair : IsPair s d l r) where
   abbrev xs : List T
   xs = node_items s l ++ (x ∷ node_items s r)

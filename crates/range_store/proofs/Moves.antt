@@ -10,9 +10,6 @@ use Rattle.range_store.specs.Frame.{AgreeAt}
 pub here_some : {T : Type 0} (s : Heap T) (k : ℕ) → IsSome (node_of s k) → here s k ≡ 1
 here_some s k present = grind arith
 
-pub some_from_here : {T : Type 0} (s : Heap T) (k : ℕ) → 0 < here s k → IsSome (node_of s k)
-some_from_here s k h = grind arith
-
 pub here_le : {T : Type 0} (s : Heap T) (k : ℕ) → here s k ≤ 1
 here_le s k = grind arith
 
@@ -27,11 +24,6 @@ other_than n k us none same =
 pub Moves-none : {T : Type 0} (s : Heap T) (us : List ℕ) → Moves s s us us
 Moves-none s us =
     record { owned = λ k. refl; outside = λ k unused present. refl; len = refl; capacity = refl }
-
--- what is under a number once the first step was made
-pub Moves-kept : {T : Type 0} {s t : Heap T} {us vs : List ℕ} → Moves s t us vs → (k : ℕ)
-    → occurrences k us ≡ 0 → IsSome (node_of s k) → (occurrences k vs ≡ 0) × IsSome (node_of t k)
-Moves-kept m k unused present = grind arith
 
 pub Moves-then : {T : Type 0} {r s t : Heap T} {us vs ws : List ℕ} → Moves r s us vs
     → Moves s t vs ws → Moves r t us ws

@@ -65,9 +65,6 @@ module _ {T : Type 0} {s t : Heap T} {d root : ℕ} {list : List T} (tree : IsTr
   whole : used t (suc d) root ++ [] ≡ used t (suc d) root
   whole = append-nil (used t (suc d) root)
 
-  kept_tree : IsTree t (suc d) root
-  kept_tree = grind (arith, whole)
-
 pub kept_root : {T : Type 0} {s t : Heap T} (levels : ℕ) {root : ℕ} {list : List T} → 0 < levels
     → IsTree s levels root → Replaces s t (levels - 1) root None list → IsGrown t levels root list
 kept_root levels some tree step' = grind (arith, append-nil)
@@ -83,9 +80,6 @@ module _ {T : Type 0} {s t u : Heap T} {d root n : ℕ} (split : Split T) {list 
     (stored : Stores t u n (split.middle ∷ []) (root ∷ split.right ∷ [])) where
   abbrev ts : List ℕ
   ts = root ∷ split.right ∷ []
-
-  once_before : (k : ℕ) → occurrences k (flat_map (used t (suc d)) ts) ≡ here t k
-  once_before k = omega (arith, step.moved.owned k, tree.once k)
 
   agree : AgreeAt t u (flat_map (used t (suc d)) ts)
   agree k among = grind arith

@@ -37,10 +37,6 @@ drop_children zero a b [] (l ∷ ls) many many' = absurd (omega arith)
 drop_children zero a b (k ∷ ks) ls many many' = absurd (omega arith)
 drop_children (suc d) a b ks ls many many' = drop-append-add ks ls (a + 2) 1 (omega arith)
 
-take_fewer : (d a b : ℕ) (ks ls : List ℕ) → length ks ≡ child_count d a
-    → length ls ≡ child_count d b → take a (ks ++ ls) ≡ take a ks
-take_fewer d a b ks ls many many' = grind (arith, take-append-le)
-
 drop_fewer : (d a b : ℕ) (ks ls : List ℕ) → length ks ≡ child_count d a
     → length ls ≡ child_count d b → drop a (ks ++ ls) ≡ drop a ks ++ ls
 drop_fewer d a b ks ls many many' = grind (arith, drop-append-le)

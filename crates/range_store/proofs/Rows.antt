@@ -128,13 +128,6 @@ module _ {T : Type 0} where
       → HoldsItems (cells_of cells n) items → items_in (take k (drop (CAPACITY * n) cells)) ≡ items
   part_held cells n k all held = rw all (items_held held)
 
-  take_set : (n : ℕ) (xs : List (Option T)) (i : ℕ) (x : Option T)
-      → take n (set xs i x) ≡ set (take n xs) i x
-  take_set zero xs i x = refl
-  take_set (suc n) [] i x = refl
-  take_set (suc n) (y ∷ xs) zero x = refl
-  take_set (suc n) (y ∷ xs) (suc i) x = ap (λ ys. y ∷ ys) (take_set n xs i x)
-
   -- one cell of a number was written
   cell_rewritten : (n i : ℕ) (cells : List (Option T)) {items : List T} (item : T)
       → i < length items → HoldsItems (cells_of cells n) items

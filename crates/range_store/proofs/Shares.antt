@@ -21,11 +21,6 @@ pub record IsShare (rest others low high share : ℕ) : Type 0 where
 quotient : (n k : ℕ) → 0 < k → (z : ℕ) × (n ≡ k * (n / k) + z) × (z < k)
 quotient n k some = (n % k, omega arith, omega arith)
 
-others_fit : (others share left high : ℕ) → left ≤ others
-    → (others + 1) * share + left + (others + 1) ≤ (others + 1) * high → share < high
-    → others * share + left + others ≤ others * high
-others_fit others share left high few all fits = grind (arith, mul-le-mul_left)
-
 pub share_is : {rest : ℕ} (others : ℕ) {low high : ℕ} → CanBeShared rest (others + 1) low high
     → IsShare rest others low high (rest / (others + 1))
 share_is {rest} others {low} {high} can =
@@ -57,10 +52,6 @@ cut_is width count some least most = grind arith
 -- a child has as many items as a node needs that is not the root
 pub cut_enough : {inner share : ℕ} → 0 < inner → MIN_LEN * inner ≤ share → MIN_LEN ≤ share / inner
 cut_enough {inner} {share} some enough = le-div MIN_LEN share inner some enough
-
--- the widths
-pub width_some : (width below : ℕ) → width ≡ (CAPACITY + 1) ^ below → 0 < width
-width_some width below is = omega (arith, is, one-le-pow below (CAPACITY + 1) (omega arith))
 
 pub leaf_width : {width below : ℕ} → below ≡ 0 → width ≡ (CAPACITY + 1) ^ below → width ≡ 1
 leaf_width none is = grind arith

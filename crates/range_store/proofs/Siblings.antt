@@ -10,9 +10,6 @@ use Rattle.range_store.proofs.Edits.{without_last}
 use Rattle.range_store.proofs.Heaps.{item_other, write_first, remove_first, remove_last}
 
 module _ {X : Type 0} where
-  first_and_rest : (xs : List X) (x : X) → 0 < length xs → x ≡ get_or xs 0 x → xs ≡ x ∷ drop 1 xs
-  first_and_rest xs x some is = grind arith
-
   last_and_front : (xs : List X) (x : X) (n : ℕ) → length xs ≡ n + 1 → x ≡ get_or xs n x
       → xs ≡ take n xs ++ x ∷ []
   last_and_front xs x n many is = grind (arith, take_all, take_more)
@@ -32,9 +29,6 @@ front_child (suc below) ks zs ls others =
     let at = get_or ls (length zs) 0 in
     let some : slice_get ls (length zs) ≡ Some at = grind (arith, slice_get-get_or) in
     grind (arith, drop_more, drop_all)
-
-few_children : (below k m : ℕ) → m ≡ child_count below k → m ≤ k + 1
-few_children below k m many = grind arith
 
 module _ {T : Type 0} {s : Heap T} (t u v : Heap T) {n i : ℕ} (pair : HasPair s n i) (down up : T) where
   abbrev l : ℕ

@@ -85,10 +85,6 @@ module _ {T : Type 0} where
   content_some : (xs : List T) (slot : Option Node) → IsSome (content_of xs slot) → IsSome slot
   content_some xs slot present = grind arith
 
-  content_items : (xs : List T) (slot : Option Node) → IsSome (content_of xs slot)
-      → items_of (content_of xs slot) ≡ xs
-  content_items xs slot present = grind arith
-
   contents_read : (rows : List (List T)) (slots : List (Option Node)) (k : ℕ)
       → get_or (contents rows slots) k None ≡ content_of (row_of rows k) (get_or slots k None)
   unfolding contents
@@ -209,10 +205,6 @@ module _ {T : Type 0} {old new : Slab Node} {was now : List (List T)} {spares : 
   changed_lens : (k : ℕ) → length (row_of now k) ≡ len_of (get new k)
   changed_lens k = grind arith
 
-  unchanged : (k : ℕ) → k ≢ n
-      → content_of (row_of now k) (get new k) ≡ content_of (row_of was k) (get old k)
-  unchanged k differs = grind arith
-
   changed : content_of (row_of now n) (get new n)
       ≡ Some (record { items = items; children = node.children.items })
   changed = grind arith
@@ -310,9 +302,6 @@ module _ {T : Type 0} {old new : Slab Node} {was now : List (List T)} {spares : 
   -- a spare was added
   module _ (fresh : get old n ≡ None) (len : slab_len new ≡ slab_len old + 1)
       (no_items : items ≡ []) (no_children : node.children.items ≡ []) where
-    absent : occurrences n spares ≡ 0
-    absent = grind arith
-
     more : (k : ℕ)
         → occurrences k (spares ++ n ∷ []) ≡ occurrences k spares + occurrences k (n ∷ [])
     more k = occurrences-append k spares (n ∷ [])
@@ -338,15 +327,6 @@ module _ {T : Type 0} {slab larger : Slab Node} {was : List (List T)} {spares : 
     (kept : (k : ℕ) → row_of now k ≡ row_of was k) where
   abbrev grown : Slab Node
   grown = record slab { capacity = larger.capacity }
-
-  grown_whole : IsWhole grown now spares
-  grown_whole = record {
-    there = λ k some. omega (arith, long, whole.there k some);
-    lens = λ k. ap length (kept k) ∙ whole.lens k;
-    empty = λ k among.
-        ap (λ xs. content_of xs (get slab k)) (kept k) ∙ whole.empty k among;
-    once = whole.once;
-  }
 
   grown_nodes : SameNodes (heap_of slab was spares) (heap_of grown now spares)
   grown_nodes = grind (arith, slot_seen, spare_read, counted)

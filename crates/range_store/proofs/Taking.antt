@@ -54,9 +54,6 @@ module _ {T : Type 0} (s t : BoxStorage T) (g behind left : Edge) (some : 0 < bo
   back : box_place s behind - 1 ≡ suc (box_place s g - 1)
   back = omega (arith, beside, some)
 
-  here : box_place t left - 1 ≡ box_place s g - 1
-  here = omega (arith, at, beside, some)
-
   pub replaced : (next : T) (n : Heap T) (h : Home) → h ≡ box_home t left
       → n ≡ with_item t.nodes h.node h.index next → t.nodes.capacity ≡ s.nodes.capacity
       → next ≡ get_or (box_items s) (box_place s behind - 1) next → IsReplaced s t g n left
