@@ -17,12 +17,6 @@ pub Shaped-but : {T : Type 0} (s : Heap T) (d n : ℕ) → Shaped s (suc d) n
 unfolding Shaped
 Shaped-but s d n shaped = record { node = shaped.0; children = shaped.1 }
 
--- the bounds on a node may be wider
-pub shaped_with : {T : Type 0} {least most : ℕ} (low top : ℕ) {s : Heap T} {d n : ℕ}
-    → low ≤ length (node_items s n) → length (node_items s n) ≤ top → ShapedBut least most s d n
-    → ShapedBut low top s d n
-shaped_with low top enough fits shaped = grind arith
-
 pub shaped_within_wider : {T : Type 0} (low : ℕ) {least most : ℕ} (top : ℕ) {s : Heap T} {d n : ℕ}
     → low ≤ least → most ≤ top → ShapedBut least most s d n → ShapedBut low top s d n
 shaped_within_wider low top le le' shaped = grind arith

@@ -13,7 +13,7 @@ use Rattle.range_store.specs.Contents.{IsContent}
 use Rattle.range_store.specs.Frame.{AgreeAt, AgreeAt-right, SameChildren, same_children}
 use Rattle.range_store.specs.Occurrences.{occurrences, occurrences-append, occurrences-cons, occurrences-nil, occurrences_here}
 use Rattle.range_store.specs.Weave.{weave_cut}
-use Rattle.range_store.proofs.Below.{Shaped-from_but, child_count_inner, items_below_leaf, used_is, used_leaf, weave_items_below, shaped_with}
+use Rattle.range_store.proofs.Below.{Shaped-from_but, child_count_inner, items_below_leaf, used_is, used_leaf, weave_items_below}
 use Rattle.range_store.proofs.Contents.{Holds, held_items_below, held_used, held_shape, written_holds, held_new}
 use Rattle.range_store.proofs.Moves.{Moves-agree, Moves-beside, Moves-like, Moves-then, Stores-moves, Writes-moves}
 use Rattle.range_store.proofs.Moved.{moved_all}
@@ -24,11 +24,6 @@ use Rattle.range_store.proofs.Room.{used_le}
 weave_more : {X : Type 0} (xs : List X) (x : X) (ls : List (List X)) (l : List X)
     → length ls ≡ length xs + 1 → weave (xs ++ x ∷ []) (ls ++ l ∷ []) ≡ weave xs ls ++ x ∷ l
 weave_more xs x ls l many = grind (arith, weave_cut, append-nil)
-
--- a built node with enough items is one that is not the root
-pub built_shaped : {T : Type 0} {r s : Heap T} {d n many : ℕ} → IsBuilt r s d n many
-    → MIN_LEN ≤ many → Shaped s (suc d) n
-built_shaped built enough = grind (arith, Shaped-from_but)
 
 -- what a node, of which the rest of the heap is old, becomes with an item and perhaps a child more
 module _ {T : Type 0} {r s t : Heap T} {d n many : ℕ} (cs : List ℕ) (built : IsBuilt r s d n many)
@@ -205,7 +200,7 @@ built_child {T} {r} {s} zero {n} {many} {count} some built enough size = absurd 
 built_child {T} {r} {s} (suc d) {n} {many} {count} some built' enough size' =
     let level : suc d - 1 ≡ d = omega arith in
     let built = rw level at built' in
-    grind (arith, built_shaped built enough, used_le)
+    grind (arith, Shaped-from_but, used_le)
 
 pub child_level : {T : Type 0} (s : Heap T) (d n : ℕ) → 0 < d
     → items_below s (suc (d - 1)) n ≡ items_below s d n

@@ -150,11 +150,6 @@ module _ {T : Type 0} where
           set_at (full_cells (remove xs i)) (Some stands.item) (replicate (CAPACITY - length xs) None) None end (omega arith),
         )
 
-  -- another item stands for one
-  pub held_set : {old : List (Option T)} {xs : List T} (i : ℕ) (item : T) → HoldsItems old xs
-      → i < length xs → HoldsItems (set old i (Some item)) (set xs i item)
-  held_set i item h within = grind (arith, length-set, set-append_left, length-full, map-set)
-
   -- a row with no item
   pub held_none : HoldsItems {T = T} (replicate CAPACITY None) []
   held_none = record { fits = omega arith; cells_are = refl }

@@ -12,7 +12,7 @@ use Rattle.range_store.specs.Contents.{IsContent, Settles}
 use Rattle.range_store.specs.Occurrences.{occurrences, occurrences-append, occurrences-cons}
 use Rattle.range_store.specs.Frame.{AgreeAt, AgreeAt-left, AgreeAt-right, SameChildren, same_children}
 use Rattle.range_store.proofs.Below.{weave_items_below, used_is, child_count_cases}
-use Rattle.range_store.proofs.Moves.{here_some, here_le, occurrences_self, SameNodes, Moves-like, Moves-then, Writes-moves, Stores-moves}
+use Rattle.range_store.proofs.Moves.{here_le, occurrences_self, SameNodes, Moves-like, Moves-then, Writes-moves, Stores-moves}
 use Rattle.range_store.specs.Weave.{weave_halves}
 
 module _ {T : Type 0} where

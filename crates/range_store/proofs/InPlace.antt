@@ -117,8 +117,7 @@ unfolding IsEdge
 leaf_edit {T} {s} {t} zero {n} g {items} fits enough shaped owned is written = edited_here g fits
     (rw is.0 at enough) shaped owned (rw is.0 at written) is.0 is.1
 leaf_edit {T} {s} {t} (suc d) {n} g {items} fits enough shaped owned is written =
-    let low : turn g ≤ length (node_items s n) =
-    omega (arith, is.0, shaped.node.branches) in
+    let low : turn g ≤ length (node_items s n) = omega (arith, is.0, shaped.node.branches) in
     let kid_whole = shaped_within_wider 1 CAPACITY (omega arith) (omega arith)
     (kid_shaped d (turn g) shaped low) in
     edited_above g shaped owned low is.0 (leaf_edit d (inside g) fits enough kid_whole

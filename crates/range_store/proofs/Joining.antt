@@ -20,11 +20,6 @@ use Rattle.range_store.proofs.Moves.{here_le, SameNodes, Moves-like, Moves-then,
 use Rattle.range_store.proofs.Contents.{IsPair, Rejoins, Holds, held_after, held_items_below, held_used, held_shape, content_apart, halves_listed, halves_nodes, halves_shape, part_agree}
 use Rattle.range_store.proofs.Seats.{seat_run}
 
-weave_join : {T : Type 0} (xs : List T) (x : T) (ys : List T) (ks ls : List (List T)) (d : ℕ)
-    → length ks ≡ child_count d (length xs) → length ls ≡ child_count d (length ys)
-    → weave (xs ++ x ∷ ys) (ks ++ ls) ≡ weave xs ks ++ (x ∷ weave ys ls)
-weave_join xs x ys ks ls d same same' = grind (arith, weave_cut)
-
 module _ {T : Type 0} {s : Heap T} {d l r : ℕ} (x : T) (pair : IsPair s d l r) where
   abbrev xs : List T
   xs = node_items s l ++ (x ∷ node_items s r)
@@ -71,10 +66,7 @@ module _ {T : Type 0} {s : Heap T} {d l r : ℕ} (x : T) (pair : IsPair s d l r)
 
   pub pair_listed : weave xs (map (items_below s d) ks) ≡ items_below s (suc d) l
       ++ (x ∷ items_below s (suc d) r)
-  pair_listed = grind (arith, map-append, weave_join, length-map, weave_items_below)
-
-  pub pair_length : length xs ≡ length (node_items s l) + 1 + length (node_items s r)
-  pair_length = omega (arith, length-append (node_items s l) (x ∷ node_items s r))
+  pair_listed = grind (arith, map-append, weave_cut, length-map, weave_items_below)
 
   swapped : SameNodes (l ∷ r ∷ F) (r ∷ l ∷ F)
   swapped = grind (arith, occurrences-cons)
@@ -107,7 +99,7 @@ module _ {T : Type 0} {s : Heap T} {d l r : ℕ} (x : T) (pair : IsPair s d l r)
           (Moves-like (r ∷ l ∷ F) (r ∷ l ∷ F) swapped swapped (Writes-moves (r ∷ F) written))
           (Removes-moves (l ∷ F) removed));
       shaped = All-cons (Shaped u (suc d)) l [] (Shaped-from_but u d l (held_shape united_holds
-          MIN_LEN (omega (arith, pair_length)) (omega arith)
+          MIN_LEN (omega (arith, length-append (node_items s l) (x ∷ node_items s r))) (omega arith)
           pair_content.branches pair_content.shaped)) (All-nil _);
     }
 

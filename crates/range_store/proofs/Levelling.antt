@@ -82,9 +82,6 @@ module _ {T : Type 0} {s : Heap T} {low n j : ℕ} (x : T) (levelled : IsLevelle
         take j (node_children s n) ++ (tops (node_child s n j) split
         ++ drop (j + 2) (node_children s n))
 
-    few : (cut : Option (Split T)) → length (separators cut) ≤ 1
-    few cut = grind arith
-
     pub new_length : length new_xs + 1 ≡ length xs + length (separators split)
     new_length =
         grind (
@@ -151,7 +148,7 @@ module _ {T : Type 0} {s : Heap T} {low n j : ℕ} (x : T) (levelled : IsLevelle
                 (Moves-then (run_moved pair_run)
                 (Writes-moves (flat_map (used t (suc low)) new_ks) written));
             shape = λ least more. held_shape holds least (omega (arith, new_length, more))
-                (omega (arith, new_length, few split, levelled.node.fits)) new_content.branches
+                (grind (arith, new_length, levelled.node.fits)) new_content.branches
                 new_content.shaped;
           }
 

@@ -7,9 +7,6 @@ use Rattle.range_store.specs.Nodes.{here, Moves}
 use Rattle.range_store.specs.Occurrences.{occurrences, occurrences-append, occurrences-cons, occurrences_itself, occurrences_other}
 use Rattle.range_store.specs.Frame.{AgreeAt}
 
-pub here_some : {T : Type 0} (s : Heap T) (k : ℕ) → IsSome (node_of s k) → here s k ≡ 1
-here_some s k present = grind arith
-
 pub here_le : {T : Type 0} (s : Heap T) (k : ℕ) → here s k ≤ 1
 here_le s k = grind arith
 

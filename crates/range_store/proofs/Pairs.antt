@@ -46,11 +46,6 @@ module _ {T : Type 0} {s : Heap T} {low n j : ℕ} (x : T) (levelled : IsLevelle
   abbrev wide_children : List ℕ
   wide_children = node_children s l ++ node_children s r
 
-  rest_before : length (before xs (map (items_below s (suc low)) ks) (j + 1))
-      ≡ length (before xs (map (items_below s (suc low)) ks) j) + length
-      (items_below s (suc low) l) + 1
-  rest_before = grind (arith, get_or-map, length-before_next, length-map)
-
   pub pair_seat : (i : ℕ) (g : Edge) (q : ℕ) → (i ≡ j) ⊎ (i ≡ j + 1)
       → IsEdge s low (get_or ks i 0) g → (i - j ≡ 0 → q ≡ seat_of low g)
       → (0 < i - j → q ≡ length (node_items s l) + 1 + seat_of low g)
@@ -61,8 +56,4 @@ module _ {T : Type 0} {s : Heap T} {low n j : ℕ} (x : T) (levelled : IsLevelle
   pair_seat i g q (inl same) is left right =
       grind (arith, seat_from_left s l x r g low (pair_of x levelled here) (rw same at is))
   pair_seat i g q (inr next) is left right =
-      grind (
-        arith,
-        seat_from_right s l x r g low (pair_of x levelled here) (rw next at is),
-        rest_before,
-      )
+      grind (arith, seat_from_right s l x r g low (pair_of x levelled here) (rw next at is), get_or-map, length-before_next, length-map)

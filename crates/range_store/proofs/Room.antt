@@ -27,7 +27,7 @@ items_below_size shaped = grind (arith, weave_items_below, length-weave, length-
 children_le_from : {T : Type 0} (s : Heap T) (d : ℕ)
     → ((n : ℕ) → Shaped s d n → MIN_LEN * length (used s d n) ≤ length (items_below s d n))
     → (ns : List ℕ) → All (Shaped s d) ns → MIN_LEN * length (flat_map (used s d) ns) ≤ sizes s d ns
-children_le_from {T} s d below [] shaped = omega arith
+children_le_from s d below [] shaped = omega arith
 children_le_from {T} s d below (n ∷ ns) shaped =
     omega (
       arith,

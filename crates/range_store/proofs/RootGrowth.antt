@@ -14,7 +14,6 @@ use Rattle.range_store.specs.Occurrences.{occurrences, occurrences-cons, occurre
 use Rattle.range_store.proofs.Below.{items_below_leaf, used_leaf, Shaped-from_but}
 use Rattle.range_store.proofs.Contents.{Holds, held_items_below, held_used, held_shape, held_new}
 use Rattle.range_store.specs.Frame.{AgreeAt}
-use Rattle.range_store.proofs.Moves.{here_some}
 use Rattle.range_store.specs.Depth.{HasLevels}
 use Rattle.range_store.proofs.Levels.{has_levels}
 use Rattle.range_store.proofs.Rank.{used_none}

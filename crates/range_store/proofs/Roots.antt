@@ -11,7 +11,6 @@ use Rattle.range_store.proofs.Contents.{IsRewritten}
 use Rattle.range_store.proofs.Below.{weave_items_below, used_is, used_leaf, items_below_leaf, Shaped-but, shaped_within_wider}
 use Rattle.range_store.specs.Frame.{AgreeAt, same_below, SameBelow}
 use Rattle.range_store.proofs.Edges.{SameEdge, same_edge, edge_inside, turn_within, place_inside}
-use Rattle.range_store.proofs.Moves.{here_some}
 use Rattle.range_store.proofs.Rank.{items_below_none, used_none}
 use Rattle.range_store.specs.declared.btree.path.Edge.{Edge}
 use Rattle.range_store.specs.Edges.{turn, inside, IsEdge, place}
@@ -80,9 +79,7 @@ only_child_is_root {T} {s} {t} (suc (suc e)) {root} more loose empty gone =
     let tree : IsTree t (suc e) kid = record {
       shaped = shaped_within_wider 1 CAPACITY (omega arith) (omega arith)
           (Shaped-but t e kid (same.shaped_same kid_shaped));
-      once =
-          λ k.
-          grind (arith, occurs loose one gone k, here_without (here_some s root gone.was) gone k);
+      once = λ k. grind (arith, occurs loose one gone k, here_without (grind arith) gone k);
       len = omega (arith, ap length (used_all loose one gone), ap length same.used_same);
     } in
     grind (arith, weave_items_below, nil_from_length, append-nil)

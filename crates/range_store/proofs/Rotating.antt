@@ -37,10 +37,6 @@ drop_children zero a b [] (l ∷ ls) many many' = absurd (omega arith)
 drop_children zero a b (k ∷ ks) ls many many' = absurd (omega arith)
 drop_children (suc d) a b ks ls many many' = drop-append-add ks ls (a + 2) 1 (omega arith)
 
-drop_fewer : (d a b : ℕ) (ks ls : List ℕ) → length ks ≡ child_count d a
-    → length ls ≡ child_count d b → drop a (ks ++ ls) ≡ drop a ks ++ ls
-drop_fewer d a b ks ls many many' = grind (arith, drop-append-le)
-
 -- an edge that lies at another index of its leaf, or goes through another child first
 pub moved_path : (low leaf index : ℕ) (g e : Edge)
     → (low ≡ 0 → g ≡ record { leaf = leaf; path = 0; index = index })
@@ -222,16 +218,7 @@ module _ {T : Type 0} {s : Heap T} {low n j : ℕ} (levelled : IsLevelled s low 
         rotates.up (a - 1)
     to_right =
         let more = rotates.down ∷ rights in
-        grind (
-          arith,
-          length-append lefts more,
-          length-take-le (a - 1) lefts (omega arith),
-          take-append-le,
-          drop-append-add lefts more (a - 1 + 1) 0 (omega arith),
-          drop_fewer,
-          get_or_append_left,
-          item_behind,
-        )
+        grind (arith, length-append lefts more, length-take-le (a - 1) lefts (omega arith), take-append-le, drop-append-add lefts more (a - 1 + 1) 0 (omega arith), drop-append-le, get_or_append_left, item_behind)
 
     pub next_shrinks : Shrinks s u (suc low) n (items_below s (suc (suc low)) n)
     next_shrinks = shrunk rotates.down rotates.down_is to_right

@@ -3,11 +3,11 @@ use Rattle.std.proofs.Common.{◌≡◌, ◌≢◌, ℕ, zero, suc, ◌+◌, ◌
 use borrow.Rule.Slice.PartMut.{put_mid}
 use Rattle.std.proofs.Math.ListN.{set, length-set}
 use Rattle.std.proofs.lemmas.Bool.{cases_eq, cases_lt}
-use Rattle.std.proofs.lemmas.List.{drop-drop, drop-take, take_at, drop_at, drop_all, take-append-le, length-take-le, length-replicate, ext_get_or, append-nil, append_assoc, take-replicate, replicate-append-replicate, get_or-set_same, get_or-set_other, get_or-take, get_or-drop, get_or_past, take-set-le, drop-set-lt, drop-set-add}
+use Rattle.std.proofs.lemmas.List.{drop-drop, drop-take, take_at, drop_at, drop_all, take-append-le, length-take-le, length-replicate, ext_get_or, append-nil, append_assoc, take-replicate, replicate-append-replicate, get_or-set_same, get_or-set_other, get_or-take, get_or-drop, get_or_past, take-set-le, drop-set-lt, drop-set-add, set-append_left, map-set}
 use Rattle.std.proofs.lemmas.Slice.{take-put_mid_below, drop-put_mid}
 use Rattle.range_store.specs.declared.btree.nodes.TheConstants.{CAPACITY}
 use Rattle.range_store.specs.Rows.{items_in, HoldsItems, cells_of, row_of, rows_in, IsRows}
-use Rattle.range_store.proofs.Cells.{Standing, cell_read, items_held, held_none, held_set, row_length}
+use Rattle.range_store.proofs.Cells.{Standing, cell_read, items_held, held_none, row_length, length-full}
 
 module _ {T : Type 0} where
   cells_on : (cells : List (Option T)) (n : ℕ) → cells_of (drop CAPACITY cells) n
@@ -67,17 +67,10 @@ module _ {T : Type 0} where
 
   module _ {many : ℕ} {cells new : List (Option T)} (rows : IsRows many cells) {n : ℕ}
       (within : n < many) {items : List T} (rewrites : Rewrites cells new n items) where
-    held_anew : (m : ℕ) → m < rows.there → HoldsItems (cells_of new m) (items_in (cells_of new m))
-    held_anew m within = grind (arith, items_held)
-
     row_written : IsRowWritten many cells new n items
     row_written =
         let long = length-rows many cells in
-        grind (
-          arith,
-          held_anew,
-          ext_get_or [] (rows_in many new) (set (rows_in many cells) n items) (length-rows many new ∙ sym (length-set (rows_in many cells) n items ∙ long)) (grind (arith, length-rows, rows_read, items_held, get_or-set_same, get_or-set_other)),
-        )
+        grind (arith, items_held, ext_get_or [] (rows_in many new) (set (rows_in many cells) n items) (length-rows many new ∙ sym (length-set (rows_in many cells) n items ∙ long)) (grind (arith, length-rows, rows_read, items_held, get_or-set_same, get_or-set_other)))
 
   -- the cells of a number were written at once
   all_written : (n : ℕ) (cells : List (Option T)) {part : List (Option T)} {items : List T}
@@ -147,7 +140,7 @@ module _ {T : Type 0} where
               drop-take (CAPACITY * m) CAPACITY cells,
               drop-set-lt,
             );
-        here = rw here (held_set i item holds within);
+        here = rw here (grind (arith, length-set, set-append_left, length-full, map-set));
       }
 
   pub cell_written : {many : ℕ} {cells : List (Option T)} → IsRows many cells → {n : ℕ} → n < many

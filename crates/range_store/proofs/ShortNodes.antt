@@ -6,7 +6,7 @@ use Rattle.std.proofs.lemmas.List.Elements.{All-cons, All-head, All-tail, All-ap
 use Rattle.range_store.specs.Heap.{Heap, node_of, node_items, node_children, node_child}
 use Rattle.range_store.specs.declared.btree.nodes.TheConstants.{CAPACITY, MIN_LEN}
 use Rattle.range_store.specs.Nodes.{items_below, used, Shaped, ShapedBut, Shrinks, MayBeRebalanced, IsLevelled}
-use Rattle.range_store.proofs.Below.{Shaped-from_but, Shaped-but, shaped_within_wider, shaped_with}
+use Rattle.range_store.proofs.Below.{Shaped-from_but, Shaped-but, shaped_within_wider}
 use Rattle.range_store.proofs.Moves.{Moves-none}
 use Rattle.range_store.specs.Weave.{list_splits_at}
 
@@ -46,7 +46,7 @@ module _ {T : Type 0} (s : Heap T) (low n i : ℕ) (m : MayBeRebalanced s low n 
       → Shrinks s s (suc low) n (items_below s (suc (suc low)) n)
   stays_balanced enough =
       let here = Shaped-from_but s low kid
-      (shaped_with MIN_LEN CAPACITY enough m.child.node.fits m.child) in
+      (grind arith) in
       let children =
       subst (All P) (sym kids)
       (All-append P (take i ks) (kid ∷ drop (i + 1) ks) m.before

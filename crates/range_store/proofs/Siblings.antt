@@ -9,17 +9,6 @@ use Rattle.range_store.specs.Heap.{Heap, node_of, items_of, children_of, child_c
 use Rattle.range_store.proofs.Edits.{without_last}
 use Rattle.range_store.proofs.Heaps.{item_other, write_first, remove_first, remove_last}
 
-module _ {X : Type 0} where
-  last_and_front : (xs : List X) (x : X) (n : ℕ) → length xs ≡ n + 1 → x ≡ get_or xs n x
-      → xs ≡ take n xs ++ x ∷ []
-  last_and_front xs x n many is = grind (arith, take_all, take_more)
-
--- the children with the first of others at the end
-end_child : {X : Type 0} (below : ℕ) (xs : List X) (ks : List ℕ) (zs : List X) (ls : List ℕ)
-    → length ks ≡ child_count below (length xs) → length ls ≡ child_count below (length zs)
-    → with_child ks (length xs + 1) (slice_get ls 0) ≡ ks ++ take 1 ls
-end_child below xs ks zs ls many others = grind (arith, insert_end, nil_from_length)
-
 -- the children with the last of others at the front
 front_child : {X : Type 0} (below : ℕ) (ks : List ℕ) (zs : List X) (ls : List ℕ)
     → length ls ≡ child_count below (length zs) → with_child ks 0 (slice_get ls (length zs)) ≡ drop
@@ -55,7 +44,7 @@ module _ {T : Type 0} {s : Heap T} (t u v : Heap T) {n i : ℕ} (pair : HasPair 
       insert_end (node_items u l) down ∙ ap (λ node. items_of node ++ down ∷ []) left in
       let children : with_child (node_children u l) (length (node_items u l) + 1)
       (slice_get (right_children s n i) 0) ≡ left_children s n i ++ take 1
-      (right_children s n i) = grind (arith, end_child) in
+      (right_children s n i) = grind (arith, insert_end, nil_from_length) in
       let swapped = write_first t u v n l (set (node_items s n) i up)
       (node_children s n) pair.left_apart here (rw (items, children) at three) in
       let moved = write_first s t swapped.between r l (drop 1 (right_items s n i))
@@ -92,7 +81,7 @@ module _ {T : Type 0} {s : Heap T} (t u v : Heap T) {n i : ℕ} (pair : HasPair 
       (length xs) ks ++ right_children s n i = grind (arith, front_child) in
       let swapped = write_first t u v n r (set (node_items s n) i up)
       (node_children s n) pair.right_apart here (rw (items, children) at three) in
-      grind (arith, last_and_front)
+      grind (arith, take_all, take_more)
 
 module _ {T : Type 0} (s t u : Heap T) (n i : ℕ) (pair : HasPair s n i) (down : T) where
   pub merged : down ≡ get_or (node_items s n) i down → Writes s t n (remove (node_items s n) i)

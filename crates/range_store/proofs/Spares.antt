@@ -18,16 +18,13 @@ listed : (n : ℕ) (ns : List ℕ) (k : ℕ) → k ≡ n → occurrences k (n �
 listed n ns k same none = grind (arith, occurrences_here)
 
 module _ {X : Type 0} where
-  set_none : (slots : List (Option X)) (n : ℕ) → get_or (set slots n None) n None ≡ None
-  set_none slots n = grind (arith, get_or-set_same, get_or_past, length-set)
-
   without_here : (ns : List ℕ) (slots : List (Option X)) (k : ℕ) → 0 < occurrences k ns
       → get_or (without ns slots) k None ≡ None
   unfolding without
   without_here [] slots k among = absurd (omega (arith, among, occurrences-nil k))
   without_here (n ∷ ns) slots k among =
       elim (cases_eq k n) [
-        | inl same ↦ rw same (set_none (without ns slots) n)
+        | inl same ↦ rw same (grind (arith, get_or-set_same, get_or_past, length-set))
         | inr other ↦
             get_or-set_other (without ns slots) n k None None other
             ∙ without_here ns slots k
@@ -328,12 +325,9 @@ module _ {T : Type 0} {slab larger : Slab Node} {was : List (List T)} {spares : 
   abbrev grown : Slab Node
   grown = record slab { capacity = larger.capacity }
 
-  grown_nodes : SameNodes (heap_of slab was spares) (heap_of grown now spares)
-  grown_nodes = grind (arith, slot_seen, spare_read, counted)
-
   pub roomier : IsWhole larger now spares
       × SameNodes (heap_of slab was spares) (heap_of larger now spares)
-  roomier = grind (arith, grown_nodes)
+  roomier = grind (arith, slot_seen, spare_read, counted)
 
 -- a node and its row were written, which left these spares, and made this of the nodes
 pub record Leaves {T : Type 0} (slab : Slab Node) (rows : List (List T)) (spares : List ℕ) (n : ℕ)
@@ -369,7 +363,7 @@ module _ {T : Type 0} {slab : Slab Node} {rows : List (List T)} {spares : List �
   -- a spare got what a new node has
   pub filled : {left : List ℕ} → spares ≡ n ∷ left
       → Leaves slab rows spares n node items left (λ old new. Stores old new n items ks)
-  filled {left} parts =
+  filled parts =
       grind (arith, stored_whole whole edit same_len parts, stored whole edit same_len parts)
 
   -- a node became a spare
