@@ -18,15 +18,7 @@ build-self-requires-clause-room g c =
     layout.least layout.most in
     let none = ap length c.requires.empty in
     let empty = nothing_stored s.levels (empty_levels s.whole.tree none) s.whole.tree in
-    omega (
-      arith,
-      empty,
-      none,
-      cut.some,
-      c.requires.room,
-      c.len-count.ensures,
-      c.args.added.ok.0,
-    )
+    omega arith
 
 tree : (g : Over) (c : After-build-self g)
     → IsTree c.build-self.new.nodes (c.layout_of-below.result.below + 1) c.build-self.result
@@ -61,13 +53,7 @@ invariant_of-self g c =
       whole =
           record {
             tree = tree g a;
-            fits =
-                omega (
-                  arith,
-                  many,
-                  c.requires.room,
-                  c.build-self.ensures.built.moved.capacity,
-                );
+            fits = omega arith;
             counted = omega (arith, many, count);
           };
       counted = sym (many ∙ count);

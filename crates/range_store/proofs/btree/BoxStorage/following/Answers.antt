@@ -27,24 +27,13 @@ around_leaf-requires g c =
       shaped = root_shaped s.levels c.requires.some s.whole.tree;
       deep = tree_is_not_too_deep s.levels s.whole;
       edge = c.requires.edge;
-      some = omega (
-        arith,
-        place_index s.nodes (s.levels - 1) s.root c.args.edge,
-        (tree_leaf c.requires).some,
-        c.if-edge-item_count.false,
-        c.item_count.ensures,
-      );
+      some = omega (arith, place_index, (tree_leaf c.requires).some);
     }
 
 pub returns : goal.returns
 returns g c =
     let s = c.args.self.now in
     let last : length (node_items s.nodes c.args.edge.leaf) ≡ c.args.edge.index =
-    omega (
-      arith,
-      (tree_leaf c.requires).within,
-      c.if-edge-item_count.false,
-      c.item_count.ensures,
-    ) in
+    omega (arith, (tree_leaf c.requires).within) in
     next_from s (box_place s c.args.edge) c.requires.some c.around_leaf.result.1
     (rw last at c.around_leaf.ensures.behind)

@@ -30,8 +30,7 @@ invariant_of-self g c =
           record {
             tree = (first g c).0;
             fits = omega (arith, many, c.requires.room, c.store_leaf-self.ensures.capacity);
-            counted =
-                omega (arith, many);
+            counted = omega (arith, many);
           };
       counted = sym many;
       levelled = rw many at (has_levels (first g c).0);
@@ -42,13 +41,7 @@ returns-in-None g c =
     let a = (goal.at.returns-in-None g c).After-store_leaf-self in
     record {
       list = rw (c.in-None.is, rw c.in-None.is at c.requires.edge) (first g a).1;
-      room = omega (
-        arith,
-        ap length (first g a).1,
-        ap length (rw c.in-None.is at c.requires.edge),
-        c.requires.room,
-        c.store_leaf-self.ensures.capacity,
-      );
+      room = omega (arith, ap length (first g a).1, ap length (rw c.in-None.is at c.requires.edge));
       edge = record {
         some = omega arith;
         edge =

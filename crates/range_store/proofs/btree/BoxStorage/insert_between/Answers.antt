@@ -39,20 +39,11 @@ put_here : (g : Over) (c : After-put g)
     (insert (box_items c.args.self.now) (box_place c.args.self.now c.args.edge) c.args.item)
     (record { leaf = c.args.edge.leaf; path = c.args.edge.path; index = c.args.edge.index + 1 })
     (c.args.edge.index + 1)
-put_here g c = put_in_leaf c.put.new.self c.requires.edge c.args.item _ (omega (
-  arith,
-  c.if-item_count-lt-CAPACITY.true,
-  c.item_count.ensures,
-)) c.put.ensures refl refl refl
+put_here g c = put_in_leaf c.put.new.self c.requires.edge c.args.item _ (omega arith) c.put.ensures
+    refl refl refl
 
 pub overflow_add-result : goal.overflow_add-result
-overflow_add-result g c =
-    omega (
-      arith,
-      (tree_leaf c.requires.edge).within,
-      c.if-item_count-lt-CAPACITY.true,
-      c.item_count.ensures,
-    )
+overflow_add-result g c = omega (arith, (tree_leaf c.requires.edge).within)
 
 pub invariant_of-self : goal.invariant_of-self
 invariant_of-self g c =
@@ -71,13 +62,7 @@ returns-then-item_count-lt-CAPACITY g c =
     let put = put_here g at.After-put in
     record {
       list = put.items_are;
-      room = omega (
-        arith,
-        ap length put.items_are,
-        longer g at.Start,
-        c.requires.room,
-        put.capacity,
-      );
+      room = omega arith;
       edge = record { some = c.requires.edge.some; edge = put.edge };
       place = omega (arith, put.place_is);
     }
@@ -117,13 +102,7 @@ returns-in-None g c =
     (rw c.in-None.is at c.insert_below-inserted.ensures.edge) in
     record {
       list = list;
-      room = omega (
-        arith,
-        ap length list,
-        longer g a.Start,
-        c.requires.room,
-        c.insert_below-inserted.ensures.replaces.moved.capacity,
-      );
+      room = omega arith;
       edge = record { some = c.requires.edge.some; edge = edge.0 };
       place = edge.1 ∙ (rw c.in-None.is at c.insert_below-inserted.ensures.place);
     }
@@ -139,12 +118,7 @@ store_branch-self-requires g c =
     (rw level at (rw c.in-Some.is at c.insert_below-inserted.ensures.replaces))
 
 pub overflow_add-self-in-Some : goal.overflow_add-self-in-Some
-overflow_add-self-in-Some g c =
-    omega (
-      arith,
-      levels_le c.args.self.now.levels c.args.self.now.whole.tree,
-      c.requires.room,
-    )
+overflow_add-self-in-Some g c = omega (arith, levels_le)
 
 taller : (g : Over) (c : After-store_branch-self g)
     → IsGrown c.store_branch-self.new.self (c.args.self.now.levels + 1) c.store_branch-self.result
@@ -203,14 +177,7 @@ returns-in-Some g c =
     let list = (taller g a.After-store_branch-self).items_are in
     record {
       list = list;
-      room = omega (
-        arith,
-        ap length list,
-        longer g a.Start,
-        c.requires.room,
-        c.store_branch-self.ensures.capacity,
-        c.insert_below-inserted.ensures.replaces.moved.capacity,
-      );
+      room = omega arith;
       edge = record { some = omega arith; edge = (higher g c).0 };
       place = (higher g c).1 ∙ (rw c.in-Some.is at c.insert_below-inserted.ensures.place);
     }

@@ -34,9 +34,6 @@ unreachable-requires g c =
       one_fewer s c.take_in_leaf-next.new.self (box_place s c.args.edge + 1) (omega arith)
           (omega (arith, inside, behind.1)) (rw behind.1 at c.take_in_leaf-next.ensures.list),
       ap length none,
-      inside,
-      behind.1,
-      c.requires.some,
     )
 
 pub home-home-requires-clause-some : goal.home-home-requires-clause-some

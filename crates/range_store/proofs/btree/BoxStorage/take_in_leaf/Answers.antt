@@ -23,13 +23,7 @@ fewer : (g : Over) (c : Start g)
     ≡ length (box_items c.args.self.now)
 fewer g c =
     let within = edge_within c.requires.edge in
-    omega (
-      arith,
-      length-remove (box_items c.args.self.now) (box_place c.args.self.now c.args.edge - 1)
-          (omega (arith, some_before g c, within)),
-      some_before g c,
-      within,
-    )
+    omega (arith, length-remove, some_before)
 
 pub item_count-requires : goal.item_count-requires
 item_count-requires g c = (tree_leaf c.requires.edge).present
@@ -45,11 +39,8 @@ taken : (g : Over) (c : After-take_beside-item g)
     (remove (box_items c.args.self.now) (box_place c.args.self.now c.args.edge - 1))
     (record { leaf = c.args.edge.leaf; path = c.args.edge.path; index = c.args.edge.index - 1 })
     (c.args.edge.index - 1)
-taken g c = take_from_leaf c.take_beside-item.new.self c.requires.edge _ (omega (
-  arith,
-  c.if-item_count-gt-MIN_LEN.true,
-  c.item_count.ensures,
-)) c.requires.in_leaf (rw (no_child_gone _ (tree_leaf c.requires.edge).childless) at
+taken g c = take_from_leaf c.take_beside-item.new.self c.requires.edge _ (omega arith)
+    c.requires.in_leaf (rw (no_child_gone _ (tree_leaf c.requires.edge).childless) at
     c.take_beside-item.ensures.rest) refl refl refl
 
 pub invariant_of-self : goal.invariant_of-self

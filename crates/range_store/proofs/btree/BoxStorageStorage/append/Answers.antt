@@ -24,13 +24,7 @@ loop-item-preserved g c =
       listed =
           moved_after (box_items c.args.self.now) now (box_items c.insert.new.self)
           c.loop-item.yielded c.in-Some.item was.listed longer;
-      room =
-          omega (
-            arith,
-            was.room,
-            c.insert.ensures.room,
-            length_push c.loop-item.yielded c.in-Some.item,
-          );
+      room = omega (arith, length_push);
       space = omega (arith, was.space, ap length next, c.insert.ensures.room);
       at_end = (c.insert.ensures.edge, omega (arith, c.insert.ensures.place, place, more));
     }

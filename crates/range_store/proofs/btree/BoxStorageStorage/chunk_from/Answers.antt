@@ -18,13 +18,7 @@ cells-cells-requires g c =
     let leaf = tree_leaf c.requires.is in record { present = leaf.present; some = leaf.some }
 
 pub offset_bounds-cells-p : goal.offset_bounds-cells-p
-offset_bounds-cells-p g c =
-    omega (
-      arith,
-      (tree_leaf c.requires.is).within,
-      c.cells-cells.ensures.fits,
-      row_length c.cells-cells.ensures,
-    )
+offset_bounds-cells-p g c = omega (arith, (tree_leaf c.requires.is).within, row_length)
 
 pub slice_bounds-of_cells-count : goal.slice_bounds-of_cells-count
 slice_bounds-of_cells-count g c =
@@ -66,8 +60,7 @@ returns g c =
     omega (arith, rank_is c.requires, c.requires.some) in
     let end = at_index c.requires.is (length items) (omega arith) in
     let place : box_place s (record p { index = length items })
-    ≡ box_rank s p + 1 + length c.of_cells.result =
-    omega (arith, end.1, behind, low, many) in
+    ≡ box_rank s p + 1 + length c.of_cells.result = omega (arith, end.1, behind, low, many) in
     record {
       first = item_home c.requires c.around_leaf-behind.result.0 c.around_leaf-behind.ensures.home
           c.item_at.result.now c.item_at.ensures;

@@ -79,17 +79,7 @@ loop-index-init g t c =
           (child_level first c.args.below c.build-first.result some ∙ sym listed);
       size = omega (arith, ap length listed, child.size, share.within, branch.within);
       shares = rw none share.others_can;
-      room =
-          omega (
-            arith,
-            child.few,
-            child.moved.capacity,
-            c.store_above-number.ensures.len,
-            c.store_above-number.ensures.capacity,
-            c.requires.room,
-            share.within,
-            branch.within,
-          );
+      room = omega arith;
     }
 
 pub build-child-requires : goal.build-child-requires
@@ -114,10 +104,6 @@ build-child-requires g t c κs inside =
                   length-append (items_below c.loop-index.nodes (suc c.args.below)
                       c.store_above-number.result) (into_iter_items c.loop-index.items),
                   ap length c.next_item-item.ensures,
-                  was.size,
-                  c.requires.enough,
-                  share.within,
-                  c.loop-index-test.true,
                 ),
                 omega (arith, was.room, share.within, cut_enough branch.some share.enough),
               ),
@@ -176,24 +162,7 @@ loop-index-preserved g t c =
           ∙ ap (λ zs. zs ++ into_iter_items c.build-child.new.items)
           (child_level new c.args.below c.build-child.result some)) listed;
       size =
-          omega (
-            arith,
-            ap length listed,
-            length-append front (c.next_item-item.result ∷ middle),
-            child.size,
-            was.size,
-            share.within,
-            c.loop-index-test.true,
-          );
+          omega (arith, ap length listed, length-append front (c.next_item-item.result ∷ middle));
       shares = share.others_can;
-      room =
-          omega (
-            arith,
-            was.room,
-            child.few,
-            child.moved.capacity,
-            c.put.ensures.len,
-            c.put.ensures.capacity,
-            share.within,
-          );
+      room = omega arith;
     }

@@ -126,9 +126,7 @@ overflow_add-seat g t c =
     let seat = rw c.in-Some.is at c.insert_below-inserted.ensures.edge in
     omega (
       arith,
-      c.first_turn-index.ensures,
       below_turn c.if-below-eq0.false c.requires.shaped c.args.edge c.requires.edge,
-      c.requires.shaped.node.fits,
       seat_side c.insert_below-inserted.new.nodes (c.args.below - 1) _ _ _ _ seat,
     )
 

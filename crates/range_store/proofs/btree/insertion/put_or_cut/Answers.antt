@@ -69,14 +69,7 @@ edge_at-requires-then-seat-le-HALF-clause-path g c =
 module _ (g : Over) (c : After-split-split g) where
   full : length (insert (node_items c.args.nodes.now c.args.number) c.args.index c.args.item)
       ≡ CAPACITY + 1
-  full = omega (
-    arith,
-    length-insert (node_items c.args.nodes.now c.args.number) c.args.index c.args.item
-        c.requires.within,
-    c.item_count.ensures,
-    c.if-item_count-lt-CAPACITY.false,
-    c.requires.fits,
-  )
+  full = omega (arith, length-insert)
 
   low : HALF < length
       (insert (node_items c.args.nodes.now c.args.number) c.args.index c.args.item)

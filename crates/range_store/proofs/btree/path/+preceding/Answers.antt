@@ -61,13 +61,7 @@ returns-then-below-eq0 g t c =
     rw c.if-below-eq0.true (
       leaf_edge s c.args.number _ refl refl
           (omega (arith, leaf_index s c.args.number c.args.edge is)),
-      omega (
-        arith,
-        leaf_place s c.args.number c.args.edge,
-        leaf_place s c.args.number
-            (record { leaf = c.args.number; path = 0; index = c.args.edge.index - 1 }),
-        c.if-edge-eq0.false,
-      ),
+      omega (arith, leaf_place),
     )
 
 pub returns-then-index-eq0 : goal.returns-then-index-eq0
@@ -120,12 +114,5 @@ returns g t c =
     let more = rw next at (before_next c.if-below-eq0.false c.requires.shaped i low) in (
       below_edge c.if-below-eq0.false c.requires.shaped i c.end_edge.result _
           c.seen_above-2.ensures.turn c.seen_above-2.ensures.inside (omega arith) is,
-      omega (
-        arith,
-        place,
-        end,
-        more,
-        below_here c.if-below-eq0.false c.requires.shaped c.args.edge,
-        none,
-      ),
+      omega (arith, below_here c.if-below-eq0.false c.requires.shaped c.args.edge),
     )

@@ -37,18 +37,8 @@ returns-then-below-eq0 g t c =
           (leaf_shrinks (c.args.edge.index - 1) shaped owned within
           (rw (no_child_gone _ shaped.node.branches) at c.take_beside-item.ensures.rest));
       edge = rw c.if-below-eq0.true (leaf_edge c.take_beside-item.new.self c.args.number _ refl refl
-          (omega (
-            arith,
-            ap length c.take_beside-item.ensures.rest.items_are,
-            length-remove (node_items s c.args.number) (c.args.edge.index - 1) within,
-          )));
-      place = rw c.if-below-eq0.true (omega (
-        arith,
-        leaf_place s c.args.number c.args.edge,
-        leaf_place c.take_beside-item.new.self c.args.number
-            (record { leaf = c.args.number; path = 0; index = c.args.edge.index - 1 }),
-        c.requires.in_leaf,
-      ));
+          (omega (arith, ap length c.take_beside-item.ensures.rest.items_are, length-remove)));
+      place = rw c.if-below-eq0.true (omega (arith, leaf_place));
     }
 
 pub child_at-child-requires-clause-within : goal.child_at-child-requires-clause-within
@@ -120,8 +110,7 @@ returns g t c =
     place c.args.nodes.now (c.args.below - 1)
     (node_child c.args.nodes.now c.args.number (turn c.args.edge)) (inside c.args.edge) in
     let same : length (before_child c.args.nodes.now c.args.below c.args.number i) + (q - 1)
-    ≡ place c.args.nodes.now c.args.below c.args.number c.args.edge - 1 =
-    omega (arith, here, at) in
+    ≡ place c.args.nodes.now c.args.below c.args.number c.args.edge - 1 = omega (arith, here, at) in
     record {
       item = search rules;
       shrinks = rw (← same) (shorter_child_shrinks_node (q - 1) anew (omega (arith, within, at))

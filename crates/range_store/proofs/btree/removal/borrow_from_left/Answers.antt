@@ -10,22 +10,11 @@ rotate_right-requires-clause-pair g c =
 
 pub overflow_add-seat : goal.overflow_add-seat
 overflow_add-seat g c =
-    omega (
-      arith,
-      c.seat.ensures,
-      seat_low c.args.low c.args.edge c.requires.levelled.right c.requires.edge,
-      c.requires.levelled.right.node.fits,
-    )
+    omega (arith, seat_low c.args.low c.args.edge c.requires.levelled.right c.requires.edge)
 
 pub edge_at-inner-requires-clause-seat : goal.edge_at-inner-requires-clause-seat
 edge_at-inner-requires-clause-seat g c =
-    omega (
-      arith,
-      c.seat.ensures,
-      seat_low c.args.low c.args.edge c.requires.levelled.right c.requires.edge,
-      c.requires.levelled.fits,
-      c.requires.spare,
-    )
+    omega (arith, seat_low c.args.low c.args.edge c.requires.levelled.right c.requires.edge)
 
 pub seen_above-requires-clause-path : goal.seen_above-requires-clause-path
 seen_above-requires-clause-path g c =

@@ -11,8 +11,7 @@ pub unreachable-requires : goal.unreachable-requires
 unreachable-requires g c =
     let xs = items_in c.args.cells.now in
     let p = g.P.Probe.test c.args.probe.now in
-    let within : c.args.end - 1 < length xs =
-    omega (arith, c.requires.some, c.requires.within) in
+    let within : c.args.end - 1 < length xs = omega (arith, c.requires.some, c.requires.within) in
     let stands = standing xs (c.args.end - 1) within in
     let read = c.index-cells-end.is
     ∙ cell_read c.requires.held (c.args.end - 1) within stands _ in
@@ -27,8 +26,7 @@ tells : (g : Over) (c : After-ask g)
 tells g c =
     let xs = items_in c.args.cells.now in
     let p = g.P.Probe.test c.args.probe.now in
-    let within : c.args.end - 1 < length xs =
-    omega (arith, c.requires.some, c.requires.within) in
+    let within : c.args.end - 1 < length xs = omega (arith, c.requires.some, c.requires.within) in
     let stands = standing xs (c.args.end - 1) within in
     let read = c.index-cells-end.is
     ∙ cell_read c.requires.held (c.args.end - 1) within stands _ in

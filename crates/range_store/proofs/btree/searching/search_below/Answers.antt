@@ -25,10 +25,7 @@ pub count_passing-index-requires-clause-held : goal.count_passing-index-requires
 count_passing-index-requires-clause-held g c = rw (items_held c.cells.ensures) c.cells.ensures
 
 pub count_passing-index-requires-clause-some : goal.count_passing-index-requires-clause-some
-count_passing-index-requires-clause-some g c = rw (items_held c.cells.ensures) (omega (
-  arith,
-  c.down.invariant.0.lies.shaped.node.enough,
-))
+count_passing-index-requires-clause-some g c = rw (items_held c.cells.ensures) (omega arith)
 
 -- how many of the node's items pass
 counted : (g : Over) (c : After-count_passing-index g)
@@ -47,7 +44,6 @@ few g c =
       arith,
       counted g c,
       count_by-le-length (g.P.Probe.test c.args.probe.now) (node_items c.args.nodes.now c.down.at),
-      d.lies.shaped.node.fits,
     )
 
 pub returns-then-left-eq0-clause-edge : goal.returns-then-left-eq0-clause-edge

@@ -41,8 +41,7 @@ absorb-len-requires-clause-room g c =
       arith,
       (left_seen g a).len,
       (right_seen g a).len,
-      rw (← c.self.view_is) at
-          c.requires.room,
+      rw (← c.self.view_is) at c.requires.room,
     )
 
 pub absorb-len-requires-clause-places : goal.absorb-len-requires-clause-places
@@ -56,7 +55,6 @@ absorb-requires-clause-room g c =
     let a = (goal.at.absorb-requires-clause-room g c).After-index_mut-2 in
     omega (
       arith,
-      c.absorb-len.ensures.before,
       (left_seen g a).len,
       (right_seen g a).len,
       rw (← c.self.view_is) at c.requires.room,

@@ -10,24 +10,13 @@ use Rattle.range_store.proofs.btree.nodes.Nodes.reserve.Goals.{After-loop, Else-
 pub returns-then-missing-eq0-clause-room : goal.returns-then-missing-eq0-clause-room
 returns-then-missing-eq0-clause-room g c =
     let s = c.self.inside in
-    rw (← c.self.view_is) (omega (
-      arith,
-      counted c.self.invariant.0,
-      s.spares.ok.0,
-      c.len.ensures,
-      c.saturating_sub-missing.ensures,
-      c.if-missing-eq0.true,
-    ))
+    rw (← c.self.view_is) (omega (arith, counted))
 
 too_few : {A : Type 0} (g : Over) (c : Else-missing-eq0 g)
     → HasRoomFor c.args.self.now c.args.additional → A
 too_few g c room = absurd (omega (
   arith,
   spares_left c.self.invariant.0 c.args.additional (rw (← c.self.view_is) at room),
-  c.self.inside.spares.ok.0,
-  c.len.ensures,
-  c.saturating_sub-missing.ensures,
-  c.if-missing-eq0.false,
 ))
 
 pub returns-in_err-reserve-clause-succeeds : goal.returns-in_err-reserve-clause-succeeds
@@ -44,15 +33,7 @@ returns-in_err-reserve-2-clause-kept g c =
     c.self.invariant.0 c.reserve-2.ensures.no_less c.reserve-2.ensures.kept).1)
 
 pub overflow_sub-len : goal.overflow_sub-len
-overflow_sub-len g c =
-    omega (
-      arith,
-      counted c.self.invariant.0,
-      c.self.inside.spares.ok.0,
-      ap slab_len c.reserve.ensures.rest_kept,
-      c.len-2.ensures,
-      c.len-3.ensures,
-    )
+overflow_sub-len g c = omega (arith, counted, ap slab_len c.reserve.ensures.rest_kept)
 
 pub returns-in_err-reserve-3-clause-succeeds : goal.returns-in_err-reserve-3-clause-succeeds
 returns-in_err-reserve-3-clause-succeeds g c room =
@@ -132,13 +113,7 @@ returns-clause-room g c =
       arith,
       (begun g (goal.at.returns-clause-room g c).After-loop).len,
       ap slab_len c.reserve.ensures.rest_kept,
-      counted c.self.invariant.0,
-      c.self.inside.spares.ok.0,
-      c.len.ensures,
-      c.saturating_sub-missing.ensures,
-      c.loop-test.false,
-      c.loop.invariant.many,
-      c.loop.invariant.kept.len,
+      counted,
     )
 
 pub returns-clause-kept : goal.returns-clause-kept

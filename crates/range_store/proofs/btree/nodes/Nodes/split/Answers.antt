@@ -77,13 +77,7 @@ invariant_of-self g c =
     (omega (arith, c.divide-upper.ensures.right_len, length-drop 7 all, long g a))
     c.divide-upper.ensures.right c.next_spare-right.ensures.items in (
       rw c.divide-middle.ensures.rows second.whole,
-      omega (
-        arith,
-        c.self.invariant.1,
-        c.next_spare-right.ensures.capacity,
-        first.len,
-        second.len,
-      ),
+      omega arith,
     )
 
 pub returns : goal.returns

@@ -3,22 +3,12 @@ use Rattle.range_store.proofs.Rows.{added_kept, length-rows}
 use Rattle.range_store.proofs.btree.rows.Rows.reserve.Goals as goal
 
 pub returns-clause-there : goal.returns-clause-there
-returns-clause-there g c =
-    omega (
-      arith,
-      length-rows c.max-self-inside.result c.reserve.new.self.items,
-      c.max-self-inside.ensures,
-    )
+returns-clause-there g c = omega (arith, length-rows)
 
 pub returns-clause-no_less : goal.returns-clause-no_less
 returns-clause-no_less g c =
     let s = c.self.inside in
-    rw (← c.self.view_is) (omega (
-      arith,
-      length-rows c.max-self-inside.result c.reserve.new.self.items,
-      length-rows s.many s.cells.items,
-      c.max-self-inside.ensures,
-    ))
+    rw (← c.self.view_is) (omega (arith, length-rows))
 
 pub returns-clause-kept : goal.returns-clause-kept
 returns-clause-kept g c k =
