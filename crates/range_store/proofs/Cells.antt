@@ -147,7 +147,8 @@ module _ {T : Type 0} where
         grind (
           arith,
           left stands,
-          set_at (full_cells (remove xs i)) (Some stands.item) (replicate (CAPACITY - length xs) None) None end (omega arith),
+          set_at (full_cells (remove xs i)) (Some stands.item)
+              (replicate (CAPACITY - length xs) None) None end (omega arith),
         )
 
   -- a row with no item

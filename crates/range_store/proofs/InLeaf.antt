@@ -39,7 +39,8 @@ leaf_of_edge {T} {s} (suc d) {n} g shaped is =
     let low : turn g ≤ length (node_items s n) = omega arith in
     grind (
       arith,
-      leaf_of_edge d (inside g) (shaped_within_wider 1 CAPACITY (omega arith) (omega arith) (kid_shaped d (turn g) shaped low)) is.1,
+      leaf_of_edge d (inside g) (shaped_within_wider 1 CAPACITY (omega arith) (omega arith)
+          (kid_shaped d (turn g) shaped low)) is.1,
     )
 
 -- another edge in it

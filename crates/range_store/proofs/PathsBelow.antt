@@ -62,12 +62,7 @@ module _ {T : Type 0} (s : Heap T) where
       ap (λ w. record e { path = w }) quotient in
       let path_is : (w : ℕ) → path + weight * i + weight * PATH_BASE * w
       ≡ path + weight * (w * PATH_BASE + i) = λ w.
-      omega (
-        arith,
-        mul-add weight (w * PATH_BASE) i,
-        mul_assoc weight PATH_BASE w,
-        ap (λ m. weight * m) (mul_comm PATH_BASE w),
-      ) in
+      omega arith in
       let edge_above : (e : Edge) → IsEdge s (left - 1) kid e → IsEdge s left at (above e) = λ e is.
       below_edge inner lies.shaped i e (above e) (turned e) (within e) low is in
       record {

@@ -218,7 +218,16 @@ module _ {T : Type 0} {s : Heap T} {low n j : ℕ} (levelled : IsLevelled s low 
         rotates.up (a - 1)
     to_right =
         let more = rotates.down ∷ rights in
-        grind (arith, length-append lefts more, length-take-le (a - 1) lefts (omega arith), take-append-le, drop-append-add lefts more (a - 1 + 1) 0 (omega arith), drop-append-le, get_or_append_left, item_behind)
+        grind (
+          arith,
+          length-append lefts more,
+          length-take-le (a - 1) lefts (omega arith),
+          take-append-le,
+          drop-append-add lefts more (a - 1 + 1) 0 (omega arith),
+          drop-append-le,
+          get_or_append_left,
+          item_behind,
+        )
 
     pub next_shrinks : Shrinks s u (suc low) n (items_below s (suc (suc low)) n)
     next_shrinks = shrunk rotates.down rotates.down_is to_right

@@ -19,7 +19,8 @@ first : (g : Over) (c : After-store_leaf-self g)
     × (items_below c.store_leaf-self.new.self 1 c.store_leaf-self.result ≡ c.args.item ∷ [])
 first g c =
     let s = c.args.self.now in
-    first_tree s.levels c.args.item (empty_levels s.whole.tree (ap length (rw c.in-None.is at c.requires.edge)))
+    first_tree s.levels c.args.item
+    (empty_levels s.whole.tree (ap length (rw c.in-None.is at c.requires.edge)))
     s.whole.tree c.store_leaf-self.ensures
 
 pub invariant_of-self : goal.invariant_of-self
