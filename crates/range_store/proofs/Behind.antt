@@ -1,8 +1,7 @@
 -- The edge behind the leaf of another, and the home of the item before that, found on the way down
 -- to the leaf.
-use Rattle.std.proofs.Common.{◌≡◌, ◌≢◌, ℕ, zero, suc, ◌+◌, ◌-◌, ◌*◌, ◌<◌, ◌≤◌, Option, Some, None, length, refl, sym, ap, subst, ◌∙◌, inl, inr, true, false, arith}
+use Rattle.std.proofs.Common.{◌≡◌, ◌≢◌, ℕ, zero, suc, ◌+◌, ◌-◌, ◌*◌, ◌<◌, ◌≤◌, Option, Some, None, length, arith}
 use Rattle.std.specs.Prelude.{MatchOption}
-use Rattle.std.proofs.lemmas.Bool.{and_from, cases_eq, eq-eqb, false_from_ne_true}
 use Rattle.std.proofs.Math.Nat.{mul-add}
 use Rattle.range_store.specs.Heap.{Heap, node_items, node_child}
 use Rattle.range_store.specs.declared.btree.nodes.TheConstants.{CAPACITY}
@@ -10,13 +9,13 @@ use Rattle.range_store.specs.declared.btree.path.Edge.{Edge}
 use Rattle.range_store.specs.declared.btree.path.Home.{Home}
 use Rattle.range_store.specs.declared.btree.path.Subtree.{Subtree}
 use Rattle.range_store.specs.declared.btree.path.TheConstants.{PATH_BASE}
-use Rattle.range_store.specs.Edges.{turn, inside, is_start, IsEdge, place, home_of}
+use Rattle.range_store.specs.Edges.{turn, inside, IsEdge, place, home_of}
 use Rattle.range_store.specs.Nodes.{items_below, ShapedBut}
 use Rattle.range_store.proofs.Below.{items_below_leaf}
 use Rattle.range_store.proofs.Edges.{leaf_is, leaf_index, leaf_place}
 use Rattle.range_store.specs.Written.{place_of_start}
-use Rattle.range_store.proofs.Paths.{level_of_children, below_turn, below_inside, below_here, home_above, home_inside, home_leaf, past_last, before_next, start_parts}
-use Rattle.range_store.proofs.PathsBelow.{ahead_of, LiesBelow, lies_itself, lies_in_child, first_below}
+use Rattle.range_store.proofs.Paths.{below_turn, below_inside, below_here, home_above, home_inside, home_leaf, past_last, before_next}
+use Rattle.range_store.proofs.PathsBelow.{ahead_of, LiesBelow, lies_in_child, first_below}
 
 module _ {T : Type 0} (s : Heap T) where
   -- the edge at the end of a leaf

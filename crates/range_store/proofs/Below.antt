@@ -1,9 +1,9 @@
 -- What is known of a node's children.
-use Rattle.std.proofs.Common.{◌≡◌, ◌⊎◌, inl, inr, ℕ, zero, suc, ◌+◌, ◌<◌, ◌≤◌, [], ◌∷◌, ◌++◌, length, drop, refl, ap, ◌∙◌, arith}
+use Rattle.std.proofs.Common.{◌≡◌, ◌⊎◌, ℕ, zero, suc, ◌+◌, ◌<◌, ◌≤◌, [], ◌∷◌, ◌++◌, length, refl, ◌∙◌, arith}
 use Rattle.std.proofs.lemmas.List.{length-map, get_or-map, drop_all, nil_from_length}
 use Rattle.range_store.specs.Heap.{Heap, child_count, node_items, node_children, node_child}
 use Rattle.range_store.specs.declared.btree.nodes.TheConstants.{CAPACITY, MIN_LEN}
-use Rattle.range_store.specs.Nodes.{weave, rest_of, items_below, used, Shaped, ShapedBut, child_lists, before_child, after_child}
+use Rattle.range_store.specs.Nodes.{weave, items_below, used, Shaped, ShapedBut, child_lists, before_child, after_child}
 use Rattle.std.specs.List.{flat_map}
 use Rattle.range_store.specs.Weave.{weave_at, length-before_next}
 

@@ -5,13 +5,13 @@ use Rattle.std.proofs.lemmas.List.{append-nil, length_push, length-map, map-appe
 use Rattle.std.proofs.lemmas.List.Concat.{flat_map-append}
 use Rattle.std.proofs.lemmas.List.Edits.{insert_end}
 use Rattle.std.proofs.lemmas.List.Elements.{All-append, All-cons, All-nil}
-use Rattle.range_store.specs.Heap.{Heap, node_of, node_count, items_of, children_of, child_count, FitsChild, HasNode, Stores, Writes, node_items, node_children}
+use Rattle.range_store.specs.Heap.{Heap, node_of, node_count, items_of, child_count, FitsChild, HasNode, Stores, Writes, node_items, node_children}
 use Rattle.range_store.specs.declared.btree.nodes.TheConstants.{CAPACITY, MIN_LEN}
-use Rattle.range_store.specs.Nodes.{weave, items_below, used, here, Shaped, Moves, IsTree}
+use Rattle.range_store.specs.Nodes.{weave, items_below, used, Shaped, Moves, IsTree}
 use Rattle.range_store.specs.Building.{IsBuilt}
 use Rattle.range_store.specs.Contents.{IsContent}
 use Rattle.range_store.specs.Frame.{AgreeAt, AgreeAt-right, SameChildren, same_children}
-use Rattle.range_store.specs.Occurrences.{occurrences, occurrences-append, occurrences-cons, occurrences-nil, occurrences_here}
+use Rattle.range_store.specs.Occurrences.{occurrences, occurrences-append, occurrences-cons, occurrences-nil}
 use Rattle.range_store.specs.Weave.{weave_cut}
 use Rattle.range_store.proofs.Below.{Shaped-from_but, child_count_inner, items_below_leaf, used_is, used_leaf, weave_items_below}
 use Rattle.range_store.proofs.Contents.{Holds, held_items_below, held_used, held_shape, written_holds, held_new}

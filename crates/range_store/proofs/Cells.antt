@@ -1,8 +1,8 @@
 -- Cells of a row, of which the first have items.
 use Rattle.std.proofs.Common.{◌≡◌, ℕ, zero, suc, ◌+◌, ◌-◌, ◌<◌, ◌≤◌, List, [], ◌∷◌, ◌++◌, length, get_or, take, drop, replicate, Option, Some, None, refl, sym, ap, ◌∙◌, subst, arith, length-append, length-drop, drop-cons}
-use Rattle.std.proofs.Math.ListN.{set, length-set}
+use Rattle.std.proofs.Math.ListN.{set}
 use Rattle.std.specs.List.{insert, remove}
-use Rattle.std.proofs.lemmas.List.{append-nil, append_assoc, set_at, take_at, drop_at, get_or_at, take-append-le, drop-append-le, length-take-le, length-map, length-replicate, map-append, map-set, take-map, drop-map, get_or_append_left, set-append_left}
+use Rattle.std.proofs.lemmas.List.{append-nil, append_assoc, set_at, take_at, drop_at, get_or_at, take-append-le, drop-append-le, length-take-le, length-map, length-replicate, map-append, take-map, drop-map, get_or_append_left}
 use Rattle.std.proofs.lemmas.List.Edits.{length-insert, length-remove}
 use borrow.Rule.Slice.PartMut.{put_mid, mid_of}
 use Rattle.std.proofs.lemmas.List.Elements.{filter_map-append}

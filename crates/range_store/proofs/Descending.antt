@@ -1,6 +1,6 @@
 -- How a search goes down: what it finds below a node is what it finds below the one where it began,
 -- by the path between the two.
-use Rattle.std.proofs.Common.{◌≡◌, ◌≢◌, ℕ, zero, suc, ◌+◌, ◌-◌, ◌*◌, ◌≤◌, Bool, length, refl, sym, ap, ◌∙◌, arith, count_by}
+use Rattle.std.proofs.Common.{◌≡◌, ◌≢◌, ℕ, zero, suc, ◌+◌, ◌-◌, ◌*◌, ◌≤◌, Bool, length, refl, arith, count_by}
 use Rattle.std.proofs.lemmas.List.Sums.{count_by-le-length}
 use Rattle.range_store.specs.Heap.{Heap, node_items, node_child}
 use Rattle.range_store.specs.declared.btree.nodes.TheConstants.{CAPACITY}
@@ -15,7 +15,7 @@ use Rattle.range_store.proofs.Below.{items_below_leaf}
 use Rattle.range_store.proofs.Edges.{leaf_edge, leaf_place}
 use Rattle.range_store.proofs.Searching.{kid_falls, search_step}
 use Rattle.range_store.proofs.Paths.{level_of_children}
-use Rattle.range_store.proofs.PathsBelow.{ahead_of, LiesBelow, lies_itself, lies_in_child}
+use Rattle.range_store.proofs.PathsBelow.{LiesBelow, lies_in_child}
 
 module _ {T : Type 0} (p : T → Bool) (s : Heap T) where
   -- the edge after what passes below a node

@@ -1,12 +1,12 @@
 -- The paths to edges, and what stands at one.
-use Rattle.std.proofs.Common.{◌≡◌, ℕ, zero, suc, ◌+◌, ◌^◌, ◌<◌, ◌≤◌, [], ◌∷◌, ◌++◌, length, get_or, refl, ap, arith}
+use Rattle.std.proofs.Common.{◌≡◌, ℕ, zero, suc, ◌+◌, ◌^◌, ◌<◌, ◌≤◌, [], ◌∷◌, length, get_or, refl, ap, arith}
 use Rattle.std.proofs.Math.Nat.{pow-suc, pow-le-pow_right}
 use Rattle.std.proofs.lemmas.List.{length-append}
 use Rattle.std.specs.List.{flat_map}
 use Rattle.range_store.specs.Heap.{Heap, node_of, node_items, node_children, node_child}
 use Rattle.range_store.specs.declared.btree.path.Edge.{Edge}
 use Rattle.range_store.specs.declared.btree.path.TheConstants.{PATH_BASE, MAX_LEVELS}
-use Rattle.range_store.specs.Nodes.{items_below, used, before, after, ShapedBut, child_lists, before_child}
+use Rattle.range_store.specs.Nodes.{items_below, used, ShapedBut, child_lists, before_child}
 use Rattle.range_store.specs.Edges.{turn, inside, IsEdge, place}
 use Rattle.range_store.specs.Frame.{AgreeAt, AgreeAt-right, agree_kid, same_children}
 use Rattle.range_store.proofs.Below.{items_below_at, items_below_leaf}

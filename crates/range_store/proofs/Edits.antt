@@ -1,5 +1,5 @@
 -- Edits just after a front.
-use Rattle.std.proofs.Common.{◌≡◌, ℕ, zero, suc, ◌+◌, ◌-◌, ◌<◌, ◌≤◌, List, [], ◌∷◌, ◌++◌, length, take, drop, get_or, refl, ap, sym, ◌∙◌, add-one, arith, length-append, append_assoc}
+use Rattle.std.proofs.Common.{◌≡◌, ℕ, zero, suc, ◌+◌, ◌-◌, ◌<◌, ◌≤◌, List, [], ◌∷◌, ◌++◌, length, take, drop, ap, sym, ◌∙◌, add-one, arith, length-append, append_assoc}
 use Rattle.std.specs.List.{remove}
 use Rattle.std.proofs.lemmas.List.{append-nil, drop_all, take_at, drop_at, drop_more, length-take-le, drop-drop}
 use Rattle.std.proofs.Math.ListN.{set}

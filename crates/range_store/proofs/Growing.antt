@@ -1,11 +1,11 @@
 -- What becomes of a node when the subtree of one of its children became one or two.
-use Rattle.std.proofs.Common.{◌≡◌, ◌≢◌, ℕ, suc, ◌+◌, ◌-◌, ◌<◌, ◌≤◌, List, [], ◌∷◌, ◌++◌, length, get_or, take, drop, map, refl, sym, ap, ◌∙◌, subst, arith, Option, Some, None, IsSome}
+use Rattle.std.proofs.Common.{◌≡◌, ◌≢◌, ℕ, suc, ◌+◌, ◌-◌, ◌<◌, ◌≤◌, List, [], ◌∷◌, ◌++◌, length, get_or, take, drop, map, refl, sym, ap, ◌∙◌, arith, Option, Some, None, IsSome}
 use Rattle.std.specs.List.{All, flat_map, sum_by, insert}
 use Rattle.std.proofs.lemmas.List.{append-nil, append_assoc, length-append, length-map, map-append, length-take-le, length-drop, take-append-drop, take_more, take-map, drop-map}
 use Rattle.std.proofs.lemmas.List.Concat.{flat_map-append}
-use Rattle.std.proofs.lemmas.List.Elements.{All-append, All-take, All-drop, All-weaker}
+use Rattle.std.proofs.lemmas.List.Elements.{All-append, All-take, All-drop}
 use Rattle.std.proofs.lemmas.List.Edits.{length-insert}
-use Rattle.range_store.specs.Heap.{Heap, node_of, HasRoomFor, items_of, children_of, child_count, Writes, node_items, node_children, node_child}
+use Rattle.range_store.specs.Heap.{Heap, node_of, HasRoomFor, items_of, child_count, Writes, node_items, node_children, node_child}
 use Rattle.range_store.specs.declared.btree.nodes.Split.{Split}
 use Rattle.range_store.specs.declared.btree.nodes.TheConstants.{CAPACITY, MIN_LEN}
 use Rattle.range_store.specs.Nodes.{weave, rest_of, front_of, before, after, items_below, used, Shaped, ShapedBut, here, Owned, Moves, tops, separators, Replaces, EnoughFor, HasTreeRoom, child_lists, before_child}
@@ -13,8 +13,8 @@ use Rattle.range_store.specs.Contents.{IsContent, Settles}
 use Rattle.range_store.specs.Occurrences.{occurrences, occurrences-append, occurrences-cons, occurrences_itself}
 use Rattle.range_store.specs.Weave.{list_splits_at, weave_splice, insert_middle, length-weave, length-before}
 use Rattle.range_store.specs.Frame.{AgreeAt, AgreeAt-left, AgreeAt-right, SameChildren, same_children}
-use Rattle.range_store.proofs.Below.{children_length, items_below_at, used_is, Shaped-from_but, Shaped-but, child_count_cases, child_count_inner}
-use Rattle.range_store.proofs.Moves.{Moves-like, Moves-then, Moves-beside, Moves-agree}
+use Rattle.range_store.proofs.Below.{children_length, items_below_at, used_is, Shaped-from_but, Shaped-but}
+use Rattle.range_store.proofs.Moves.{Moves-like, Moves-beside, Moves-agree}
 use Rattle.range_store.proofs.Paths.{below_inside, below_most, below_turn}
 use Rattle.range_store.proofs.Room.{children_le}
 use Rattle.range_store.proofs.Seats.{seat_run, seat_side, seat_written}

@@ -1,9 +1,8 @@
 -- Changes of several nodes, in another order.
-use Rattle.std.proofs.Common.{◌≡◌, ◌≢◌, ℕ, List, Option, Some, None, IsSome, refl, sym, ap, ◌∙◌, inl, inr, arith}
+use Rattle.std.proofs.Common.{◌≡◌, ◌≢◌, ℕ, List, Option, Some, None, sym, arith}
 use Rattle.std.proofs.Math.ListN.{set}
-use Rattle.std.proofs.lemmas.Bool.{cases_eq}
 use Rattle.std.proofs.lemmas.List.{get_or-set_other}
-use Rattle.range_store.specs.Heap.{Heap, Content, node_of, HasNode, items_of, children_of, node_count, with_item, Writes, Removes, node_items, node_children}
+use Rattle.range_store.specs.Heap.{Heap, Content, node_of, HasNode, with_item, Writes, Removes}
 use Rattle.range_store.proofs.Slots.{slot_count, slot_read}
 
 module _ {T : Type 0} where

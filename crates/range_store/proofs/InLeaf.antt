@@ -1,14 +1,13 @@
 -- An edge within its leaf.
-use Rattle.std.proofs.Common.{◌≡◌, ℕ, zero, suc, ◌+◌, ◌-◌, ◌/◌, ◌%◌, ◌<◌, ◌≤◌, List, [], ◌∷◌, length, get_or, refl, ap, ◌∙◌, arith, IsSome, false}
+use Rattle.std.proofs.Common.{◌≡◌, ℕ, zero, suc, ◌+◌, ◌-◌, ◌/◌, ◌%◌, ◌<◌, ◌≤◌, List, [], ◌∷◌, length, get_or, refl, ap, ◌∙◌, arith, IsSome}
 use Rattle.std.specs.List.{remove}
 use Rattle.std.proofs.Math.ListN.{set}
-use Rattle.std.proofs.lemmas.Bool.{and_right, ne_eqb}
 use Rattle.range_store.specs.Heap.{Heap, node_of, node_items, node_children, node_child}
 use Rattle.range_store.specs.declared.btree.nodes.TheConstants.{CAPACITY}
 use Rattle.range_store.specs.declared.btree.path.TheConstants.{PATH_BASE}
 use Rattle.range_store.specs.declared.btree.path.Edge.{Edge}
 use Rattle.range_store.specs.Nodes.{ShapedBut}
-use Rattle.range_store.specs.Edges.{turn, inside, is_start, IsEdge, place, home_of}
+use Rattle.range_store.specs.Edges.{turn, inside, IsEdge, place, home_of}
 use Rattle.range_store.proofs.Below.{shaped_within_wider}
 use Rattle.range_store.proofs.Rank.{kid_shaped}
 

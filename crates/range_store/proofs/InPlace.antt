@@ -1,20 +1,18 @@
 -- A leaf with other items, below nodes that stay as they were.
-use Rattle.std.proofs.Common.{◌≡◌, ◌≢◌, ℕ, zero, suc, ◌+◌, ◌-◌, ◌/◌, ◌%◌, ◌<◌, ◌≤◌, List, [], ◌++◌, length, map, refl, sym, ap, ◌∙◌, arith}
-use Rattle.std.specs.List.{flat_map, insert, remove}
+use Rattle.std.proofs.Common.{◌≡◌, ◌≢◌, ℕ, zero, suc, ◌+◌, ◌-◌, ◌<◌, ◌≤◌, List, [], ◌++◌, length, sym, ap, ◌∙◌, arith}
+use Rattle.std.specs.List.{insert, remove}
 use Rattle.std.proofs.lemmas.List.{append-nil, length-append, nil_from_length}
 use Rattle.std.proofs.lemmas.List.Edits.{length-insert, length-remove}
 use Rattle.range_store.specs.Heap.{Heap, node_of, Writes, node_items, node_children, node_child}
 use Rattle.range_store.specs.declared.btree.nodes.TheConstants.{CAPACITY, MIN_LEN}
 use Rattle.range_store.specs.declared.btree.BoxStorage.{BoxStorage}
 use Rattle.range_store.specs.declared.btree.path.Edge.{Edge}
-use Rattle.range_store.specs.declared.btree.path.TheConstants.{PATH_BASE}
-use Rattle.range_store.specs.Nodes.{weave, items_below, used, Shaped, ShapedBut, Owned, IsTree, before_child, after_child}
+use Rattle.range_store.specs.Nodes.{items_below, Shaped, ShapedBut, Owned, IsTree, before_child, after_child}
 use Rattle.range_store.specs.Edges.{turn, inside, IsEdge, place}
 use Rattle.range_store.specs.Contents.{IsContent}
 use Rattle.range_store.specs.Holding.{box_items, IsBoxEdge, box_place}
-use Rattle.range_store.proofs.Below.{items_below_at, items_below_leaf, used_is, shaped_within_wider, Shaped-from_but}
-use Rattle.range_store.proofs.Contents.{IsRewritten, Holds, written_holds, held_items_below, held_used, held_shape, bare_content}
-use Rattle.range_store.specs.Frame.{IsNode-same}
+use Rattle.range_store.proofs.Below.{items_below_at, items_below_leaf, shaped_within_wider, Shaped-from_but}
+use Rattle.range_store.proofs.Contents.{IsRewritten, Holds, written_holds, held_items_below, held_used, bare_content}
 use Rattle.range_store.proofs.Edges.{leaf_edge, leaf_place, edge_above, place_inside}
 use Rattle.range_store.proofs.Growing.{kid_owned}
 use Rattle.range_store.proofs.Moves.{Writes-moves}
@@ -22,7 +20,7 @@ use Rattle.range_store.proofs.Rank.{kid_shaped}
 use Rattle.range_store.specs.Written.{root_shaped}
 use Rattle.range_store.proofs.Shortening.{ListsAnew, kid_kept, kid_moved, kid_listed, kid_front, kid_children, remove_middle}
 use Rattle.range_store.proofs.InLeaf.{IsLeafOf, leaf_of_edge}
-use Rattle.range_store.proofs.Roots.{tree_owned, rewritten_tree}
+use Rattle.range_store.proofs.Roots.{tree_owned}
 use Rattle.range_store.specs.Weave.{insert_middle, regroup}
 
 module _ {T : Type 0} where

@@ -1,5 +1,5 @@
 -- The items after an edge in its leaf, and the cells that have them.
-use Rattle.std.proofs.Common.{◌≡◌, ℕ, ◌+◌, ◌-◌, ◌<◌, ◌≤◌, List, length, get_or, take, drop, replicate, Option, Some, None, refl, ap, sym, ◌∙◌, arith}
+use Rattle.std.proofs.Common.{◌≡◌, ℕ, ◌+◌, ◌-◌, ◌<◌, ◌≤◌, List, length, take, drop, Option, refl, ap, ◌∙◌, arith}
 use Rattle.std.proofs.lemmas.List.{get_or-drop, get_or-take, length-drop, length-take, same_lists, take_all, take-append-le, drop-append-le, drop-map}
 use Rattle.std.specs.Prelude.{is_some}
 use Rattle.range_store.specs.Cells.{items_in, AreFull}
@@ -7,7 +7,6 @@ use Rattle.range_store.specs.Heap.{node_of, items_of}
 use Rattle.range_store.specs.Holding.{box_items, box_place, IsBoxEdge}
 use Rattle.range_store.specs.Rows.{full_cells, HoldsItems}
 use Rattle.range_store.specs.declared.btree.BoxStorage.{BoxStorage}
-use Rattle.range_store.specs.declared.btree.nodes.TheConstants.{CAPACITY}
 use Rattle.range_store.specs.declared.btree.path.Edge.{Edge}
 use Rattle.range_store.proofs.Cells.{items_in_full, length-full, standing}
 use Rattle.range_store.proofs.Whole.{edge_within, leaf_item, tree_beside, tree_leaf}

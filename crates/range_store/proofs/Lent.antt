@@ -1,11 +1,10 @@
 -- A `BoxStorage` with another item in the home of one.
-use Rattle.std.proofs.Common.{◌≡◌, ℕ, ◌-◌, length, get_or, arith, sym, ap, ◌∙◌, subst, inl, inr}
+use Rattle.std.proofs.Common.{◌≡◌, ℕ, length, get_or, arith, sym, ap, ◌∙◌, subst, inl, inr}
 use Rattle.std.proofs.Math.Bridge.{le_prop}
 use Rattle.std.proofs.Math.Nat.{ℕ_set}
 use Rattle.range_store.specs.Depth.{HasLevels}
-use Rattle.range_store.specs.Edges.{IsEdge}
 use Rattle.range_store.specs.Heap.{Heap, with_item, node_items}
-use Rattle.range_store.specs.Holding.{box_home, box_items, box_place, box_rank, Decided, IsGood, good_item, good_or_not, rank_is, with_box_item, with_good_item, with_item_as, written_roomy}
+use Rattle.range_store.specs.Holding.{box_home, box_items, box_rank, Decided, IsGood, good_item, good_or_not, with_box_item, with_good_item, with_item_as, written_roomy}
 use Rattle.range_store.specs.Nodes.{items_below, IsRoomy, IsRoomy-prop}
 use Rattle.range_store.specs.Written.{SameShape, edge_same, place_same}
 use Rattle.range_store.specs.declared.btree.BoxStorage.{BoxStorage}

@@ -1,8 +1,7 @@
 -- How the nodes of a slab change, step by step.
-use Rattle.std.proofs.Common.{◌≡◌, ◌≢◌, ℕ, ◌+◌, ◌<◌, ◌≤◌, List, [], ◌∷◌, ◌++◌, length, refl, sym, ◌∙◌, inl, inr, arith, IsSome}
+use Rattle.std.proofs.Common.{◌≡◌, ◌≢◌, ℕ, ◌+◌, ◌≤◌, List, [], ◌∷◌, ◌++◌, length, refl, sym, arith}
 use Rattle.std.proofs.lemmas.List.{length-append}
-use Rattle.std.proofs.lemmas.Bool.{cases_eq}
-use Rattle.range_store.specs.Heap.{Heap, node_of, Writes, Stores, Removes}
+use Rattle.range_store.specs.Heap.{Heap, Writes, Stores, Removes}
 use Rattle.range_store.specs.Nodes.{here, Moves}
 use Rattle.range_store.specs.Occurrences.{occurrences, occurrences-append, occurrences-cons, occurrences_itself, occurrences_other}
 use Rattle.range_store.specs.Frame.{AgreeAt}

@@ -1,17 +1,16 @@
 -- A node above the leaves, and the edges and items below its children.
-use Rattle.std.proofs.Common.{◌≡◌, ◌≢◌, ℕ, zero, suc, ◌+◌, ◌-◌, ◌<◌, ◌≤◌, ◌++◌, length, refl, ap, ◌∙◌, arith, cond, true, false, ◌==◌, inl, inr}
+use Rattle.std.proofs.Common.{◌≡◌, ◌≢◌, ℕ, zero, suc, ◌+◌, ◌-◌, ◌<◌, ◌≤◌, length, refl, arith, cond, true, false, inl, inr}
 use Rattle.range_store.specs.Heap.{Heap, node_items, node_children, node_child}
 use Rattle.range_store.specs.declared.btree.nodes.TheConstants.{CAPACITY}
 use Rattle.range_store.specs.declared.btree.path.Edge.{Edge}
-use Rattle.range_store.specs.declared.btree.path.Home.{Home}
-use Rattle.range_store.specs.Nodes.{items_below, before, after, ShapedBut, child_lists, before_child}
+use Rattle.range_store.specs.Nodes.{items_below, ShapedBut, before_child}
 use Rattle.range_store.specs.Edges.{turn, inside, is_start, IsEdge, place, home_of}
 use Rattle.range_store.specs.Written.{place_of_start, start_of_place}
 use Rattle.range_store.proofs.Below.{children_length, items_below_at, length-before_more, none_after_last, shaped_within_wider}
 use Rattle.range_store.proofs.Edges.{edge_above, place_above, place_inside, edge_inside, turn_within, place_within}
 use Rattle.range_store.proofs.Rank.{kid_shaped}
 use Rattle.std.proofs.lemmas.List.{length-append}
-use Rattle.std.proofs.lemmas.Bool.{and_from, and_parts, both_ways, cases_eq, eq-eqb, eqb-true}
+use Rattle.std.proofs.lemmas.Bool.{cases_eq}
 
 pub home_leaf : {T : Type 0} (s : Heap T) (n : ℕ) (g : Edge)
     → home_of s zero n g ≡ record { node = n; index = g.index - 1 }

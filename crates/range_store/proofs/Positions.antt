@@ -1,10 +1,9 @@
 -- Positions that a call may or may not return, and the ends of a list.
-use Rattle.std.proofs.Common.{◌≡◌, ℕ, ◌+◌, ◌-◌, ◌<◌, Bool, List, [], ◌∷◌, ◌++◌, length, zero, suc, get_or, refl, ap, arith, count_by, Option, Some, None}
+use Rattle.std.proofs.Common.{◌≡◌, ℕ, ◌+◌, ◌-◌, ◌<◌, Bool, [], length, suc, arith, count_by, Option}
 use Rattle.std.specs.Prelude.{MatchOption}
-use Rattle.std.specs.List.{remove}
 use Rattle.range_store.specs.Edges.{IsEdge, place}
 use Rattle.range_store.specs.Nodes.{items_below}
-use Rattle.range_store.specs.Holding.{box_items, box_place, box_rank, edge_or_end, IsBoxEdge, IsGood, IsNextEdge, rank_is}
+use Rattle.range_store.specs.Holding.{box_items, box_place, box_rank, edge_or_end, IsBoxEdge, IsGood, IsNextEdge}
 use Rattle.range_store.specs.Falling.{Falls}
 use Rattle.range_store.specs.ListPlaces.{IsAt, IsFrontOf}
 use Rattle.range_store.specs.declared.btree.BoxStorage.{BoxStorage}

@@ -1,10 +1,10 @@
 -- What stands at a rank, and what is known of a whole tree.
-use Rattle.std.proofs.Common.{◌≡◌, ℕ, zero, suc, ◌+◌, ◌*◌, ◌≤◌, [], length, refl, ap, arith}
+use Rattle.std.proofs.Common.{◌≡◌, ℕ, zero, suc, ◌+◌, ◌*◌, ◌≤◌, [], length, refl, arith}
 use Rattle.range_store.specs.Heap.{Heap, node_count, node_items, node_child}
 use Rattle.range_store.specs.declared.btree.nodes.TheConstants.{CAPACITY, MIN_LEN}
-use Rattle.range_store.specs.Nodes.{items_below, used, ShapedBut, IsTree, here}
+use Rattle.range_store.specs.Nodes.{items_below, used, ShapedBut, IsTree}
 use Rattle.range_store.proofs.Below.{Shaped-but}
-use Rattle.range_store.specs.Occurrences.{occurrences, occurrences-nil}
+use Rattle.range_store.specs.Occurrences.{occurrences-nil}
 
 pub items_below_none : {T : Type 0} (s : Heap T) (n : ℕ) → items_below s zero n ≡ []
 unfolding items_below

@@ -8,8 +8,8 @@ use Rattle.std.proofs.lemmas.List.Sums.{sum_by-cons, sum_by-append}
 use Rattle.std.proofs.lemmas.List.Elements.{All-head, All-tail, All-take, All-drop}
 use Rattle.range_store.specs.Heap.{Heap, node_count, node_items, node_children, node_child}
 use Rattle.range_store.specs.declared.btree.nodes.TheConstants.{MIN_LEN}
-use Rattle.range_store.specs.Nodes.{items_below, used, Shaped, ShapedBut, HasTreeRoom, child_lists}
-use Rattle.range_store.proofs.Below.{weave_items_below, children_length, child_count_cases, used_is, Shaped-but}
+use Rattle.range_store.specs.Nodes.{items_below, used, Shaped, ShapedBut, HasTreeRoom}
+use Rattle.range_store.proofs.Below.{weave_items_below, children_length, used_is, Shaped-but}
 use Rattle.range_store.specs.Weave.{length-weave, list_splits_at}
 
 -- how many items stand below these nodes

@@ -1,9 +1,9 @@
 -- A node of whose children one was short, after an item was lent to that or two children were
 -- joined.
-use Rattle.std.proofs.Common.{◌≡◌, ◌≢◌, ◌⊎◌, ℕ, zero, suc, ◌+◌, ◌-◌, ◌^◌, ◌<◌, ◌≤◌, List, [], ◌∷◌, ◌++◌, length, get_or, take, drop, take_all, map, refl, sym, ap, ◌∙◌, inl, inr, arith, Some, None}
+use Rattle.std.proofs.Common.{◌≡◌, ◌≢◌, ◌⊎◌, ℕ, zero, suc, ◌+◌, ◌-◌, ◌^◌, ◌<◌, ◌≤◌, List, [], ◌∷◌, ◌++◌, length, get_or, take, drop, take_all, map, refl, ap, ◌∙◌, inl, inr, arith, Some, None}
 use Rattle.std.proofs.Math.ListN.{set, length-set}
 use Rattle.std.specs.List.{remove, flat_map}
-use Rattle.std.proofs.lemmas.List.{length-append, length-take-le, append-nil, get_or_default, get_or-append-add, get_or_append_left, drop_all, take-append-le, drop-append-le}
+use Rattle.std.proofs.lemmas.List.{length-append, length-take-le, get_or_default, get_or-append-add, get_or_append_left, drop_all, take-append-le, drop-append-le}
 use Rattle.range_store.specs.Heap.{Heap, child_count, HasPair, RotatesLeft, RotatesRight, Merges, Writes, Removes, node_items, node_children, node_child}
 use Rattle.range_store.specs.declared.btree.nodes.Split.{Split}
 use Rattle.range_store.specs.declared.btree.nodes.TheConstants.{CAPACITY, MIN_LEN}
@@ -12,7 +12,7 @@ use Rattle.range_store.specs.Nodes.{before, items_below, used, Shrinks, IsLevell
 use Rattle.range_store.specs.Edges.{turn, inside, seat_of, IsEdge, place, IsSeat, seat_place}
 use Rattle.range_store.specs.Written.{set_parts, item_behind, some_of}
 use Rattle.range_store.specs.Frame.{used_kid_le}
-use Rattle.range_store.specs.Occurrences.{occurrences, occurrences-cons, occurrences_here, occurrences_itself}
+use Rattle.range_store.specs.Occurrences.{occurrences-cons, occurrences_here, occurrences_itself}
 use Rattle.range_store.proofs.Below.{used_is}
 use Rattle.range_store.proofs.Moves.{here_le}
 use Rattle.range_store.proofs.Pairs.{pair_seat, seat_low}

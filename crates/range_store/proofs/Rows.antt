@@ -1,13 +1,13 @@
 -- Rows of cells, of which one is written, or some added.
-use Rattle.std.proofs.Common.{◌≡◌, ◌≢◌, ℕ, zero, suc, ◌+◌, ◌-◌, ◌*◌, ◌<◌, ◌≤◌, List, [], ◌∷◌, ◌++◌, length, get_or, take, drop, replicate, Option, Some, None, refl, sym, ap, ◌∙◌, inl, inr, arith, length-append, length-drop}
+use Rattle.std.proofs.Common.{◌≡◌, ◌≢◌, ℕ, zero, suc, ◌+◌, ◌-◌, ◌*◌, ◌<◌, ◌≤◌, List, [], ◌++◌, length, get_or, take, drop, replicate, Option, Some, None, refl, sym, ap, ◌∙◌, inl, inr, arith, length-append, length-drop}
 use borrow.Rule.Slice.PartMut.{put_mid}
 use Rattle.std.proofs.Math.ListN.{set, length-set}
-use Rattle.std.proofs.lemmas.Bool.{cases_eq, cases_lt}
+use Rattle.std.proofs.lemmas.Bool.{cases_lt}
 use Rattle.std.proofs.lemmas.List.{drop-drop, drop-take, take_at, drop_at, drop_all, take-append-le, length-take-le, length-replicate, ext_get_or, append-nil, append_assoc, take-replicate, replicate-append-replicate, get_or-set_same, get_or-set_other, get_or-take, get_or-drop, get_or_past, take-set-le, drop-set-lt, drop-set-add, set-append_left, map-set}
 use Rattle.std.proofs.lemmas.Slice.{take-put_mid_below, drop-put_mid}
 use Rattle.range_store.specs.declared.btree.nodes.TheConstants.{CAPACITY}
 use Rattle.range_store.specs.Rows.{items_in, HoldsItems, cells_of, row_of, rows_in, IsRows}
-use Rattle.range_store.proofs.Cells.{Standing, cell_read, items_held, held_none, row_length, length-full}
+use Rattle.range_store.proofs.Cells.{Standing, cell_read, items_held, row_length, length-full}
 
 module _ {T : Type 0} where
   cells_on : (cells : List (Option T)) (n : ℕ) → cells_of (drop CAPACITY cells) n
@@ -213,10 +213,17 @@ module _ {T : Type 0} where
     pub topped_same : rows_in many topped ≡ rows_in many cells
     topped_same =
         let long = length-rows many topped in
-        grind (
-          arith,
-          ext_get_or [] (rows_in many topped) (rows_in many cells) (long ∙ sym (length-rows many cells)) (λ m below. rows_read many topped m (omega arith) ∙ elim (cases_lt m rows.there) [ inl less ↦ ap items_in (old_cells m less) | inr past ↦ none_new m (omega arith) ∙ sym (ap items_in (cells_past rows m (omega arith))) ] ∙ sym (rows_read many cells m (omega arith))),
-        )
+        ext_get_or [] (rows_in many topped) (rows_in many cells)
+        (long ∙ sym (length-rows many cells))
+        (λ m below.
+        rows_read many topped m (omega (arith, long, below))
+        ∙ elim (cases_lt m rows.there) [
+          | inl less ↦ ap items_in (old_cells m less)
+          | inr past ↦
+              none_new m (omega (arith, past))
+              ∙ sym (ap items_in (cells_past rows m (omega (arith, past))))
+        ]
+        ∙ sym (rows_read many cells m (omega (arith, long, below))))
 
     pub topped_held : HoldsItems (cells_of topped n) (row_of (rows_in many cells) n)
     topped_held =

@@ -1,13 +1,12 @@
 -- What a search may ask of a node, and how many items pass below it.
-use Rattle.std.proofs.Common.{◌≡◌, ◌⊎◌, ℕ, suc, ◌+◌, ◌<◌, ◌≤◌, Bool, List, [], ◌∷◌, ◌++◌, length, get_or, map, refl, ap, ◌∙◌, inl, inr, arith, count_by}
+use Rattle.std.proofs.Common.{◌≡◌, ◌⊎◌, ℕ, suc, ◌+◌, ◌<◌, ◌≤◌, Bool, List, [], ◌∷◌, length, get_or, map, ap, ◌∙◌, arith, count_by}
 use Rattle.std.proofs.lemmas.List.{append-nil, length-append, length-map, get_or-map}
 use Rattle.std.proofs.lemmas.List.Sums.{count_by-le-length}
-use Rattle.std.proofs.lemmas.Bool.{cases_lt}
 use Rattle.range_store.specs.Heap.{Heap, child_count, node_items, node_children, node_child}
 use Rattle.range_store.specs.Falling.{Falls}
-use Rattle.range_store.specs.Nodes.{weave, rest_of, before, after, items_below, ShapedBut, child_lists, before_child}
+use Rattle.range_store.specs.Nodes.{weave, rest_of, before, items_below, ShapedBut, child_lists, before_child}
 use Rattle.range_store.proofs.Below.{children_length, lists_length, items_below_at, weave_items_below, child_count_cases}
-use Rattle.range_store.proofs.Front.{falls_parts, true_or_false, count-append, count-yes, count-no}
+use Rattle.range_store.proofs.Front.{falls_parts, count-append, count-yes}
 
 module _ {T : Type 0} (p : T → Bool) where
   count-rest_of : (xs : List T) (ks : List (List T)) → length ks ≡ length xs

@@ -1,13 +1,12 @@
 -- What is known of a node of whose children one may be short.
-use Rattle.std.proofs.Common.{◌≡◌, ◌⊎◌, ℕ, suc, ◌+◌, ◌-◌, ◌<◌, ◌≤◌, List, ◌∷◌, ◌++◌, length, get_or, take, drop, refl, sym, subst, inl, inr, arith, IsSome}
+use Rattle.std.proofs.Common.{◌≡◌, ◌⊎◌, ℕ, suc, ◌+◌, ◌-◌, ◌<◌, ◌≤◌, List, ◌∷◌, ◌++◌, length, get_or, take, drop, sym, subst, inl, inr, arith, IsSome}
 use Rattle.std.specs.List.{All}
-use Rattle.std.proofs.lemmas.List.{drop_more, get_or-take, length-take-le, take-take}
-use Rattle.std.proofs.lemmas.List.Elements.{All-cons, All-head, All-tail, All-append, All-take, All-weaker}
+use Rattle.std.proofs.lemmas.List.{drop_more, get_or-take, length-take-le}
+use Rattle.std.proofs.lemmas.List.Elements.{All-cons, All-head, All-tail, All-append, All-weaker}
 use Rattle.range_store.specs.Heap.{Heap, node_of, node_items, node_children, node_child}
 use Rattle.range_store.specs.declared.btree.nodes.TheConstants.{CAPACITY, MIN_LEN}
-use Rattle.range_store.specs.Nodes.{items_below, used, Shaped, ShapedBut, Shrinks, MayBeRebalanced, IsLevelled}
-use Rattle.range_store.proofs.Below.{Shaped-from_but, Shaped-but, shaped_within_wider}
-use Rattle.range_store.proofs.Moves.{Moves-none}
+use Rattle.range_store.specs.Nodes.{items_below, Shaped, ShapedBut, Shrinks, MayBeRebalanced, IsLevelled}
+use Rattle.range_store.proofs.Below.{Shaped-from_but, Shaped-but}
 use Rattle.range_store.specs.Weave.{list_splits_at}
 
 module _ {T : Type 0} (s : Heap T) (low n i : ℕ) (m : MayBeRebalanced s low n i) where

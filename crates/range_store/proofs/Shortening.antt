@@ -1,14 +1,13 @@
 -- What becomes of a node when an item went below one of its children.
 use Rattle.std.proofs.Common.{◌≡◌, ◌≢◌, ℕ, suc, ◌+◌, ◌-◌, ◌<◌, ◌≤◌, List, [], ◌∷◌, ◌++◌, length, take, drop, map, refl, sym, ap, ◌∙◌, subst, arith}
-use Rattle.std.specs.List.{All, flat_map, sum_by, remove}
+use Rattle.std.specs.List.{All, remove}
 use Rattle.std.proofs.lemmas.List.{append-nil, length-map, length-take-le, take-map, drop-map, take-append-drop, nil_from_length}
 use Rattle.std.proofs.lemmas.List.Edits.{remove-append_left, remove-append_right, length-remove}
 use Rattle.std.proofs.lemmas.List.Elements.{All-append, All-cons, All-take, All-drop}
 use Rattle.range_store.specs.Heap.{Heap, node_of, items_of, children_of, Writes, node_items, node_children, node_child}
 use Rattle.range_store.specs.declared.btree.nodes.TheConstants.{CAPACITY, MIN_LEN}
 use Rattle.range_store.specs.Nodes.{weave, rest_of, front_of, before, after, items_below, used, Shaped, ShapedBut, Owned, Moves, Shrinks, MayBeRebalanced, child_lists, before_child}
-use Rattle.range_store.proofs.Contents.{written_holds, held_items_below, held_used, held_shape, bare_content}
-use Rattle.range_store.specs.Weave.{list_splits_at, weave_splice, length-before}
+use Rattle.range_store.specs.Weave.{list_splits_at, weave_splice}
 use Rattle.range_store.specs.Frame.{IsNode-same}
 use Rattle.range_store.proofs.Below.{children_length, items_below_at, weave_items_below, used_is, items_below_leaf}
 use Rattle.range_store.proofs.Moves.{Moves-then, Writes-moves}

@@ -1,13 +1,13 @@
 -- Items that move between two children of a node and the node.
-use Rattle.std.proofs.Common.{◌≡◌, ℕ, zero, suc, ◌+◌, ◌-◌, ◌<◌, ◌≤◌, List, [], ◌∷◌, ◌++◌, length, get_or, take, drop, Some, refl, sym, ap, subst, ◌∙◌, arith, slice_get}
+use Rattle.std.proofs.Common.{◌≡◌, ℕ, zero, suc, ◌+◌, ◌-◌, ◌<◌, List, [], ◌∷◌, ◌++◌, length, get_or, take, drop, Some, sym, ap, subst, ◌∙◌, arith, slice_get}
 use Rattle.std.proofs.Math.ListN.{set}
 use Rattle.std.specs.List.{insert, remove}
-use Rattle.std.proofs.lemmas.List.{append-nil, drop_all, drop_more, take_all, take_more, nil_from_length}
+use Rattle.std.proofs.lemmas.List.{drop_all, drop_more, take_all, take_more, nil_from_length}
 use Rattle.std.proofs.lemmas.List.Edits.{insert_end}
 use Rattle.std.proofs.lemmas.Option.{slice_get-get_or}
-use Rattle.range_store.specs.Heap.{Heap, node_of, items_of, children_of, child_count, with_child, with_item, Writes, HasPair, RotatesLeft, RotatesRight, Merges, Absorbs, left_items, right_items, left_children, right_children, node_items, node_children, node_child}
+use Rattle.range_store.specs.Heap.{Heap, node_of, items_of, children_of, child_count, with_child, Writes, HasPair, RotatesLeft, RotatesRight, Merges, Absorbs, left_items, right_items, left_children, right_children, node_items, node_children, node_child}
 use Rattle.range_store.proofs.Edits.{without_last}
-use Rattle.range_store.proofs.Heaps.{item_other, write_first, remove_first, remove_last}
+use Rattle.range_store.proofs.Heaps.{write_first, remove_first, remove_last}
 
 -- the children with the last of others at the front
 front_child : {X : Type 0} (below : ℕ) (ks : List ℕ) (zs : List X) (ls : List ℕ)

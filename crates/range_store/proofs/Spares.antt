@@ -1,14 +1,14 @@
 -- What is left of a list of slots, and of a slab of nodes, but for its spares.
-use Rattle.std.proofs.Common.{◌≡◌, ◌≢◌, ℕ, zero, suc, ◌+◌, ◌<◌, ◌≤◌, List, [], ◌∷◌, ◌++◌, length, get_or, cond, Option, Some, None, is_some, IsSome, count_by, refl, sym, ap, subst, ◌∙◌, inl, inr, arith, length-append}
+use Rattle.std.proofs.Common.{◌≡◌, ◌≢◌, ℕ, zero, suc, ◌+◌, ◌<◌, ◌≤◌, List, [], ◌∷◌, ◌++◌, length, get_or, cond, Option, Some, None, is_some, IsSome, count_by, refl, sym, ap, ◌∙◌, inl, inr, arith, length-append}
 use Rattle.std.proofs.Math.ListN.{set, length-set}
 use Rattle.std.specs.List.{insert, remove}
 use Rattle.std.proofs.lemmas.List.Edits.{length-insert, length-remove}
-use Rattle.std.proofs.lemmas.Bool.{cases_eq, cases_lt, false≢true}
+use Rattle.std.proofs.lemmas.Bool.{cases_eq}
 use Rattle.std.proofs.lemmas.List.{get_or-set_other, get_or-set_same, get_or_past, nil_from_length, set_comm}
 use Rattle.std.proofs.lemmas.List.Sums.{sum_by-cons}
 use Rattle.slab.specs.Slab.{Slab, get, slab_len, with_value, Updates}
 use Rattle.range_store.specs.declared.btree.node.Node.{Node}
-use Rattle.range_store.specs.Heap.{Heap, Content, node_of, HasNode, HasRoomFor, SameNodes, items_of, children_of, node_count, with_item, FitsChild, Writes, Stores, Removes, Absorbs, node_items, node_children}
+use Rattle.range_store.specs.Heap.{Heap, node_of, HasNode, HasRoomFor, SameNodes, items_of, children_of, node_count, with_item, FitsChild, Writes, Stores, Removes, Absorbs, node_items, node_children}
 use Rattle.range_store.specs.Occurrences.{occurrences, occurrences-append, occurrences-cons, occurrences-nil, occurrences_here, occurrences_itself, occurrences_other}
 use Rattle.range_store.specs.Rows.{row_of}
 use Rattle.range_store.specs.Spares.{without, len_of, content_of, contents, heap_of, FitsCount, IsWhole}

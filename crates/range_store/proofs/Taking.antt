@@ -1,8 +1,7 @@
 -- A whole list after an item was taken out of it.
-use Rattle.std.proofs.Common.{◌≡◌, ℕ, suc, ◌+◌, ◌-◌, ◌*◌, ◌<◌, ◌≤◌, length, get_or, sym, ap, ◌∙◌, arith}
+use Rattle.std.proofs.Common.{◌≡◌, ℕ, suc, ◌+◌, ◌-◌, ◌*◌, ◌<◌, ◌≤◌, length, get_or, ap, arith}
 use Rattle.std.specs.List.{remove}
 use Rattle.std.specs.Prelude.{min}
-use Rattle.std.proofs.Math.ListN.{set}
 use Rattle.std.proofs.lemmas.List.Edits.{length-remove, get_or-remove_below}
 use Rattle.range_store.specs.Heap.{Heap, with_item, node_items}
 use Rattle.range_store.specs.Edges.{IsEdge, place}

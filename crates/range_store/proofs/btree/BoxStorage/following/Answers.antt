@@ -1,4 +1,4 @@
-use Rattle.std.proofs.Common.{◌≡◌, ◌+◌, ◌-◌, length, refl, arith}
+use Rattle.std.proofs.Common.{◌≡◌, ◌+◌, length, refl, arith}
 use Rattle.range_store.specs.Heap.{node_items}
 use Rattle.range_store.specs.Holding.{box_place}
 use Rattle.range_store.specs.Written.{root_shaped}
