@@ -1,5 +1,5 @@
 -- A range that lies apart from all stored ones, and the list with it.
-use Rattle.range_change.proofs.Common.{◌≡◌, ℕ, ◌+◌, ◌<◌, List, [], ◌∷◌, ◌++◌, length, take, drop, get_or, refl, ap, sym, subst, ◌∙◌, arith, Option, Some, None, Bool, true, false, ◌&&◌, IsTrue, ◌⊎◌, ◌↔◌, inl, inr, Every, IfSome, MatchOption, IsEquivalence, Bound, KeyOrder, IsLawful, end_position, position_cmp, start_position, Position, less_or_not, line_of, IsBoundTo, flipped, starts_at_end, lower, upper, Le, Lt, eq_ge, eq_le, le_lt_trans, le_refl, le_trans, lt_le, lt_le_trans, lt_not_le, lt_trans, not_le, IsEmptyRange, IsKnownRange, AnyRange, drop_all, list_is_take_and_drop, any_none, any_split, every_append, every_right, every_weaker, flipped_bound_is_past, IsAt, place_before, Item, IsBoundAfter, item_lower, item_upper, IsStored, IsConnectedTo, IsConnectedToSome, MeetAlso, Overlap, LiesBefore, Touches, IsFound, IsJustBefore}
+use Rattle.range_change.proofs.Common.{PLe, PLt, ◌≡◌, ℕ, ◌+◌, ◌<◌, List, [], ◌∷◌, ◌++◌, length, take, drop, get_or, refl, ap, sym, subst, ◌∙◌, arith, Option, Some, None, Bool, true, false, ◌&&◌, IsTrue, ◌⊎◌, ◌↔◌, inl, inr, Every, IfSome, MatchOption, IsEquivalence, Bound, KeyOrder, IsLawful, Position, end_position, position_cmp, start_position, less_or_not, line_of, IsBoundTo, flipped, starts_at_end, lower, upper, Le, Lt, eq_ge, eq_le, le_lt_trans, le_refl, le_trans, lt_le, lt_le_trans, lt_not_le, lt_trans, not_le, IsEmptyRange, IsKnownRange, AnyRange, drop_all, list_is_take_and_drop, any_none, any_split, every_append, every_right, every_weaker, flipped_bound_is_past, IsAt, place_before, Item, IsBoundAfter, item_lower, item_upper, IsStored, IsConnectedTo, IsConnectedToSome, MeetAlso, Overlap, LiesBefore, Touches, IsFound, IsJustBefore}
 use Rattle.std.proofs.lemmas.Bool.{and_parts, true_from_ne_false}
 use Rattle.range_change.proofs.Tests.{not_both}
 use Rattle.range_change.proofs.Chains.{chain_above, chain_before, chain_right, strictly_leads, strictly_trails}
@@ -28,14 +28,8 @@ one_fails free true b e f = inr (sym e ∙ f)
 one_fails free false b e f = inl refl
 
 module _ {K : Type 0} (order : KeyOrder K) (lawful : IsLawful order) where
-  abbrev PLe : Position K → Position K → Type 0
-  PLe p q = Le (position_cmp order.cmp) p q
-
-  abbrev PLt : Position K → Position K → Type 0
-  PLt p q = Lt (position_cmp order.cmp) p q
-
   apart_is : (r s : AnyRange K) → IsKnownRange order r → IsKnownRange order s
-      → (IsEmptyRange order s → ⊥) → LiesApart order r s → PLt (upper order r) (lower order s)
+      → (IsEmptyRange order s → ⊥) → LiesApart order r s → PLt lawful (upper order r) (lower order s)
   apart_is r s known others full h =
       let le = (before_is order lawful r.end s.start known.1 others.0).0 h.0 in
       let touch =
@@ -45,17 +39,17 @@ module _ {K : Type 0} (order : KeyOrder K) (lawful : IsLawful order) where
   -- they lie apart where the start that follows the one comes before the other
   pub apart_by_start : (r s : AnyRange K) (i : Bound K) → flipped r.end ≡ Some i
       → IsKnownRange order r → IsKnownRange order s
-      → LiesApart order r s ↔ PLt (start_position order i) (lower order s)
+      → LiesApart order r s ↔ PLt lawful (start_position order i) (lower order s)
   apart_by_start r s i turns known others =
       let before = before_is order lawful r.end s.start known.1 others.0 in
       let same = flipped_bound_is_past order lawful r.end i turns in
       let touch =
-      λ (le : PLe (upper order r) (lower order s)). touches_by order lawful r.end i s turns le in (
+      λ (le : PLe lawful (upper order r) (lower order s)). touches_by order lawful r.end i s turns le in (
         λ h. not_le lawful (start_position order i) (lower order s) (λ back.
             h.1 (rw turns ((touch (before.0 h.0)).1 (le_trans lawful _ _ _ back
             (eq_ge lawful _ _ same))))),
         λ l.
-            let lt : PLt (upper order r) (lower order s) =
+            let lt : PLt lawful (upper order r) (lower order s) =
             le_lt_trans lawful _ _ _ (eq_le lawful _ _ same) l in
             let le = lt_le lawful _ _ lt in (
               before.1 le,
@@ -65,30 +59,30 @@ module _ {K : Type 0} (order : KeyOrder K) (lawful : IsLawful order) where
 
   -- ranges with a place between are not connected
   pub apart_not : (r s : AnyRange K) → IsKnownRange order r → IsKnownRange order s
-      → PLt (lower order r) (upper order r) → PLt (lower order s) (upper order s)
-      → PLt (upper order r) (lower order s)
-      → (Overlap order r s → ⊥) × (Touches order r s → ⊥) × (Touches order s r → ⊥)
-      × (LiesBefore order r s)
+      → PLt lawful (lower order r) (upper order r) → PLt lawful (lower order s) (upper order s)
+      → PLt lawful (upper order r) (lower order s)
+      → (IsConnectedTo order r s → ⊥) × (IsConnectedTo order s r → ⊥)
   apart_not r s known others good good_s l =
       let before =
-      (before_is order lawful r.end s.start known.1 others.0).1 (lt_le lawful _ _ l) in (
-        λ meets. meets.0 before,
-        λ t. lt_not_le lawful _ _ l (eq_ge lawful _ _
-            (touching_same order lawful r.end (lower order s) t)),
-        λ t. lt_not_le lawful _ _ (lt_trans lawful _ _ _ good (lt_trans lawful _ _ _ l good_s))
-            (eq_le lawful _ _ (touching_same order lawful s.end (lower order r) t)),
-        before,
+      (before_is order lawful r.end s.start known.1 others.0).1 (lt_le lawful _ _ l) in
+      let ahead = λ (t : Touches order r s). lt_not_le lawful _ _ l (eq_ge lawful _ _
+      (touching_same order lawful r.end (lower order s) t)) in
+      let behind = λ (t : Touches order s r). lt_not_le lawful _ _ (lt_trans lawful _ _ _ good
+      (lt_trans lawful _ _ _ l good_s)) (eq_le lawful _ _
+      (touching_same order lawful s.end (lower order r) t)) in (
+        λ h. elim h [ inl meets ↦ meets.0 before | inr (inl t) ↦ ahead t | inr (inr t) ↦ behind t ],
+        λ h. elim h [ inl meets ↦ meets.1 before | inr (inl t) ↦ behind t | inr (inr t) ↦ ahead t ],
       )
 
   module _ {V : Type 0} (same : V → V → Bool) (equal : IsEquivalence same) where
     abbrev Before : AnyRange K → Item (AnyRange K) V → Type 0
-    Before r i = PLt (item_upper order i) (lower order r)
+    Before r i = PLt lawful (item_upper order i) (lower order r)
 
     abbrev Behind : AnyRange K → Item (AnyRange K) V → Type 0
-    Behind r i = PLt (upper order r) (item_lower order i)
+    Behind r i = PLt lawful (upper order r) (item_lower order i)
 
     abbrev Good : Item (AnyRange K) V → Type 0
-    Good i = PLt (item_lower order i) (item_upper order i)
+    Good i = PLt lawful (item_lower order i) (item_upper order i)
 
     module _ (items : List (Item (AnyRange K) V)) (r : AnyRange K)
         (stored : IsStored order same items) (known : IsKnownRange order r)
@@ -100,32 +94,6 @@ module _ {K : Type 0} (order : KeyOrder K) (lawful : IsLawful order) where
           → IsKnownRange order x.key
       known_at n x within read =
           item_at (λ i. IsKnownRange order i.key) items n x stored.known within read
-
-      clear_front : (n : ℕ) (x : Item (AnyRange K) V) → n < length items → x ≡ get_or items n x
-          → LiesApart order x.key r → Every (Before r) (take (n + 1) items)
-      clear_front n x within read apart =
-          let whole = rw (listed_at items n x within read) at in_order in
-          let good = chain_right (line_of order lawful same equal) (take n items)
-          (x ∷ drop (n + 1) items) whole in
-          let before = chain_before (line_of order lawful same equal) (take n items) x
-          (drop (n + 1) items) whole in
-          let own = apart_is x.key r (known_at n x within read) known full apart in
-          rw (upto_item items n (n + 1) x refl within read) (every_append (Before r) (take n items)
-          (x ∷ []) (every_weaker _ _ (take n items) (λ y h. le_lt_trans lawful _ _ _ h.0
-          (lt_trans lawful _ _ _ good.0 own)) before) (own, tt))
-
-      clear_back : (n : ℕ) (x : Item (AnyRange K) V) → n < length items → x ≡ get_or items n x
-          → LiesApart order r x.key → Every (Behind r) (drop n items)
-      clear_back n x within read apart =
-          let chain = chain_right (line_of order lawful same equal) (take n items)
-          (x ∷ drop (n + 1) items) (rw (listed_at items n x within read) at in_order) in
-          let above = chain_above (line_of order lawful same equal) (item_lower order x) x
-          (drop (n + 1) items) chain (le_refl lawful (item_lower order x)) in
-          let known_x = known_at n x within read in
-          let own = apart_is r x.key known known_x ((nonempty_good order lawful x.key known_x).1
-          chain.0) apart in
-          rw (from_item items n x within read) (every_weaker _ _ (x ∷ drop (n + 1) items)
-          (λ y h. lt_le_trans lawful _ _ _ own h) above)
 
       -- by the answers at positions of a container
       module _ {P : Type 0} (is_good : P → Type 0) (rank : P → ℕ)
@@ -139,7 +107,15 @@ module _ {K : Type 0} (order : KeyOrder K) (lawful : IsLawful order) where
             let within = good_in_range q at.0 in
             let x = element_at items (rank q) within in
             let read = element_at_is_read items (rank q) within x in
-            rw (← at.1) (clear_front (rank q) x within read ((answer x read).0 h))
+            let whole = rw (listed_at items (rank q) x within read) at in_order in
+            let good = chain_right (line_of order lawful same equal) (take (rank q) items) _ whole in
+            let own = apart_is x.key r (known_at (rank q) x within read) known full
+            ((answer x read).0 h) in
+            rw (upto_item items (rank q) place x at.1 within read) (every_append (Before r)
+            (take (rank q) items) (x ∷ []) (every_weaker _ _ (take (rank q) items)
+            (λ y h. le_lt_trans lawful _ _ _ h.0 (lt_trans lawful _ _ _ good.0 own))
+            (chain_before (line_of order lawful same equal) (take (rank q) items) x _ whole))
+            (own, tt))
 
         clear_after : (from : Option P) (place : ℕ) (b : Bool)
             → IsAt is_good rank (length items) from place
@@ -150,7 +126,14 @@ module _ {K : Type 0} (order : KeyOrder K) (lawful : IsLawful order) where
             let within = good_in_range q at.0 in
             let x = element_at items (rank q) within in
             let read = element_at_is_read items (rank q) within x in
-            rw (← at.1) (clear_back (rank q) x within read ((answer x read).0 h))
+            let chain = chain_right (line_of order lawful same equal) (take (rank q) items) _
+            (rw (listed_at items (rank q) x within read) at in_order) in
+            let known_x = known_at (rank q) x within read in
+            let own = apart_is r x.key known known_x ((nonempty_good order lawful x.key known_x).1
+            chain.0) ((answer x read).0 h) in
+            rw (← at.1, from_item items (rank q) x within read) (every_weaker _ _ (x ∷ _)
+            (λ y h. lt_le_trans lawful _ _ _ own h) (chain_above (line_of order lawful same equal)
+            (item_lower order x) x _ chain (le_refl lawful (item_lower order x))))
 
         -- where the last of all lies apart, the range can follow it
         pub all_before : (last : Option P) (b : Bool)
@@ -181,7 +164,7 @@ module _ {K : Type 0} (order : KeyOrder K) (lawful : IsLawful order) where
         refused_previous_is_connected : (before : Option P) (place : ℕ) (b : Bool)
             → IsJustBefore is_good rank before place
             → IsAnswerAt order (λ i. LiesApart order i.key r) rank items before b
-            → Every (λ i. PLt (end_position order i.key.end) (lower order r)) (take place items)
+            → Every (λ i. PLt lawful (end_position order i.key.end) (lower order r)) (take place items)
             → b ≡ false → IsConnectedToSome order items r
         refused_previous_is_connected None place b at answer below f =
             absurd (let clash : false ≡ true = sym f ∙ answer in cc)
@@ -189,7 +172,7 @@ module _ {K : Type 0} (order : KeyOrder K) (lawful : IsLawful order) where
             let within = good_in_range q at.0 in
             let x = element_at items (rank q) within in
             let read = element_at_is_read items (rank q) within x in
-            let last = every_right (λ i. PLt (end_position order i.key.end) (lower order r))
+            let last = every_right (λ i. PLt lawful (end_position order i.key.end) (lower order r))
             (take (rank q) items) (x ∷ []) (rw (upto_item items (rank q) place x at.1 within read)
             at below) in
             let refused : LiesApart order x.key r → ⊥ = λ h. let t =
@@ -201,7 +184,7 @@ module _ {K : Type 0} (order : KeyOrder K) (lawful : IsLawful order) where
         refused_next_is_connected : (from : Option P) (place : ℕ) (b : Bool)
             → IsAt is_good rank (length items) from place
             → IsAnswerAt order (λ i. LiesApart order r i.key) rank items from b
-            → Every (λ i. PLe (lower order r) (end_position order i.key.end)) (drop place items)
+            → Every (λ i. PLe lawful (lower order r) (end_position order i.key.end)) (drop place items)
             → b ≡ false → IsConnectedToSome order items r
         refused_next_is_connected None place b at answer above f =
             absurd (let clash : false ≡ true = sym f ∙ answer in cc)
@@ -211,7 +194,7 @@ module _ {K : Type 0} (order : KeyOrder K) (lawful : IsLawful order) where
             let read = element_at_is_read items (rank q) within x in
             let more : drop place items ≡ x ∷ drop (rank q + 1) items =
             ap (λ n. drop n items) (sym at.1) ∙ from_item items (rank q) x within read in
-            let ends : Every (λ i. PLe (lower order r) (end_position order i.key.end))
+            let ends : Every (λ i. PLe lawful (lower order r) (end_position order i.key.end))
             (x ∷ drop (rank q + 1) items) = rw more at above in
             let refused : LiesApart order r x.key → ⊥ = λ h. let t =
             (answer x read).1 h in let clash : false ≡ true = sym f ∙ t in cc in
@@ -250,26 +233,8 @@ module _ {K : Type 0} (order : KeyOrder K) (lawful : IsLawful order) where
 
       module _ (place : ℕ) (front : Every (Before r) (take place items))
           (back : Every (Behind r) (drop place items)) where
-        range_good : PLt (lower order r) (upper order r)
+        range_good : PLt lawful (lower order r) (upper order r)
         range_good = (nonempty_good order lawful r known).0 full
-
-        item_before_is_unconnected : (i : Item (AnyRange K) V)
-            → (IsKnownRange order i.key × Good i) × Before r i → IsConnectedTo order i.key r → ⊥
-        item_before_is_unconnected i h (inl meets) =
-            (apart_not i.key r h.0.0 known h.0.1 range_good h.1).0 meets
-        item_before_is_unconnected i h (inr (inl t)) =
-            (apart_not i.key r h.0.0 known h.0.1 range_good h.1).1 t
-        item_before_is_unconnected i h (inr (inr t)) =
-            (apart_not i.key r h.0.0 known h.0.1 range_good h.1).2 t
-
-        item_after_is_unconnected : (i : Item (AnyRange K) V)
-            → (IsKnownRange order i.key × Good i) × Behind r i → IsConnectedTo order i.key r → ⊥
-        item_after_is_unconnected i h (inl meets) =
-            (apart_not r i.key known h.0.0 range_good h.0.1 h.1).0 (meets.1, meets.0)
-        item_after_is_unconnected i h (inr (inl t)) =
-            (apart_not r i.key known h.0.0 range_good h.0.1 h.1).2 t
-        item_after_is_unconnected i h (inr (inr t)) =
-            (apart_not r i.key known h.0.0 range_good h.0.1 h.1).1 t
 
         -- a range with such a place is connected to no item
         pub free_not : IsConnectedToSome order items r → ⊥
@@ -282,9 +247,11 @@ module _ {K : Type 0} (order : KeyOrder K) (lawful : IsLawful order) where
             elim (any_split (λ i. IsConnectedTo order i.key r) (take place items)
             (drop place items) some) [
               | inl k ↦ any_none _ _ (take place items) (every_both _ (Before r) _
-                  (every_front _ place items all) front) item_before_is_unconnected k
+                  (every_front _ place items all) front) (λ i h.
+                  (apart_not i.key r h.0.0 known h.0.1 range_good h.1).0) k
               | inr k ↦ any_none _ _ (drop place items) (every_both _ (Behind r) _
-                  (every_back _ place items all) back) item_after_is_unconnected k
+                  (every_back _ place items all) back) (λ i h.
+                  (apart_not r i.key known h.0.0 range_good h.0.1 h.1).1) k
             ]
 
         -- and can be put in there

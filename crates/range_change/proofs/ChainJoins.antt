@@ -1,5 +1,5 @@
 -- What a range joins beside it, and the chain in which it is bound or unbound.
-use Rattle.range_change.proofs.Common.{◌≡◌, sym, ◌∙◌, Bool, true, List, [], ◌∷◌, ◌++◌, ◌↔◌, ◌⊎◌, inl, inr, tied_itself, Every, Le, Lt, any_left, any_right, any_split, every_weaker, every_append, Line, Leads, Trails, Follows, IsChain, Has, Held, Respects, Leading, Trailing, IsLeft, IsRight, IsLeftOf, IsRightOf, IsMade, IsBoundTo, IsUnbound, IsSpliced}
+use Rattle.range_change.proofs.Common.{◌≡◌, refl, arith, ℕ, suc, ◌+◌, length, get_or, sym, ◌∙◌, Bool, true, List, [], ◌∷◌, ◌++◌, ◌↔◌, ◌⊎◌, inl, inr, tied_itself, Every, Le, Lt, any_left, any_right, any_split, every_weaker, every_append, Line, Leads, Trails, Follows, IsChain, Has, Held, Respects, Leading, Trailing, IsLeft, IsRight, IsLeftOf, IsRightOf, IsMade, IsBoundTo, IsUnbound, IsSpliced}
 use Rattle.range_change.proofs.Chains.{same_is_symmetric, chain_right, chain_tail, chain_above, follows_above, strictly_leads, strictly_trails, chain_before, chains_join, join_apart, cases, le_refl, lt_le, le_trans, lt_not_le, lt_le_trans, le_lt_trans}
 use Rattle.range_change.proofs.ChainSides.{none_below, none_above, only_first, only_second, held_alone, leading_like, left_whole}
 
@@ -15,6 +15,20 @@ module _ {L V X : Type 0} (line : Line L V X) where
       every_append _ front (y ∷ []) (every_weaker _ _ front
       (λ z h. strictly_leads line z c v (le_lt_trans line _ _ _ h.0
       (lt_le_trans line _ _ _ good.0 leads.0))) before) (leads, tt)
+
+  -- a chain leads to a place where its last item does
+  pub leading_by : (xs : List X) (c : L) (v : V) → IsChain line xs
+      → Every (λ x. Le line.cmp (line.hi x) c) xs
+      → ((n : ℕ) → n + 1 ≡ length xs → (d : X) → Le line.cmp (line.hi (get_or xs n d)) c
+      → Le line.cmp c (line.hi (get_or xs n d)) → line.same (line.value (get_or xs n d)) v ≡ true
+      → ⊥) → Leading line c v xs
+  leading_by [] c v chain ends apart = tt
+  leading_by (x ∷ []) c v chain ends apart = ((ends.0, apart 0 refl x ends.0), tt)
+  leading_by (x ∷ y ∷ ys) c v chain ends apart = (
+    strictly_leads line x c v (le_lt_trans line _ _ _ chain.1.0.0
+        (lt_le_trans line _ _ _ chain.1.1.0 ends.1.0)),
+    leading_by (y ∷ ys) c v chain.1.1 ends.1 (λ n at. apart (suc n) (omega (arith, at))),
+  )
 
   pub trailing_first : (y : X) (ys : List X) (d : L) (v : V) → IsChain line (y ∷ ys)
       → Trails line d v y → Trailing line d v (y ∷ ys)

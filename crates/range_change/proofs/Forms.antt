@@ -162,19 +162,31 @@ module _ {K : Type 0} (order : KeyOrder K) (lawful : IsLawful order) where
         let new = bound_hold after k known' key in
         (λ h e. h (new.1 (own.1 (old.0 e))), λ h e. h (old.1 (own.0 (new.0 e))))
 
-    inside_bound : (before after : List (Item (AnyRange K) V)) (r : AnyRange K) (v : V) (k : K)
-        → Known after → order.is_key k
-        → IsBoundTo (line_of order lawful same equal) before after (lower order r) (upper order r) v
-        → Le places (lower order r) (Beside k At) → Lt places (Beside k At) (upper order r)
-        → (b : Option V) → Binds order same after k b ↔ IsSomeOf order same v b
-    inside_bound before after r v k known key changed from upto (Some w) =
-        let own = changed.inside (Beside k At) (λ u. same u w) (respects_same w) from upto in
-        let new = binds_hold after k w known key in
-        (λ h. own.0 (new.0 h), λ h. new.1 (own.1 h))
-    inside_bound before after r v k known key changed from upto None = (
-      λ h. h ((bound_hold after k known key).1 ((changed.inside (Beside k At) (λ u. true)
-          respects_any from upto).1 refl)),
+    -- what the places of a key hold is its binding
+    pub binds_as : (items : List (Item (AnyRange K) V)) (k : K) (v : V) → Known items
+        → order.is_key k → ((W : V → Bool) → Respects (line_of order lawful same equal) W
+        → Hold W (Beside k At) items ↔ (W v ≡ true)) → (b : Option V)
+        → Binds order same items k b ↔ IsSomeOf order same v b
+    binds_as items k v known key has (Some w) =
+        let own = has (λ u. same u w) (respects_same w) in
+        let here = binds_hold items k w known key in
+        (λ h. own.0 (here.0 h), λ h. here.1 (own.1 h))
+    binds_as items k v known key has None = (
+      λ h. h ((bound_hold items k known key).1 ((has (λ u. true) respects_any).1 refl)),
       λ h. absurd h,
+    )
+
+    pub unbinds_as : (items : List (Item (AnyRange K) V)) (k : K) → Known items → order.is_key k
+        → ((W : V → Bool) → Respects (line_of order lawful same equal) W
+        → Hold W (Beside k At) items ↔ ⊥) → (b : Option V)
+        → Binds order same items k b ↔ (b ≡ None)
+    unbinds_as items k known key has (Some w) = (
+      λ h. absurd ((has (λ u. same u w) (respects_same w)).0 ((binds_hold items k w known key).0 h)),
+      λ h. absurd (cc),
+    )
+    unbinds_as items k known key has None = (
+      λ h. refl,
+      λ h e. (has (λ u. true) respects_any).0 ((bound_hold items k known key).0 e),
     )
 
     pub bound_after : (before after : List (Item (AnyRange K) V)) (r : AnyRange K) (v : V)
@@ -183,27 +195,12 @@ module _ {K : Type 0} (order : KeyOrder K) (lawful : IsLawful order) where
         → IsBoundAfter order same before after r v
     bound_after before after r v known_range known known' changed = record {
       held = λ k key h. let within = (held_between order lawful r k known_range key).0 h in
-          inside_bound before after r v k known' key changed within.0 within.1;
+          binds_as after k v known' key
+          (λ W alike. changed.inside (Beside k At) W alike within.0 within.1);
       others = λ k key h. same_binds before after k known known' key
           (λ W alike. changed.outside (Beside k At) W alike (unheld_lies_outside r k known_range key
           h));
     }
-
-    inside_unbound : (before after : List (Item (AnyRange K) V)) (r : AnyRange K) (k : K)
-        → Known after → order.is_key k
-        → IsUnbound (line_of order lawful same equal) before after (lower order r) (upper order r)
-        → Le places (lower order r) (Beside k At) → Lt places (Beside k At) (upper order r)
-        → (b : Option V) → Binds order same after k b ↔ (b ≡ None)
-    inside_unbound before after r k known key changed from upto (Some w) = (
-      λ h. absurd ((changed.inside (Beside k At) (λ u. same u w) (respects_same w) from upto).0
-          ((binds_hold after k w known key).0 h)),
-      λ h. absurd (cc),
-    )
-    inside_unbound before after r k known key changed from upto None = (
-      λ h. refl,
-      λ h e. (changed.inside (Beside k At) (λ u. true) respects_any from upto).0
-          ((bound_hold after k known key).0 e),
-    )
 
     pub unbound_after : (before after : List (Item (AnyRange K) V)) (r : AnyRange K)
         → IsKnownRange order r → Known before → Known after
@@ -211,7 +208,8 @@ module _ {K : Type 0} (order : KeyOrder K) (lawful : IsLawful order) where
         → IsUnboundAfter order same before after r
     unbound_after before after r known_range known known' changed = record {
       held = λ k key h. let within = (held_between order lawful r k known_range key).0 h in
-          inside_unbound before after r k known' key changed within.0 within.1;
+          unbinds_as after k known' key
+          (λ W alike. changed.inside (Beside k At) W alike within.0 within.1);
       others = λ k key h. same_binds before after k known known' key
           (λ W alike. changed.outside (Beside k At) W alike (unheld_lies_outside r k known_range key
           h));

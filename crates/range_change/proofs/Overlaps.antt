@@ -1,5 +1,5 @@
 -- Which stored ranges a range meets, and which keys both then hold.
-use Rattle.range_change.proofs.Common.{common, common_known, earlier_is, later_is, ◌≡◌, ℕ, zero, suc, ◌+◌, ◌<◌, Bool, List, [], ◌∷◌, ◌++◌, length, take, drop, get_or, refl, sym, arith, true, false, inl, inr, not, IsTrue, ◌↔◌, Option, Some, None, Every, option_copied, is_some, Bound, is_lt, KeyOrder, IsLawful, IsComplete, start_position, end_position, position_cmp, Position, not_both_greater_and_not, not_greater, AnyRange, Holds, IsKnownRange, IsEmptyRange, Le, Lt, Any, le_trans, lt_not_le, not_lt, list_is_take_and_drop, any_none, any_split, Item, IsBound, BindsTo, Binds, IsStored, MeetsSome, BindsKeyOf, Overlap}
+use Rattle.range_change.proofs.Common.{PLe, PLt, common, common_known, earlier_is, later_is, ◌≡◌, ℕ, zero, suc, ◌+◌, ◌<◌, Bool, List, [], ◌∷◌, ◌++◌, length, take, drop, get_or, refl, sym, arith, true, false, inl, inr, not, IsTrue, ◌↔◌, Option, Some, None, Every, option_copied, is_some, Bound, is_lt, KeyOrder, IsLawful, IsComplete, start_position, end_position, position_cmp, Position, not_both_greater_and_not, not_greater, AnyRange, Holds, IsKnownRange, IsEmptyRange, Le, Lt, Any, le_trans, lt_not_le, not_lt, list_is_take_and_drop, any_none, any_split, Item, IsBound, BindsTo, Binds, IsStored, MeetsSome, BindsKeyOf, Overlap}
 use Rattle.std.specs.Borrow.{Bor}
 use Rattle.range_algebra.proofs.Commons.{common_holds}
 use Rattle.range_algebra.proofs.Completeness.{nonempty_holds}
@@ -14,12 +14,6 @@ any_at P (y ∷ ys) zero x within read h = let at : x ≡ y = read in inl (rw at
 any_at P (y ∷ ys) (suc place) x within read h = inr (any_at P ys place x (omega arith) read h)
 
 module _ {K : Type 0} (order : KeyOrder K) (lawful : IsLawful order) where
-  abbrev PLe : Position K → Position K → Type 0
-  PLe p q = Le (position_cmp order.cmp) p q
-
-  abbrev PLt : Position K → Position K → Type 0
-  PLt p q = Lt (position_cmp order.cmp) p q
-
   abbrev Start : AnyRange K → Position K
   Start r = start_position order r.start
 
@@ -50,12 +44,12 @@ module _ {K : Type 0} (order : KeyOrder K) (lawful : IsLawful order) where
   shared_key r s complete known others full full_s meets =
       let cmp = position_cmp order.cmp in
       let ends =
-      λ (b : Bound K) (h : PLe (start_position order b) (End r))
-      (k : PLe (start_position order b) (End s)). earlier_is order lawful r.end s.end
-      (λ e. PLe (start_position order b) (end_position order e)) h k in
+      λ (b : Bound K) (h : PLe lawful (start_position order b) (End r))
+      (k : PLe lawful (start_position order b) (End s)). earlier_is order lawful r.end s.end
+      (λ e. PLe lawful (start_position order b) (end_position order e)) h k in
       let found = nonempty_holds order lawful complete (common order r s)
       (common_known order lawful r s known others) (later_is order lawful r.start s.start
-      (λ b. PLe (start_position order b) (End (common order r s)))
+      (λ b. PLe lawful (start_position order b) (End (common order r s)))
       (ends r.start (not_greater (cmp (Start r) (End r)) full) (not_lt lawful _ _ meets.1))
       (ends s.start (not_lt lawful _ _ meets.0) (not_greater (cmp (Start s) (End s)) full_s))) in
       let held = (common_holds order lawful r s found.0 found.1).0 found.2 in
@@ -95,15 +89,15 @@ module _ {K : Type 0} (order : KeyOrder K) (lawful : IsLawful order) where
 
     -- up to the place all end before the range, and from there on all start past it
     pub apart_meets : (items : List (Item (AnyRange K) V)) (r : AnyRange K) (p e : Position K)
-        (place : ℕ) → p ≡ Start r → e ≡ End r → Every (λ i. PLt (End i.key) p) (take place items)
-        → Every (λ i. PLt e (Start i.key)) (drop place items) → MeetsSome order items r → ⊥
+        (place : ℕ) → p ≡ Start r → e ≡ End r → Every (λ i. PLt lawful (End i.key) p) (take place items)
+        → Every (λ i. PLt lawful e (Start i.key)) (drop place items) → MeetsSome order items r → ⊥
     apart_meets items r p e place start end below above h =
         let parted : MeetsSome order (take place items ++ drop place items) r =
         rw (list_is_take_and_drop items place) at h in
         elim (any_split (λ i. Overlap order i.key r) (take place items) (drop place items) parted) [
-          | inl k ↦ any_none (λ i. Overlap order i.key r) (λ i. PLt (End i.key) (Start r))
+          | inl k ↦ any_none (λ i. Overlap order i.key r) (λ i. PLt lawful (End i.key) (Start r))
               (take place items) (rw start at below) (λ i l meets. meets.0 l) k
-          | inr k ↦ any_none (λ i. Overlap order i.key r) (λ i. PLt (End r) (Start i.key))
+          | inr k ↦ any_none (λ i. Overlap order i.key r) (λ i. PLt lawful (End r) (Start i.key))
               (drop place items) (rw end at above) (λ i l meets. meets.1 l) k
         ]
 
@@ -112,8 +106,8 @@ module _ {K : Type 0} (order : KeyOrder K) (lawful : IsLawful order) where
         (r : AnyRange K) (p e : Position K) (place : ℕ) (x : Item (AnyRange K) V) (before : Bool)
         → p ≡ Start r → e ≡ End r → IsStored order same items → (IsEmptyRange order r → ⊥)
         → place < length items → x ≡ get_or items place x
-        → Every (λ i. PLe (Start i.key) e) (take (place + 1) items)
-        → Every (λ i. PLt e (Start i.key)) (drop (place + 1) items)
+        → Every (λ i. PLe lawful (Start i.key) e) (take (place + 1) items)
+        → Every (λ i. PLt lawful e (Start i.key)) (drop (place + 1) items)
         → before ≡ is_lt (position_cmp order.cmp (End x.key) p) → IsTrue (not before)
         ↔ ((IsEmptyRange order r → ⊥) × MeetsSome order items r)
     last_started_decides same items r p e place x true start end stored full within read upto above

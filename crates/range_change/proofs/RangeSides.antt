@@ -1,9 +1,9 @@
 -- What stands on each side of a range, and the list in which it is bound or unbound.
-use Rattle.range_change.proofs.Common.{Line, Position, ◌≡◌, ℕ, zero, suc, ◌+◌, ◌-◌, ◌<◌, ◌≤◌, List, [], ◌∷◌, ◌++◌, length, take, drop, get_or, refl, ap, sym, ◌∙◌, arith, subst, Option, Some, None, Bool, true, false, length-drop, append-nil, get_or-drop, IsEquivalence, Every, KeyOrder, IsLawful, position_total, AnyRange, IsKnownRange, Item, lt_le, le_trans, PLe, PLt, line_of, Leads, Trails, IsLeft, IsRight, IsLeftOf, IsRightOf, lower, upper, item_lower, item_upper, IsWindow, option_items, Window, every_at, list_is_take_and_drop, every_weaker, every_append, every_right, tied_itself, Bound, Touches, IsInserted, IsRemoved, Overlap, IsPart, IsRemovalFrame, IsLeftFrame, IsRightFrame, ReachesBefore, ReachesAfter, flipped_bound, with_end, SameBound, IsKnownBound, joined_item, IsLeftRest, IsRightRest, IsLeftBorder, IsRightBorder, TouchesNoneBefore, TouchesNoneAfter}
+use Rattle.range_change.proofs.Common.{Line, Position, ◌≡◌, ℕ, zero, suc, ◌+◌, ◌-◌, ◌<◌, ◌≤◌, List, [], ◌∷◌, ◌++◌, length, take, drop, get_or, refl, ap, sym, ◌∙◌, arith, subst, Option, Some, None, Bool, true, false, length-drop, append-nil, length-take-le, get_or-take, get_or-drop, IsEquivalence, Every, KeyOrder, IsLawful, position_total, AnyRange, IsKnownRange, Item, lt_le, le_trans, PLe, PLt, line_of, Leads, Trails, IsLeft, IsRight, IsLeftOf, IsRightOf, lower, upper, item_lower, item_upper, IsWindow, option_items, Window, every_at, list_is_take_and_drop, every_weaker, every_append, every_right, tied_itself, Bound, Touches, IsInserted, IsRemoved, Overlap, IsPart, IsRemovalFrame, IsLeftFrame, IsRightFrame, ReachesBefore, ReachesAfter, flipped_bound, with_end, SameBound, IsKnownBound, joined_item, IsLeftRest, IsRightRest, IsLeftBorder, IsRightBorder, TouchesNoneBefore, TouchesNoneAfter}
 use Rattle.range_change.proofs.Tests.{not_both}
 use Rattle.range_change.proofs.Chains.{chain_above, chain_before, chain_right}
 use Rattle.range_change.proofs.ChainSides.{left_whole, left_cut, right_whole, right_cut}
-use Rattle.range_change.proofs.ChainJoins.{places_between_are_unbound, left_apart, left_joined, right_apart, right_joined, leading_last, trailing_first, places_between_are_bound}
+use Rattle.range_change.proofs.ChainJoins.{places_between_are_unbound, left_apart, left_joined, right_apart, right_joined, leading_by, leading_last, trailing_first, places_between_are_bound}
 use Rattle.range_change.proofs.Forms.{nonempty_good, Known, Chained, stored_chain, chain_stored, unbound_after, every_front, every_back}
 use Rattle.range_change.proofs.InsertionFrames.{insertion_frame, cut_way, not_cut}
 use Rattle.range_change.proofs.Forms.{before_is}
@@ -209,37 +209,25 @@ module _ {K : Type 0} {order : KeyOrder K} (lawful : IsLawful order) {V : Type 0
           known_start = window.known.0;
         }
 
-    all_lead : (n : ℕ) (v : V) → place ≡ n → IsLeftRest order same lawful equal items r place None
-        → TouchesNoneBefore order same items place r v
-        → Every (λ i. Leads line i (lower order r) v) (take place items)
-    all_lead zero v e rest none = rw e tt
-    all_lead (suc n) v e rest none =
-        let next : n + 1 ≡ place = omega (arith, e) in
-        let within : n < length items = omega (arith, e, window.in_range) in
-        let x = element_at items n within in
-        let read = element_at_is_read items n within x in
-        let last = upto_item items n place x next within read in
-        let before : place - 1 ≡ n = omega (arith, e) in
-        let ends = every_right _ (take n items) (x ∷ []) (rw last at window.below) in
-        let apart : Touches order x.key r → same x.value v ≡ true → ⊥ =
-        subst (λ (y : Item (AnyRange K) V). Touches order y.key r → same y.value v ≡ true → ⊥)
-        (ap (λ m. get_or items m x) before ∙ sym read) (none x (omega (arith, e))) in
-        rw last (leading_last line (take n items) x (lower order r) v
-        (rw (append-nil (take place items) ∙ last) at rest.left.chain) (
-          ends.0,
-          λ k t. apart ((touches_is order lawful x.key.end r window.known range_has_places ends.0).1
-              k) t,
-        ))
-
     pub left_border_none : (v : V) → IsLeftRest order same lawful equal items r place None
         → TouchesNoneBefore order same items place r v
         → IsLeftBorder order same lawful equal items r v place None None
-    left_border_none v rest none = record {
-      left = left_apart line items (take place items ++ []) (lower order r) v rest.left
-          (rw (append-nil (take place items)) (all_lead place v refl rest none));
-      known = tt;
-      known_start = window.known.0;
-    }
+    left_border_none v rest none =
+        let chain = rw (append-nil (take place items)) at rest.left.chain in
+        let size = length-take-le place items (omega (arith, window.in_range)) in
+        record {
+          left = left_apart line items (take place items ++ []) (lower order r) v rest.left
+              (rw (append-nil (take place items)) (leading_by line (take place items)
+              (lower order r) v chain window.below (λ n at d le.
+              let lt : n < place = omega (arith, at, size) in
+              let index : place - 1 ≡ n = omega (arith, at, size) in
+              let here = sym (get_or-take place items n d lt) in
+              let apart = rw (index, here) at (none d (omega (arith, lt))) in
+              λ k t. apart ((touches_is order lawful (get_or (take place items) n d).key.end r
+              window.known range_has_places le).1 k) t)));
+          known = tt;
+          known_start = window.known.0;
+        }
 
     pub right_border_at : (end n : ℕ) (v : V) (x : Item (AnyRange K) V) → n + 1 ≡ end
         → n < length items → x ≡ get_or items n x → PLe lawful (item_lower order x) (upper order r)

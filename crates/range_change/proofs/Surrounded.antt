@@ -16,17 +16,10 @@ none_of : {P : Type 0} (o : Option P) → length (option_items o) ≤ 0 → o �
 none_of None few = refl
 none_of (Some p) few = absurd (omega (arith, few))
 
-module _ {K : Type 0} (order : KeyOrder K) {V : Type 0} {P : Type 0} (is_good : P → Type 0)
-    (rank : P → ℕ) (items : List (Item (AnyRange K) V)) (r : AnyRange K) (place count : ℕ) where
-  few_before : (first : Option P) → ReachesBefore order is_good rank items r place count first
-      → length (option_items first) ≤ count
-  few_before None reach = omega arith
-  few_before (Some p) reach = omega (arith, reach.2)
-
-  few_after : (last : Option P) → ReachesAfter order is_good rank items r place count last
-      → length (option_items last) ≤ count
-  few_after None reach = omega arith
-  few_after (Some p) reach = omega (arith, reach.2)
+few_of : {P : Type 0} (o : Option P) (count : ℕ) → ((p : P) → o ≡ Some p → 0 < count)
+    → length (option_items o) ≤ count
+few_of None count some = omega arith
+few_of (Some p) count some = omega (arith, some p refl)
 
 module _ {K : Type 0} {order : KeyOrder K} {V : Type 0} {same : V → V → Bool} {P : Type 0}
     {is_good : P → Type 0} {rank : P → ℕ} {items : List (Item (AnyRange K) V)} {r : AnyRange K}
@@ -36,8 +29,8 @@ module _ {K : Type 0} {order : KeyOrder K} {V : Type 0} {same : V → V → Bool
       → (length (option_items reach.first) ≤ reach.window.count)
       × (length (option_items reach.last) ≤ reach.window.count)
   reach_is_met {reach} found = (
-    few_before order is_good rank items r place reach.window.count reach.first found.first,
-    few_after order is_good rank items r place reach.window.count reach.last found.last,
+    few_of reach.first reach.window.count (λ p is. (rw is at found.first).2),
+    few_of reach.last reach.window.count (λ p is. (rw is at found.last).2),
   )
 
   -- so none does where the window is empty
