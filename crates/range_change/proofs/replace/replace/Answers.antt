@@ -89,7 +89,8 @@ returns g c =
     record {
       ok = replacement_is_made plan new window.stored c.requires.middle window.known
           (all_meet lawful equal window) made;
-      spelled = replaced_keeps_spelling lawful equal window.stored c.requires.reach plan new made;
+      spelled = replaced_keeps_spelling lawful equal window.stored c.requires.reach
+          (g.met.C.Storage.good_is_in_range c.args.stored.now) plan new made;
       refused = tt;
       none_put = λ none. refl;
     }
