@@ -86,8 +86,8 @@ module _ {K : Type 0} {order : KeyOrder K} (lawful : IsLawful order) {V : Type 0
         )
 
     pub replaced_keeps_spelling : {middle : List (Item (AnyRange K) V)}
-        {joined other from : Option P} (plan : IsReplacement order lawful same equal is_good rank items r place reach.window.count
-        middle reach.first reach.last joined other from) (new : List (Item (AnyRange K) V))
+        {joined other from : Option P} (plan : IsReplacement order lawful same equal is_good rank items r reach middle
+        joined other from) (new : List (Item (AnyRange K) V))
         → new ≡ take plan.left.at items ++ option_items plan.left.rest
         ++ with_last_end plan.right.finish (with_first_start plan.left.start middle)
         ++ option_items plan.right.rest ++ drop plan.right.end items
