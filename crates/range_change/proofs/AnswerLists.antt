@@ -1,6 +1,6 @@
 -- Answers put one after the other, those that touch with equal values as one.
-use Rattle.range_change.proofs.Common.{◌⊎◌, ◌≡◌, refl, ap, ◌∙◌, ℕ, zero, suc, ◌+◌, ◌-◌, ◌<◌, Option, Some, None, Bool, true, List, [], ◌∷◌, ◌++◌, inl, inr, ◌↔◌, length, get_or, arith, Every, slice_set, Bound, Equal, IsEquivalence, tied_back, KeyOrder, IsLawful, start_position, end_position, position_cmp, position_total, Position, AnyRange, past, lower, upper, IsBoundClone, SameBound, same_start, IsKnownRange, Any, lt_le, eq_le, eq_ge, le_trans, cases, le_lt_trans, lt_le_trans, PLe, PLt, any_left, any_split, every_weaker, every_append, every_left, every_right, line_of, Respects, IsBoundTo, IsLeftOf, sym, append-nil, every_at, lt_not_le, IsKnownBound, Touches, Item, Answered, JoinsNoLast, IsPut, with_end, item_lower}
-use Rattle.range_change.proofs.Chains.{chain_right}
+use Rattle.range_change.proofs.Common.{common_steps, ◌⊎◌, ◌≡◌, refl, ap, ◌∙◌, ℕ, zero, suc, ◌+◌, ◌-◌, ◌<◌, Option, Some, None, Bool, true, List, [], ◌∷◌, ◌++◌, inl, inr, ◌↔◌, length, get_or, arith, Every, slice_set, Bound, Equal, IsEquivalence, tied_back, KeyOrder, IsLawful, start_position, end_position, position_cmp, position_total, Position, AnyRange, past, lower, upper, IsBoundClone, SameBound, same_start, IsKnownRange, Any, lt_le, eq_le, eq_ge, le_trans, cases, le_lt_trans, lt_le_trans, PLe, PLt, any_left, any_split, every_weaker, every_append, every_left, every_right, line_of, Respects, IsBoundTo, IsLeftOf, sym, append-nil, every_at, lt_not_le, IsKnownBound, Touches, Item, Answered, JoinsNoLast, IsPut, with_end, item_lower}
+use Rattle.range_change.proofs.Chains.{chain_right, inside_or_out}
 use Rattle.range_change.proofs.ChainJoins.{leading_by, left_joined, places_between_are_bound}
 use Rattle.range_change.proofs.ChainSides.{none_above}
 use Rattle.range_change.proofs.CutParts.{same_past}
@@ -79,18 +79,12 @@ module _ {K : Type 0} (order : KeyOrder K) (lawful : IsLawful order) {V : Type 0
         le_trans lawful _ _ _ from (le_trans lawful _ _ _ (lt_le lawful _ _ inside.2) upto)
 
     lies_up_to_later_place : (j : Item (AnyRange K) V) → LiesUpTo m j → LiesUpTo n j
-    lies_up_to_later_place j h = (
-      h.0,
-      h.1,
-      le_trans lawful _ _ _ h.2 later_place_is_not_before,
-    )
+    lies_up_to_later_place j h = grind (arith, common_steps, le_trans, later_place_is_not_before)
 
     more_valued : (a : Answered K V) (middle : List (Item (AnyRange K) V))
         → Every (λ j. Any (λ b. b.answer ≡ Some j.value) answers) middle
         → Every (λ j. Any (λ b. b.answer ≡ Some j.value) (answers ++ a ∷ [])) middle
-    more_valued a middle h = every_weaker (λ j. Any (λ b. b.answer ≡ Some j.value) answers)
-        (λ j. Any (λ b. b.answer ≡ Some j.value) (answers ++ a ∷ [])) middle
-        (λ j g. any_left (λ b. b.answer ≡ Some j.value) answers (a ∷ []) g) h
+    more_valued a middle h = grind (arith, common_steps, every_weaker, any_left)
 
     filled_free : (value : Option V) (middle : List (Item (AnyRange K) V))
         → IsFilledUpTo m answers middle
@@ -131,30 +125,28 @@ module _ {K : Type 0} (order : KeyOrder K) (lawful : IsLawful order) {V : Type 0
           let P = λ (b : Answered K V). HoldsAt p b.key × Gives W b.answer in
           let before = was.has p W alike in
           let beside : PLt lawful p (lower order key) ⊎ PLe lawful (upper order key) p
-              → Hold order lawful same equal W p new ↔ Any P more = λ out.
-              let stands = bound.outside p W alike out in (
-                λ h. any_left P answers (a ∷ []) (before.0 (stands.0 h)),
-                λ h. elim (any_but_end P answers a h) [
-                  | inl g ↦ stands.1 (before.1 g)
-                  | inr e ↦ absurd (elim out [
-                    | inl l ↦ lt_not_le lawful _ _ l e.0.0
-                    | inr le ↦ lt_not_le lawful _ _ e.0.1 le
-                  ])
-                ],
-              ) in
-          elim (cases lawful p (lower order key)) [
-            | inl l ↦ beside (inl l)
-            | inr on ↦ elim (cases lawful p (upper order key)) [
-              | inl l ↦ let own = bound.inside p W alike on l in (
-                λ h. any_end P answers a ((on, l), own.0 h),
-                λ h. own.1 (elim (any_but_end P answers a h) [
-                  | inl g ↦ absurd (none_above (line_of order lawful same equal) p m W old
-                      (le_trans lawful _ _ _ from on) ended (before.1 g))
-                  | inr e ↦ e.1
-                ]),
-              )
-              | inr le ↦ beside (inr le)
-            ]
+          → Hold order lawful same equal W p new ↔ Any P more = λ out.
+          let stands = bound.outside p W alike out in (
+            λ h. any_left P answers (a ∷ []) (before.0 (stands.0 h)),
+            λ h. elim (any_but_end P answers a h) [
+              | inl g ↦ stands.1 (before.1 g)
+              | inr e ↦ absurd (elim out [
+                | inl l ↦ lt_not_le lawful _ _ l e.0.0
+                | inr le ↦ lt_not_le lawful _ _ e.0.1 le
+              ])
+            ],
+          ) in
+          elim (inside_or_out (line_of order lawful same equal) p (lower order key)
+          (upper order key)) [
+            | inl within ↦ let own = bound.inside p W alike within.0 within.1 in (
+              λ h. any_end P answers a (within, own.0 h),
+              λ h. own.1 (elim (any_but_end P answers a h) [
+                | inl g ↦ absurd (none_above (line_of order lawful same equal) p m W old
+                    (le_trans lawful _ _ _ from within.0) ended (before.1 g))
+                | inr e ↦ e.1
+              ]),
+            )
+            | inr out ↦ beside out
           ]
 
       filled_bound : (front rest : List (Item (AnyRange K) V)) (j : Item (AnyRange K) V)
@@ -173,9 +165,12 @@ module _ {K : Type 0} (order : KeyOrder K) (lawful : IsLawful order) {V : Type 0
             right = record {
               chain = tt;
               starts = tt;
-              holds = λ p W alike le. (λ h. absurd h, λ h. absurd (none_above line p m W old
-                  (le_trans lawful _ _ _ from (le_trans lawful _ _ _ (lt_le lawful _ _ inside.2)
-                  (le_trans lawful _ _ _ over le))) ended h));
+              holds = λ p W alike le. (
+                λ h. absurd h,
+                λ h. absurd (none_above line p m W old
+                    (le_trans lawful _ _ _ from (le_trans lawful _ _ _ (lt_le lawful _ _ inside.2)
+                    (le_trans lawful _ _ _ over le))) ended h),
+              );
             };
             trails = tt;
             above = over;
@@ -244,8 +239,11 @@ module _ {K : Type 0} (order : KeyOrder K) (lawful : IsLawful order) {V : Type 0
           filled_bound front (last ∷ []) (with_end last e) list (rw list (left_joined line front last
           [] (lower order key) v chain (le_trans lawful _ _ _ (lt_le lawful _ _ good.0) before)
           ((touches_is order lawful last.key.end key inside.0 inside.2 before).0 touching)
-          alike_values)) to alike_values ((every_right (λ i. IsKnownRange order i.key) front
-          (last ∷ []) (rw list at was.known)).0.0, known) within.0.0 (every_right (λ i.
+          alike_values)) to alike_values (
+            (every_right (λ i. IsKnownRange order i.key) front
+                (last ∷ []) (rw list at was.known)).0.0,
+            known,
+          ) within.0.0 (every_right (λ i.
           Any (λ b. b.answer ≡ Some i.value) more) front (last ∷ [])
           (rw list at old_valued)).0
 

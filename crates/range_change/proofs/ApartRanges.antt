@@ -1,5 +1,5 @@
 -- A range that lies apart from all stored ones, and the list with it.
-use Rattle.range_change.proofs.Common.{PLe, PLt, ◌≡◌, ℕ, ◌+◌, ◌<◌, List, [], ◌∷◌, ◌++◌, length, take, drop, get_or, refl, ap, sym, subst, ◌∙◌, arith, Option, Some, None, Bool, true, false, ◌&&◌, IsTrue, ◌⊎◌, ◌↔◌, inl, inr, Every, IfSome, MatchOption, IsEquivalence, Bound, KeyOrder, IsLawful, Position, end_position, position_cmp, start_position, less_or_not, line_of, IsBoundTo, flipped, starts_at_end, lower, upper, Le, Lt, eq_ge, eq_le, le_lt_trans, le_refl, le_trans, lt_le, lt_le_trans, lt_not_le, lt_trans, not_le, IsEmptyRange, IsKnownRange, AnyRange, drop_all, list_is_take_and_drop, any_none, any_split, every_append, every_right, every_weaker, flipped_bound_is_past, IsAt, place_before, Item, IsBoundAfter, item_lower, item_upper, IsStored, IsConnectedTo, IsConnectedToSome, MeetAlso, Overlap, LiesBefore, Touches, IsFound, IsJustBefore}
+use Rattle.range_change.proofs.Common.{common_steps, PLe, PLt, ◌≡◌, ℕ, ◌+◌, ◌<◌, List, [], ◌∷◌, ◌++◌, length, take, drop, get_or, refl, ap, sym, subst, ◌∙◌, arith, Option, Some, None, Bool, true, false, ◌&&◌, IsTrue, ◌⊎◌, ◌↔◌, inl, inr, Every, IfSome, MatchOption, IsEquivalence, Bound, KeyOrder, IsLawful, Position, end_position, position_cmp, start_position, less_or_not, line_of, IsBoundTo, flipped, starts_at_end, lower, upper, Le, Lt, eq_ge, eq_le, le_lt_trans, le_refl, le_trans, lt_le, lt_le_trans, lt_not_le, lt_trans, not_le, IsEmptyRange, IsKnownRange, AnyRange, drop_all, list_is_take_and_drop, any_none, any_split, every_append, every_right, every_weaker, flipped_bound_is_past, IsAt, place_before, Item, IsBoundAfter, item_lower, item_upper, IsStored, IsConnectedTo, IsConnectedToSome, MeetAlso, Overlap, LiesBefore, Touches, IsFound, IsJustBefore}
 use Rattle.std.proofs.lemmas.Bool.{and_parts, true_from_ne_false}
 use Rattle.range_change.proofs.Tests.{not_both}
 use Rattle.range_change.proofs.Chains.{chain_above, chain_before, chain_right, strictly_leads, strictly_trails}
@@ -40,39 +40,14 @@ module _ {K : Type 0} (order : KeyOrder K) (lawful : IsLawful order) where
   pub apart_by_start : (r s : AnyRange K) (i : Bound K) → flipped r.end ≡ Some i
       → IsKnownRange order r → IsKnownRange order s
       → LiesApart order r s ↔ PLt lawful (start_position order i) (lower order s)
-  apart_by_start r s i turns known others =
-      let before = before_is order lawful r.end s.start known.1 others.0 in
-      let same = flipped_bound_is_past order lawful r.end i turns in
-      let touch =
-      λ (le : PLe lawful (upper order r) (lower order s)). touches_by order lawful r.end i s turns le in (
-        λ h. not_le lawful (start_position order i) (lower order s) (λ back.
-            h.1 (rw turns ((touch (before.0 h.0)).1 (le_trans lawful _ _ _ back
-            (eq_ge lawful _ _ same))))),
-        λ l.
-            let lt : PLt lawful (upper order r) (lower order s) =
-            le_lt_trans lawful _ _ _ (eq_le lawful _ _ same) l in
-            let le = lt_le lawful _ _ lt in (
-              before.1 le,
-              λ t. lt_not_le lawful _ _ lt ((touch le).0 (rw turns at t)),
-            ),
-      )
+  apart_by_start r s i turns known others = grind (arith, common_steps, before_is, flipped_bound_is_past, upper, lower, touches_by, not_le, start_position, le_trans, eq_ge, le_lt_trans, eq_le, lt_le, lt_not_le)
 
   -- ranges with a place between are not connected
   pub apart_not : (r s : AnyRange K) → IsKnownRange order r → IsKnownRange order s
       → PLt lawful (lower order r) (upper order r) → PLt lawful (lower order s) (upper order s)
       → PLt lawful (upper order r) (lower order s)
       → (IsConnectedTo order r s → ⊥) × (IsConnectedTo order s r → ⊥)
-  apart_not r s known others good good_s l =
-      let before =
-      (before_is order lawful r.end s.start known.1 others.0).1 (lt_le lawful _ _ l) in
-      let ahead = λ (t : Touches order r s). lt_not_le lawful _ _ l (eq_ge lawful _ _
-      (touching_same order lawful r.end (lower order s) t)) in
-      let behind = λ (t : Touches order s r). lt_not_le lawful _ _ (lt_trans lawful _ _ _ good
-      (lt_trans lawful _ _ _ l good_s)) (eq_le lawful _ _
-      (touching_same order lawful s.end (lower order r) t)) in (
-        λ h. elim h [ inl meets ↦ meets.0 before | inr (inl t) ↦ ahead t | inr (inr t) ↦ behind t ],
-        λ h. elim h [ inl meets ↦ meets.1 before | inr (inl t) ↦ behind t | inr (inr t) ↦ ahead t ],
-      )
+  apart_not r s known others good good_s l = grind (arith, common_steps, before_is, lt_le, lt_not_le, eq_ge, touching_same, lower, lt_trans, eq_le)
 
   module _ {V : Type 0} (same : V → V → Bool) (equal : IsEquivalence same) where
     abbrev Before : AnyRange K → Item (AnyRange K) V → Type 0
@@ -217,12 +192,7 @@ module _ {K : Type 0} (order : KeyOrder K) (lawful : IsLawful order) where
             let place = place_before rank (length items) from in
             record {
               position = found.position;
-              apart = λ h.
-                  let both_are = and_parts a b (sym both ∙ h) in record {
-                    in_range = found.in_range;
-                    before = clear_before before place a found.previous first both_are.0;
-                    behind = clear_after from place b found.position second both_are.1;
-                  };
+              apart = grind (arith, common_steps, and_parts, clear_before, clear_after);
               taken = λ f. elim (one_fails free a b both f) [
                 | inl e ↦ refused_previous_is_connected before place a found.previous first
                     (rw start at found.below) e

@@ -27,10 +27,7 @@ kept_place kept size (Some p) h = (kept p (h p refl)).1
 
 same_at : {X : Type 0} (xs ys : List X) (n : ℕ) (d : X) → drop n xs ≡ drop n ys
     → get_or xs n d ≡ get_or ys n d
-same_at xs ys n d e =
-    let plus : n + 0 ≡ n = omega arith in
-    ap (λ m. get_or xs m d) (sym plus) ∙ (sym (get_or-drop n xs 0 d) ∙
-    (ap (λ zs. get_or zs 0 d) e ∙ (get_or-drop n ys 0 d ∙ ap (λ m. get_or ys m d) plus)))
+same_at xs ys n d e = grind (arith, common_steps, get_or, get_or-drop)
 
 module _ {K V P : Type 0} (is_good : P → Type 0) (rank : P → ℕ) (items : List (Item (AnyRange K) V))
     (in_range : (p : P) → is_good p → rank p < length items) where
@@ -111,9 +108,7 @@ module _ {K V P : Type 0} (is_good : P → Type 0) (rank : P → ℕ) (items : L
       record {
         front = λ n l. let below : n ≤ upto =
             omega arith in rw new_is (take-set-le n base upto (with_start x b) below);
-        behind = rw (new_is, shape.4.2) (drop-set base upto (with_start x b) within ∙ ap
-            (λ ys. with_start x b ∷ ys) (kept (upto + 1) (omega arith) ∙ ap (λ n. drop n items)
-            (sym shape.2)));
+        behind = grind (arith, common_steps, drop-set, with_start, drop);
         same_end = edited.1 ∙ sym shape.3;
         size = rw new_is (length-set base upto (with_start x b));
       }

@@ -1,6 +1,6 @@
 -- What a range joins beside it, and the chain in which it is bound or unbound.
-use Rattle.range_change.proofs.Common.{◌≡◌, refl, arith, ℕ, suc, ◌+◌, length, get_or, sym, ◌∙◌, Bool, true, List, [], ◌∷◌, ◌++◌, ◌↔◌, ◌⊎◌, inl, inr, tied_itself, Every, Le, Lt, any_left, any_right, any_split, every_weaker, every_append, Line, Leads, Trails, Follows, IsChain, Has, Held, Respects, Leading, Trailing, IsLeft, IsRight, IsLeftOf, IsRightOf, IsMade, IsBoundTo, IsUnbound, IsSpliced}
-use Rattle.range_change.proofs.Chains.{same_is_symmetric, chain_right, chain_tail, chain_above, follows_above, strictly_leads, strictly_trails, chain_before, chains_join, join_apart, cases, le_refl, lt_le, le_trans, lt_not_le, lt_le_trans, le_lt_trans}
+use Rattle.range_change.proofs.Common.{common_steps, ◌≡◌, refl, arith, ℕ, suc, ◌+◌, length, get_or, sym, ◌∙◌, Bool, true, List, [], ◌∷◌, ◌++◌, ◌↔◌, ◌⊎◌, inl, inr, tied_itself, Every, Le, Lt, any_left, any_right, any_split, every_weaker, every_append, Line, Leads, Trails, Follows, IsChain, Has, Held, Respects, Leading, Trailing, IsLeft, IsRight, IsLeftOf, IsRightOf, IsMade, IsBoundTo, IsUnbound, IsSpliced}
+use Rattle.range_change.proofs.Chains.{same_is_symmetric, chain_right, chain_tail, chain_above, follows_above, strictly_leads, strictly_trails, chain_before, chains_join, join_apart, inside_or_out, le_refl, lt_le, le_trans, lt_not_le, lt_le_trans, le_lt_trans}
 use Rattle.range_change.proofs.ChainSides.{none_below, none_above, only_first, only_second, held_alone, leading_like, left_whole}
 
 pub both_ways : {A B C : Type 0} → A ↔ B → C ↔ B → A ↔ C
@@ -42,21 +42,11 @@ module _ {L V X : Type 0} (line : Line L V X) where
   -- nothing beside the range joins it
   pub left_apart : (items kept : List X) (c : L) (v : V) → IsLeft line items kept c
       → Leading line c v kept → IsLeftOf line items kept c c v
-  left_apart items kept c v left leads = record {
-    left = left;
-    leads = leads;
-    below = le_refl line c;
-    joined = λ p W alike from l. absurd (lt_not_le line _ _ l from);
-  }
+  left_apart items kept c v left leads = grind (arith, common_steps, le_refl, lt_not_le)
 
   pub right_apart : (items kept : List X) (d : L) (v : V) → IsRight line items kept d
       → Trailing line d v kept → IsRightOf line items kept d d v
-  right_apart items kept d v right trails = record {
-    right = right;
-    trails = trails;
-    above = le_refl line d;
-    joined = λ p W alike from l. absurd (lt_not_le line _ _ l from);
-  }
+  right_apart items kept d v right trails = grind (arith, common_steps, le_refl, lt_not_le)
 
   -- an item with the value reaches or touches the range
   pub left_joined : (front : List X) (x : X) (rest : List X) (c : L) (v : V)
@@ -69,11 +59,7 @@ module _ {L V X : Type 0} (line : Line L V X) where
         left = left_whole line front (x ∷ rest) (line.lo x) chain
             (every_weaker _ _ front (λ z h. h.0) before) (chain_above line (line.lo x) x rest whole
             (le_refl line (line.lo x)));
-        leads = every_weaker _ _ front (λ z h. (
-          h.0,
-          λ k s. h.1 k (line.equal.congr (line.value z) v (line.value x) s ∙ same_is_symmetric
-              line (line.value x) v alike_value),
-        )) before;
+        leads = grind (arith, common_steps, every_weaker, same_is_symmetric);
         below = starts;
         joined = λ p W alike from l. held_alone line front x rest p W v chain
             (from, lt_le_trans line _ _ _ l reaches) alike alike_value;
@@ -103,10 +89,7 @@ module _ {L V X : Type 0} (line : Line L V X) where
                 (any_split _ front (x ∷ rest) h)),
           );
         };
-        trails = every_weaker _ _ rest (λ z h. (
-          h.0,
-          λ k s. h.1 k (line.equal.congr (line.value x) v (line.value z) alike_value ∙ s),
-        )) (follows_trails x rest whole.1);
+        trails = grind (arith, common_steps, every_weaker, follows_trails);
         above = ends;
         joined = λ p W alike from l. held_alone line front x rest p W v chain
             (le_trans line _ _ _ reaches from, l) alike alike_value;
@@ -161,18 +144,13 @@ module _ {L V X : Type 0} (line : Line L V X) where
     inside = λ p W alike from upto. let wide = made.inside p W alike (le_trans line _ _ _ low from)
         (lt_le_trans line _ _ _ upto high) in let narrow = own p W alike from upto in
         (λ h. narrow.0 (wide.0 h), λ h. wide.1 (narrow.1 h));
-    outside = λ p W alike where_. elim where_ [
-      | inl under ↦ elim (cases line p s) [
-        | inl below ↦ made.outside p W alike (inl below)
-        | inr from ↦ both_ways (made.inside p W alike from (lt_le_trans line _ _ _ under
-            (le_trans line _ _ _ (lt_le line _ _ l) high))) (beside p W alike (inl (from, under)))
-      ]
-      | inr over ↦ elim (cases line p e) [
-        | inl upto ↦ both_ways (made.inside p W alike (le_trans line _ _ _ low
-            (le_trans line _ _ _ (lt_le line _ _ l) over)) upto)
-            (beside p W alike (inr (over, upto)))
-        | inr above ↦ made.outside p W alike (inr above)
-      ]
+    outside = λ p W alike where_. elim (inside_or_out line p s e) [
+      | inl within ↦ both_ways (made.inside p W alike within.0 within.1) (beside p W alike
+          (elim where_ [
+            | inl under ↦ inl (within.0, under)
+            | inr over ↦ inr (over, within.1)
+          ]))
+      | inr out ↦ made.outside p W alike out
     ];
   }
 
@@ -187,14 +165,7 @@ module _ {L V X : Type 0} (line : Line L V X) where
       → Le line.cmp e (line.hi m) → line.same (line.value m) v ≡ true → IsChain line ys
       → Trailing line e v ys → Follows line m ys
   trailing_follows m [] e v h k s chain trails = tt
-  trailing_follows m (y ∷ ys) e v h k s chain trails = (
-    (
-      le_trans line _ _ _ h trails.0.0,
-      λ q t. trails.0.1 (le_trans line _ _ _ q h)
-          (sym (line.equal.congr (line.value m) v (line.value y) s) ∙ t),
-    ),
-    chain,
-  )
+  trailing_follows m (y ∷ ys) e v h k s chain trails = grind (arith, common_steps, le_trans)
 
   -- the new item is all that the hull holds
   pub places_between_are_bound : (items front behind : List X) (m : X) (c d : L) (v : V)

@@ -1,5 +1,5 @@
 -- What stands on each side of a range that is cut out of a chain.
-use Rattle.range_change.proofs.Common.{◌≡◌, ◌∙◌, Bool, true, List, [], ◌∷◌, ◌++◌, ◌⊎◌, ◌↔◌, inl, inr, Every, Equal, Le, Lt, any_left, any_right, any_split, any_none, every_weaker, every_append, Line, IsChain, Has, Held, Respects, Leading, IsLeft, IsRight}
+use Rattle.range_change.proofs.Common.{arith, common_steps, ◌≡◌, ◌∙◌, Bool, true, List, [], ◌∷◌, ◌++◌, ◌⊎◌, ◌↔◌, inl, inr, Every, Equal, Le, Lt, any_left, any_right, any_split, any_none, every_weaker, every_append, Line, IsChain, Has, Held, Respects, Leading, IsLeft, IsRight}
 use Rattle.range_change.proofs.Chains.{same_is_symmetric, chain_left, chain_right, follows_above, chain_before, chains_join, follows_like, lt_le, eq_le, eq_ge, le_trans, lt_not_le, lt_le_trans, le_lt_trans}
 
 pub only_first : {A B : Type 0} → (B → ⊥) → A ⊎ B → A
@@ -61,13 +61,7 @@ module _ {L V X : Type 0} (line : Line L V X) where
   pub leading_like : (front : List X) (m : X) (s : L) (v : V) → Leading line s v front
       → line.cmp (line.lo m) s ≡ Equal → line.same (line.value m) v ≡ true
       → Leading line (line.lo m) (line.value m) front
-  leading_like front m s v leads at alike_value =
-      let high = eq_ge line _ _ at in
-      every_weaker _ _ front (λ z h. (
-        le_trans line _ _ _ h.0 high,
-        λ k t. h.1 (le_trans line _ _ _ high k)
-            (line.equal.congr (line.value z) (line.value m) v t ∙ alike_value),
-      )) leads
+  leading_like front m s v leads at alike_value = grind (arith, common_steps, eq_ge, every_weaker, le_trans)
 
   -- a front that ends at the place at most, before what starts there at least
   pub left_whole : (front rest : List X) (c : L) → IsChain line (front ++ rest)
@@ -143,10 +137,7 @@ module _ {L V X : Type 0} (line : Line L V X) where
       let d_low = lt_le line _ _ ends in
       record {
         chain = (good, follows);
-        starts = (
-          eq_ge line _ _ at_lo,
-          every_weaker _ _ behind (λ z h. le_trans line _ _ _ d_low h) above,
-        );
+        starts = grind (arith, common_steps, eq_ge, every_weaker, le_trans);
         holds = λ p W alike l. let inside = le_trans line _ _ _ reaches l in (
           like_item [] rest behind behind y x p W alike alike_value (λ h. (
             inside,

@@ -1,5 +1,5 @@
 -- What one comparison of an element says of the items after it.
-use Rattle.range_change.proofs.Common.{PLt, ◌≡◌, ℕ, zero, suc, ◌<◌, ◌≤◌, List, [], ◌∷◌, length, get_or, refl, sym, ◌∙◌, arith, Bool, true, false, not, ◌||◌, IsTrue, Every, Bound, Included, Excluded, Unbounded, Equal, is_gt, is_lt, is_eq, KeyOrder, IsLawful, start_position, end_position, position_cmp, position_total, Position, eq_is_equal, lt_is_less, not_greater, AnyRange, IsKnownRange, IsEmptyRange, starts_at_end, past, Lt, eq_ge, lt_not_le, le_lt_trans, lt_trans, every_at, every_weaker, flipped_bound_is_past, Item, EachNext, LiesBefore}
+use Rattle.range_change.proofs.Common.{common_steps, PLt, ◌≡◌, ℕ, zero, suc, ◌<◌, ◌≤◌, List, [], ◌∷◌, length, get_or, refl, sym, ◌∙◌, arith, Bool, true, false, not, ◌||◌, IsTrue, Every, Bound, Included, Excluded, Unbounded, Equal, is_gt, is_lt, is_eq, KeyOrder, IsLawful, start_position, end_position, position_cmp, position_total, Position, eq_is_equal, lt_is_less, not_greater, AnyRange, IsKnownRange, IsEmptyRange, starts_at_end, past, Lt, eq_ge, lt_not_le, le_lt_trans, lt_trans, every_at, every_weaker, flipped_bound_is_past, Item, EachNext, LiesBefore}
 use Rattle.range_change.specs.Searches.{ElementIsBefore}
 use Rattle.range_change.proofs.Forms.{before_is}
 use Rattle.range_change.proofs.Listed.{before_by_parts}
@@ -18,12 +18,7 @@ module _ {K : Type 0} (order : KeyOrder K) (lawful : IsLawful order) where
   -- what starts where an end bound ends starts at the place past it
   pub touching_same : (e : Bound K) (p : Position K) → IsTrue (starts_at_end order e p)
       → position_cmp order.cmp (past order (end_position order e)) p ≡ Equal
-  touching_same (Included a) p h =
-      let cmp = position_cmp order.cmp in
-      let start = start_position order (Excluded a) in
-      (position_total order.cmp lawful.total).congr (past order (end_position order (Included a)))
-      start p (flipped_bound_is_past order lawful (Included a) (Excluded a) refl) ∙
-      (eq_is_equal (cmp start p)).0 h
+  touching_same (Included a) p h = grind (arith, common_steps, position_cmp, start_position, position_total, past, end_position, flipped_bound_is_past, eq_is_equal)
   touching_same (Excluded a) p h =
       let cmp = position_cmp order.cmp in
       let start = start_position order (Included a) in

@@ -1,5 +1,5 @@
 -- What is left of an item that a range cuts, by places.
-use Rattle.range_change.proofs.Common.{same_itself, ◌≡◌, refl, sym, ◌∙◌, ◌↔◌, Some, None, false, IsTrue, Bound, Included, Excluded, Unbounded, Ordering, Less, Equal, Greater, is_gt, is_le, tied_back, tied_itself, KeyOrder, IsLawful, start_position, end_position, position_total, AnyRange, IsKnownBound, IsKnownRange, flipped, SameBound, same_start, eq_le, eq_ge, le_lt_trans, lt_not_le, PLt, past, upper, flipped_bound, reaching_is_before_past, flipped_bound_is_past, flipped_known, unbounded_start, unbounded_end, Option, Border, seam_border}
+use Rattle.range_change.proofs.Common.{arith, common_steps, same_itself, ◌≡◌, refl, sym, ◌∙◌, ◌↔◌, Some, None, false, IsTrue, Bound, Included, Excluded, Unbounded, Ordering, Less, Equal, Greater, is_gt, is_le, tied_back, tied_itself, KeyOrder, IsLawful, start_position, end_position, position_total, AnyRange, IsKnownBound, IsKnownRange, flipped, SameBound, same_start, eq_le, eq_ge, le_lt_trans, lt_not_le, PLt, past, upper, flipped_bound, reaching_is_before_past, flipped_bound_is_past, flipped_known, unbounded_start, unbounded_end, Option, Border, seam_border}
 use Rattle.range_change.specs.Borders.{IsSeamAt}
 use Rattle.range_change.proofs.Forms.{places}
 
@@ -9,16 +9,7 @@ module _ {K : Type 0} (order : KeyOrder K) (lawful : IsLawful order) where
       → places order lawful (past order (end_position order a)) (past order (end_position order b))
       ≡ Equal
   same_past (Included a) (Included b) h = same_start order lawful (Excluded a) (Excluded b) h
-  same_past (Excluded a) (Excluded b) h =
-      let total = position_total order.cmp lawful.total in
-      let at = flipped_bound_is_past order lawful (Excluded a) (Included a) refl in
-      let other = flipped_bound_is_past order lawful (Excluded b) (Included b) refl in
-      let starts = same_start order lawful (Included a) (Included b) h in
-      total.congr (past order (end_position order (Excluded a))) (start_position order (Included a))
-      (past order (end_position order (Excluded b))) at ∙ (total.congr
-      (start_position order (Included a)) (start_position order (Included b))
-      (past order (end_position order (Excluded b))) starts ∙ tied_back total
-      (past order (end_position order (Excluded b))) (start_position order (Included b)) other)
+  same_past (Excluded a) (Excluded b) h = grind (arith, common_steps, position_total, flipped_bound_is_past, same_start, past, end_position, start_position, tied_back)
   same_past Unbounded Unbounded h = tied_itself (position_total order.cmp lawful.total)
       (past order (end_position order Unbounded))
   same_past (Included a) (Excluded b) h = absurd h
@@ -82,12 +73,7 @@ module _ {K : Type 0} (order : KeyOrder K) (lawful : IsLawful order) where
   pub seam_stands : {P : Type 0} (joined reaching : Option P) (bound : Bound K)
       {border : Border K P} → IsKnownBound order bound → border ≡ seam_border joined reaching (flipped_bound bound)
       → IsSeamAt order joined reaching bound border
-  seam_stands joined reaching bound known at = record {
-    cut = flipped_bound bound;
-    at = at;
-    known = known_turned bound known;
-    flipped = same_turned bound;
-  }
+  seam_stands joined reaching bound known at = grind (arith, common_steps, flipped_bound, known_turned, flipped, same_turned)
 
   not_past_all : (e a : Bound K) → None ≡ flipped e → IsKnownBound order a
       → PLt lawful (past order (end_position order e)) (past order (end_position order a)) → ⊥

@@ -1,5 +1,5 @@
 -- The ends of ranges and the places past them lie in the same order.
-use Rattle.range_change.proofs.Common.{◌≡◌, refl, Option, Some, None, false, Bound, Included, Excluded, Unbounded, Less, Equal, Greater, is_gt, KeyOrder, IsLawful, Tells, SameAnswer, start_position, end_position, position_cmp, at_told, Position, MinusInfinity, Beside, PlusInfinity, Before, At, After, less_unless_greater, less_unless_equal, less_unless_less, less_then_any, IsKnownBound, flipped, Le, Lt, eq_le, eq_ge, le_trans, lt_not_le, not_lt, le_lt_trans, past, reaching_is_before_past, flipped_bound_is_past, flipped_known, unbounded_end}
+use Rattle.range_change.proofs.Common.{arith, common_steps, ◌≡◌, refl, Option, Some, None, false, Bound, Included, Excluded, Unbounded, Less, Equal, Greater, is_gt, KeyOrder, IsLawful, Tells, SameAnswer, start_position, end_position, position_cmp, at_told, Position, MinusInfinity, Beside, PlusInfinity, Before, At, After, less_unless_greater, less_unless_equal, less_unless_less, less_then_any, IsKnownBound, flipped, Le, Lt, eq_le, eq_ge, le_trans, lt_not_le, not_lt, le_lt_trans, past, reaching_is_before_past, flipped_bound_is_past, flipped_known, unbounded_end}
 use Rattle.range_keys.proofs.BoundPositions.{IsEnd, ends_lie_at_ends}
 use Rattle.range_algebra.specs.Orders
 
@@ -64,9 +64,7 @@ module _ {K : Type 0} (order : KeyOrder K) (lawful : IsLawful order) where
       (Orders.lt_trans order.cmp lawful.total a b e l (lawful.succ_above b e next'))
   at_at a b (Some d) None next next' key key' l =
       (less_unless_less (order.cmp d b)).1 (lawful.none_between a d b next key' l)
-  at_at a b (Some d) (Some e) next next' key key' l = less_then_any (order.cmp d e) Equal
-      (Orders.le_lt_trans order.cmp lawful.total d b e (lawful.none_between a d b next key' l)
-      (lawful.succ_above b e next'))
+  at_at a b (Some d) (Some e) next next' key key' l = grind (arith, common_steps, less_then_any, le_lt_trans)
 
   before_at : (a b : K) (p : Option K) → order.succ b ≡ p → is_gt (order.cmp a b) ≡ false
       → PLt (Beside a At) (at_told p (Beside b After))
@@ -107,6 +105,4 @@ module _ {K : Type 0} (order : KeyOrder K) (lawful : IsLawful order) where
   pub end_le : (e f : Bound K) → IsKnownBound order e → IsKnownBound order f
       → PLe (past order (end_position order e)) (past order (end_position order f))
       → PLe (end_position order e) (end_position order f)
-  end_le e f known known' le = not_lt lawful (end_position order e) (end_position order f)
-      (λ l. lt_not_le lawful _ _ (past_lt (end_position order f) (end_position order e)
-      (ends_lie_at_ends order lawful f known') (ends_lie_at_ends order lawful e known) l) le)
+  end_le e f known known' le = grind (arith, common_steps, not_lt, end_position, lt_not_le, past_lt, ends_lie_at_ends)

@@ -1,5 +1,6 @@
 -- What is stored and bound, by places.
-use Rattle.range_change.proofs.Common.{◌≡◌, ℕ, take, drop, refl, sym, ◌∙◌, ◌↔◌, Option, Some, None, Bool, true, IsTrue, List, [], ◌∷◌, ◌⊎◌, inl, inr, Every, Bound, Included, Excluded, Unbounded, Ordering, Less, IsEquivalence, KeyOrder, IsLawful, start_position, end_position, position_cmp, position_total, Position, Beside, At, not_both_greater_and_not, eq_is_equal, not_greater, AnyRange, Holds, IsKnownBound, IsKnownRange, IsEmptyRange, flipped, start_is_at, starts_at_end, Item, Le, Lt, eq_ge, le_trans, lt_not_le, cases, not_le, not_lt, both, line_of, IsChain, Has, Respects, IsBoundTo, IsUnbound, past, lower, upper, IsStored, IsBound, BindsTo, Binds, IsSomeOf, IsBoundAfter, IsUnboundAfter, list_is_take_and_drop, every_left, every_right, reaching_is_before_past, flipped_bound_is_past, unbounded_end, held_between}
+use Rattle.range_change.proofs.Common.{arith, common_steps, ◌≡◌, ℕ, take, drop, refl, sym, ◌∙◌, ◌↔◌, Option, Some, None, Bool, true, IsTrue, List, [], ◌∷◌, ◌⊎◌, inl, inr, Every, Bound, Included, Excluded, Unbounded, Ordering, Less, IsEquivalence, KeyOrder, IsLawful, start_position, end_position, position_cmp, position_total, Position, Beside, At, not_both_greater_and_not, eq_is_equal, not_greater, AnyRange, Holds, IsKnownBound, IsKnownRange, IsEmptyRange, flipped, start_is_at, starts_at_end, Item, Le, Lt, eq_ge, le_trans, lt_not_le, cases, not_le, not_lt, both, line_of, IsChain, Has, Respects, IsBoundTo, IsUnbound, past, lower, upper, IsStored, IsBound, BindsTo, Binds, IsSomeOf, IsBoundAfter, IsUnboundAfter, list_is_take_and_drop, every_left, every_right, reaching_is_before_past, flipped_bound_is_past, unbounded_end, held_between}
+use Rattle.range_change.proofs.Chains.{inside_or_out}
 use Rattle.range_change.proofs.Listed.{IsListed, stored_list_is_listed, stored_by}
 
 pub every_front : {X : Type 0} (P : X → Type 0) (n : ℕ) (xs : List X) → Every P xs
@@ -40,14 +41,7 @@ module _ {K : Type 0} (order : KeyOrder K) (lawful : IsLawful order) where
       → Le places (past order (end_position order e)) (lower order s)
       → IsTrue (start_is_at order (Some i) (lower order s))
       ↔ Le places (lower order s) (past order (end_position order e))
-  touches_by e i s turns le =
-      let at = flipped_bound_is_past order lawful e i turns in
-      let other = eq_is_equal (places (start_position order i) (lower order s)) in (
-        λ h. le_trans lawful _ _ _ (eq_ge lawful _ _ (other.0 h)) (eq_ge lawful _ _ at),
-        λ h. other.1 (sym ((position_total order.cmp lawful.total).congr
-            (past order (end_position order e)) (start_position order i) (lower order s) at) ∙ both
-            lawful _ _ le h),
-      )
+  touches_by e i s turns le = grind (arith, common_steps, flipped_bound_is_past, eq_is_equal, start_position, lower, le_trans, eq_ge, position_total, past, end_position, both)
 
   -- a range touches another where the place past it is that of the other
   pub touches_is : (e : Bound K) (s : AnyRange K) → IsKnownRange order s
@@ -57,11 +51,7 @@ module _ {K : Type 0} (order : KeyOrder K) (lawful : IsLawful order) where
       ↔ Le places (lower order s) (past order (end_position order e))
   touches_is (Included a) s known good le = touches_by (Included a) (Excluded a) s refl le
   touches_is (Excluded a) s known good le = touches_by (Excluded a) (Included a) s refl le
-  touches_is Unbounded s known good le = (
-    λ h. absurd (cc),
-    λ h. absurd (lt_not_le lawful _ _ good (le_trans lawful _ _ _
-        (unbounded_end order lawful s.end known.1) le)),
-  )
+  touches_is Unbounded s known good le = grind (arith, common_steps, lt_not_le, le_trans, unbounded_end)
 
   module _ {V : Type 0} (same : V → V → Bool) (equal : IsEquivalence same) where
     abbrev pub Known : List (Item (AnyRange K) V) → Type 0
@@ -82,11 +72,7 @@ module _ {K : Type 0} (order : KeyOrder K) (lawful : IsLawful order) where
     listed_chain [] known h = tt
     listed_chain (i ∷ []) known h = ((nonempty_good i.key known.0).0 h.1, tt)
     listed_chain (i ∷ j ∷ rest) known h =
-        let chain = listed_chain (j ∷ rest) known.1 h.4 in
-        let le = (before_is i.key.end j.key.start known.0.1 known.1.0.0).0 h.2 in (
-          (nonempty_good i.key known.0).0 h.1,
-          ((le, λ k s. h.3 ((touches_is i.key.end j.key known.1.0 chain.0 le).1 k) s), chain),
-        )
+        let chain = listed_chain (j ∷ rest) known.1 h.4 in grind (arith, common_steps, chain, before_is, nonempty_good, touches_is)
 
     pub stored_chain : (items : List (Item (AnyRange K) V)) → IsStored order same items
         → Chained items
@@ -140,11 +126,11 @@ module _ {K : Type 0} (order : KeyOrder K) (lawful : IsLawful order) where
     pub unheld_lies_outside : (r : AnyRange K) (k : K) → IsKnownRange order r → order.is_key k
         → (Holds order r k → ⊥)
         → Lt places (Beside k At) (lower order r) ⊎ Le places (upper order r) (Beside k At)
-    unheld_lies_outside r k known key h = elim (cases lawful (Beside k At) (lower order r)) [
-      | inl l ↦ inl l
-      | inr from ↦ inr (not_lt lawful (upper order r) (Beside k At)
-          (λ upto. h ((held_between order lawful r k known key).1 (from, upto))))
-    ]
+    unheld_lies_outside r k known key h = elim (inside_or_out (line_of order lawful same equal)
+        (Beside k At) (lower order r) (upper order r)) [
+          | inl within ↦ absurd (h ((held_between order lawful r k known key).1 within))
+          | inr out ↦ out
+        ]
 
     pub same_binds : (before after : List (Item (AnyRange K) V)) (k : K) → Known before
         → Known after → order.is_key k
@@ -194,9 +180,7 @@ module _ {K : Type 0} (order : KeyOrder K) (lawful : IsLawful order) where
         → IsBoundTo (line_of order lawful same equal) before after (lower order r) (upper order r) v
         → IsBoundAfter order same before after r v
     bound_after before after r v known_range known known' changed = record {
-      held = λ k key h. let within = (held_between order lawful r k known_range key).0 h in
-          binds_as after k v known' key
-          (λ W alike. changed.inside (Beside k At) W alike within.0 within.1);
+      held = grind (arith, common_steps, held_between, binds_as);
       others = λ k key h. same_binds before after k known known' key
           (λ W alike. changed.outside (Beside k At) W alike (unheld_lies_outside r k known_range key
           h));
@@ -207,9 +191,7 @@ module _ {K : Type 0} (order : KeyOrder K) (lawful : IsLawful order) where
         → IsUnbound (line_of order lawful same equal) before after (lower order r) (upper order r)
         → IsUnboundAfter order same before after r
     unbound_after before after r known_range known known' changed = record {
-      held = λ k key h. let within = (held_between order lawful r k known_range key).0 h in
-          unbinds_as after k known' key
-          (λ W alike. changed.inside (Beside k At) W alike within.0 within.1);
+      held = grind (arith, common_steps, held_between, unbinds_as);
       others = λ k key h. same_binds before after k known known' key
           (λ W alike. changed.outside (Beside k At) W alike (unheld_lies_outside r k known_range key
           h));

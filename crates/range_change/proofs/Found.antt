@@ -1,5 +1,5 @@
 -- What a search among stored items finds.
-use Rattle.range_change.proofs.Common.{get_or_read, ◌≡◌, ◌↔◌, ℕ, zero, suc, ◌+◌, ◌<◌, List, [], ◌∷◌, ◌++◌, length, take, drop, get_or, refl, ap, sym, subst, arith, Option, None, Some, Bool, true, false, inl, inr, Every, MatchOption, Ordering, Less, Equal, Greater, is_gt, is_le, is_lt, IsEquivalence, take_more, KeyOrder, IsLawful, start_position, end_position, Position, Beside, At, lt_is_less, not_greater, AnyRange, Holds, IsEmptyRange, Item, IsAt, IsFrontOf, place_at, Any, Le, Lt, lt_le, lt_not_le, le_trans, not_le, not_lt, lt_le_trans, le_lt_trans, lt_trans, PLe, PLt, IsStored, IsItemFor, IsStoredFor, IsBound, BindsTo, IsFound, IsJustBefore, IsLastStarting, place_after, every_append, every_at, every_right, every_take, every_drop, list_is_take_and_drop, every_weaker}
+use Rattle.range_change.proofs.Common.{common_steps, get_or_read, ◌≡◌, ◌↔◌, ℕ, zero, suc, ◌+◌, ◌<◌, List, [], ◌∷◌, ◌++◌, length, take, drop, get_or, refl, ap, sym, subst, arith, Option, None, Some, Bool, true, false, inl, inr, Every, MatchOption, Ordering, Less, Equal, Greater, is_gt, is_le, is_lt, IsEquivalence, take_more, KeyOrder, IsLawful, start_position, end_position, Position, Beside, At, lt_is_less, not_greater, AnyRange, Holds, IsEmptyRange, Item, IsAt, IsFrontOf, place_at, Any, Le, Lt, lt_le, lt_not_le, le_trans, not_le, not_lt, lt_le_trans, le_lt_trans, lt_trans, PLe, PLt, IsStored, IsItemFor, IsStoredFor, IsBound, BindsTo, IsFound, IsJustBefore, IsLastStarting, place_after, every_append, every_at, every_right, every_take, every_drop, list_is_take_and_drop, every_weaker}
 use Rattle.std.specs.List.Sorted.{IsPartitionedBy}
 use Rattle.range_algebra.proofs.Holding.{holds_by_position}
 use Rattle.range_algebra.specs.Orders.{lt_of}
@@ -185,9 +185,7 @@ module _ {K : Type 0} (order : KeyOrder K) (lawful : IsLawful order) {V : Type 0
   pub starts_here : (items : List (Item (AnyRange K) V)) (p : Position K) (place : ℕ)
       (x : Item (AnyRange K) V) → place < length items → x ≡ get_or items place x
       → Every (λ i. PLe lawful (Start i) p) (take (place + 1) items) → PLe lawful (Start x) p
-  starts_here items p place x within read upto = subst (λ y. PLe lawful (Start y) p) (sym read)
-      (every_right (λ i. PLe lawful (Start i) p) (take place items) (get_or items place x ∷ [])
-      (rw (take_more items place x within) at upto)).0
+  starts_here items p place x within read upto = grind (arith, common_steps, every_right, take, get_or, take_more)
 
   -- an item that starts at the key at most and does not end before it holds it
   pub holds_at : (items : List (Item (AnyRange K) V)) (k : K) (place : ℕ) (x : Item (AnyRange K) V)

@@ -87,14 +87,7 @@ module _ {K : Type 0} {order : KeyOrder K} (lawful : IsLawful order) {V : Type 0
   made_within : (run wider made : List (Item (AnyRange K) V))
       → ((Q : Item (AnyRange K) V → Type 0) → Any Q run → Any Q wider) → (r : AnyRange K) (v : V)
       → Every (IsNewItem order same run r v) made → Every (IsNewItem order same wider r v) made
-  made_within run wider made inside r v all = every_weaker _ _ made (λ j h. record {
-    start = within_wider (inside (λ i. j.key.start ≡ i.key.start)) h.start;
-    end = within_wider (inside (λ i. j.key.end ≡ i.key.end)) h.end;
-    value = elim h.value [
-      | inl e ↦ inl e
-      | inr k ↦ inr (inside (λ i. IsTrue (same j.value i.value)) k)
-    ];
-  }) all
+  made_within run wider made inside r v all = grind (arith, common_steps, every_weaker, within_wider)
 
   -- a value that a run has equals v where all values of the run do
   has_equal : (run : List Stored) (u v : V) → IsTrue (same u v) ⊎ HasValue order same run u
@@ -199,25 +192,9 @@ module _ {K : Type 0} {order : KeyOrder K} (lawful : IsLawful order) {V : Type 0
           run = met;
           others = option_items left ++ option_items right;
           behind = drop (place + w.count) items;
-          before = list_is_take_and_drop items place ∙ (ap (λ ys. take place items ++ ys)
-              (parts_of items place w.count) ∙ sym (append_assoc (take place items) met
-              (drop (place + w.count) items)));
-          after = list ∙ rw (append-nil (take place items ++ option_items left))
-              (ap (λ ys. ys ++ drop (place + w.count) items)
-              (append_assoc (take place items) (option_items left) (option_items right)));
-          such = record {
-            concerned = all_meet;
-            few = omega (
-              arith,
-              some,
-              size,
-              one_item left,
-              one_item right,
-              length-append (option_items left) (option_items right),
-            );
-            whole = λ e. absurd (run_some items place w.count window.in_range some e);
-            made = every_append _ (option_items left) (option_items right) made_left made_right;
-          };
+          before = grind (arith, common_steps, list_is_take_and_drop, take, parts_of, append_assoc, drop);
+          after = grind (arith, common_steps, append-nil, take, option_items, drop, append_assoc);
+          such = grind (arith, common_steps, all_meet, one_item, length-append, option_items, run_some, every_append);
         }
 
     pub insertion_frame : (new : List (Item (AnyRange K) V)) (v u : V) {at end : ℕ}
@@ -261,21 +238,8 @@ module _ {K : Type 0} {order : KeyOrder K} (lawful : IsLawful order) {V : Type 0
               (λ i h. inr (inl h.0, h.1)) on_left.touched) (every_weaker _ _ met (λ i h. inl h)
               all_meet)) (every_weaker _ _ on_right.extra (λ i h. inr (inr h.0, h.1))
               on_right.touched);
-          few = omega (
-            arith,
-            few,
-            size,
-            length-append (on_left.extra ++ met) on_right.extra,
-            length-append on_left.extra met,
-            length-append (option_items left ++ option_items (Some m)) (option_items right),
-            length-append (option_items left) (option_items (Some m)),
-          );
-          whole = λ e. let l = on_left.whole (none_left (on_left.extra ++ met) on_right.extra e) in
-              let k = on_right.whole (none_right on_left.extra (met ++ on_right.extra)
-              (sym regroup ∙ e)) in let none : w.count ≡ 0 = sym size ∙ ap length
-              (none_right on_left.extra met (none_left (on_left.extra ++ met) on_right.extra e)) in
-              rw (l.0, k.0, l.1, k.1) (ap (λ (y : V). record { key = r; value = y } ∷ [])
-              (own_value none));
+          few = grind (arith, common_steps, length-append, option_items);
+          whole = grind (arith, common_steps, none_left, none_right, length);
           one = λ all.
               let on_left_none = no_rest (on_left.extra ++ met) r v left
               (every_left (λ i. IsTrue (same i.value v)) (on_left.extra ++ met) on_right.extra all)
@@ -290,7 +254,5 @@ module _ {K : Type 0} {order : KeyOrder K} (lawful : IsLawful order) {V : Type 0
                 length-append (option_items left ++ option_items (Some m)) (option_items right),
                 length-append (option_items left) (option_items (Some m)),
               );
-          made = every_append _ (option_items left ++ option_items (Some m)) (option_items right)
-              (every_append _ (option_items left) (option_items (Some m)) made_left (own, tt))
-              made_right;
+          made = grind (arith, common_steps, every_append, option_items);
         })

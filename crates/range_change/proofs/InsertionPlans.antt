@@ -1,5 +1,5 @@
 -- What is to become of the items on each side of a range that is bound.
-use Rattle.range_change.proofs.Common.{◌≡◌, ℕ, ◌+◌, ◌-◌, ◌<◌, List, length, get_or, refl, ap, sym, ◌∙◌, arith, subst, Option, Some, None, Bool, true, false, IsTrue, [], ◌∷◌, ◌++◌, take, drop, inl, inr, append-nil, any_left, any_right, Any, Touches, IsPart, IsNewItem, IsLeftCutting, IsRightCutting, IsEquivalence, Bound, KeyOrder, IsLawful, AnyRange, IsKnownBound, SameBound, Item, IsAt, IsWindow, option_items, Window, flipped_bound, with_start, with_end, ReachesBefore, ReachesAfter, border_at, TouchesBefore, TouchesNoneBefore, TouchesAfter, TouchesNoneAfter, IsLeftFrame, IsRightFrame, IsLeftPlan, IsRightPlan, Plain, Cut, Joined, lt_le}
+use Rattle.range_change.proofs.Common.{common_steps, ◌≡◌, ℕ, ◌+◌, ◌-◌, ◌<◌, List, length, get_or, refl, ap, sym, ◌∙◌, arith, subst, Option, Some, None, Bool, true, false, IsTrue, [], ◌∷◌, ◌++◌, take, drop, inl, inr, append-nil, any_left, any_right, Any, Touches, IsPart, IsNewItem, IsLeftCutting, IsRightCutting, MatchOption, IsRunStart, seam_border, IsEquivalence, Bound, KeyOrder, IsLawful, AnyRange, IsKnownBound, SameBound, Item, IsAt, IsWindow, option_items, Window, flipped_bound, with_start, with_end, ReachesBefore, ReachesAfter, border_at, TouchesBefore, TouchesNoneBefore, TouchesAfter, TouchesNoneAfter, IsLeftFrame, IsRightFrame, IsLeftPlan, IsRightPlan, Plain, Cut, Joined, lt_le}
 use Rattle.range_change.proofs.InsertionFrames.{any_of_run, run_some}
 use Rattle.range_change.proofs.RangeSides.{left_rest_whole, left_rest_cut, right_rest_whole, right_rest_cut, left_border_at, left_border_rest, left_border_none, right_border_at, right_border_rest, right_border_none, first_reaches, last_starts, touching_before, touching_after}
 use Rattle.range_change.proofs.ItemPlaces.{element_at, element_at_is_read, upto_item, from_item}
@@ -126,10 +126,7 @@ module _ {K : Type 0} {order : KeyOrder K} (lawful : IsLawful order) {V : Type 0
   touched_after : (x : Item (AnyRange K) V) → x ≡ get_or items (place + w.count) x
       → TouchesAfter order same items (place + w.count) r v
       → Touches order r x.key × (same x.value v ≡ true)
-  touched_after x read touching =
-      let t = subst (λ (y : Item (AnyRange K) V). Touches order r y.key × (same v y.value ≡ true))
-      (sym read) (touching x) in
-      (t.0, equal.symm x.value v ∙ t.1)
+  touched_after x read touching = grind (arith, common_steps, true)
 
   pub left_plan_inside : (p : P) (x : Item (AnyRange K) V)
       → ReachesBefore order is_good rank items r place w.count (Some p)
@@ -194,15 +191,7 @@ module _ {K : Type 0} {order : KeyOrder K} (lawful : IsLawful order) {V : Type 0
         shape = (is, refl, refl, refl, (x, read, refl));
         side = left_border_at lawful equal window v (rank q) x within read up.0 up.1 touch.1;
         run = (is, refl);
-        frame = record {
-          extra = x ∷ [];
-          split = upto_item items (rank q) place x at within read;
-          touched = ((touch.0, touch.1, refl), tt);
-          start_of = inr (inl (inl refl));
-          made = tt;
-          apart = tt;
-          whole = λ e. absurd (cc);
-        };
+        frame = grind (arith, common_steps, upto_item);
         few = omega arith;
         begins = omega (arith, at);
       }
@@ -219,15 +208,7 @@ module _ {K : Type 0} {order : KeyOrder K} (lawful : IsLawful order) {V : Type 0
     shape = (refl, refl, refl);
     side = left_border_none lawful equal window v (left_rest_whole lawful equal window reach) none;
     run = run;
-    frame = record {
-      extra = [];
-      split = sym (append-nil (take place items));
-      touched = tt;
-      start_of = inl refl;
-      made = tt;
-      apart = tt;
-      whole = λ e. (refl, refl);
-    };
+    frame = grind (arith, common_steps, append-nil, take);
     few = omega arith;
     begins = omega arith;
   }
@@ -322,15 +303,7 @@ module _ {K : Type 0} {order : KeyOrder K} (lawful : IsLawful order) {V : Type 0
     shape = (refl, refl, refl);
     side = right_border_none lawful equal window (place + w.count) v window.in_range
         (right_rest_whole lawful equal window reach) none;
-    frame = record {
-      extra = [];
-      split = refl;
-      touched = tt;
-      end_of = inl refl;
-      made = tt;
-      apart = tt;
-      whole = λ e. (refl, refl);
-    };
+    frame = grind (arith, common_steps);
     few = omega arith;
     ends = omega arith;
   }
@@ -399,3 +372,31 @@ module _ {K : Type 0} {order : KeyOrder K} (lawful : IsLawful order) {V : Type 0
             (right_part lawful equal window x here reach.2 b x.value same_b (equal.refl x.value), tt);
         ends = omega (arith, reach.2);
       }
+
+  -- no item reaches out of it, and the one before may join
+  pub left_touched : (v : V) (joined : Option P) (b : Bound K) (at : Option P)
+      → ((p : P) → is_good p → rank p < length items)
+      → ReachesBefore order is_good rank items r place w.count None
+      → MatchOption joined (TouchesNoneBefore order same items place r v)
+      (λ q. is_good q × (rank q + 1 ≡ place) × TouchesBefore order same items place r v)
+      → IsRunStart is_good rank (length items) place None joined at
+      → IsLeftPlan order same lawful equal is_good rank items r v place w.count None
+      (seam_border joined None b) at
+  left_touched v None b at in_range reach none start =
+      let plus : place + 0 ≡ place = omega arith in
+      left_plan_free lawful equal window v at
+      (subst (λ n. IsAt is_good rank (length items) at n) plus start) reach none
+  left_touched v (Some q) b at in_range reach found start = rw start
+      (left_plan_joined lawful equal window v q reach found.0 found.1 (in_range q found.0) found.2)
+
+  pub right_touched : (v : V) (joined : Option P) (b : Bound K)
+      → ((p : P) → is_good p → rank p < length items)
+      → ReachesAfter order is_good rank items r place w.count None
+      → MatchOption joined (TouchesNoneAfter order same items (place + w.count) r v)
+      (λ q. is_good q × (rank q ≡ place + w.count)
+      × TouchesAfter order same items (place + w.count) r v)
+      → IsRightPlan order same lawful equal is_good rank items r v place w.count None
+      (seam_border joined None b)
+  right_touched v None b in_range reach none = right_plan_plain lawful equal window v reach none
+  right_touched v (Some q) b in_range reach found =
+      right_plan_joined lawful equal window v q reach found.0 found.1 (in_range q found.0) found.2

@@ -1,5 +1,5 @@
 -- A middle that comes to stand within a range, and what joins it there.
-use Rattle.range_change.proofs.Common.{Line, ◌≡◌, ℕ, ◌+◌, ◌-◌, ◌<◌, ◌≤◌, List, [], ◌∷◌, ◌++◌, length, take, drop, refl, ap, sym, ◌∙◌, arith, subst, Option, Some, None, Bool, true, false, IsTrue, Bor, ◌⊎◌, inl, inr, append_assoc, append-nil, Every, slice_get, option_copied, MatchOption, IsEquivalence, tied_itself, unwrap_or, Equal, Bound, KeyOrder, IsLawful, start_position, end_position, position_total, Position, any_left, any_right, every_weaker, every_append, every_left, every_right, line_of, IsLeftOf, IsRightOf, IsSpliced, flipped, past, lower, upper, Le, Lt, Any, eq_ge, le_lt_trans, le_refl, lt_le, eq_le, le_trans, lt_trans, lt_le_trans, lt_not_le, not_lt, PLe, PLt, IsKnownBound, IsKnownRange, Touches, AnyRange, reaching_is_before_past, flipped_bound_is_past, flipped_known, Item, IsAt, Border, Window, IsLeftShape, IsRightShape, IsRunStart, left_side, right_side, joined_count, seam_border, TouchesBefore, TouchesNoneBefore, TouchesAfter, TouchesNoneAfter, with_start, HasValue, item_lower, item_upper, IsStored, LiesIn, IsLeftPlan, IsRightPlan, ReachesBefore, ReachesAfter, AreWithin, with_first_start, with_last_end, IsLeftCutting, IsRightCutting, IsJoiningFirst, IsJoiningLast, IsReach, place_before, flipped_bound, IsWindow, option_items}
+use Rattle.range_change.proofs.Common.{common_steps, Line, ◌≡◌, ℕ, ◌+◌, ◌-◌, ◌<◌, ◌≤◌, List, [], ◌∷◌, ◌++◌, length, take, drop, refl, ap, sym, ◌∙◌, arith, subst, Option, Some, None, Bool, true, false, IsTrue, Bor, ◌⊎◌, inl, inr, append_assoc, append-nil, Every, slice_get, option_copied, MatchOption, IsEquivalence, tied_itself, unwrap_or, Equal, Bound, KeyOrder, IsLawful, start_position, end_position, position_total, Position, any_left, any_right, every_weaker, every_append, every_left, every_right, line_of, IsLeftOf, IsRightOf, IsSpliced, flipped, past, lower, upper, Le, Lt, Any, eq_ge, le_lt_trans, le_refl, lt_le, eq_le, le_trans, lt_trans, lt_le_trans, lt_not_le, not_lt, PLe, PLt, IsKnownBound, IsKnownRange, Touches, AnyRange, reaching_is_before_past, flipped_bound_is_past, flipped_known, Item, IsAt, Border, Window, IsLeftShape, IsRightShape, IsRunStart, left_side, right_side, joined_count, seam_border, TouchesBefore, TouchesNoneBefore, TouchesAfter, TouchesNoneAfter, with_start, HasValue, item_lower, item_upper, IsStored, LiesIn, IsLeftPlan, IsRightPlan, ReachesBefore, ReachesAfter, AreWithin, with_first_start, with_last_end, IsLeftCutting, IsRightCutting, IsJoiningFirst, IsJoiningLast, IsReach, place_before, flipped_bound, IsWindow, option_items}
 use Rattle.range_change.proofs.Chains.{chain_above, chain_before, chain_right, follows_above}
 use Rattle.range_change.specs.declared.reach.Reach.{Reach}
 use Rattle.range_change.proofs.CutParts.{known_turned, same_turned}
@@ -7,7 +7,7 @@ use Rattle.range_change.proofs.OuterBounds.{every_started, last_of, item_with_en
 use Rattle.range_change.proofs.Forms.{places, nonempty_good, Known, Chained, stored_chain, every_front, every_back}
 use Rattle.range_change.proofs.BoundEdits.{cut_joins_none}
 use Rattle.range_change.proofs.Lengths.{border_joins_none}
-use Rattle.range_change.proofs.InsertionPlans.{left_cut_out, right_cut_out, left_plan_free, left_plan_joined, right_plan_joined, right_plan_plain}
+use Rattle.range_change.proofs.InsertionPlans.{left_cut_out, right_cut_out}
 use Rattle.range_change.proofs.Splices.{IsFilled, filled_apart, filled_joined, spliced_apart, spliced_joined}
 
 pub got_only : {X : Type 0} (P : X → Type 0) (o : Option (Bor X)) (i : Bor X) → o ≡ Some i → P i.now
@@ -110,9 +110,7 @@ module _ {K : Type 0} (order : KeyOrder K) (lawful : IsLawful order) {V : Type 0
         → Chained order lawful same equal (m ∷ ms)
         → places order lawful (item_lower order m) (lower order r) ≡ Equal
         → Filled items front (with_first_start start (m ∷ ms)) (m ∷ ms) (lower order r)
-    start_filled None front ms m left chain at = filled_joined line items front m m ms
-        (lower order r) (lower order r) left chain at at (tied_itself
-        (position_total order.cmp lawful.total) (item_upper order m)) (equal.refl m.value)
+    start_filled None front ms m left chain at = grind (arith, common_steps, filled_joined, lower, tied_itself, position_total, item_upper)
     start_filled (Some b) front ms m left chain at =
         let total = position_total order.cmp lawful.total in
         filled_joined line items front m (with_start m b) ms (lower order r)
@@ -425,35 +423,3 @@ module _ {K : Type 0} {order : KeyOrder K} (lawful : IsLawful order) {V : Type 0
       middle front start reach.last _ u found.window.stored found.window.in_range le lt all fill
       known (right_cut_out lawful equal found.window reach.last (flipped_bound r.end) found.last
       (known_turned order lawful r.end found.window.known.1) (same_turned order lawful r.end)))
-
-module _ {K : Type 0} {order : KeyOrder K} (lawful : IsLawful order) {V : Type 0}
-    {same : V → V → Bool} (equal : IsEquivalence same) {P : Type 0} {is_good : P → Type 0}
-    {rank : P → ℕ} {items : List (Item (AnyRange K) V)} {r : AnyRange K} {w : Window P} {place : ℕ}
-    (window : IsWindow order same is_good rank items r w place) where
-  -- no item reaches out of it, and the one before may join
-  pub left_touched : (v : V) (joined : Option P) (b : Bound K) (at : Option P)
-      → ((p : P) → is_good p → rank p < length items)
-      → ReachesBefore order is_good rank items r place w.count None
-      → MatchOption joined (TouchesNoneBefore order same items place r v)
-      (λ q. is_good q × (rank q + 1 ≡ place) × TouchesBefore order same items place r v)
-      → IsRunStart is_good rank (length items) place None joined at
-      → IsLeftPlan order same lawful equal is_good rank items r v place w.count None
-      (seam_border joined None b) at
-  left_touched v None b at in_range reach none start =
-      let plus : place + 0 ≡ place = omega arith in
-      left_plan_free lawful equal window v at
-      (subst (λ n. IsAt is_good rank (length items) at n) plus start) reach none
-  left_touched v (Some q) b at in_range reach found start = rw start
-      (left_plan_joined lawful equal window v q reach found.0 found.1 (in_range q found.0) found.2)
-
-  pub right_touched : (v : V) (joined : Option P) (b : Bound K)
-      → ((p : P) → is_good p → rank p < length items)
-      → ReachesAfter order is_good rank items r place w.count None
-      → MatchOption joined (TouchesNoneAfter order same items (place + w.count) r v)
-      (λ q. is_good q × (rank q ≡ place + w.count)
-      × TouchesAfter order same items (place + w.count) r v)
-      → IsRightPlan order same lawful equal is_good rank items r v place w.count None
-      (seam_border joined None b)
-  right_touched v None b in_range reach none = right_plan_plain lawful equal window v reach none
-  right_touched v (Some q) b in_range reach found =
-      right_plan_joined lawful equal window v q reach found.0 found.1 (in_range q found.0) found.2

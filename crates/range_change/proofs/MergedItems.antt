@@ -1,5 +1,5 @@
 -- What a range that is changed meets or is merged with, and that all else stands.
-use Rattle.range_change.proofs.Common.{Touches, ◌≡◌, refl, Bool, List, [], ◌∷◌, ◌++◌, ◌⊎◌, inl, inr, IsEquivalence, Every, KeyOrder, IsLawful, any_left, any_right, every_weaker, every_append, every_left, every_right, line_of, lower, upper, Any, le_lt_trans, lt_le_trans, lt_trans, PLt, IsKnownRange, AnyRange, Item, IsMergedInto, IsUpdateFrame, IsSpliceFrame, item_lower, item_upper, IsConnectedTo, Overlap}
+use Rattle.range_change.proofs.Common.{arith, common_steps, Touches, ◌≡◌, refl, Bool, List, [], ◌∷◌, ◌++◌, ◌⊎◌, inl, inr, IsEquivalence, Every, KeyOrder, IsLawful, any_left, any_right, every_weaker, every_append, every_left, every_right, line_of, lower, upper, Any, le_lt_trans, lt_le_trans, lt_trans, PLt, IsKnownRange, AnyRange, Item, IsMergedInto, IsUpdateFrame, IsSpliceFrame, item_lower, item_upper, IsConnectedTo, Overlap}
 use Rattle.range_change.proofs.Chains.{chain_right, chain_before, follows_above}
 use Rattle.range_change.proofs.RangePieces.{every_with, IsFull}
 use Rattle.range_change.proofs.Forms.{Chained}
@@ -44,15 +44,7 @@ module _ {K : Type 0} (order : KeyOrder K) (lawful : IsLawful order) where
 pub way_follows : {T : Type 0} {items new : List T} {P Q : List T → List T → Type 0}
     → ((run others : List T) → P run others → Q run others) → IsSpliceFrame items new P
     → IsSpliceFrame items new Q
-way_follows follows way = record {
-  front = way.front;
-  run = way.run;
-  others = way.others;
-  behind = way.behind;
-  before = way.before;
-  after = way.after;
-  such = follows way.run way.others way.such;
-}
+way_follows follows way = grind (arith, common_steps)
 
 module _ {K : Type 0} (order : KeyOrder K) {V : Type 0} (same : V → V → Bool) (r : AnyRange K) where
   merged_within : (front list behind : List (Item (AnyRange K) V)) (i : Item (AnyRange K) V)

@@ -37,14 +37,7 @@ pub put_next : {X : Type 0} (before now new done : List X) (place left less fewe
     → less ≡ left - length done → place + left ≤ length before → fewer ≡ less - 1
     → new ≡ take (place + length done) now ++ x ∷ drop (place + length done + (less - fewer)) now
     → new ≡ take place before ++ (done ++ x ∷ []) ++ drop (place + (left - fewer)) before
-put_next before now new done place left less fewer x was few within one changed =
-    let parts = put_parts before now done place left less was within in
-    let index : place + (left - less) + (less - fewer) ≡ place + (left - fewer) =
-    omega (arith, few, one) in
-    changed ∙ (ap (λ ys. ys ++ x ∷ drop (place + length done + (less - fewer)) now) parts.0 ∙
-    (ap (λ ys. (take place before ++ done) ++ x ∷ ys) (parts.1 (less - fewer) ∙ ap
-    (λ n. drop n before) index) ∙ sym (regrouped_last (take place before) done
-    (drop (place + (left - fewer)) before) x)))
+put_next before now new done place left less fewer x was few within one changed = grind (arith, common_steps, put_parts, drop, length, take, regrouped_last)
 
 -- the rest of the run is removed
 pub put_all : {X : Type 0} (before now new done : List X) (place left less : ℕ)
@@ -52,11 +45,7 @@ pub put_all : {X : Type 0} (before now new done : List X) (place left less : ℕ
     → less ≡ left - length done → place + left ≤ length before
     → new ≡ take (place + length done) now ++ drop (place + length done + less) now
     → new ≡ take place before ++ done ++ drop (place + left) before
-put_all before now new done place left less was few within changed =
-    let parts = put_parts before now done place left less was within in
-    let index : place + (left - less) + less ≡ place + left = omega (arith, few) in
-    changed ∙ (ap (λ ys. ys ++ drop (place + length done + less) now) parts.0 ∙ ap
-    (λ ys. (take place before ++ done) ++ ys) (parts.1 less ∙ ap (λ n. drop n before) index))
+put_all before now new done place left less was few within changed = grind (arith, common_steps, put_parts, drop, length, take)
 
 module _ {K V : Type 0} where
   abbrev pub item_with_end : Option (Bound K) → Item (AnyRange K) V → Item (AnyRange K) V

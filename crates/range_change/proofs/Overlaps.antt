@@ -1,5 +1,5 @@
 -- Which stored ranges a range meets, and which keys both then hold.
-use Rattle.range_change.proofs.Common.{PLe, PLt, common, common_known, earlier_is, later_is, ◌≡◌, ℕ, zero, suc, ◌+◌, ◌<◌, Bool, List, [], ◌∷◌, ◌++◌, length, take, drop, get_or, refl, sym, arith, true, false, inl, inr, not, IsTrue, ◌↔◌, Option, Some, None, Every, option_copied, is_some, Bound, is_lt, KeyOrder, IsLawful, IsComplete, start_position, end_position, position_cmp, Position, not_both_greater_and_not, not_greater, AnyRange, Holds, IsKnownRange, IsEmptyRange, Le, Lt, Any, le_trans, lt_not_le, not_lt, list_is_take_and_drop, any_none, any_split, Item, IsBound, BindsTo, Binds, IsStored, MeetsSome, BindsKeyOf, Overlap}
+use Rattle.range_change.proofs.Common.{common_steps, PLe, PLt, common, common_known, earlier_is, later_is, ◌≡◌, ℕ, zero, suc, ◌+◌, ◌<◌, Bool, List, [], ◌∷◌, ◌++◌, length, take, drop, get_or, refl, sym, arith, true, false, inl, inr, not, IsTrue, ◌↔◌, Option, Some, None, Every, option_copied, is_some, Bound, is_lt, KeyOrder, IsLawful, IsComplete, start_position, end_position, position_cmp, Position, not_both_greater_and_not, not_greater, AnyRange, Holds, IsKnownRange, IsEmptyRange, Le, Lt, Any, le_trans, lt_not_le, not_lt, list_is_take_and_drop, any_none, any_split, Item, IsBound, BindsTo, Binds, IsStored, MeetsSome, BindsKeyOf, Overlap}
 use Rattle.std.specs.Borrow.{Bor}
 use Rattle.range_algebra.proofs.Commons.{common_holds}
 use Rattle.range_algebra.proofs.Completeness.{nonempty_holds}
@@ -23,19 +23,11 @@ module _ {K : Type 0} (order : KeyOrder K) (lawful : IsLawful order) where
   -- ranges that hold the same key meet
   shared_meets : (r s : AnyRange K) (k : K) → order.is_key k → Holds order r k → Holds order s k
       → Overlap order r s
-  shared_meets r s k key h g =
-      let in_r = (holds_by_position order lawful r k key).0 h in
-      let in_s = (holds_by_position order lawful s k key).0 g in (
-        λ l. lt_not_le lawful _ _ l (le_trans lawful _ _ _ in_s.0 in_r.1),
-        λ l. lt_not_le lawful _ _ l (le_trans lawful _ _ _ in_r.0 in_s.1),
-      )
+  shared_meets r s k key h g = grind (arith, common_steps, holds_by_position, lt_not_le, le_trans)
 
   held_nonempty : (r : AnyRange K) (k : K) → order.is_key k → Holds order r k → IsEmptyRange order r
       → ⊥
-  held_nonempty r k key h e =
-      let within = (holds_by_position order lawful r k key).0 h in
-      not_both_greater_and_not (position_cmp order.cmp (Start r) (End r))
-      (le_trans lawful _ _ _ within.0 within.1) e
+  held_nonempty r k key h e = grind (arith, common_steps, holds_by_position, not_both_greater_and_not, position_cmp, le_trans)
 
   -- over complete keys ranges that meet share a key
   shared_key : (r s : AnyRange K) → IsComplete order → IsKnownRange order r → IsKnownRange order s

@@ -1,5 +1,5 @@
 -- What a change makes of a list where both sides of a range are planned.
-use Rattle.range_change.proofs.Common.{◌∷◌, append_assoc, append-nil, insert, IsWindow, Plain, Window, ◌≡◌, ℕ, ◌+◌, ◌*◌, ◌<◌, ◌≤◌, List, [], ◌++◌, length, take, drop, refl, ap, sym, ◌∙◌, arith, subst, Option, Some, None, Bool, IsEquivalence, ForSome, Bound, KeyOrder, IsLawful, AnyRange, place_before, IsAt, Item, place_at, kept_at, good_at, IsInserted, joined_item, joined_count, IsGoodBorder, IsLeftShape, IsRightShape, left_side, right_side, IsLeftPlan, IsRightPlan, IsLeftCutting, IsRightCutting, IsRunStart, IsReach, IsRemoved, IsKnownBound, SameBound, flipped_bound, seam_border, option_items, Border}
+use Rattle.range_change.proofs.Common.{common_steps, ◌∷◌, append_assoc, append-nil, insert, IsWindow, Plain, Window, ◌≡◌, ℕ, ◌+◌, ◌*◌, ◌<◌, ◌≤◌, List, [], ◌++◌, length, take, drop, refl, ap, sym, ◌∙◌, arith, subst, Option, Some, None, Bool, IsEquivalence, ForSome, Bound, KeyOrder, IsLawful, AnyRange, place_before, IsAt, Item, place_at, kept_at, good_at, IsInserted, joined_item, joined_count, IsGoodBorder, IsLeftShape, IsRightShape, left_side, right_side, IsLeftPlan, IsRightPlan, IsLeftCutting, IsRightCutting, IsRunStart, IsReach, IsRemoved, IsKnownBound, SameBound, flipped_bound, seam_border, option_items, Border}
 use Rattle.range_change.specs.declared.borders.Joins.{Joins}
 use Rattle.range_change.specs.declared.reach.Reach.{Reach}
 use Rattle.range_change.specs.Borders.{IsSeamAt, run_length}
@@ -50,9 +50,7 @@ module _ {K V P : Type 0} {is_good is_good' : P → Type 0} {rank rank' : P → 
         in_range = rw (here, size, sum) (omega (arith, least, within));
         on_left = subst (λ n. IsLeftShape is_good' rank' items' left at n before start) (sym here)
             (shape_kept kept same_list left_side left at begin before start on_left);
-        on_right = subst (λ n. IsRightShape is_good' rank' items' right n end after finish)
-            (sym (ap (λ n. n + count) here ∙ sum)) (shape_kept kept same_list right_side right upto
-            end after finish on_right);
+        on_right = grind (arith, common_steps, right, shape_kept, right_side, on_right);
       }
 
 module _ {K : Type 0} (order : KeyOrder K) {V : Type 0} (same : V → V → Bool)

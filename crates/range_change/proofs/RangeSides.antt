@@ -1,5 +1,5 @@
 -- What stands on each side of a range, and the list in which it is bound or unbound.
-use Rattle.range_change.proofs.Common.{Line, Position, ◌≡◌, ℕ, zero, suc, ◌+◌, ◌-◌, ◌<◌, ◌≤◌, List, [], ◌∷◌, ◌++◌, length, take, drop, get_or, refl, ap, sym, ◌∙◌, arith, subst, Option, Some, None, Bool, true, false, length-drop, append-nil, length-take-le, get_or-take, get_or-drop, IsEquivalence, Every, KeyOrder, IsLawful, position_total, AnyRange, IsKnownRange, Item, lt_le, le_trans, PLe, PLt, line_of, Leads, Trails, IsLeft, IsRight, IsLeftOf, IsRightOf, lower, upper, item_lower, item_upper, IsWindow, option_items, Window, every_at, list_is_take_and_drop, every_weaker, every_append, every_right, tied_itself, Bound, Touches, IsInserted, IsRemoved, Overlap, IsPart, IsRemovalFrame, IsLeftFrame, IsRightFrame, ReachesBefore, ReachesAfter, flipped_bound, with_end, SameBound, IsKnownBound, joined_item, IsLeftRest, IsRightRest, IsLeftBorder, IsRightBorder, TouchesNoneBefore, TouchesNoneAfter}
+use Rattle.range_change.proofs.Common.{common_steps, Line, Position, ◌≡◌, ℕ, zero, suc, ◌+◌, ◌-◌, ◌<◌, ◌≤◌, List, [], ◌∷◌, ◌++◌, length, take, drop, get_or, refl, ap, sym, ◌∙◌, arith, subst, Option, Some, None, Bool, true, false, length-drop, append-nil, length-take-le, get_or-take, get_or-drop, IsEquivalence, Every, KeyOrder, IsLawful, position_total, AnyRange, IsKnownRange, Item, lt_le, le_trans, PLe, PLt, line_of, Leads, Trails, IsLeft, IsRight, IsLeftOf, IsRightOf, lower, upper, item_lower, item_upper, IsWindow, option_items, Window, every_at, list_is_take_and_drop, every_weaker, every_append, every_right, tied_itself, Bound, Touches, IsInserted, IsRemoved, Overlap, IsPart, IsRemovalFrame, IsLeftFrame, IsRightFrame, ReachesBefore, ReachesAfter, flipped_bound, with_end, SameBound, IsKnownBound, joined_item, IsLeftRest, IsRightRest, IsLeftBorder, IsRightBorder, TouchesNoneBefore, TouchesNoneAfter}
 use Rattle.range_change.proofs.Tests.{not_both}
 use Rattle.range_change.proofs.Chains.{chain_above, chain_before, chain_right}
 use Rattle.range_change.proofs.ChainSides.{left_whole, left_cut, right_whole, right_cut}
@@ -36,10 +36,7 @@ module _ {K : Type 0} {order : KeyOrder K} (lawful : IsLawful order) {V : Type 0
     -- the first item of the window ends after the range starts, and the last starts before it ends
     pub first_reaches : (x : Item (AnyRange K) V) → x ≡ get_or items place x → 0 < w.count
         → PLe lawful (lower order r) (item_upper order x)
-    first_reaches x read some =
-        let within : place < length items = omega (arith, some, window.in_range) in
-        let first = rw (from_item items place x within read) at window.above in
-        lt_le lawful _ _ first.0
+    first_reaches x read some = grind (arith, common_steps, length, from_item, lt_le)
 
     pub last_starts : (x : Item (AnyRange K) V) → x ≡ get_or items (place + w.count - 1) x
         → 0 < w.count → PLe lawful (item_lower order x) (upper order r)

@@ -1,5 +1,5 @@
 -- The list in which a middle stands for what a range held.
-use Rattle.range_change.proofs.Common.{◌≡◌, ℕ, ◌+◌, ◌-◌, ◌≤◌, List, ◌++◌, length, take, drop, ◌∙◌, arith, subst, Option, Bool, IsTrue, ◌⊎◌, inl, inr, append_assoc, IsEquivalence, Every, slice_get, Bound, KeyOrder, IsLawful, Beside, At, SameBound, Any, IsKnownBound, IsKnownRange, IsEmptyRange, AnyRange, any_left, any_right, every_weaker, every_append, every_left, every_right, held_between, Item, flipped_bound, HasValue, Overlap, AreWithin, IsReplaced, IsRunStart, seam_border, right_side, with_first_start, with_last_end, IsJoiningFirst, IsJoiningLast, IsReach, place_before, IsStored, option_items}
+use Rattle.range_change.proofs.Common.{common_steps, ◌≡◌, ℕ, ◌+◌, ◌-◌, ◌≤◌, List, ◌++◌, length, take, drop, ◌∙◌, arith, subst, Option, Bool, IsTrue, ◌⊎◌, inl, inr, append_assoc, IsEquivalence, Every, slice_get, Bound, KeyOrder, IsLawful, Beside, At, SameBound, Any, IsKnownBound, IsKnownRange, IsEmptyRange, AnyRange, any_left, any_right, every_weaker, every_append, every_left, every_right, held_between, Item, flipped_bound, HasValue, Overlap, AreWithin, IsReplaced, IsRunStart, seam_border, right_side, with_first_start, with_last_end, IsJoiningFirst, IsJoiningLast, IsReach, place_before, IsStored, option_items}
 use Rattle.range_change.specs.declared.reach.Reach.{Reach}
 use Rattle.range_change.specs.Borders.{run_length}
 use Rattle.range_change.specs.Reach.{AreApart}
@@ -80,14 +80,7 @@ module _ {K : Type 0} {order : KeyOrder K} (lawful : IsLawful order) {V : Type 0
       record {
         left = left;
         right = right;
-        upto = omega (
-          arith,
-          left.begins,
-          right.ends,
-          apart,
-          seam_count joined reach.first (flipped_bound r.start),
-          seam_count other reach.last (flipped_bound r.end),
-        );
+        upto = grind (arith, common_steps, left, right, seam_count, flipped_bound);
         within = omega (arith, least, right.in_range);
       }
 

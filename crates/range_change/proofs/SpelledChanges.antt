@@ -1,5 +1,5 @@
 -- That what a change puts in the place of a range is spelled as what it replaces.
-use Rattle.range_change.proofs.Common.{◌≡◌, refl, BorderSide, IsBorderShape, left_side, right_side, with_start, with_end, sym, ap, subst, ◌∙◌, ℕ, ◌+◌, ◌-◌, ◌<◌, ◌≤◌, arith, Option, Some, None, Bool, List, ◌∷◌, ◌++◌, inl, inr, length, get_or, take, drop, IsEquivalence, Every, Bound, KeyOrder, IsLawful, AnyRange, same_itself, lower, upper, lt_le, eq_le, eq_ge, lt_not_le, lt_trans, PLt, IsKnownRange, every_weaker, every_append, every_left, every_right, list_is_take_and_drop, reaching_is_before_past, Item, IsInserted, IsRemoved, IsLeftShape, IsRightShape, joined_count, seam_border, flipped_bound, IsStartOf, IsEndOf, IsNewItem, IsPart, ReachesBefore, ReachesAfter, IsReach, IsSurrounded, with_first_start, with_last_end, IsStartAsIn, IsEndAsIn, IsSpelledAsIn, KeepsSpelling, IsStored, item_lower, option_items, Window}
+use Rattle.range_change.proofs.Common.{common_steps, ◌≡◌, refl, BorderSide, IsBorderShape, left_side, right_side, with_start, with_end, sym, ap, subst, ◌∙◌, ℕ, ◌+◌, ◌-◌, ◌<◌, ◌≤◌, arith, Option, Some, None, Bool, List, ◌∷◌, ◌++◌, inl, inr, length, get_or, take, drop, IsEquivalence, Every, Bound, KeyOrder, IsLawful, AnyRange, same_itself, lower, upper, lt_le, eq_le, eq_ge, lt_not_le, lt_trans, PLt, IsKnownRange, every_weaker, every_append, every_left, every_right, list_is_take_and_drop, reaching_is_before_past, Item, IsInserted, IsRemoved, IsLeftShape, IsRightShape, joined_count, seam_border, flipped_bound, IsStartOf, IsEndOf, IsNewItem, IsPart, ReachesBefore, ReachesAfter, IsReach, IsSurrounded, with_first_start, with_last_end, IsStartAsIn, IsEndAsIn, IsSpelledAsIn, KeepsSpelling, IsStored, item_lower, option_items, Window}
 use Rattle.std.proofs.lemmas.Option.{same_Some}
 use Rattle.range_change.specs.declared.reach.Reach.{Reach}
 use Rattle.range_change.proofs.RangePieces.{any_use, item_at}
@@ -43,16 +43,9 @@ module _ {K : Type 0} {order : KeyOrder K} (lawful : IsLawful order) {V : Type 0
     border_spelled side As outer None None b low high rest given (at, none, free) cut =
         (rw none tt, λ c e. absurd (cc))
     border_spelled side As outer None (Some p) b low high rest given
-        (good, here, next, free, (x, read, is)) cut = (
-          rw is (cut p refl x (read ∙ ap (λ n. get_or items n x) (sym here)), tt),
-          λ c e. absurd (cc),
-        )
+        (good, here, next, free, (x, read, is)) cut = grind (arith, common_steps, get_or, here)
     border_spelled side As outer (Some q) reaching b low high rest given
-        (good, here, next, none, (x, read, is)) cut = (
-          rw none tt,
-          λ c e. subst As (same_Some (side.outer x) c (sym is ∙ e))
-              (outer x (one_is_spelled (rank q) x (in_range q good) read)),
-        )
+        (good, here, next, none, (x, read, is)) cut = grind (arith, common_steps, same_Some, one_is_spelled)
 
     cut_before : (p : P) → reach.first ≡ Some p → (x : Item (AnyRange K) V)
         → x ≡ get_or items (rank p) x → IsSpelled (with_end x (flipped_bound r.start))

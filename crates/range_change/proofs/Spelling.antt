@@ -1,5 +1,5 @@
 -- Which bounds are written as those of a list that lie at the same places.
-use Rattle.range_change.proofs.Common.{◌≡◌, refl, sym, subst, ◌∙◌, ℕ, zero, suc, ◌-◌, arith, Option, Some, None, Bool, List, [], ◌∷◌, ◌++◌, ◌⊎◌, inl, inr, length, get_or, append_assoc, if◌then◌else◌, Every, slice_set, Bound, Ordering, Less, Equal, Greater, is_lt, is_gt, IsEquivalence, tied_back, KeyOrder, IsLawful, start_position, end_position, position_total, Position, AnyRange, IsBoundClone, SameBound, same_start, same_end, same_itself, common, lower, upper, le_refl, lt_le, eq_le, eq_ge, lt_not_le, lt_le_trans, le_lt_trans, PLe, PLt, IsKnownRange, gt_le, every_weaker, every_append, every_left, every_right, every_at, reaching_is_before_past, Item, IsPut, line_of, flipped_bound, with_end, IsStartAsIn, IsEndAsIn, IsSpelledAsIn, KeepsSpelling, position_cmp}
+use Rattle.range_change.proofs.Common.{common_steps, ◌≡◌, refl, sym, subst, ◌∙◌, ℕ, zero, suc, ◌-◌, arith, Option, Some, None, Bool, List, [], ◌∷◌, ◌++◌, ◌⊎◌, inl, inr, length, get_or, append_assoc, if◌then◌else◌, Every, slice_set, Bound, Ordering, Less, Equal, Greater, is_lt, is_gt, IsEquivalence, tied_back, KeyOrder, IsLawful, start_position, end_position, position_total, Position, AnyRange, IsBoundClone, SameBound, same_start, same_end, same_itself, common, lower, upper, le_refl, lt_le, eq_le, eq_ge, lt_not_le, lt_le_trans, le_lt_trans, PLe, PLt, IsKnownRange, gt_le, every_weaker, every_append, every_left, every_right, every_at, reaching_is_before_past, Item, IsPut, line_of, flipped_bound, with_end, IsStartAsIn, IsEndAsIn, IsSpelledAsIn, KeepsSpelling, position_cmp}
 use Rattle.range_change.proofs.Chains.{chain_before, chain_right, follows_above}
 use Rattle.range_change.proofs.CutParts.{cut_end, cut_start, known_turned, same_turned}
 use Rattle.range_change.proofs.RangePieces.{every_with}
@@ -65,9 +65,7 @@ module _ {K : Type 0} {order : KeyOrder K} (lawful : IsLawful order) where
   back : (side : RangeSide) (p : Position K) (a b : Bound K) → SameBound order a b
       → places order lawful p (place_on order side b) ≡ Equal
       → places order lawful p (place_on order side a) ≡ Equal
-  back side p a b clone e = let total = position_total order.cmp lawful.total in
-      total.congr p (place_on order side b) (place_on order side a) e
-      ∙ tied_back total (place_on order side a) (place_on order side b) (same_place side a b clone)
+  back side p a b clone e = grind (arith, common_steps, position_total, tied_back, same_place)
 
   -- the range has not the place on the side
   abbrev IsOff : RangeSide → Position K → AnyRange K → Type 0

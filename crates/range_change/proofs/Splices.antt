@@ -1,5 +1,5 @@
 -- A chain that comes to stand between two places of another, and joins what stands beside it.
-use Rattle.range_change.proofs.Common.{◌≡◌, sym, true, List, [], ◌∷◌, ◌++◌, inl, inr, subst, append_assoc, append-nil, Every, Equal, Le, Lt, every_weaker, every_append, every_left, every_right, Line, IsChain, Has, IsLeft, IsRight, IsLeftOf, IsRightOf, IsSpliced}
+use Rattle.range_change.proofs.Common.{arith, common_steps, ◌≡◌, sym, true, List, [], ◌∷◌, ◌++◌, inl, inr, subst, append_assoc, append-nil, Every, Equal, Le, Lt, every_weaker, every_append, every_left, every_right, Line, IsChain, Has, IsLeft, IsRight, IsLeftOf, IsRightOf, IsSpliced}
 use Rattle.range_change.proofs.Chains.{same_is_symmetric, chain_left, chain_right, chain_above, strictly_leads, chain_before, chains_join, join_apart, follows_like, le_refl, lt_le, eq_le, eq_ge, le_trans, lt_not_le, lt_le_trans, le_lt_trans}
 use Rattle.range_change.proofs.ChainSides.{held_alone, like_item, leading_like}
 use Rattle.range_change.proofs.ChainJoins.{both_ways, hull, places_between_hold, trailing_follows}
@@ -22,9 +22,7 @@ module _ {L V X : Type 0} (line : Line L V X) where
       → Every (λ x. Le line.cmp (line.hi x) c) front → IsChain line middle
       → Every (λ x. Lt line.cmp c (line.lo x)) middle → IsChain line (front ++ middle)
   chain_apart front [] c chain ends other starts = rw (append-nil front) chain
-  chain_apart front (m ∷ ms) c chain ends other starts = chains_join line front m ms chain other
-      (every_weaker _ _ front (λ z h. strictly_leads line z (line.lo m) (line.value m)
-      (le_lt_trans line _ _ _ h starts.0)) ends)
+  chain_apart front (m ∷ ms) c chain ends other starts = grind (arith, common_steps, chains_join, chain, every_weaker, strictly_leads, le_lt_trans, ends)
 
   -- a middle that starts later than the place
   pub filled_apart : (items front middle : List X) (c : L) → IsLeft line items front c

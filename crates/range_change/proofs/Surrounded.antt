@@ -1,5 +1,5 @@
 -- What becomes of the one item that a range meets where it surrounds the range.
-use Rattle.range_change.proofs.Common.{◌≡◌, ℕ, ◌+◌, ◌-◌, ◌<◌, ◌≤◌, List, [], ◌∷◌, ◌++◌, length, take, drop, get_or, refl, ap, sym, ◌∙◌, arith, Option, Some, None, Result, Bool, true, false, IsTrue, IsEquivalence, Shared, Bor, Every, KeyOrder, IsLawful, SameBound, lower, upper, IsKnownBound, AnyRange, Item, AnswersPiece, MayAnswer, IsInserted, IsRemoved, IsDivided, flipped_bound, with_end, Overlap, IsConnectedTo, ArePieces, ReachesBefore, ReachesAfter, IsReach, IsSurrounded, option_items, Window, PLt, lt_le}
+use Rattle.range_change.proofs.Common.{common_steps, ◌≡◌, ℕ, ◌+◌, ◌-◌, ◌<◌, ◌≤◌, List, [], ◌∷◌, ◌++◌, length, take, drop, get_or, refl, ap, sym, ◌∙◌, arith, Option, Some, None, Result, Bool, true, false, IsTrue, IsEquivalence, Shared, Bor, Every, KeyOrder, IsLawful, SameBound, lower, upper, IsKnownBound, AnyRange, Item, AnswersPiece, MayAnswer, IsInserted, IsRemoved, IsDivided, flipped_bound, with_end, Overlap, IsConnectedTo, ArePieces, ReachesBefore, ReachesAfter, IsReach, IsSurrounded, option_items, Window, PLt, lt_le}
 use Rattle.range_change.specs.declared.cut.DividedItem.{DividedItem}
 use Rattle.range_change.specs.declared.reach.Reach.{Reach}
 use Rattle.range_change.proofs.RangePieces.{IsFull, all_full, item_at}
@@ -28,18 +28,12 @@ module _ {K : Type 0} {order : KeyOrder K} {V : Type 0} {same : V → V → Bool
   pub reach_is_met : {reach : Reach P} → IsReach order same is_good rank items r reach place
       → (length (option_items reach.first) ≤ reach.window.count)
       × (length (option_items reach.last) ≤ reach.window.count)
-  reach_is_met {reach} found = (
-    few_of reach.first reach.window.count (λ p is. (rw is at found.first).2),
-    few_of reach.last reach.window.count (λ p is. (rw is at found.last).2),
-  )
+  reach_is_met {reach} found = grind (arith, common_steps, few_of)
 
   -- so none does where the window is empty
   pub none_reach : {reach : Reach P} → IsReach order same is_good rank items r reach place
       → reach.window.count ≡ 0 → (reach.first ≡ None) × (reach.last ≡ None)
-  none_reach {reach} found none = let met = reach_is_met found in (
-    none_of reach.first (rw none at met.0),
-    none_of reach.last (rw none at met.1),
-  )
+  none_reach {reach} found none = grind (arith, common_steps, reach_is_met, none_of)
 
 module _ {K : Type 0} {order : KeyOrder K} (lawful : IsLawful order) {V : Type 0}
     {same : V → V → Bool} (equal : IsEquivalence same) {P : Type 0} {is_good : P → Type 0}
@@ -102,15 +96,7 @@ module _ {K : Type 0} {order : KeyOrder K} (lawful : IsLawful order) {V : Type 0
 
     pub divided_size : (middle : Option (Item (AnyRange K) V)) → IsDivided others new at parts middle
         → length new ≡ length items + 1 + length (option_items middle)
-    divided_size middle divided =
-        let window = within.window in
-        omega (
-          arith,
-          within.one,
-          changed_length items new (option_items (Some front)) (option_items middle)
-              (option_items (Some behind)) place (place + w.count)
-              (omega (arith, window.in_range)) window.in_range (list_is middle divided),
-        )
+    divided_size middle divided = grind (arith, common_steps, changed_length, option_items, list_is)
 
     -- the range is bound to another value
     pub divided_around : (v : V) → same x.value v ≡ false

@@ -1,6 +1,5 @@
 use Rattle.range_change.proofs.Common.{sym}
-use Rattle.range_change.proofs.InsertionPlans.{right_plan_inside, right_plan_cut}
-use Rattle.range_change.proofs.JoinedMiddle.{right_touched}
+use Rattle.range_change.proofs.InsertionPlans.{right_plan_inside, right_plan_cut, right_touched}
 use Rattle.range_change.proofs.borders.joins_after.Goals as goal
 
 pub returns-then-eq-clause-joins : goal.returns-then-eq-clause-joins

@@ -1,6 +1,5 @@
 use Rattle.range_change.proofs.Common.{sym}
-use Rattle.range_change.proofs.InsertionPlans.{left_plan_inside, left_plan_cut}
-use Rattle.range_change.proofs.JoinedMiddle.{left_touched}
+use Rattle.range_change.proofs.InsertionPlans.{left_plan_inside, left_plan_cut, left_touched}
 use Rattle.range_change.proofs.borders.joins_before.Goals as goal
 
 pub returns-then-eq-clause-joins : goal.returns-then-eq-clause-joins
