@@ -97,10 +97,7 @@ module _ {K : Type 0} (order : KeyOrder K) (lawful : IsLawful order) {V : Type 0
           inside = every_weaker (LiesUpTo m) (LiesUpTo n) middle lies_up_to_later_place was.inside;
           has = λ p W alike.
               let P = λ (b : Answered K V). HoldsAt p b.key × Gives W b.answer in
-              let old = was.has p W alike in (
-                λ h. any_left P answers (a ∷ []) (old.0 h),
-                λ h. elim (any_but_end P answers a h) [ inl g ↦ old.1 g | inr e ↦ absurd e.1 ],
-              );
+              let old = was.has p W alike in (grind (arith, common_steps, any_left, any_but_end));
           valued = more_valued a middle was.valued;
         }
 
@@ -130,10 +127,7 @@ module _ {K : Type 0} (order : KeyOrder K) (lawful : IsLawful order) {V : Type 0
             λ h. any_left P answers (a ∷ []) (before.0 (stands.0 h)),
             λ h. elim (any_but_end P answers a h) [
               | inl g ↦ stands.1 (before.1 g)
-              | inr e ↦ absurd (elim out [
-                | inl l ↦ lt_not_le lawful _ _ l e.0.0
-                | inr le ↦ lt_not_le lawful _ _ e.0.1 le
-              ])
+              | inr e ↦ absurd (grind (arith, common_steps, lt_not_le))
             ],
           ) in
           elim (inside_or_out (line_of order lawful same equal) p (lower order key)
@@ -183,11 +177,7 @@ module _ {K : Type 0} (order : KeyOrder K) (lawful : IsLawful order) {V : Type 0
             inside = every_append (LiesUpTo n) front (j ∷ []) (every_weaker (LiesUpTo m) (LiesUpTo n)
                 front lies_up_to_later_place (every_left (LiesUpTo m) front rest
                 (rw list at was.inside))) (
-                  (
-                    starts,
-                    le_trans lawful _ _ _ under inside.3,
-                    le_trans lawful _ _ _ under upto,
-                  ),
+                  (grind (arith, common_steps, le_trans, inside)),
                   tt,
                 );
             has = more_has bound;
@@ -262,9 +252,7 @@ module _ {K : Type 0} (order : KeyOrder K) (lawful : IsLawful order) {V : Type 0
       fill_more value None old new was put = rw put (filled_free value old was)
       fill_more value (Some v) old new was (inl put) = rw put.list
           (filled_with_item_after v value old was (record { start = put.start; end = put.end })
-          put.known (tied_back (position_total order.cmp lawful.total) (lower order key)
-          (start_position order put.start) (same_start order lawful key.start put.start
-          (clones key.start put.start put.start_clone))) (ends_there put.end put.end_clone)
+          put.known (grind (arith, common_steps, tied_back, position_total, lower, start_position, same_start)) (ends_there put.end put.end_clone)
           put.apart)
       fill_more value (Some v) old new was (inr put) =
           let some : 0 < length old = put.joins.0 in

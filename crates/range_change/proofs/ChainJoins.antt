@@ -12,9 +12,7 @@ module _ {L V X : Type 0} (line : Line L V X) where
   leading_last front y c v chain leads =
       let before = chain_before line front y [] chain in
       let good = chain_right line front (y ∷ []) chain in
-      every_append _ front (y ∷ []) (every_weaker _ _ front
-      (λ z h. strictly_leads line z c v (le_lt_trans line _ _ _ h.0
-      (lt_le_trans line _ _ _ good.0 leads.0))) before) (leads, tt)
+      every_append _ front (y ∷ []) (grind (arith, common_steps, every_weaker, strictly_leads, le_lt_trans, lt_le_trans)) (leads, tt)
 
   -- a chain leads to a place where its last item does
   pub leading_by : (xs : List X) (c : L) (v : V) → IsChain line xs
@@ -33,11 +31,7 @@ module _ {L V X : Type 0} (line : Line L V X) where
   pub trailing_first : (y : X) (ys : List X) (d : L) (v : V) → IsChain line (y ∷ ys)
       → Trails line d v y → Trailing line d v (y ∷ ys)
   trailing_first y ys d v chain trails =
-      let above = follows_above line y ys chain.1 in (
-        trails,
-        every_weaker _ _ ys (λ z h. strictly_trails line z d v
-            (le_lt_trans line _ _ _ trails.0 (lt_le_trans line _ _ _ chain.0 h))) above,
-      )
+      let above = follows_above line y ys chain.1 in (grind (arith, common_steps, every_weaker, strictly_trails, le_lt_trans, lt_le_trans))
 
   -- nothing beside the range joins it
   pub left_apart : (items kept : List X) (c : L) (v : V) → IsLeft line items kept c
@@ -76,8 +70,7 @@ module _ {L V X : Type 0} (line : Line L V X) where
   right_joined front x rest d v chain reaches ends alike_value =
       let whole = chain_right line front (x ∷ rest) chain in
       let low = lt_le line _ _ whole.0 in
-      let before : Every (λ z. Le line.cmp (line.hi z) (line.hi x)) front = every_weaker _ _ front
-      (λ z h. le_trans line _ _ _ h.0 low) (chain_before line front x rest chain) in
+      let before : Every (λ z. Le line.cmp (line.hi z) (line.hi x)) front = grind (arith, common_steps, every_weaker, le_trans, chain_before) in
       record {
         right = record {
           chain = chain_tail line x rest whole.1;
@@ -114,9 +107,7 @@ module _ {L V X : Type 0} (line : Line L V X) where
         outside = λ p W alike where_. elim where_ [
           | inl under ↦ (
             λ h. (left.holds p W alike under).0 (only_first
-                (none_below line p c W (middle ++ behind) under
-                (every_append (λ x. Le line.cmp c (line.lo x)) middle behind above
-                (every_weaker _ _ behind (λ x h. le_trans line _ _ _ low h) right.starts)))
+                (grind (arith, common_steps, none_below, every_append, every_weaker, le_trans))
                 (any_split _ front (middle ++ behind) h)),
             λ h. any_left _ front (middle ++ behind) ((left.holds p W alike under).1 h),
           )
@@ -146,10 +137,7 @@ module _ {L V X : Type 0} (line : Line L V X) where
         (λ h. narrow.0 (wide.0 h), λ h. wide.1 (narrow.1 h));
     outside = λ p W alike where_. elim (inside_or_out line p s e) [
       | inl within ↦ both_ways (made.inside p W alike within.0 within.1) (beside p W alike
-          (elim where_ [
-            | inl under ↦ inl (within.0, under)
-            | inr over ↦ inr (over, within.1)
-          ]))
+          (grind (arith, common_steps)))
       | inr out ↦ made.outside p W alike out
     ];
   }
@@ -176,11 +164,7 @@ module _ {L V X : Type 0} (line : Line L V X) where
       let high = le_trans line _ _ _ (lt_le line _ _ l) right.above in
       let good : Lt line.cmp (line.lo m) (line.hi m) = le_lt_trans line _ _ _ left.below
       (lt_le_trans line _ _ _ l right.above) in
-      let chain = chains_join line front m behind left.left.chain (
-        good,
-        trailing_follows m behind (line.hi m) v (le_refl line (line.hi m))
-            (le_refl line (line.hi m)) alike_value right.right.chain right.trails,
-      ) (leading_like line front m (line.lo m) v left.leads (tied_itself line.total (line.lo m))
+      let chain = chains_join line front m behind left.left.chain (grind (arith, common_steps, trailing_follows, le_refl)) (leading_like line front m (line.lo m) v left.leads (tied_itself line.total (line.lo m))
       alike_value) in
       let made = places_between_hold items front (m ∷ []) behind (line.lo m) (line.hi m) left.left
       right.right good chain (le_refl line (line.lo m), tt) (le_refl line (line.hi m), tt) in
@@ -188,14 +172,8 @@ module _ {L V X : Type 0} (line : Line L V X) where
       → Has line W p (m ∷ []) ↔ (W v ≡ true) =
       λ p W alike held. held_alone line [] m [] p W v (good, tt) held alike alike_value in
       hull items (front ++ m ∷ behind) c d (line.lo m) (line.hi m) (λ p W. Has line W p (m ∷ []))
-      (λ p W. W v ≡ true) left.below l right.above made (λ p W alike from upto. own p W alike (
-        le_trans line _ _ _ left.below from,
-        lt_le_trans line _ _ _ upto right.above,
-      )) (λ p W alike where_. elim where_ [
+      (λ p W. W v ≡ true) left.below l right.above made (λ p W alike from upto. own p W alike (grind (arith, common_steps, le_trans, lt_le_trans))) (λ p W alike where_. elim where_ [
         | inl k ↦ both_ways (left.joined p W alike k.0 k.1) (own p W alike
             (k.0, lt_le_trans line _ _ _ k.1 high))
-        | inr k ↦ both_ways (right.joined p W alike k.0 k.1) (own p W alike (
-          le_trans line _ _ _ left.below (le_trans line _ _ _ (lt_le line _ _ l) k.0),
-          k.1,
-        ))
+        | inr k ↦ both_ways (right.joined p W alike k.0 k.1) (own p W alike (grind (arith, common_steps, le_trans, lt_le)))
       ])

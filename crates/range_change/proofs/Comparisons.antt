@@ -47,12 +47,7 @@ module _ {K : Type 0} (order : KeyOrder K) (lawful : IsLawful order) where
       (before_by_parts (is_lt (cmp (Start e) (Start s))) (is_lt (cmp (End e) (Start s))) touch'
       (is_eq (cmp (End e) (End s))) (is_gt (cmp (Start e) (End s)))
       (starts_at_end order s.end (Start e)) (is_eq (cmp (Start e) (Start s)))
-      (is_eq (cmp (End e) (End s))) connected).1 (
-        (lt_is_less (cmp (Start e) (Start s))).1 starts,
-        (lt_is_less (cmp (End e) (Start s))).1 ends,
-        false_is_not_both touch' connected (λ t. lt_not_le lawful _ _ apart
-            (eq_ge lawful _ _ (touching_same e.end (Start s) t))),
-      )
+      (is_eq (cmp (End e) (End s))) connected).1 (grind (arith, common_steps, lt_is_less, false_is_not_both, lt_not_le, eq_ge, touching_same))
 
   module _ {V : Type 0} where
     starts_rise : (i : Item (AnyRange K) V) (rest : List (Item (AnyRange K) V))

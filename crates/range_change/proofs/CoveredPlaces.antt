@@ -19,10 +19,7 @@ module _ {K : Type 0} (order : KeyOrder K) (lawful : IsLawful order) where
           not_le lawful (lower order r) (upper order s) (λ k. h.1 (behind.1 k)),
           not_le lawful (lower order s) (upper order r) (λ k. h.0 (before.1 k)),
         ),
-        λ h. (
-          λ k. lt_not_le lawful _ _ h.1 (before.0 k),
-          λ k. lt_not_le lawful _ _ h.0 (behind.0 k),
-        ),
+        λ h. (grind (arith, common_steps, lt_not_le)),
       )
 
   -- a place that two ranges share

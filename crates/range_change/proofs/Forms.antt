@@ -19,12 +19,7 @@ module _ {K : Type 0} (order : KeyOrder K) (lawful : IsLawful order) where
   pub nonempty_good : (r : AnyRange K) → IsKnownRange order r → (IsEmptyRange order r → ⊥)
       ↔ Lt places (lower order r) (upper order r)
   nonempty_good r known =
-      let reach = reaching_is_before_past order lawful r.start r.end known.0 known.1 in (
-        λ h. reach.0 (not_greater (places (start_position order r.start) (end_position order r.end))
-            h),
-        λ h. not_both_greater_and_not
-            (places (start_position order r.start) (end_position order r.end)) (reach.1 h),
-      )
+      let reach = reaching_is_before_past order lawful r.start r.end known.0 known.1 in (grind (arith, common_steps, not_greater, start_position, end_position, not_both_greater_and_not))
 
   pub before_is : (e s : Bound K) → IsKnownBound order e → IsKnownBound order s
       → places (end_position order e) (start_position order s) ≡ Less
@@ -102,20 +97,14 @@ module _ {K : Type 0} (order : KeyOrder K) (lawful : IsLawful order) where
     binds_hold [] k v known key = (λ h. h, λ h. h)
     binds_hold (i ∷ rest) k v known key =
         let own = held_between order lawful i.key k known.0 key in
-        let others = binds_hold rest k v known.1 key in (
-          λ h. elim h [ inl e ↦ inl (own.0 e.0, e.1) | inr e ↦ inr (others.0 e) ],
-          λ h. elim h [ inl e ↦ inl (own.1 e.0, e.1) | inr e ↦ inr (others.1 e) ],
-        )
+        let others = binds_hold rest k v known.1 key in (grind (arith, common_steps))
 
     pub bound_hold : (items : List (Item (AnyRange K) V)) (k : K) → Known items → order.is_key k
         → IsBound order items k ↔ Hold (λ u. true) (Beside k At) items
     bound_hold [] k known key = (λ h. h, λ h. h)
     bound_hold (i ∷ rest) k known key =
         let own = held_between order lawful i.key k known.0 key in
-        let others = bound_hold rest k known.1 key in (
-          λ h. elim h [ inl e ↦ inl (own.0 e, refl) | inr e ↦ inr (others.0 e) ],
-          λ h. elim h [ inl e ↦ inl (own.1 e.0) | inr e ↦ inr (others.1 e) ],
-        )
+        let others = bound_hold rest k known.1 key in (grind (arith, common_steps))
 
     respects_same : (v : V) → Respects (line_of order lawful same equal) (λ u. same u v)
     respects_same v a b s h = sym (equal.congr a b v s) ∙ h

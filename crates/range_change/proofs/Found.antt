@@ -194,10 +194,7 @@ module _ {K : Type 0} (order : KeyOrder K) (lawful : IsLawful order) {V : Type 0
       → false ≡ is_lt (places order lawful (End x) (Beside k At)) → Holds order x.key k
   holds_at items k place x key within read upto ends =
       let cmp = places order lawful in
-      (holds_by_position order lawful x.key k key).1 (
-        starts_here items (Beside k At) place x within read upto,
-        not_lt lawful _ _ (not_less (cmp (End x) (Beside k At)) (sym ends)),
-      )
+      (holds_by_position order lawful x.key k key).1 (grind (arith, common_steps, starts_here, not_lt, not_less))
 
   pub item_at : (items : List (Item (AnyRange K) V)) (place : ℕ) (x : Item (AnyRange K) V)
       → place < length items → x ≡ get_or items place x → Any (λ j. j ≡ x) items

@@ -64,9 +64,7 @@ widened_frame items new Way place count front extra rest body beyond more tail b
       run = extra ++ met ++ more;
       others = rest ++ body ++ beyond;
       behind = tail;
-      before = list_is_take_and_drop items place ∙ (ap (λ ys. ys ++ drop place items) before ∙
-          (ap (λ ys. (front ++ extra) ++ ys) (parts_of items place count ∙ ap (λ ys. met ++ ys)
-          after) ∙ append_reassociates front extra met more tail));
+      before = list_is_take_and_drop items place ∙ (grind (arith, common_steps, drop, parts_of, append_reassociates));
       after = changed ∙ reassociate_pieces front rest body beyond tail;
       such = such;
     }
@@ -156,9 +154,7 @@ module _ {K : Type 0} {order : KeyOrder K} (lawful : IsLawful order) {V : Type 0
         let met = every_at (λ i. Overlap order i.key r) (take w.count (drop place items)) 0 x
         all_meet (omega (arith, size)) in
         let plus : place + 0 ≡ place = omega arith in
-        let there : get_or (take w.count (drop place items)) 0 x ≡ get_or items place x =
-        get_or-take w.count (drop place items) 0 x some
-        ∙ (get_or-drop place items 0 x ∙ ap (λ n. get_or items n x) plus) in
+        let there : get_or (take w.count (drop place items)) 0 x ≡ get_or items place x = grind (arith, common_steps, get_or-take, drop, get_or-drop, get_or) in
         any_at (λ i. Overlap order i.key r) items place x within read
         (subst (λ (y : Item (AnyRange K) V). Overlap order y.key r) (there ∙ sym read) met)
 
@@ -218,12 +214,8 @@ module _ {K : Type 0} {order : KeyOrder K} (lawful : IsLawful order) {V : Type 0
         let made_left =
         made_within (on_left.extra ++ met) run (option_items left) on_start r v on_left.made in
         let made_right : Every (IsNewItem order same run r v) (option_items right) =
-        rw regroup (made_within (met ++ on_right.extra) (on_left.extra ++ (met ++ on_right.extra))
-        (option_items right) (λ Q h. any_right Q on_left.extra (met ++ on_right.extra) h) r v
-        on_right.made) in
-        let own_end : IsEndOf order run r (unwrap_or finish r.end) =
-        rw regroup (within_wider (any_right (λ i. unwrap_or finish r.end ≡ i.key.end)
-        on_left.extra (met ++ on_right.extra)) on_right.end_of) in
+        rw regroup (grind (arith, common_steps, made_within, option_items, any_right)) in
+        let own_end : IsEndOf order run r (unwrap_or finish r.end) = grind (arith, common_steps, within_wider, any_right, unwrap_or) in
         let own : IsNewItem order same run r v m = record {
           start =
               within_wider (on_start (λ i. unwrap_or start r.start ≡ i.key.start)) on_left.start_of;

@@ -174,16 +174,35 @@ module _ {K : Type 0} {order : KeyOrder K} (lawful : IsLawful order) {V : Type 0
         begins = omega arith;
       }
 
-  pub left_plan_joined : (q : P) → ReachesBefore order is_good rank items r place w.count None
-      → is_good q → rank q + 1 ≡ place → rank q < length items
-      → TouchesBefore order same items place r v
-      → IsLeftPlan order same lawful equal is_good rank items r v place w.count None (Joined q)
-      (Some q)
-  left_plan_joined q reach is at within touching =
+  -- no item reaches out of it, and the one before may join
+  pub left_touched : (joined : Option P) (b : Bound K) (at : Option P)
+      → ((p : P) → is_good p → rank p < length items)
+      → ReachesBefore order is_good rank items r place w.count None
+      → MatchOption joined (TouchesNoneBefore order same items place r v)
+      (λ q. is_good q × (rank q + 1 ≡ place) × TouchesBefore order same items place r v)
+      → IsRunStart is_good rank (length items) place None joined at
+      → IsLeftPlan order same lawful equal is_good rank items r v place w.count None
+      (seam_border joined None b) at
+  left_touched None b at in_range reach none start = record {
+    at = place;
+    begin = place;
+    rest = None;
+    start = None;
+    shape = (refl, refl, refl);
+    side = left_border_none lawful equal window v (left_rest_whole lawful equal window reach) none;
+    run = let plus : place + 0 ≡ place = omega arith in
+        subst (λ n. IsAt is_good rank (length items) at n) plus start;
+    frame = grind (arith, common_steps, append-nil);
+    few = omega arith;
+    begins = omega arith;
+  }
+  left_touched (Some q) b at in_range reach (is, next, touching) start =
+      let within = in_range q is in
       let x = element_at items (rank q) within in
       let read = element_at_is_read items (rank q) within x in
-      let touch = touched_before (rank q) x at read touching in
-      let up = touching_before lawful equal window (rank q) x at within read touch.0 in record {
+      let touch = touched_before (rank q) x next read touching in
+      let up = touching_before lawful equal window (rank q) x next within read touch.0 in
+      rw start (record {
         at = rank q;
         begin = rank q;
         rest = None;
@@ -193,25 +212,8 @@ module _ {K : Type 0} {order : KeyOrder K} (lawful : IsLawful order) {V : Type 0
         run = (is, refl);
         frame = grind (arith, common_steps, upto_item);
         few = omega arith;
-        begins = omega (arith, at);
-      }
-
-  pub left_plan_free : (from : Option P) → IsAt is_good rank (length items) from place
-      → ReachesBefore order is_good rank items r place w.count None
-      → TouchesNoneBefore order same items place r v
-      → IsLeftPlan order same lawful equal is_good rank items r v place w.count None Plain from
-  left_plan_free from run reach none = record {
-    at = place;
-    begin = place;
-    rest = None;
-    start = None;
-    shape = (refl, refl, refl);
-    side = left_border_none lawful equal window v (left_rest_whole lawful equal window reach) none;
-    run = run;
-    frame = grind (arith, common_steps, append-nil, take);
-    few = omega arith;
-    begins = omega arith;
-  }
+        begins = omega (arith, next);
+      })
 
   last_at : (p : P) (x : Item (AnyRange K) V) → rank p + 1 ≡ place + w.count
       → x ≡ get_or items (rank p) x → x ≡ get_or items (place + w.count - 1) x
@@ -259,43 +261,15 @@ module _ {K : Type 0} {order : KeyOrder K} (lawful : IsLawful order) {V : Type 0
         ends = omega (arith, reach.2);
       }
 
-  pub right_plan_joined : (q : P) → ReachesAfter order is_good rank items r place w.count None
-      → is_good q → rank q ≡ place + w.count → rank q < length items
-      → TouchesAfter order same items (place + w.count) r v
-      → IsRightPlan order same lawful equal is_good rank items r v place w.count None (Joined q)
-  right_plan_joined q reach is at within touching =
-      let x = element_at items (rank q) within in
-      let read = element_at_is_read items (rank q) within x in
-      let here : x ≡ get_or items (place + w.count) x = read ∙ ap (λ n. get_or items n x) at in
-      let within' : place + w.count < length items = omega (arith, at, within) in
-      let touch = touched_after x here touching in
-      let up = touching_after lawful equal window x within' here touch.0 in
-      record {
-        upto = place + w.count + 1;
-        end = place + w.count + 1;
-        rest = None;
-        finish = Some x.key.end;
-        shape = (is, omega (arith, at), refl, refl, (x, read, refl));
-        side = right_border_at lawful equal window (place + w.count + 1) (place + w.count) v x refl
-            within' here up.0 up.1 touch.1;
-        frame = record {
-          extra = x ∷ [];
-          split = from_item items (place + w.count) x within' here;
-          touched = ((touch.0, touch.1, refl), tt);
-          end_of = inr (inl (any_right (λ i. x.key.end ≡ i.key.end)
-              (take w.count (drop place items)) (x ∷ []) (inl refl)));
-          made = tt;
-          apart = tt;
-          whole = λ e. absurd (none_last (take w.count (drop place items)) x e);
-        };
-        few = omega arith;
-        ends = omega arith;
-      }
-
-  pub right_plan_plain : ReachesAfter order is_good rank items r place w.count None
-      → TouchesNoneAfter order same items (place + w.count) r v
-      → IsRightPlan order same lawful equal is_good rank items r v place w.count None Plain
-  right_plan_plain reach none = record {
+  pub right_touched : (joined : Option P) (b : Bound K)
+      → ((p : P) → is_good p → rank p < length items)
+      → ReachesAfter order is_good rank items r place w.count None
+      → MatchOption joined (TouchesNoneAfter order same items (place + w.count) r v)
+      (λ q. is_good q × (rank q ≡ place + w.count)
+      × TouchesAfter order same items (place + w.count) r v)
+      → IsRightPlan order same lawful equal is_good rank items r v place w.count None
+      (seam_border joined None b)
+  right_touched None b in_range reach none = record {
     upto = place + w.count;
     end = place + w.count;
     rest = None;
@@ -307,6 +281,40 @@ module _ {K : Type 0} {order : KeyOrder K} (lawful : IsLawful order) {V : Type 0
     few = omega arith;
     ends = omega arith;
   }
+  right_touched (Some q) b in_range reach (is, at, touching) =
+      let x = element_at items (rank q) (in_range q is) in
+      let here : x ≡ get_or items (place + w.count) x =
+      element_at_is_read items (rank q) (in_range q is) x ∙ ap (λ n. get_or items n x) at in
+      let within : place + w.count < length items = omega (arith, at, in_range q is) in
+      let touch = touched_after x here touching in
+      let up = touching_after lawful equal window x within here touch.0 in
+      record {
+        upto = place + w.count + 1;
+        end = place + w.count + 1;
+        rest = None;
+        finish = Some x.key.end;
+        shape = (
+          is,
+          omega (arith, at),
+          refl,
+          refl,
+          (x, element_at_is_read items (rank q) (in_range q is) x, refl),
+        );
+        side = right_border_at lawful equal window (place + w.count + 1) (place + w.count) v x refl
+            within here up.0 up.1 touch.1;
+        frame = record {
+          extra = x ∷ [];
+          split = from_item items (place + w.count) x within here;
+          touched = ((touch.0, touch.1, refl), tt);
+          end_of = inr (inl (any_right (λ i. x.key.end ≡ i.key.end)
+              (take w.count (drop place items)) (x ∷ []) (inl refl)));
+          made = tt;
+          apart = tt;
+          whole = λ e. absurd (none_last (take w.count (drop place items)) x e);
+        };
+        few = omega arith;
+        ends = omega arith;
+      }
 
 module _ {K : Type 0} {order : KeyOrder K} (lawful : IsLawful order) {V : Type 0}
     {same : V → V → Bool} (equal : IsEquivalence same) {P : Type 0} {is_good : P → Type 0}
@@ -372,31 +380,3 @@ module _ {K : Type 0} {order : KeyOrder K} (lawful : IsLawful order) {V : Type 0
             (right_part lawful equal window x here reach.2 b x.value same_b (equal.refl x.value), tt);
         ends = omega (arith, reach.2);
       }
-
-  -- no item reaches out of it, and the one before may join
-  pub left_touched : (v : V) (joined : Option P) (b : Bound K) (at : Option P)
-      → ((p : P) → is_good p → rank p < length items)
-      → ReachesBefore order is_good rank items r place w.count None
-      → MatchOption joined (TouchesNoneBefore order same items place r v)
-      (λ q. is_good q × (rank q + 1 ≡ place) × TouchesBefore order same items place r v)
-      → IsRunStart is_good rank (length items) place None joined at
-      → IsLeftPlan order same lawful equal is_good rank items r v place w.count None
-      (seam_border joined None b) at
-  left_touched v None b at in_range reach none start =
-      let plus : place + 0 ≡ place = omega arith in
-      left_plan_free lawful equal window v at
-      (subst (λ n. IsAt is_good rank (length items) at n) plus start) reach none
-  left_touched v (Some q) b at in_range reach found start = rw start
-      (left_plan_joined lawful equal window v q reach found.0 found.1 (in_range q found.0) found.2)
-
-  pub right_touched : (v : V) (joined : Option P) (b : Bound K)
-      → ((p : P) → is_good p → rank p < length items)
-      → ReachesAfter order is_good rank items r place w.count None
-      → MatchOption joined (TouchesNoneAfter order same items (place + w.count) r v)
-      (λ q. is_good q × (rank q ≡ place + w.count)
-      × TouchesAfter order same items (place + w.count) r v)
-      → IsRightPlan order same lawful equal is_good rank items r v place w.count None
-      (seam_border joined None b)
-  right_touched v None b in_range reach none = right_plan_plain lawful equal window v reach none
-  right_touched v (Some q) b in_range reach found =
-      right_plan_joined lawful equal window v q reach found.0 found.1 (in_range q found.0) found.2

@@ -128,10 +128,7 @@ module _ {K : Type 0} (order : KeyOrder K) (lawful : IsLawful order) {V : Type 0
         let bound : b ≡ i.key.start = cc in
         inl (
           bound,
-          (
-            le_lt_trans lawful _ _ _ le good,
-            over,
-          ),
+          (grind (arith, common_steps, le_lt_trans, good)),
           alike,
         )
 
@@ -239,12 +236,8 @@ module _ {K : Type 0} (order : KeyOrder K) (lawful : IsLawful order) {V : Type 0
         let body_end : with_last_end plan.finish (with_first_start start middle) ≡ s.0
         ++ other ∷ [] = ap (with_last_end plan.finish) body ∙ with_last plan.finish s.0 z in
         let list : (front ++ with_last_end plan.finish (with_first_start start middle))
-        ++ behind ≡ front ++ ((s.0 ++ other ∷ []) ++ behind) =
-        ap (λ ys. (front ++ ys) ++ behind) body_end ∙ append_assoc front (s.0 ++ other ∷ []) behind
-        in
-        let z_ends : places order lawful (item_upper order z) (upper order r) ≡ Equal =
-        subst (λ (b : Bound K). places order lawful (past order (end_position order b))
-        (upper order r) ≡ Equal) (sym s.3) at in
+        ++ behind ≡ front ++ ((s.0 ++ other ∷ []) ++ behind) = grind (arith, common_steps, append_assoc) in
+        let z_ends : places order lawful (item_upper order z) (upper order r) ≡ Equal = grind (arith, common_steps, places, past, end_position, upper) in
         let e = past order (end_position order (unwrap_or plan.finish r.end)) in
         let right = subst (λ (v : V). IsRightOf line items behind (upper order r) e v) (sym s.4)
         plan.side.right in

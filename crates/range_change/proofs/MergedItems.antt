@@ -64,10 +64,7 @@ module _ {K : Type 0} (order : KeyOrder K) {V : Type 0} (same : V → V → Bool
       ⊎ IsMergedInto order same (front ++ others ++ behind) r i in
       every_append Stays (front ++ run) behind (every_append Stays front run (every_weaker _ _ front
       (λ i h out. inl (any_left _ (front ++ others) behind (any_left _ front others h)))
-      (each_is_one front)) (every_weaker _ _ run (λ i h out. elim h [
-        | inl meets ↦ absurd (out meets)
-        | inr merged ↦ inr (merged_within front others behind i merged)
-      ]) concerned)) (every_weaker _ _ behind
+      (each_is_one front)) (grind (arith, common_steps, every_weaker, merged_within))) (every_weaker _ _ behind
       (λ i h out. inl (any_right _ (front ++ others) behind h)) (each_is_one behind))
 
   -- so does a list that is not changed

@@ -115,10 +115,7 @@ module _ {K : Type 0} (order : KeyOrder K) (lawful : IsLawful order) where
         let reaches : is_lt (cmp (End x.key) p) ≡ false = sym ends in (
           λ h. (
             full,
-            any_at (λ i. Overlap order i.key r) items place x within read (
-              λ l. not_less (cmp (End x.key) (Start r)) (rw start at reaches) l,
-              λ l. lt_not_le lawful _ _ l (rw end at starts),
-            ),
+            any_at (λ i. Overlap order i.key r) items place x within read (grind (arith, common_steps, not_less, lt_not_le)),
           ),
           λ h. refl,
         )

@@ -1,5 +1,5 @@
 -- The answers to the pieces of a range, one after the other.
-use Rattle.range_change.proofs.Common.{ℕ, ◌+◌, take, drop, ◌≡◌, refl, sym, ap, ◌∙◌, Option, Some, None, Bool, true, List, [], ◌∷◌, ◌++◌, append_assoc, inl, inr, ◌↔◌, map, Result, Ok, append-nil, drop-drop, map-append, Shared, Bor, Every, Bound, IsEquivalence, KeyOrder, IsLawful, Position, Beside, At, AnyRange, IsBoundClone, SameBound, Any, every_append, every_right, every_weaker, list_is_take_and_drop, held_between, Item, MayAnswer, MayBeAsked, Answered, IsAsAnswered, AnswersPiece, IsGathered, piece_of, Binds, pieces_of, IsPut, AreOverlapping, KeepsSpelling, IsWindow, Window, le_refl, le_trans, lt_not_le, PLe, PLt, lower, upper}
+use Rattle.range_change.proofs.Common.{arith, common_steps, ℕ, ◌+◌, take, drop, ◌≡◌, refl, sym, ap, ◌∙◌, Option, Some, None, Bool, true, List, [], ◌∷◌, ◌++◌, append_assoc, inl, inr, ◌↔◌, map, Result, Ok, append-nil, drop-drop, map-append, Shared, Bor, Every, Bound, IsEquivalence, KeyOrder, IsLawful, Position, Beside, At, AnyRange, IsBoundClone, SameBound, Any, every_append, every_right, every_weaker, list_is_take_and_drop, held_between, Item, MayAnswer, MayBeAsked, Answered, IsAsAnswered, AnswersPiece, IsGathered, piece_of, Binds, pieces_of, IsPut, AreOverlapping, KeepsSpelling, IsWindow, Window, le_refl, le_trans, lt_not_le, PLe, PLt, lower, upper}
 use Rattle.range_change.proofs.AnswerLists.{IsFilledUpTo, Gives, Alike, filled_none, fill_more}
 use Rattle.range_change.proofs.Forms.{Known, Hold, before_is, binds_as, unbinds_as, chain_stored, every_back, every_front}
 use Rattle.range_change.proofs.InsertionFrames.{all_meet}
@@ -42,13 +42,7 @@ module _ {K : Type 0} (order : KeyOrder K) (lawful : IsLawful order) {V : Type 0
       inr (any_with _ _ (λ b. (PLe lawful (lower order b.key) p × PLt lawful p (upper order b.key))
       × IsOnly p b (a ∷ rest)) rest (only_one p rest rising.1 h) above (λ b t le. (
         t.0,
-        λ W. (
-          λ g. elim g [
-            | inl e ↦ absurd (lt_not_le lawful _ _ e.0.1 (le_trans lawful _ _ _ le t.0.0))
-            | inr e ↦ (t.1 W).0 e
-          ],
-          λ g. inr ((t.1 W).1 g),
-        ),
+        λ W. (grind (arith, common_steps, lt_not_le, le_trans)),
       )))
 
   as_answered : (new : List (Item (AnyRange K) V)) (k : K) → Known order lawful same equal new

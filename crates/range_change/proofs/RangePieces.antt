@@ -115,12 +115,7 @@ module _ {K : Type 0} (order : KeyOrder K) (lawful : IsLawful order) where
       let latest = later_over p q in
       let first = earlier_under u v in
       let at = eq_ge lawful _ _ h.starts in
-      let to = eq_le lawful _ _ h.ends in (
-        le_trans lawful _ _ _ latest.0 at,
-        le_trans lawful _ _ _ latest.1 at,
-        past_le order lawful part.end r.end known''.1 known.1 (le_trans lawful _ _ _ to first.0),
-        past_le order lawful part.end i.end known''.1 known'.1 (le_trans lawful _ _ _ to first.1),
-      )
+      let to = eq_le lawful _ _ h.ends in (grind (arith, common_steps, le_trans, past_le))
 
   lies_places : (r s : AnyRange K) → IsKnownRange order r → IsKnownRange order s → LiesIn order r s
       → PLe (Lo s) (Lo r) × PLe (Hi r) (Hi s)
@@ -142,10 +137,7 @@ module _ {K : Type 0} (order : KeyOrder K) (lawful : IsLawful order) where
         | inr le ↦ inl le
         | inl l ↦ elim (cases lawful (Lo i) (Hi r)) [
           | inr le ↦ inr le
-          | inl m ↦ absurd (none (
-            λ b. lt_not_le lawful _ _ l (first.0 b),
-            λ b. lt_not_le lawful _ _ m (other.0 b),
-          ))
+          | inl m ↦ absurd (none (grind (arith, common_steps, lt_not_le)))
         ]
       ]
 
@@ -331,10 +323,7 @@ module _ {K : Type 0} (order : KeyOrder K) (lawful : IsLawful order) where
           → PLe (Lo r) (Lo part) × PLt (Lo part) (Hi r)
       piece_inside full part None known piece = grind (arith, common_steps, free_inside, lt_le_trans)
       piece_inside full part (Some v) known piece = any_use _ _ items piece.1 full (λ i c f.
-          let within = common_within r i.key part known_r f.0 known c.0 in (
-            within.0,
-            lt_le_trans lawful _ _ _ ((nonempty_good order lawful part known).0 piece.0) within.2,
-          ))
+          let within = common_within r i.key part known_r f.0 known c.0 in (grind (arith, common_steps, lt_le_trans, nonempty_good)))
 
       rising_apart : (pieces : List (Item (AnyRange K) (Option V)))
           → Every (λ p. IsInside p.key) pieces → Rises pieces

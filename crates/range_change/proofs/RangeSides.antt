@@ -1,5 +1,5 @@
 -- What stands on each side of a range, and the list in which it is bound or unbound.
-use Rattle.range_change.proofs.Common.{common_steps, Line, Position, ◌≡◌, ℕ, zero, suc, ◌+◌, ◌-◌, ◌<◌, ◌≤◌, List, [], ◌∷◌, ◌++◌, length, take, drop, get_or, refl, ap, sym, ◌∙◌, arith, subst, Option, Some, None, Bool, true, false, length-drop, append-nil, length-take-le, get_or-take, get_or-drop, IsEquivalence, Every, KeyOrder, IsLawful, position_total, AnyRange, IsKnownRange, Item, lt_le, le_trans, PLe, PLt, line_of, Leads, Trails, IsLeft, IsRight, IsLeftOf, IsRightOf, lower, upper, item_lower, item_upper, IsWindow, option_items, Window, every_at, list_is_take_and_drop, every_weaker, every_append, every_right, tied_itself, Bound, Touches, IsInserted, IsRemoved, Overlap, IsPart, IsRemovalFrame, IsLeftFrame, IsRightFrame, ReachesBefore, ReachesAfter, flipped_bound, with_end, SameBound, IsKnownBound, joined_item, IsLeftRest, IsRightRest, IsLeftBorder, IsRightBorder, TouchesNoneBefore, TouchesNoneAfter}
+use Rattle.range_change.proofs.Common.{common_steps, Line, Position, ◌≡◌, ℕ, zero, suc, ◌+◌, ◌-◌, ◌<◌, ◌≤◌, List, [], ◌∷◌, ◌++◌, length, take, drop, get_or, refl, ap, sym, ◌∙◌, arith, subst, Option, Some, None, Bool, true, false, length-drop, append-nil, length-take-le, get_or-take, get_or-drop, IsEquivalence, Every, KeyOrder, IsLawful, position_total, AnyRange, IsKnownRange, Item, lt_le, le_trans, PLe, PLt, line_of, Leads, Trails, IsLeft, IsRight, IsLeftOf, IsRightOf, lower, upper, item_lower, item_upper, IsWindow, option_items, Window, every_at, list_is_take_and_drop, every_weaker, every_append, every_right, tied_itself, Bound, Touches, IsInserted, IsRemoved, Overlap, IsPart, IsRemovalFrame, IsInsertionFrame, IsStored, IsLeftFrame, IsRightFrame, ReachesBefore, ReachesAfter, flipped_bound, with_end, SameBound, IsKnownBound, joined_item, IsLeftRest, IsRightRest, IsLeftBorder, IsRightBorder, TouchesNoneBefore, TouchesNoneAfter}
 use Rattle.range_change.proofs.Tests.{not_both}
 use Rattle.range_change.proofs.Chains.{chain_above, chain_before, chain_right}
 use Rattle.range_change.proofs.ChainSides.{left_whole, left_cut, right_whole, right_cut}
@@ -18,6 +18,30 @@ module _ {K : Type 0} {order : KeyOrder K} (lawful : IsLawful order) {V : Type 0
     {same : V → V → Bool} (equal : IsEquivalence same) where
   abbrev line : Line (Position K) V (Item (AnyRange K) V)
   line = line_of order lawful same equal
+
+  -- the list in which a range is bound, by what stands on both sides of it
+  pub inserted_between : {items new : List (Item (AnyRange K) V)} {r : AnyRange K} {v : V}
+      (front behind : List (Item (AnyRange K) V)) (m : Item (AnyRange K) V)
+      → IsStored order same items → IsKnownRange order r
+      → PLt lawful (lower order r) (upper order r)
+      → IsLeftOf line items front (lower order r) (item_lower order m) v
+      → IsRightOf line items behind (upper order r) (item_upper order m) v
+      → same m.value v ≡ true → Known order lawful same equal (front ++ m ∷ behind)
+      → new ≡ front ++ m ∷ behind → IsInsertionFrame order same items new r v
+      → IsInserted order same items new r v
+  inserted_between {items} {new} {r} {v} front behind m stored known good left right values others
+      list frame =
+      let made = places_between_are_bound line items front behind m (lower order r) (upper order r) v
+      left right good values in
+      record {
+        stored =
+            rw list (chain_stored order lawful same equal (front ++ m ∷ behind) others made.chain);
+        bound = rw list (bound_after order lawful same equal items (front ++ m ∷ behind) r v known
+            stored.known others made);
+        frame = frame;
+        meets = rw list (meets_bound order lawful same equal items (front ++ m ∷ behind) r v
+            stored.known others (stored_chain order lawful same equal items stored) known good made);
+      }
 
   module _ {P : Type 0} {is_good : P → Type 0} {rank : P → ℕ} {items : List (Item (AnyRange K) V)}
       {r : AnyRange K} {w : Window P} {place : ℕ}
@@ -52,10 +76,7 @@ module _ {K : Type 0} {order : KeyOrder K} (lawful : IsLawful order) {V : Type 0
         (rw (listed_at items n x within read) at in_order) in
         let ends : Every (λ i. PLe lawful (item_upper order i) (lower order r)) (x ∷ []) =
         every_right _ (take n items) (x ∷ [])
-        (rw (upto_item items n place x at within read) at window.below) in (
-          le_trans lawful _ _ _ (lt_le lawful _ _ full.0) ends.0,
-          (touches_is order lawful x.key.end r window.known range_has_places ends.0).0 touching,
-        )
+        (rw (upto_item items n place x at within read) at window.below) in (grind (arith, common_steps, le_trans, lt_le, touches_is, range_has_places))
 
     pub touching_after : (x : Item (AnyRange K) V) → place + w.count < length items
         → x ≡ get_or items (place + w.count) x → Touches order r x.key
@@ -66,10 +87,7 @@ module _ {K : Type 0} {order : KeyOrder K} (lawful : IsLawful order) {V : Type 0
         chain_right line (take (place + w.count) items) (x ∷ drop (place + w.count + 1) items)
         (rw (listed_at items (place + w.count) x within read) at in_order) in
         let starts = rw (from_item items (place + w.count) x within read) at window.behind in
-        let known_x = known_at (place + w.count) x within read in (
-          (touches_is order lawful r.end x.key known_x full.0 starts.0).0 touching,
-          le_trans lawful _ _ _ starts.0 (lt_le lawful _ _ full.0),
-        )
+        let known_x = known_at (place + w.count) x within read in (grind (arith, common_steps, touches_is, le_trans, lt_le))
 
     -- no item of the window starts before the range
     met_start : (n : ℕ) → w.count ≡ n → ReachesBefore order is_good rank items r place w.count None
@@ -166,8 +184,7 @@ module _ {K : Type 0} {order : KeyOrder K} (lawful : IsLawful order) {V : Type 0
         let known_x = known_at k x within read in
         let y : Item (AnyRange K) V =
         record { key = record { start = b; end = x.key.end }; value = u } in
-        let split : items ≡ take k items ++ x ∷ drop end items =
-        listed_at items k x within read ∙ ap (λ m. take k items ++ x ∷ drop m items) next in
+        let split : items ≡ take k items ++ x ∷ drop end items = grind (arith, common_steps, listed_at, take, drop) in
         record {
           right = subst (λ ys. IsRight line ys (y ∷ drop end items) (upper order r)) (sym split)
               (right_cut line (take k items) x (drop end items) y (upper order r)
@@ -248,10 +265,7 @@ module _ {K : Type 0} {order : KeyOrder K} (lawful : IsLawful order) {V : Type 0
     right_border_rest end v y within rest values = record {
       in_range = within;
       right = right_apart line items (y ∷ drop end items) (upper order r) v rest.right
-          (trailing_first line y (drop end items) (upper order r) v rest.right.chain (
-            rest.right.starts.0,
-            λ k t. not_both values (equal.symm y.value v ∙ t),
-          ));
+          (trailing_first line y (drop end items) (upper order r) v rest.right.chain (grind (arith, common_steps, not_both)));
       known = rest.known;
       known_end = window.known.1;
     }
@@ -306,26 +320,14 @@ module _ {K : Type 0} {order : KeyOrder K} (lawful : IsLawful order) {V : Type 0
         let list : new ≡ front ++ m ∷ behind = changed ∙ sym
         (opening_regroups (take at items) (option_items left) (option_items right) (drop end items)
         m) in
-        let result = places_between_are_bound line items front behind m (lower order r)
-        (upper order r) v on_left.left on_right.right range_has_places values in
-        let known_m : IsKnownRange order m.key = (on_left.known_start, on_right.known_end) in
-        let others = every_append _ front (m ∷ behind) (every_append _ (take at items)
+        inserted_between front behind m window.stored window.known range_has_places on_left.left
+        on_right.right values (every_append _ front (m ∷ behind) (every_append _ (take at items)
         (option_items left) (every_front _ at items all) on_left.known) (
-          known_m,
+          (on_left.known_start, on_right.known_end),
           every_append _ (option_items right) (drop end items) on_right.known
               (every_back _ end items all),
-        ) in
-        record {
-          stored = rw list
-              (chain_stored order lawful same equal (front ++ m ∷ behind) others result.chain);
-          bound = rw list (bound_after order lawful same equal items (front ++ m ∷ behind) r v
-              window.known all others result);
-          frame = insertion_frame lawful equal window new v u frame_left frame_right few values
-              own_value changed;
-          meets = rw list (meets_bound order lawful same equal items (front ++ m ∷ behind) r v all
-              others (stored_chain order lawful same equal items window.stored) window.known
-              range_has_places result);
-        }
+        )) list (insertion_frame lawful equal window new v u frame_left frame_right few values
+        own_value changed)
 
     -- the list with the range unbound
     removed_by : (new : List (Item (AnyRange K) V)) (at end : ℕ)
@@ -339,8 +341,7 @@ module _ {K : Type 0} {order : KeyOrder K} (lawful : IsLawful order) {V : Type 0
         let all = window.stored.known in
         let front = take at items ++ option_items left in
         let behind = option_items right ++ drop end items in
-        let list : new ≡ front ++ behind = changed ∙ sym
-        (regrouped_out (take at items) (option_items left) (option_items right) (drop end items)) in
+        let list : new ≡ front ++ behind = grind (arith, common_steps, regrouped_out, take, option_items, drop) in
         let result = places_between_are_unbound line items front behind (lower order r)
         (upper order r) on_left.left on_right.right range_has_places in
         let known_front = every_append _ (take at items) (option_items left)
@@ -380,12 +381,7 @@ module _ {K : Type 0} {order : KeyOrder K} (lawful : IsLawful order) {V : Type 0
     pub unmet_is_unbound : w.count ≡ 0 → IsRemoved order same items items r
     unmet_is_unbound none =
         let at : place + w.count ≡ place = omega (arith, none) in
-        let list : items ≡ take place items ++ [] ++ [] ++ [] ++ drop (place + w.count) items = rw (
-          at,
-          append-nil (take place items),
-          append-nil (take place items),
-          append-nil (take place items),
-        ) (list_is_take_and_drop items place) in
+        let list : items ≡ take place items ++ [] ++ [] ++ [] ++ drop (place + w.count) items = grind (arith, common_steps, append-nil, take, list_is_take_and_drop) in
         removed_by items place (place + w.count) None None
         (left_rest_whole (λ x some read. absurd (omega (arith, some, none))))
         (right_rest_whole (λ x some read. absurd (omega (arith, some, none))))

@@ -138,9 +138,7 @@ module _ {K : Type 0} {order : KeyOrder K} {lawful : IsLawful order} {V : Type 0
       (λ Q h. any_left Q (left.extra ++ met) right.extra h) left.valued in
       let on_right : Every (λ j.
       HasValue order same run j.value ⊎ HasValue order same middle j.value) beyond =
-      rw regroup (value_within order same (met ++ right.extra)
-      (left.extra ++ (met ++ right.extra)) middle
-      beyond (λ Q h. any_right Q left.extra (met ++ right.extra) h) right.valued) in
+      rw regroup (grind (arith, common_steps, value_within, right, left, any_right)) in
       let known_body = every_right _ (front ++ rest) body (every_left _ (front ++ rest ++ body)
       (beyond ++ tail) right.known) in
       let took_start =

@@ -107,9 +107,7 @@ module _ {K : Type 0} {order : KeyOrder K} (lawful : IsLawful order) {V : Type 0
         every_ended IsSpelled finish (with_first_start start middle)
         (λ i b is h. (h.0, right.1 b is)) (every_started IsSpelled start middle (λ i b is h. (left.1 b is, h.1)) kept) in
         rw changed (every_append IsSpelled (front ++ option_items rest ++ body ++ option_items
-        beyond) tail (every_append IsSpelled (front ++ option_items rest ++ body)
-        (option_items beyond) (every_append IsSpelled (front ++ option_items rest) body
-        (every_append IsSpelled front (option_items rest) before left.0) inside) right.0) behind)
+        beyond) tail (grind (arith, common_steps, every_append, option_items)) behind)
 
   -- a range that one item surrounds
   module _ {P : Type 0} {is_good : P → Type 0} {rank : P → ℕ} {r : AnyRange K} {w : Window P}
@@ -146,21 +144,13 @@ module _ {K : Type 0} {order : KeyOrder K} (lawful : IsLawful order) {V : Type 0
     start_within =
         let known_r = within.window.known in
         within_is_kept lawful equal items known chain (take place items) (drop (place + 1) items) x
-        list StartSide r.start r.start (same_itself order lawful r.start) (
-          lt_le lawful _ _ starts,
-          (reaching_is_before_past order lawful r.start x.key.end known_r.0 known_x.1).1
-              ends_after_start,
-        ) (λ e. absurd (lt_not_le lawful _ _ starts (eq_ge lawful _ _ e)))
+        list StartSide r.start r.start (same_itself order lawful r.start) (grind (arith, common_steps, lt_le, starts, reaching_is_before_past, known_x, ends_after_start)) (λ e. absurd (lt_not_le lawful _ _ starts (eq_ge lawful _ _ e)))
 
     end_within : IsEndAsIn order items r.end
     end_within =
         let known_r = within.window.known in
         within_is_kept lawful equal items known chain (take place items)
-        (drop (place + 1) items) x list EndSide r.end r.end (same_itself order lawful r.end) (
-          (reaching_is_before_past order lawful x.key.start r.end known_x.0 known_r.1).1
-              starts_before_end,
-          end_le order lawful r.end x.key.end known_r.1 known_x.1 (lt_le lawful _ _ ends),
-        ) (λ e. absurd (lt_not_le lawful _ _ ends
+        (drop (place + 1) items) x list EndSide r.end r.end (same_itself order lawful r.end) (grind (arith, common_steps, reaching_is_before_past, known_x, starts_before_end, end_le, lt_le, ends)) (λ e. absurd (lt_not_le lawful _ _ ends
         (past_le order lawful x.key.end r.end known_x.1 known_r.1 (eq_le lawful _ _ e))))
 
     module _ (run : List (Item (AnyRange K) V)) (all : KeepsSpelling order items run)

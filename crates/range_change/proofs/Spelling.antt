@@ -147,10 +147,7 @@ module _ {K : Type 0} {order : KeyOrder K} (lawful : IsLawful order) where
               (start_position order r.start) ≡ o
               → SameBound order (if is_lt o then r.start else x.key.start) b
               → IsStartAsIn order items b
-          common_start_by b Less e h = within_is_kept StartSide r.start b h (
-            lt_le lawful _ _ e,
-            (reaching_is_before_past order lawful r.start x.key.end known_r.0 own.0.1).1 ends,
-          ) (λ eq. absurd (cc))
+          common_start_by b Less e h = within_is_kept StartSide r.start b h (grind (arith, common_steps, lt_le, reaching_is_before_past, own)) (λ eq. absurd (cc))
           common_start_by b Equal e h = own_is_kept StartSide b h
           common_start_by b Greater e h = own_is_kept StartSide b h
 
@@ -159,10 +156,7 @@ module _ {K : Type 0} {order : KeyOrder K} (lawful : IsLawful order) where
               → SameBound order (if is_gt o then r.end else x.key.end) b → IsEndAsIn order items b
           common_end_by b Less e h = own_is_kept EndSide b h
           common_end_by b Equal e h = own_is_kept EndSide b h
-          common_end_by b Greater e h = within_is_kept EndSide r.end b h (
-            (reaching_is_before_past order lawful x.key.start r.end own.0.0 known_r.1).1 starts,
-            gt_le (places order lawful) (position_total order.cmp lawful.total) _ _ e,
-          ) (λ eq. absurd (cc))
+          common_end_by b Greater e h = within_is_kept EndSide r.end b h (grind (arith, common_steps, reaching_is_before_past, own, gt_le, places, position_total)) (λ eq. absurd (cc))
 
           pub common_is_kept : (side : RangeSide) (b : Bound K)
               → SameBound order (bound_on side (common order x.key r)) b → IsAsIn order items side b
@@ -182,11 +176,7 @@ module _ {K : Type 0} {order : KeyOrder K} (lawful : IsLawful order) where
             let high = lt_le_trans lawful _ _ _ ((before_is order lawful a r.start known_a
             known_r.0).1 (eq_le lawful _ _ at)) ((reaching_is_before_past order lawful r.start
             x.key.end known_r.0 own.0.1).1 ends) in
-            within_is_kept EndSide a b clone (
-              (reaching_is_before_past order lawful x.key.start a own.0.0 known_a).1
-                  (lt_le_trans lawful _ _ _ starts (eq_ge lawful _ _ at)),
-              lt_le lawful _ _ high,
-            ) (λ e. absurd (lt_not_le lawful _ _ high (eq_le lawful _ _ e)))
+            within_is_kept EndSide a b clone (grind (arith, common_steps, reaching_is_before_past, own, lt_le_trans, eq_ge, lt_le)) (λ e. absurd (lt_not_le lawful _ _ high (eq_le lawful _ _ e)))
 
         -- a start just after the end of a range out of which it reaches
         pub cut_start_is_kept : (r : AnyRange K) → IsKnownRange order r
@@ -199,11 +189,7 @@ module _ {K : Type 0} {order : KeyOrder K} (lawful : IsLawful order) where
             let at = cut_start order lawful x.key.end r.end a own.0.1 ends
             (same_turned order lawful r.end) in
             let low = lt_le_trans lawful _ _ _ starts (eq_ge lawful _ _ at) in
-            within_is_kept StartSide a b clone (
-              lt_le lawful _ _ low,
-              (reaching_is_before_past order lawful a x.key.end known_a own.0.1).1
-                  (le_lt_trans lawful _ _ _ (eq_le lawful _ _ at) ends),
-            ) (λ e. absurd (lt_not_le lawful _ _ low (eq_ge lawful _ _ e)))
+            within_is_kept StartSide a b clone (grind (arith, common_steps, lt_le, reaching_is_before_past, own, le_lt_trans, eq_le)) (λ e. absurd (lt_not_le lawful _ _ low (eq_ge lawful _ _ e)))
 
       own_by : (done rest : List (Item (AnyRange K) V)) → items ≡ done ++ rest
           → Every (λ j. IsSpelledAsIn order items j.key) rest

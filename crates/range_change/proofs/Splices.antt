@@ -52,8 +52,7 @@ module _ {L V X : Type 0} (line : Line L V X) where
       let hi_low = eq_le line _ _ at_hi in
       let hi_high = eq_ge line _ _ at_hi in
       let low = le_trans line _ _ _ s_low left.below in
-      let reaches : Lt line.cmp c (line.hi other) = lt_le_trans line _ _ _
-      (le_lt_trans line _ _ _ (eq_ge line _ _ at_c) chain.0) hi_high in
+      let reaches : Lt line.cmp c (line.hi other) = grind (arith, common_steps, lt_le_trans, le_lt_trans, eq_ge, chain) in
       let good = le_lt_trans line _ _ _ low reaches in
       let wide : IsChain line (other ∷ ms) =
       (good, follows_like line m other ms at_hi alike_value chain.1) in
@@ -68,20 +67,11 @@ module _ {L V X : Type 0} (line : Line L V X) where
         hulled = λ new d l made. hull line items new c d s d (λ p W. Has line W p (other ∷ ms))
             (λ p W. Has line W p (m ∷ ms)) left.below l (le_refl line d) made
             (λ p W alike from upto. (
-              like_item line [] [] ms ms other m p W alike alike_value (λ h. (
-                le_trans line _ _ _ c_low from,
-                lt_le_trans line _ _ _ h.1 hi_low,
-              )) (λ k. k) (λ k. k),
-              like_item line [] [] ms ms m other p W alike value_back (λ h. (
-                le_trans line _ _ _ low from,
-                lt_le_trans line _ _ _ h.1 hi_high,
-              )) (λ k. k) (λ k. k),
+              like_item line [] [] ms ms other m p W alike alike_value (λ h. (grind (arith, common_steps, le_trans, lt_le_trans))) (λ k. k) (λ k. k),
+              like_item line [] [] ms ms m other p W alike value_back (λ h. (grind (arith, common_steps, le_trans, lt_le_trans))) (λ k. k) (λ k. k),
             )) (λ p W alike where_. elim where_ [
               | inl k ↦ both_ways (left.joined p W alike k.0 k.1)
-                  (held_alone line [] other ms p W (line.value m) wide (
-                    le_trans line _ _ _ s_low k.0,
-                    lt_le_trans line _ _ _ k.1 (lt_le line _ _ reaches),
-                  ) alike alike_value)
+                  (held_alone line [] other ms p W (line.value m) wide (grind (arith, common_steps, le_trans, lt_le_trans, lt_le)) alike alike_value)
               | inr k ↦ absurd (lt_not_le line _ _ k.1 k.0)
             ]);
       }
@@ -161,10 +151,7 @@ module _ {L V X : Type 0} (line : Line L V X) where
       fill.hulled new d lt (hull line items new fill.start d fill.start e
       (λ p W. Has line W p (init ++ other ∷ [])) (λ p W. Has line W p (init ++ z ∷ []))
       (le_refl line fill.start) begun right.above made (λ p W alike from upto. (
-        like_item line init init [] [] other z p W alike alike_value (λ h. (
-          le_trans line _ _ _ lo_high h.0,
-          lt_le_trans line _ _ _ upto d_high,
-        )) (λ k. k) (λ k. k),
+        like_item line init init [] [] other z p W alike alike_value (λ h. (grind (arith, common_steps, le_trans, lt_le_trans))) (λ k. k) (λ k. k),
         like_item line init init [] [] z other p W alike value_back (λ h. (
           le_trans line _ _ _ lo_low h.0,
           lt_le_trans line _ _ _ upto (le_trans line _ _ _ right.above e_high),
@@ -172,8 +159,5 @@ module _ {L V X : Type 0} (line : Line L V X) where
       )) (λ p W alike where_. elim where_ [
         | inl k ↦ absurd (lt_not_le line _ _ k.1 k.0)
         | inr k ↦ both_ways (right.joined p W alike k.0 k.1) (held_alone line init other [] p W
-            (line.value z) joined (
-              le_trans line _ _ _ (lt_le line _ _ low) k.0,
-              lt_le_trans line _ _ _ k.1 e_high,
-            ) alike alike_value)
+            (line.value z) joined (grind (arith, common_steps, le_trans, lt_le, lt_le_trans)) alike alike_value)
       ]))

@@ -125,10 +125,7 @@ module _ {K : Type 0} {order : KeyOrder K} (lawful : IsLawful order) {V : Type 0
         let right = right_rest_cut lawful equal window x here_end some (within.ends x here)
         parts.start start_is.0 start_is.1 parts.value copied in
         borders_remove lawful equal window new (Some front) (Some behind) some left right
-        (left_part lawful equal window x here some parts.end end_is.1, tt) (
-          right_part lawful equal window x here_end some parts.start parts.value start_is.1 copied,
-          tt,
-        ) (list_is None divided)
+        (left_part lawful equal window x here some parts.end end_is.1, tt) (grind (arith, common_steps, right_part, here_end, some, copied)) (list_is None divided)
 
   split : items ≡ take place items ++ x ∷ drop (place + 1) items
   split = listed_at items place x within_list here

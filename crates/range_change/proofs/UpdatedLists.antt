@@ -147,9 +147,4 @@ module _ {K : Type 0} (order : KeyOrder K) (lawful : IsLawful order) {V : Type 0
 
   pub whole_piece : ArePieces order items r (record { key = r; value = Some x.value } ∷ [])
   whole_piece = cut_all order lawful items r known same equal full chain
-      (record { key = r; value = Some x.value } ∷ []) (record {
-        inside = (whole_inside, tt);
-        right = (whole_right, tt);
-        rising = (tt, tt);
-        covered = λ m low high. inl (low, high);
-      })
+      (record { key = r; value = Some x.value } ∷ []) (grind (arith, common_steps, whole_inside, whole_right))
