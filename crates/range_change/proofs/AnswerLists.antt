@@ -123,13 +123,7 @@ module _ {K : Type 0} (order : KeyOrder K) (lawful : IsLawful order) {V : Type 0
           let before = was.has p W alike in
           let beside : PLt lawful p (lower order key) ⊎ PLe lawful (upper order key) p
           → Hold order lawful same equal W p new ↔ Any P more = λ out.
-          let stands = bound.outside p W alike out in (
-            λ h. any_left P answers (a ∷ []) (before.0 (stands.0 h)),
-            λ h. elim (any_but_end P answers a h) [
-              | inl g ↦ stands.1 (before.1 g)
-              | inr e ↦ absurd (grind (arith, common_steps, lt_not_le))
-            ],
-          ) in
+          let stands = bound.outside p W alike out in (grind (arith, common_steps, any_left, any_but_end, common_steps, lt_not_le)) in
           elim (inside_or_out (line_of order lawful same equal) p (lower order key)
           (upper order key)) [
             | inl within ↦ let own = bound.inside p W alike within.0 within.1 in (
@@ -206,8 +200,7 @@ module _ {K : Type 0} (order : KeyOrder K) (lawful : IsLawful order) {V : Type 0
             leads = leading_by line old c v was.chain under (λ k size d le on t.
                 let last : k ≡ length old - 1 = omega (arith, size) in
                 let apart = rw (← last) at (apart d (omega (arith, size))) in
-                apart ((touches_is order lawful (get_or old k d).key.end key inside.0 inside.2
-                (le_trans lawful _ _ _ le (eq_le lawful _ _ at))).1 (le_trans lawful _ _ _ low on))
+                apart (grind (arith, common_steps, touches_is, get_or, inside, le_trans, eq_le))
                 t);
             below = eq_le lawful _ _ at;
             joined = λ p W alike on l. absurd (lt_not_le lawful _ _ l (le_trans lawful _ _ _ low on));

@@ -317,16 +317,10 @@ module _ {K : Type 0} {order : KeyOrder K} (lawful : IsLawful order) {V : Type 0
         let all = window.stored.known in
         let front = take at items ++ option_items left in
         let behind = option_items right ++ drop end items in
-        let list : new ≡ front ++ m ∷ behind = changed ∙ sym
-        (opening_regroups (take at items) (option_items left) (option_items right) (drop end items)
-        m) in
+        let list : new ≡ front ++ m ∷ behind = grind (arith, common_steps, opening_regroups, take, option_items, drop) in
         inserted_between front behind m window.stored window.known range_has_places on_left.left
         on_right.right values (every_append _ front (m ∷ behind) (every_append _ (take at items)
-        (option_items left) (every_front _ at items all) on_left.known) (
-          (on_left.known_start, on_right.known_end),
-          every_append _ (option_items right) (drop end items) on_right.known
-              (every_back _ end items all),
-        )) list (insertion_frame lawful equal window new v u frame_left frame_right few values
+        (option_items left) (every_front _ at items all) on_left.known) (grind (arith, common_steps, every_append, option_items, drop, every_back))) list (insertion_frame lawful equal window new v u frame_left frame_right few values
         own_value changed)
 
     -- the list with the range unbound

@@ -106,8 +106,7 @@ module _ {K : Type 0} {order : KeyOrder K} (lawful : IsLawful order) {V : Type 0
         let inside =
         every_ended IsSpelled finish (with_first_start start middle)
         (λ i b is h. (h.0, right.1 b is)) (every_started IsSpelled start middle (λ i b is h. (left.1 b is, h.1)) kept) in
-        rw changed (every_append IsSpelled (front ++ option_items rest ++ body ++ option_items
-        beyond) tail (grind (arith, common_steps, every_append, option_items)) behind)
+        rw changed (grind (arith, common_steps, every_append, option_items, common_steps))
 
   -- a range that one item surrounds
   module _ {P : Type 0} {is_good : P → Type 0} {rank : P → ℕ} {r : AnyRange K} {w : Window P}
