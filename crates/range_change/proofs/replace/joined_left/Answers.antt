@@ -1,4 +1,4 @@
-use Rattle.range_change.proofs.Common.{position_cmp, both, not_lt, false≢true, refl, ap, inl, inr, option_copied, lower, Lt, AnyRange, Item, item_lower}
+use Rattle.range_change.proofs.Common.{arith, common_steps, position_cmp, both, not_lt, false≢true, refl, ap, inl, inr, option_copied, lower, Lt, AnyRange, Item, item_lower}
 use Rattle.range_change.proofs.JoinedMiddle.{got_only, got_none}
 use Rattle.range_change.proofs.replace.joined_left.Goals as goal
 
@@ -6,14 +6,7 @@ pub returns-in_default : goal.returns-in_default
 returns-in_default g c = inr (refl, got_none _ c.args.next c.in_default.is)
 
 pub returns-then-starts_before : goal.returns-then-starts_before
-returns-then-starts_before g c =
-    let order = g.K.MaybeBounded.order in
-    let Later = λ (m : Item (AnyRange g.row.K.Denot) g.row.V.Denot). Lt (position_cmp order.cmp)
-    (lower order c.args.range.now) (item_lower order m) in
-    inr (
-      refl,
-      got_only Later c.args.next c.in-Some.item c.in-Some.is (c.if-starts_before.ensures.0 refl),
-    )
+returns-then-starts_before g c = grind (arith, common_steps, position_cmp, lower, item_lower, got_only)
 
 pub returns : goal.returns
 returns g c =

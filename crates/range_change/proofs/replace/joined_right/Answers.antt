@@ -1,4 +1,4 @@
-use Rattle.range_change.proofs.Common.{position_cmp, both, not_lt, false≢true, refl, ap, inl, inr, option_copied, upper, Lt, AnyRange, Item, item_upper}
+use Rattle.range_change.proofs.Common.{arith, common_steps, position_cmp, both, not_lt, false≢true, refl, ap, inl, inr, option_copied, upper, Lt, AnyRange, Item, item_upper}
 use Rattle.range_change.proofs.Extents.{past_le}
 use Rattle.range_change.proofs.JoinedMiddle.{got_only, got_none}
 use Rattle.range_change.proofs.replace.joined_right.Goals as goal
@@ -7,14 +7,7 @@ pub returns-in_default : goal.returns-in_default
 returns-in_default g c = inr (refl, got_none _ c.args.previous c.in_default.is)
 
 pub returns-then-ends_after : goal.returns-then-ends_after
-returns-then-ends_after g c =
-    let order = g.K.MaybeBounded.order in
-    let Earlier = λ (m : Item (AnyRange g.row.K.Denot) g.row.V.Denot). Lt (position_cmp order.cmp)
-    (item_upper order m) (upper order c.args.range.now) in
-    inr (
-      refl,
-      got_only Earlier c.args.previous c.in-Some.item c.in-Some.is (c.if-ends_after.ensures.0 refl),
-    )
+returns-then-ends_after g c = grind (arith, common_steps, position_cmp, item_upper, upper, got_only)
 
 pub returns : goal.returns
 returns g c =
