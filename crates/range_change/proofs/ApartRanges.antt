@@ -142,7 +142,7 @@ module _ {K : Type 0} (order : KeyOrder K) (lawful : IsLawful order) where
             → Every (λ i. PLt lawful (end_position order i.key.end) (lower order r)) (take place items)
             → b ≡ false → IsConnectedToSome order items r
         refused_previous_is_connected None place b at answer below f =
-            absurd (let clash : false ≡ true = sym f ∙ answer in cc)
+            absurd (cc)
         refused_previous_is_connected (Some q) place b at answer below f =
             let within = good_in_range q at.0 in
             let x = element_at items (rank q) within in
@@ -151,7 +151,7 @@ module _ {K : Type 0} (order : KeyOrder K) (lawful : IsLawful order) where
             (take (rank q) items) (x ∷ []) (rw (upto_item items (rank q) place x at.1 within read)
             at below) in
             let refused : LiesApart order x.key r → ⊥ = λ h. let t =
-            (answer x read).1 h in let clash : false ≡ true = sym f ∙ t in cc in
+            (answer x read).1 h in cc in
             any_at (λ i. IsConnectedTo order i.key r) items (rank q) x within read
             (inr (inl (must_touch (LiesBefore order x.key r)
             (starts_at_end order x.key.end (lower order r)) last.0 refused)))
@@ -162,7 +162,7 @@ module _ {K : Type 0} (order : KeyOrder K) (lawful : IsLawful order) where
             → Every (λ i. PLe lawful (lower order r) (end_position order i.key.end)) (drop place items)
             → b ≡ false → IsConnectedToSome order items r
         refused_next_is_connected None place b at answer above f =
-            absurd (let clash : false ≡ true = sym f ∙ answer in cc)
+            absurd (cc)
         refused_next_is_connected (Some q) place b at answer above f =
             let within = good_in_range q at.0 in
             let x = element_at items (rank q) within in
@@ -172,7 +172,7 @@ module _ {K : Type 0} (order : KeyOrder K) (lawful : IsLawful order) where
             let ends : Every (λ i. PLe lawful (lower order r) (end_position order i.key.end))
             (x ∷ drop (rank q + 1) items) = rw more at above in
             let refused : LiesApart order r x.key → ⊥ = λ h. let t =
-            (answer x read).1 h in let clash : false ≡ true = sym f ∙ t in cc in
+            (answer x read).1 h in cc in
             any_at (λ i. IsConnectedTo order i.key r) items (rank q) x within read
             (elim (less_or_not (position_cmp order.cmp (end_position order r.end)
             (lower order x.key))) [

@@ -27,7 +27,7 @@ kept_place kept size (Some p) h = (kept p (h p refl)).1
 
 same_at : {X : Type 0} (xs ys : List X) (n : ℕ) (d : X) → drop n xs ≡ drop n ys
     → get_or xs n d ≡ get_or ys n d
-same_at xs ys n d e = grind (arith, common_steps, get_or, get_or-drop)
+same_at xs ys n d e = grind (arith, common_steps)
 
 module _ {K V P : Type 0} (is_good : P → Type 0) (rank : P → ℕ) (items : List (Item (AnyRange K) V))
     (in_range : (p : P) → is_good p → rank p < length items) where
@@ -104,11 +104,11 @@ module _ {K V P : Type 0} (is_good : P → Type 0) (rank : P → ℕ) (items : L
       let index : rank' p ≡ upto = ranks p shape.0 ∙ shape.1 in
       let item = same_at base items upto x (kept upto (omega arith)) ∙ sym shape.4.1 in
       let new_is : new ≡ set base upto (with_start x b) = rw (index, item) at (edited.0 x) in
-      let within : upto < length base = omega (arith, shape.1, in_range p shape.0, same_size) in
+
       record {
         front = λ n l. let below : n ≤ upto =
             omega arith in rw new_is (take-set-le n base upto (with_start x b) below);
-        behind = grind (arith, common_steps, drop-set, with_start, drop);
+        behind = grind (arith, common_steps);
         same_end = edited.1 ∙ sym shape.3;
         size = rw new_is (length-set base upto (with_start x b));
       }

@@ -36,11 +36,11 @@ module _ {L V X : Type 0} (line : Line L V X) where
   -- nothing beside the range joins it
   pub left_apart : (items kept : List X) (c : L) (v : V) → IsLeft line items kept c
       → Leading line c v kept → IsLeftOf line items kept c c v
-  left_apart items kept c v left leads = grind (arith, common_steps, le_refl, lt_not_le)
+  left_apart items kept c v left leads = grind (arith, common_steps)
 
   pub right_apart : (items kept : List X) (d : L) (v : V) → IsRight line items kept d
       → Trailing line d v kept → IsRightOf line items kept d d v
-  right_apart items kept d v right trails = grind (arith, common_steps, le_refl, lt_not_le)
+  right_apart items kept d v right trails = grind (arith, common_steps)
 
   -- an item with the value reaches or touches the range
   pub left_joined : (front : List X) (x : X) (rest : List X) (c : L) (v : V)
@@ -69,7 +69,7 @@ module _ {L V X : Type 0} (line : Line L V X) where
       → line.same (line.value x) v ≡ true → IsRightOf line (front ++ x ∷ rest) rest d (line.hi x) v
   right_joined front x rest d v chain reaches ends alike_value =
       let whole = chain_right line front (x ∷ rest) chain in
-      let low = lt_le line _ _ whole.0 in
+
       let before : Every (λ z. Le line.cmp (line.hi z) (line.hi x)) front = grind (arith, common_steps, every_weaker, le_trans, chain_before) in
       record {
         right = record {
@@ -153,7 +153,7 @@ module _ {L V X : Type 0} (line : Line L V X) where
       → Le line.cmp e (line.hi m) → line.same (line.value m) v ≡ true → IsChain line ys
       → Trailing line e v ys → Follows line m ys
   trailing_follows m [] e v h k s chain trails = tt
-  trailing_follows m (y ∷ ys) e v h k s chain trails = grind (arith, common_steps, le_trans)
+  trailing_follows m (y ∷ ys) e v h k s chain trails = grind (arith, common_steps)
 
   -- the new item is all that the hull holds
   pub places_between_are_bound : (items front behind : List X) (m : X) (c d : L) (v : V)
@@ -164,7 +164,7 @@ module _ {L V X : Type 0} (line : Line L V X) where
       let high = le_trans line _ _ _ (lt_le line _ _ l) right.above in
       let good : Lt line.cmp (line.lo m) (line.hi m) = le_lt_trans line _ _ _ left.below
       (lt_le_trans line _ _ _ l right.above) in
-      let chain = chains_join line front m behind left.left.chain (grind (arith, common_steps, trailing_follows, le_refl)) (leading_like line front m (line.lo m) v left.leads (tied_itself line.total (line.lo m))
+      let chain = chains_join line front m behind left.left.chain (grind (arith, common_steps)) (leading_like line front m (line.lo m) v left.leads (tied_itself line.total (line.lo m))
       alike_value) in
       let made = places_between_hold items front (m ∷ []) behind (line.lo m) (line.hi m) left.left
       right.right good chain (le_refl line (line.lo m), tt) (le_refl line (line.hi m), tt) in
@@ -172,8 +172,8 @@ module _ {L V X : Type 0} (line : Line L V X) where
       → Has line W p (m ∷ []) ↔ (W v ≡ true) =
       λ p W alike held. held_alone line [] m [] p W v (good, tt) held alike alike_value in
       hull items (front ++ m ∷ behind) c d (line.lo m) (line.hi m) (λ p W. Has line W p (m ∷ []))
-      (λ p W. W v ≡ true) left.below l right.above made (λ p W alike from upto. own p W alike (grind (arith, common_steps, le_trans, lt_le_trans))) (λ p W alike where_. elim where_ [
+      (λ p W. W v ≡ true) left.below l right.above made (λ p W alike from upto. own p W alike (grind (arith, common_steps))) (λ p W alike where_. elim where_ [
         | inl k ↦ both_ways (left.joined p W alike k.0 k.1) (own p W alike
             (k.0, lt_le_trans line _ _ _ k.1 high))
-        | inr k ↦ both_ways (right.joined p W alike k.0 k.1) (own p W alike (grind (arith, common_steps, le_trans, lt_le)))
+        | inr k ↦ both_ways (right.joined p W alike k.0 k.1) (own p W alike (grind (arith, common_steps)))
       ])

@@ -36,7 +36,7 @@ module _ {L V X : Type 0} (line : Line L V X) where
               | inl k ↦ alike (line.value x) v alike_value k.1
               | inr k ↦ absurd (none_below p (line.hi x) W rest held.1 above k)
             ],
-        λ w. any_right _ front (x ∷ rest) (inl (grind (arith, common_steps, same_is_symmetric))),
+        λ w. any_right _ front (x ∷ rest) (inl (grind (arith, common_steps))),
       )
 
   -- an item in the place of another with an equal value, at a place that it holds too
@@ -79,7 +79,7 @@ module _ {L V X : Type 0} (line : Line L V X) where
   left_cut front x rest y c chain starts reaches at_lo at_hi alike_value =
       let whole = chain_right line front (x ∷ rest) chain in
       let above = follows_above line x rest whole.1 in
-      let good : Lt line.cmp (line.lo y) (line.hi y) = grind (arith, common_steps, le_lt_trans, eq_le, lt_le_trans, eq_ge) in
+      let good : Lt line.cmp (line.lo y) (line.hi y) = grind (arith, common_steps) in
       let value_back = same_is_symmetric line (line.value y) (line.value x) alike_value in
       let leads = leading_like front y (line.lo x) (line.value x)
       (chain_before line front x rest chain) at_lo alike_value in
@@ -88,8 +88,8 @@ module _ {L V X : Type 0} (line : Line L V X) where
             chains_join line front y [] (chain_left line front (x ∷ rest) chain) (good, tt) leads;
         ends = every_append _ front (y ∷ []) (grind (arith, common_steps, every_weaker, le_trans, eq_le, lt_le)) (eq_le line _ _ at_hi, tt);
         holds = λ p W alike l. let inside = lt_le_trans line _ _ _ l reaches in (
-          like_item front front [] rest y x p W alike alike_value (λ h. (grind (arith, common_steps, le_trans, eq_ge))) (λ k. k) (λ k. absurd k),
-          like_item front front rest [] x y p W alike value_back (λ h. (grind (arith, common_steps, le_trans, eq_le, lt_le_trans, eq_ge))) (λ k. k) (none_below p (line.hi x) W rest inside above),
+          like_item front front [] rest y x p W alike alike_value (λ h. (grind (arith, common_steps))) (λ k. k) (λ k. absurd k),
+          like_item front front rest [] x y p W alike value_back (λ h. (grind (arith, common_steps))) (λ k. k) (none_below p (line.hi x) W rest inside above),
         );
       }
 
@@ -115,17 +115,17 @@ module _ {L V X : Type 0} (line : Line L V X) where
   right_cut rest x behind y d chain reaches ends at_lo at_hi alike_value =
       let whole = chain_right line rest (x ∷ behind) chain in
       let before = chain_before line rest x behind chain in
-      let good : Lt line.cmp (line.lo y) (line.hi y) = grind (arith, common_steps, le_lt_trans, eq_le, lt_le_trans, eq_ge) in
+      let good : Lt line.cmp (line.lo y) (line.hi y) = grind (arith, common_steps) in
       let follows = follows_like line x y behind at_hi alike_value whole.1 in
       let above = follows_above line x behind whole.1 in
-      let d_low = lt_le line _ _ ends in
+
       record {
         chain = (good, follows);
         starts = grind (arith, common_steps, eq_ge, every_weaker, le_trans);
-        holds = λ p W alike l. let inside = le_trans line _ _ _ reaches l in (
-          like_item [] rest behind behind y x p W alike alike_value (λ h. (grind (arith, common_steps, lt_le_trans, eq_le))) (λ k. absurd k) (λ k. k),
+        holds = λ p W alike l. (
+          like_item [] rest behind behind y x p W alike alike_value (λ h. (grind (arith, common_steps))) (λ k. absurd k) (λ k. k),
           like_item rest [] behind behind x y p W alike (same_is_symmetric line (line.value y)
-              (line.value x) alike_value) (λ h. (grind (arith, common_steps, le_trans, eq_le, lt_le_trans, eq_ge))) (none_above p d W rest l (every_weaker _ _ rest
+              (line.value x) alike_value) (λ h. (grind (arith, common_steps))) (none_above p d W rest l (every_weaker _ _ rest
               (λ z e. le_trans line _ _ _ e.0 reaches) before)) (λ k. k),
         );
       }

@@ -76,10 +76,10 @@ module _ {L V X : Type 0} (line : Line L V X) where
   )
 
   pub strictly_leads : (x : X) (p : L) (v : V) → Lt line.cmp (line.hi x) p → Leads line x p v
-  strictly_leads x p v h = grind (arith, common_steps, lt_le, lt_not_le)
+  strictly_leads x p v h = grind (arith, common_steps)
 
   pub strictly_trails : (x : X) (p : L) (v : V) → Lt line.cmp p (line.lo x) → Trails line p v x
-  strictly_trails x p v h = grind (arith, common_steps, lt_le, lt_not_le)
+  strictly_trails x p v h = grind (arith, common_steps)
 
   -- all that stand before an item lead to it
   pub chain_before : (xs : List X) (y : X) (ys : List X) → IsChain line (xs ++ y ∷ ys)
@@ -98,7 +98,7 @@ module _ {L V X : Type 0} (line : Line L V X) where
   strict_follows : (x : X) (ys : List X) (c d : L) → Le line.cmp (line.hi x) c → Lt line.cmp c d
       → IsChain line ys → Every (λ y. Le line.cmp d (line.lo y)) ys → Follows line x ys
   strict_follows x [] c d h l k e = tt
-  strict_follows x (y ∷ ys) c d h l k e = grind (arith, common_steps, strictly_leads, le_lt_trans, lt_le_trans)
+  strict_follows x (y ∷ ys) c d h l k e = grind (arith, common_steps)
 
   pub join_apart : (xs ys : List X) (c d : L) → Lt line.cmp c d → IsChain line xs → IsChain line ys
       → Every (λ x. Le line.cmp (line.hi x) c) xs → Every (λ y. Le line.cmp d (line.lo y)) ys
@@ -112,4 +112,4 @@ module _ {L V X : Type 0} (line : Line L V X) where
   pub follows_like : (x y : X) (ys : List X) → line.cmp (line.hi y) (line.hi x) ≡ Equal
       → line.same (line.value y) (line.value x) ≡ true → Follows line x ys → Follows line y ys
   follows_like x y [] e s f = tt
-  follows_like x y (z ∷ zs) e s f = grind (arith, common_steps, le_trans, eq_le, same_is_symmetric)
+  follows_like x y (z ∷ zs) e s f = grind (arith, common_steps)

@@ -18,7 +18,7 @@ module _ {K : Type 0} (order : KeyOrder K) (lawful : IsLawful order) where
   -- what starts where an end bound ends starts at the place past it
   pub touching_same : (e : Bound K) (p : Position K) → IsTrue (starts_at_end order e p)
       → position_cmp order.cmp (past order (end_position order e)) p ≡ Equal
-  touching_same (Included a) p h = grind (arith, common_steps, position_cmp, start_position, position_total, past, end_position, flipped_bound_is_past, eq_is_equal)
+  touching_same (Included a) p h = grind (arith, common_steps)
   touching_same (Excluded a) p h =
       let cmp = position_cmp order.cmp in
       let start = start_position order (Included a) in

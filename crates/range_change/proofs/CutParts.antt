@@ -9,7 +9,7 @@ module _ {K : Type 0} (order : KeyOrder K) (lawful : IsLawful order) where
       → places order lawful (past order (end_position order a)) (past order (end_position order b))
       ≡ Equal
   same_past (Included a) (Included b) h = same_start order lawful (Excluded a) (Excluded b) h
-  same_past (Excluded a) (Excluded b) h = grind (arith, common_steps, position_total, flipped_bound_is_past, same_start, past, end_position, start_position, tied_back)
+  same_past (Excluded a) (Excluded b) h = grind (arith, common_steps)
   same_past Unbounded Unbounded h = tied_itself (position_total order.cmp lawful.total)
       (past order (end_position order Unbounded))
   same_past (Included a) (Excluded b) h = absurd h
@@ -73,7 +73,7 @@ module _ {K : Type 0} (order : KeyOrder K) (lawful : IsLawful order) where
   pub seam_stands : {P : Type 0} (joined reaching : Option P) (bound : Bound K)
       {border : Border K P} → IsKnownBound order bound → border ≡ seam_border joined reaching (flipped_bound bound)
       → IsSeamAt order joined reaching bound border
-  seam_stands joined reaching bound known at = grind (arith, common_steps, flipped_bound, known_turned, flipped, same_turned)
+  seam_stands joined reaching bound known at = grind (arith, common_steps)
 
   not_past_all : (e a : Bound K) → None ≡ flipped e → IsKnownBound order a
       → PLt lawful (past order (end_position order e)) (past order (end_position order a)) → ⊥

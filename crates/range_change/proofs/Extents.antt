@@ -19,7 +19,7 @@ module _ {K : Type 0} (order : KeyOrder K) (lawful : IsLawful order) where
       let start = flipped_known order lawful f i turns known' in
       let pe = past order (end_position order e) in
       let pf = past order (end_position order f) in
-      let s = start_position order i in
+
       not_lt lawful pe pf (λ l.
       let under = le_lt_trans lawful _ _ _ (eq_ge lawful _ _ at) l in
       let reached = (reaching_is_before_past order lawful i e start known).1 under in
@@ -64,7 +64,7 @@ module _ {K : Type 0} (order : KeyOrder K) (lawful : IsLawful order) where
       (Orders.lt_trans order.cmp lawful.total a b e l (lawful.succ_above b e next'))
   at_at a b (Some d) None next next' key key' l =
       (less_unless_less (order.cmp d b)).1 (lawful.none_between a d b next key' l)
-  at_at a b (Some d) (Some e) next next' key key' l = grind (arith, common_steps, less_then_any, le_lt_trans)
+  at_at a b (Some d) (Some e) next next' key key' l = grind (arith, common_steps)
 
   before_at : (a b : K) (p : Option K) → order.succ b ≡ p → is_gt (order.cmp a b) ≡ false
       → PLt (Beside a At) (at_told p (Beside b After))

@@ -19,7 +19,7 @@ module _ {K : Type 0} (order : KeyOrder K) (lawful : IsLawful order) where
   pub nonempty_good : (r : AnyRange K) → IsKnownRange order r → (IsEmptyRange order r → ⊥)
       ↔ Lt places (lower order r) (upper order r)
   nonempty_good r known =
-      let reach = reaching_is_before_past order lawful r.start r.end known.0 known.1 in (grind (arith, common_steps, not_greater, start_position, end_position, not_both_greater_and_not))
+      let reach = reaching_is_before_past order lawful r.start r.end known.0 known.1 in (grind (arith, common_steps))
 
   pub before_is : (e s : Bound K) → IsKnownBound order e → IsKnownBound order s
       → places (end_position order e) (start_position order s) ≡ Less

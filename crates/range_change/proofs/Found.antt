@@ -185,7 +185,7 @@ module _ {K : Type 0} (order : KeyOrder K) (lawful : IsLawful order) {V : Type 0
   pub starts_here : (items : List (Item (AnyRange K) V)) (p : Position K) (place : ℕ)
       (x : Item (AnyRange K) V) → place < length items → x ≡ get_or items place x
       → Every (λ i. PLe lawful (Start i) p) (take (place + 1) items) → PLe lawful (Start x) p
-  starts_here items p place x within read upto = grind (arith, common_steps, every_right, take, get_or, take_more)
+  starts_here items p place x within read upto = grind (arith, common_steps)
 
   -- an item that starts at the key at most and does not end before it holds it
   pub holds_at : (items : List (Item (AnyRange K) V)) (k : K) (place : ℕ) (x : Item (AnyRange K) V)
@@ -193,7 +193,7 @@ module _ {K : Type 0} (order : KeyOrder K) (lawful : IsLawful order) {V : Type 0
       → Every (λ i. PLe lawful (Start i) (Beside k At)) (take (place + 1) items)
       → false ≡ is_lt (places order lawful (End x) (Beside k At)) → Holds order x.key k
   holds_at items k place x key within read upto ends =
-      let cmp = places order lawful in
+
       (holds_by_position order lawful x.key k key).1 (grind (arith, common_steps, starts_here, not_lt, not_less))
 
   pub item_at : (items : List (Item (AnyRange K) V)) (place : ℕ) (x : Item (AnyRange K) V)

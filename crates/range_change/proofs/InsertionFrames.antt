@@ -153,8 +153,8 @@ module _ {K : Type 0} {order : KeyOrder K} (lawful : IsLawful order) {V : Type 0
         let size = run_size items place w.count window.in_range in
         let met = every_at (λ i. Overlap order i.key r) (take w.count (drop place items)) 0 x
         all_meet (omega (arith, size)) in
-        let plus : place + 0 ≡ place = omega arith in
-        let there : get_or (take w.count (drop place items)) 0 x ≡ get_or items place x = grind (arith, common_steps, get_or-take, drop, get_or-drop, get_or) in
+
+        let there : get_or (take w.count (drop place items)) 0 x ≡ get_or items place x = grind (arith, common_steps) in
         any_at (λ i. Overlap order i.key r) items place x within read
         (subst (λ (y : Item (AnyRange K) V). Overlap order y.key r) (there ∙ sym read) met)
 
@@ -182,14 +182,14 @@ module _ {K : Type 0} {order : KeyOrder K} (lawful : IsLawful order) {V : Type 0
         ++ drop (place + w.count) items → IsRemovalFrame order same items new r
     cut_way new left right some made_left made_right list =
         let met = take w.count (drop place items) in
-        let size = run_size items place w.count window.in_range in
+
         record {
           front = take place items;
           run = met;
           others = option_items left ++ option_items right;
           behind = drop (place + w.count) items;
           before = grind (arith, common_steps, list_is_take_and_drop, take, parts_of, append_assoc, drop);
-          after = grind (arith, common_steps, append-nil, take, option_items, drop, append_assoc);
+          after = grind (arith, common_steps);
           such = grind (arith, common_steps, all_meet, one_item, length-append, option_items, run_some, every_append);
         }
 
@@ -206,7 +206,7 @@ module _ {K : Type 0} {order : KeyOrder K} (lawful : IsLawful order) {V : Type 0
         let m : Item (AnyRange K) V = joined_item (record { key = r; value = u }) start finish in
         let met = take w.count (drop place items) in
         let run = on_left.extra ++ met ++ on_right.extra in
-        let size = run_size items place w.count window.in_range in
+
         let regroup : run ≡ on_left.extra ++ (met ++ on_right.extra) =
         append_assoc on_left.extra met on_right.extra in
         let on_start = λ (Q : Item (AnyRange K) V → Type 0) (h : Any Q (on_left.extra ++ met)).
@@ -230,8 +230,8 @@ module _ {K : Type 0} {order : KeyOrder K} (lawful : IsLawful order) {V : Type 0
               (λ i h. inr (inl h.0, h.1)) on_left.touched) (every_weaker _ _ met (λ i h. inl h)
               all_meet)) (every_weaker _ _ on_right.extra (λ i h. inr (inr h.0, h.1))
               on_right.touched);
-          few = grind (arith, common_steps, length-append, option_items);
-          whole = grind (arith, common_steps, none_left, none_right, length);
+          few = grind (arith, common_steps);
+          whole = grind (arith, common_steps);
           one = λ all.
               let on_left_none = no_rest (on_left.extra ++ met) r v left
               (every_left (λ i. IsTrue (same i.value v)) (on_left.extra ++ met) on_right.extra all)
@@ -246,5 +246,5 @@ module _ {K : Type 0} {order : KeyOrder K} (lawful : IsLawful order) {V : Type 0
                 length-append (option_items left ++ option_items (Some m)) (option_items right),
                 length-append (option_items left) (option_items (Some m)),
               );
-          made = grind (arith, common_steps, every_append, option_items);
+          made = grind (arith, common_steps);
         })

@@ -126,7 +126,7 @@ module _ {K : Type 0} {order : KeyOrder K} (lawful : IsLawful order) {V : Type 0
   touched_after : (x : Item (AnyRange K) V) → x ≡ get_or items (place + w.count) x
       → TouchesAfter order same items (place + w.count) r v
       → Touches order r x.key × (same x.value v ≡ true)
-  touched_after x read touching = grind (arith, common_steps, true)
+  touched_after x read touching = grind (arith, common_steps)
 
   pub left_plan_inside : (p : P) (x : Item (AnyRange K) V)
       → ReachesBefore order is_good rank items r place w.count (Some p)
@@ -192,7 +192,7 @@ module _ {K : Type 0} {order : KeyOrder K} (lawful : IsLawful order) {V : Type 0
     side = left_border_none lawful equal window v (left_rest_whole lawful equal window reach) none;
     run = let plus : place + 0 ≡ place = omega arith in
         subst (λ n. IsAt is_good rank (length items) at n) plus start;
-    frame = grind (arith, common_steps, append-nil);
+    frame = grind (arith, common_steps);
     few = omega arith;
     begins = omega arith;
   }
@@ -210,7 +210,7 @@ module _ {K : Type 0} {order : KeyOrder K} (lawful : IsLawful order) {V : Type 0
         shape = (is, refl, refl, refl, (x, read, refl));
         side = left_border_at lawful equal window v (rank q) x within read up.0 up.1 touch.1;
         run = (is, refl);
-        frame = grind (arith, common_steps, upto_item);
+        frame = grind (arith, common_steps);
         few = omega arith;
         begins = omega (arith, next);
       })

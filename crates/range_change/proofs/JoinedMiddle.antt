@@ -12,12 +12,12 @@ use Rattle.range_change.proofs.Splices.{IsFilled, filled_apart, filled_joined, s
 
 pub got_only : {X : Type 0} (P : X → Type 0) (o : Option (Bor X)) (i : Bor X) → o ≡ Some i → P i.now
     → (m : X) → option_copied o ≡ Some m → P m
-got_only P o i is h m e = let at = sym (ap option_copied is) ∙ e in let item : i.now ≡ m =
+got_only P o i is h m e = let item : i.now ≡ m =
     cc in subst P item h
 
 pub got_none : {X : Type 0} (P : X → Type 0) (o : Option (Bor X)) → o ≡ None → (m : X)
     → option_copied o ≡ Some m → P m
-got_none P o is m e = absurd (let at = sym (ap option_copied is) ∙ e in cc)
+got_none P o is m e = absurd (cc)
 
 -- only an item that joins gives way beyond the window
 pub seam_count : {K P : Type 0} (joined reaching : Option P) (b : Bound K)
@@ -236,8 +236,8 @@ module _ {K : Type 0} (order : KeyOrder K) (lawful : IsLawful order) {V : Type 0
         let body_end : with_last_end plan.finish (with_first_start start middle) ≡ s.0
         ++ other ∷ [] = ap (with_last_end plan.finish) body ∙ with_last plan.finish s.0 z in
         let list : (front ++ with_last_end plan.finish (with_first_start start middle))
-        ++ behind ≡ front ++ ((s.0 ++ other ∷ []) ++ behind) = grind (arith, common_steps, append_assoc) in
-        let z_ends : places order lawful (item_upper order z) (upper order r) ≡ Equal = grind (arith, common_steps, places, past, end_position, upper) in
+        ++ behind ≡ front ++ ((s.0 ++ other ∷ []) ++ behind) = grind (arith, common_steps) in
+        let z_ends : places order lawful (item_upper order z) (upper order r) ≡ Equal = grind (arith, common_steps) in
         let e = past order (end_position order (unwrap_or plan.finish r.end)) in
         let right = subst (λ (v : V). IsRightOf line items behind (upper order r) e v) (sym s.4)
         plan.side.right in
@@ -352,7 +352,7 @@ module _ {K : Type 0} {order : KeyOrder K} (lawful : IsLawful order) {V : Type 0
       → IsRunStart is_good rank (length items) place reach.first joined from
       → IsLeftFill order lawful same equal is_good rank items r place reach.window.count middle
       reach.first (seam_border joined reach.first (flipped_bound r.start)) from
-  left_fill [] joined from others (inl h) begins = absurd (let e = h.1 in cc)
+  left_fill [] joined from others (inl h) begins = absurd (cc)
   left_fill (m ∷ ms) joined from others (inl (i, is, at, joins)) begins =
       let item : i ≡ m = cc in
       left_joining order lawful same equal is_good rank items r place reach.window.count m ms
@@ -402,10 +402,10 @@ module _ {K : Type 0} {order : KeyOrder K} (lawful : IsLawful order) {V : Type 0
       → IsRightFill order lawful same equal is_good rank items r place reach.window.count middle
       front start reach.last (seam_border other reach.last (flipped_bound r.end))
   right_fill [] front start other others within fill known (inl h) =
-      absurd (let e = h.1 in cc)
+      absurd (cc)
   right_fill (x ∷ xs) front start other others within fill known (inl (i, is, at, joins)) =
       let (init, m, list, last) = last_of x xs in
-      let item : i ≡ m = let e = sym last ∙ is in cc in
+      let item : i ≡ m = cc in
       right_joining order lawful same equal is_good rank items r place reach.window.count (x ∷ xs)
       front init m start reach.last _ found.window.stored good list fill known (rw item at at)
       (rw item at (joins lawful equal (flipped_bound r.end)

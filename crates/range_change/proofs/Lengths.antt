@@ -35,4 +35,4 @@ module _ {K V P : Type 0} (is_good : P → Type 0) (rank : P → ℕ)
       → IsBorderShape side is_good rank items border low high rest None → joined_count border ≡ 0
   border_joins_none side Plain low high rest h = refl
   border_joins_none side (Cut p b) low high rest h = refl
-  border_joins_none side (Joined p) low high rest h = absurd (let e = h.4.2 in cc)
+  border_joins_none side (Joined p) low high rest h = absurd (cc)

@@ -21,7 +21,7 @@ put_parts : {X : Type 0} (before now done : List X) (place left less : ℕ)
     → place + left ≤ length before → (take (place + length done) now ≡ take place before ++ done)
     × ((n : ℕ) → drop (place + length done + n) now ≡ drop (place + (left - less) + n) before)
 put_parts before now done place left less was within =
-    let size : length (take place before ++ done) ≡ place + length done = grind (arith, common_steps, length-append, take, length, length-take-le) in
+    let size : length (take place before ++ done) ≡ place + length done = grind (arith, common_steps) in
     let rest = drop (place + (left - less)) before in
     let at = place + length done in (
       ap (take at) was ∙ take_at (take place before ++ done) rest at size,

@@ -38,7 +38,7 @@ module _ {K V P : Type 0} {is_good is_good' : P → Type 0} {rank rank' : P → 
       sum within =
       let moved = kept_at is_good is_good' rank rank' (length items) from begin kept is_at in
       let size : length items' ≡ length items = ap length same_list in
-      let here : place_before rank' (length items') from ≡ begin = grind (arith, common_steps, place_before, place_at, length) in
+      let here : place_before rank' (length items') from ≡ begin = grind (arith, common_steps) in
       let least =
       border_length is_good rank items right_side right upto end after finish on_right in
       record {

@@ -83,7 +83,7 @@ module _ {K : Type 0} (order : KeyOrder K) (lawful : IsLawful order) where
   chosen_by : (p q : Position K) (b : Bool) → is_gt (position_cmp order.cmp p q) ≡ b
       → (PLe p (if b then p else q) × PLe q (if b then p else q))
       × (PLe (if b then q else p) p × PLe (if b then q else p) q)
-  chosen_by p q true e = grind (arith, common_steps, gt_le, position_cmp, position_total, gt_is_greater, le_refl)
+  chosen_by p q true e = grind (arith, common_steps)
   chosen_by p q false e = ((e, le_refl lawful q), (le_refl lawful p, e))
 
   pub later_over : (p q : Position K) → PLe p (later order p q) × PLe q (later order p q)
@@ -110,12 +110,12 @@ module _ {K : Type 0} (order : KeyOrder K) (lawful : IsLawful order) where
       let q = start_position order i.start in
       let u = end_position order r.end in
       let v = end_position order i.end in
-      let s = start_position order part.start in
-      let e = end_position order part.end in
+
+
       let latest = later_over p q in
       let first = earlier_under u v in
       let at = eq_ge lawful _ _ h.starts in
-      let to = eq_le lawful _ _ h.ends in (grind (arith, common_steps, le_trans, past_le))
+      (grind (arith, common_steps, le_trans, past_le))
 
   lies_places : (r s : AnyRange K) → IsKnownRange order r → IsKnownRange order s → LiesIn order r s
       → PLe (Lo s) (Lo r) × PLe (Hi r) (Hi s)

@@ -60,7 +60,7 @@ module _ {K : Type 0} {order : KeyOrder K} (lawful : IsLawful order) {V : Type 0
     -- the first item of the window ends after the range starts, and the last starts before it ends
     pub first_reaches : (x : Item (AnyRange K) V) → x ≡ get_or items place x → 0 < w.count
         → PLe lawful (lower order r) (item_upper order x)
-    first_reaches x read some = grind (arith, common_steps, length, from_item, lt_le)
+    first_reaches x read some = grind (arith, common_steps)
 
     pub last_starts : (x : Item (AnyRange K) V) → x ≡ get_or items (place + w.count - 1) x
         → 0 < w.count → PLe lawful (item_lower order x) (upper order r)
@@ -86,8 +86,8 @@ module _ {K : Type 0} {order : KeyOrder K} (lawful : IsLawful order) {V : Type 0
         let full =
         chain_right line (take (place + w.count) items) (x ∷ drop (place + w.count + 1) items)
         (rw (listed_at items (place + w.count) x within read) at in_order) in
-        let starts = rw (from_item items (place + w.count) x within read) at window.behind in
-        let known_x = known_at (place + w.count) x within read in (grind (arith, common_steps, touches_is, le_trans, lt_le))
+
+        (grind (arith, common_steps, touches_is, le_trans, lt_le))
 
     -- no item of the window starts before the range
     met_start : (n : ℕ) → w.count ≡ n → ReachesBefore order is_good rank items r place w.count None
@@ -179,12 +179,12 @@ module _ {K : Type 0} {order : KeyOrder K} (lawful : IsLawful order) {V : Type 0
     right_rest_cut x read some ends b known_b same_b u values =
         let k = place + w.count - 1 in
         let end = place + w.count in
-        let next : k + 1 ≡ end = omega (arith, some) in
+
         let within : k < length items = omega (arith, some, window.in_range) in
         let known_x = known_at k x within read in
         let y : Item (AnyRange K) V =
         record { key = record { start = b; end = x.key.end }; value = u } in
-        let split : items ≡ take k items ++ x ∷ drop end items = grind (arith, common_steps, listed_at, take, drop) in
+        let split : items ≡ take k items ++ x ∷ drop end items = grind (arith, common_steps) in
         record {
           right = subst (λ ys. IsRight line ys (y ∷ drop end items) (upper order r)) (sym split)
               (right_cut line (take k items) x (drop end items) y (upper order r)
@@ -265,7 +265,7 @@ module _ {K : Type 0} {order : KeyOrder K} (lawful : IsLawful order) {V : Type 0
     right_border_rest end v y within rest values = record {
       in_range = within;
       right = right_apart line items (y ∷ drop end items) (upper order r) v rest.right
-          (trailing_first line y (drop end items) (upper order r) v rest.right.chain (grind (arith, common_steps, not_both)));
+          (trailing_first line y (drop end items) (upper order r) v rest.right.chain (grind (arith, common_steps)));
       known = rest.known;
       known_end = window.known.1;
     }
@@ -317,10 +317,10 @@ module _ {K : Type 0} {order : KeyOrder K} (lawful : IsLawful order) {V : Type 0
         let all = window.stored.known in
         let front = take at items ++ option_items left in
         let behind = option_items right ++ drop end items in
-        let list : new ≡ front ++ m ∷ behind = grind (arith, common_steps, opening_regroups, take, option_items, drop) in
+        let list : new ≡ front ++ m ∷ behind = grind (arith, common_steps) in
         inserted_between front behind m window.stored window.known range_has_places on_left.left
         on_right.right values (every_append _ front (m ∷ behind) (every_append _ (take at items)
-        (option_items left) (every_front _ at items all) on_left.known) (grind (arith, common_steps, every_append, option_items, drop, every_back))) list (insertion_frame lawful equal window new v u frame_left frame_right few values
+        (option_items left) (every_front _ at items all) on_left.known) (grind (arith, common_steps))) list (insertion_frame lawful equal window new v u frame_left frame_right few values
         own_value changed)
 
     -- the list with the range unbound
@@ -335,7 +335,7 @@ module _ {K : Type 0} {order : KeyOrder K} (lawful : IsLawful order) {V : Type 0
         let all = window.stored.known in
         let front = take at items ++ option_items left in
         let behind = option_items right ++ drop end items in
-        let list : new ≡ front ++ behind = grind (arith, common_steps, regrouped_out, take, option_items, drop) in
+        let list : new ≡ front ++ behind = grind (arith, common_steps) in
         let result = places_between_are_unbound line items front behind (lower order r)
         (upper order r) on_left.left on_right.right range_has_places in
         let known_front = every_append _ (take at items) (option_items left)
@@ -374,8 +374,8 @@ module _ {K : Type 0} {order : KeyOrder K} (lawful : IsLawful order) {V : Type 0
     -- a range that meets nothing is unbound
     pub unmet_is_unbound : w.count ≡ 0 → IsRemoved order same items items r
     unmet_is_unbound none =
-        let at : place + w.count ≡ place = omega (arith, none) in
-        let list : items ≡ take place items ++ [] ++ [] ++ [] ++ drop (place + w.count) items = grind (arith, common_steps, append-nil, take, list_is_take_and_drop) in
+
+        let list : items ≡ take place items ++ [] ++ [] ++ [] ++ drop (place + w.count) items = grind (arith, common_steps) in
         removed_by items place (place + w.count) None None
         (left_rest_whole (λ x some read. absurd (omega (arith, some, none))))
         (right_rest_whole (λ x some read. absurd (omega (arith, some, none))))

@@ -80,7 +80,7 @@ module _ {K : Type 0} {order : KeyOrder K} (lawful : IsLawful order) {V : Type 0
       record {
         left = left;
         right = right;
-        upto = grind (arith, common_steps, left, right, seam_count, flipped_bound);
+        upto = grind (arith, common_steps);
         within = omega (arith, least, right.in_range);
       }
 

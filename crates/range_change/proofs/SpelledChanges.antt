@@ -43,7 +43,7 @@ module _ {K : Type 0} {order : KeyOrder K} (lawful : IsLawful order) {V : Type 0
     border_spelled side As outer None None b low high rest given (at, none, free) cut =
         (rw none tt, λ c e. absurd (cc))
     border_spelled side As outer None (Some p) b low high rest given
-        (good, here, next, free, (x, read, is)) cut = grind (arith, common_steps, get_or, here)
+        (good, here, next, free, (x, read, is)) cut = grind (arith, common_steps)
     border_spelled side As outer (Some q) reaching b low high rest given
         (good, here, next, none, (x, read, is)) cut = grind (arith, common_steps, same_Some, one_is_spelled)
 
@@ -97,7 +97,7 @@ module _ {K : Type 0} {order : KeyOrder K} (lawful : IsLawful order) {V : Type 0
         let right = border_spelled right_side (IsEndAsIn order items) (λ x s. s.1) other reach.last
         (flipped_bound r.end) plan.right.upto end beyond finish plan.right.shape cut_after in
         let front = take at items in
-        let body = with_last_end finish (with_first_start start middle) in
+
         let tail = drop end items in
         let before = every_left IsSpelled front (drop at items) (subst (KeepsSpelling order items)
         (list_is_take_and_drop items at) list_keeps_spelling) in
@@ -106,7 +106,7 @@ module _ {K : Type 0} {order : KeyOrder K} (lawful : IsLawful order) {V : Type 0
         let inside =
         every_ended IsSpelled finish (with_first_start start middle)
         (λ i b is h. (h.0, right.1 b is)) (every_started IsSpelled start middle (λ i b is h. (left.1 b is, h.1)) kept) in
-        rw changed (grind (arith, common_steps, every_append, option_items, common_steps))
+        rw changed (grind (arith, common_steps))
 
   -- a range that one item surrounds
   module _ {P : Type 0} {is_good : P → Type 0} {rank : P → ℕ} {r : AnyRange K} {w : Window P}
@@ -141,7 +141,7 @@ module _ {K : Type 0} {order : KeyOrder K} (lawful : IsLawful order) {V : Type 0
 
     start_within : IsStartAsIn order items r.start
     start_within =
-        let known_r = within.window.known in
+
         within_is_kept lawful equal items known chain (take place items) (drop (place + 1) items) x
         list StartSide r.start r.start (same_itself order lawful r.start) (grind (arith, common_steps, lt_le, starts, reaching_is_before_past, known_x, ends_after_start)) (λ e. absurd (lt_not_le lawful _ _ starts (eq_ge lawful _ _ e)))
 

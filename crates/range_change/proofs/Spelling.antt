@@ -65,7 +65,7 @@ module _ {K : Type 0} {order : KeyOrder K} (lawful : IsLawful order) where
   back : (side : RangeSide) (p : Position K) (a b : Bound K) → SameBound order a b
       → places order lawful p (place_on order side b) ≡ Equal
       → places order lawful p (place_on order side a) ≡ Equal
-  back side p a b clone e = grind (arith, common_steps, position_total, tied_back, same_place)
+  back side p a b clone e = grind (arith, common_steps)
 
   -- the range has not the place on the side
   abbrev IsOff : RangeSide → Position K → AnyRange K → Type 0

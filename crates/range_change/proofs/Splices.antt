@@ -47,12 +47,12 @@ module _ {L V X : Type 0} (line : Line L V X) where
       → IsFilled items front (other ∷ ms) (m ∷ ms) c
   filled_joined items front m other ms c s left chain at_c at_s at_hi alike_value =
       let value_back = same_is_symmetric line (line.value other) (line.value m) alike_value in
-      let c_low = eq_le line _ _ at_c in
+
       let s_low = eq_le line _ _ at_s in
       let hi_low = eq_le line _ _ at_hi in
       let hi_high = eq_ge line _ _ at_hi in
       let low = le_trans line _ _ _ s_low left.below in
-      let reaches : Lt line.cmp c (line.hi other) = grind (arith, common_steps, lt_le_trans, le_lt_trans, eq_ge, chain) in
+      let reaches : Lt line.cmp c (line.hi other) = grind (arith, common_steps) in
       let good = le_lt_trans line _ _ _ low reaches in
       let wide : IsChain line (other ∷ ms) =
       (good, follows_like line m other ms at_hi alike_value chain.1) in
@@ -67,11 +67,11 @@ module _ {L V X : Type 0} (line : Line L V X) where
         hulled = λ new d l made. hull line items new c d s d (λ p W. Has line W p (other ∷ ms))
             (λ p W. Has line W p (m ∷ ms)) left.below l (le_refl line d) made
             (λ p W alike from upto. (
-              like_item line [] [] ms ms other m p W alike alike_value (λ h. (grind (arith, common_steps, le_trans, lt_le_trans))) (λ k. k) (λ k. k),
+              like_item line [] [] ms ms other m p W alike alike_value (λ h. (grind (arith, common_steps))) (λ k. k) (λ k. k),
               like_item line [] [] ms ms m other p W alike value_back (λ h. (grind (arith, common_steps, le_trans, lt_le_trans))) (λ k. k) (λ k. k),
             )) (λ p W alike where_. elim where_ [
               | inl k ↦ both_ways (left.joined p W alike k.0 k.1)
-                  (held_alone line [] other ms p W (line.value m) wide (grind (arith, common_steps, le_trans, lt_le_trans, lt_le)) alike alike_value)
+                  (held_alone line [] other ms p W (line.value m) wide (grind (arith, common_steps)) alike alike_value)
               | inr k ↦ absurd (lt_not_le line _ _ k.1 k.0)
             ]);
       }

@@ -16,24 +16,13 @@ none_of : {P : Type 0} (o : Option P) → length (option_items o) ≤ 0 → o �
 none_of None few = refl
 none_of (Some p) few = absurd (omega (arith, few))
 
-few_of : {P : Type 0} (o : Option P) (count : ℕ) → ((p : P) → o ≡ Some p → 0 < count)
-    → length (option_items o) ≤ count
-few_of None count some = omega arith
-few_of (Some p) count some = omega (arith, some p refl)
-
 module _ {K : Type 0} {order : KeyOrder K} {V : Type 0} {same : V → V → Bool} {P : Type 0}
     {is_good : P → Type 0} {rank : P → ℕ} {items : List (Item (AnyRange K) V)} {r : AnyRange K}
     {place : ℕ} where
-  -- what reaches out of the range is among the items of the window
-  pub reach_is_met : {reach : Reach P} → IsReach order same is_good rank items r reach place
-      → (length (option_items reach.first) ≤ reach.window.count)
-      × (length (option_items reach.last) ≤ reach.window.count)
-  reach_is_met {reach} found = grind (arith, common_steps, few_of)
-
-  -- so none does where the window is empty
+  -- nothing reaches out of the range where the window is empty
   pub none_reach : {reach : Reach P} → IsReach order same is_good rank items r reach place
       → reach.window.count ≡ 0 → (reach.first ≡ None) × (reach.last ≡ None)
-  none_reach {reach} found none = grind (arith, common_steps, reach_is_met, none_of)
+  none_reach {reach} found none = grind (arith, common_steps)
 
 module _ {K : Type 0} {order : KeyOrder K} (lawful : IsLawful order) {V : Type 0}
     {same : V → V → Bool} (equal : IsEquivalence same) {P : Type 0} {is_good : P → Type 0}
@@ -96,7 +85,7 @@ module _ {K : Type 0} {order : KeyOrder K} (lawful : IsLawful order) {V : Type 0
 
     pub divided_size : (middle : Option (Item (AnyRange K) V)) → IsDivided others new at parts middle
         → length new ≡ length items + 1 + length (option_items middle)
-    divided_size middle divided = grind (arith, common_steps, changed_length, option_items, list_is)
+    divided_size middle divided = grind (arith, common_steps)
 
     -- the range is bound to another value
     pub divided_around : (v : V) → same x.value v ≡ false
@@ -125,7 +114,7 @@ module _ {K : Type 0} {order : KeyOrder K} (lawful : IsLawful order) {V : Type 0
         let right = right_rest_cut lawful equal window x here_end some (within.ends x here)
         parts.start start_is.0 start_is.1 parts.value copied in
         borders_remove lawful equal window new (Some front) (Some behind) some left right
-        (left_part lawful equal window x here some parts.end end_is.1, tt) (grind (arith, common_steps, right_part, here_end, some, copied)) (list_is None divided)
+        (left_part lawful equal window x here some parts.end end_is.1, tt) (grind (arith, common_steps)) (list_is None divided)
 
   split : items ≡ take place items ++ x ∷ drop (place + 1) items
   split = listed_at items place x within_list here
