@@ -123,7 +123,7 @@ module _ {K : Type 0} (order : KeyOrder K) (lawful : IsLawful order) {V : Type 0
           let before = was.has p W alike in
           let beside : PLt lawful p (lower order key) ⊎ PLe lawful (upper order key) p
           → Hold order lawful same equal W p new ↔ Any P more = λ out.
-          (grind (arith, common_steps, any_left, any_but_end, common_steps, lt_not_le)) in
+          (grind (arith, common_steps, any_left, any_but_end, lt_not_le)) in
           elim (inside_or_out (line_of order lawful same equal) p (lower order key)
           (upper order key)) [
             | inl within ↦ let own = bound.inside p W alike within.0 within.1 in (

@@ -17,15 +17,13 @@ use Rattle.range_change.proofs.Windows.{every_both}
 last_place : {X P : Type 0} (is_good : P → Type 0) (rank : P → ℕ) (items : List X) (last : Option P)
     → MatchOption last (items ≡ []) (λ p. is_good p × (rank p + 1 ≡ length items))
     → IsJustBefore is_good rank last (length items)
-last_place is_good rank items None at = rw at refl
-last_place is_good rank items (Some p) at = at
+last_place is_good rank items option at = grind (arith, common_steps)
 
 must_touch : (A : Type 0) (t : Bool) → A → (A × (IsTrue t → ⊥) → ⊥) → IsTrue t
 must_touch A t a h = true_from_ne_false t (λ e. h (a, λ is. not_both e is))
 
 one_fails : (free a b : Bool) → free ≡ (a && b) → free ≡ false → (a ≡ false) ⊎ (b ≡ false)
-one_fails free true b e f = inr (sym e ∙ f)
-one_fails free false b e f = inl refl
+one_fails free test b e f = grind (arith, common_steps)
 
 module _ {K : Type 0} (order : KeyOrder K) (lawful : IsLawful order) where
   apart_is : (r s : AnyRange K) → IsKnownRange order r → IsKnownRange order s

@@ -15,8 +15,7 @@ standing_item_splits_list xs n m x within read next = grind (arith, common_steps
 
 pub cut_joins_none : {K P : Type 0} (item : Option P) (b : Bound K)
     → joined_count (border_at item b) ≡ 0
-cut_joins_none None b = refl
-cut_joins_none (Some p) b = refl
+cut_joins_none item b = grind (arith, common_steps)
 
 -- a change that keeps positions and the length keeps places
 pub kept_place : {P : Type 0} {is_good is_good' : P → Type 0} {rank rank' : P → ℕ} {len len' : ℕ}
@@ -163,6 +162,4 @@ module _ {K V P : Type 0} {is_good is_good' : P → Type 0} {rank rank' : P → 
       (rest : Option (Item (AnyRange K) V)) (given : Option (Bound K))
       → IsBorderShape side is_good rank items border low high rest given
       → IsGoodBorder is_good' border
-  border_good side Plain low high rest given h = tt
-  border_good side (Cut p b) low high rest given h = (kept p h.0).0
-  border_good side (Joined p) low high rest given h = (kept p h.0).0
+  border_good side border low high rest given h = grind (arith, common_steps)

@@ -152,8 +152,7 @@ module _ {L V X : Type 0} (line : Line L V X) where
   pub trailing_follows : (m : X) (ys : List X) (e : L) (v : V) → Le line.cmp (line.hi m) e
       → Le line.cmp e (line.hi m) → line.same (line.value m) v ≡ true → IsChain line ys
       → Trailing line e v ys → Follows line m ys
-  trailing_follows m [] e v h k s chain trails = tt
-  trailing_follows m (y ∷ ys) e v h k s chain trails = grind (arith, common_steps)
+  trailing_follows m list e v h k s chain trails = grind (arith, common_steps)
 
   -- the new item is all that the hull holds
   pub places_between_are_bound : (items front behind : List X) (m : X) (c d : L) (v : V)

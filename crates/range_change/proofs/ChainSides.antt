@@ -3,12 +3,10 @@ use Rattle.range_change.proofs.Common.{arith, common_steps, ◌≡◌, ◌∙◌
 use Rattle.range_change.proofs.Chains.{same_is_symmetric, chain_left, chain_right, follows_above, chain_before, chains_join, follows_like, lt_le, eq_le, eq_ge, le_trans, lt_not_le, lt_le_trans, le_lt_trans}
 
 pub only_first : {A B : Type 0} → (B → ⊥) → A ⊎ B → A
-only_first f (inl a) = a
-only_first f (inr b) = absurd (f b)
+only_first f either = grind (arith, common_steps)
 
 pub only_second : {A B : Type 0} → (A → ⊥) → A ⊎ B → B
-only_second f (inl a) = absurd (f a)
-only_second f (inr b) = b
+only_second f either = grind (arith, common_steps)
 
 module _ {L V X : Type 0} (line : Line L V X) where
   -- nothing holds a place below where all start

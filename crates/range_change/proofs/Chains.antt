@@ -47,8 +47,7 @@ module _ {L V X : Type 0} (line : Line L V X) where
   chain_left (x ∷ x' ∷ xs) ys h = (h.0, (h.1.0, chain_left (x' ∷ xs) ys h.1.1))
 
   pub chain_tail : (x : X) (xs : List X) → Follows line x xs → IsChain line xs
-  chain_tail x [] h = tt
-  chain_tail x (y ∷ ys) h = h.1
+  chain_tail x list h = grind (arith, common_steps)
 
   pub chain_right : (xs ys : List X) → IsChain line (xs ++ ys) → IsChain line ys
   chain_right [] ys h = h
@@ -97,8 +96,7 @@ module _ {L V X : Type 0} (line : Line L V X) where
 
   strict_follows : (x : X) (ys : List X) (c d : L) → Le line.cmp (line.hi x) c → Lt line.cmp c d
       → IsChain line ys → Every (λ y. Le line.cmp d (line.lo y)) ys → Follows line x ys
-  strict_follows x [] c d h l k e = tt
-  strict_follows x (y ∷ ys) c d h l k e = grind (arith, common_steps)
+  strict_follows x list c d h l k e = grind (arith, common_steps)
 
   pub join_apart : (xs ys : List X) (c d : L) → Lt line.cmp c d → IsChain line xs → IsChain line ys
       → Every (λ x. Le line.cmp (line.hi x) c) xs → Every (λ y. Le line.cmp d (line.lo y)) ys

@@ -5,8 +5,7 @@ use Rattle.range_change.proofs.Forms.{before_is}
 use Rattle.range_change.proofs.Listed.{before_by_parts}
 
 false_is_not_both : (t c : Bool) → (IsTrue t → ⊥) → IsTrue (not t || not c)
-false_is_not_both true c h = absurd (h refl)
-false_is_not_both false c h = refl
+false_is_not_both test c h = grind (arith, common_steps)
 
 module _ {K : Type 0} (order : KeyOrder K) (lawful : IsLawful order) where
   abbrev Start : AnyRange K → Position K

@@ -8,21 +8,10 @@ module _ {K : Type 0} (order : KeyOrder K) (lawful : IsLawful order) where
   pub same_past : (a b : Bound K) → SameBound order a b
       → places order lawful (past order (end_position order a)) (past order (end_position order b))
       ≡ Equal
-  same_past (Included a) (Included b) h = same_start order lawful (Excluded a) (Excluded b) h
-  same_past (Excluded a) (Excluded b) h = grind (arith, common_steps)
-  same_past Unbounded Unbounded h = tied_itself (position_total order.cmp lawful.total)
-      (past order (end_position order Unbounded))
-  same_past (Included a) (Excluded b) h = absurd h
-  same_past (Included a) Unbounded h = absurd h
-  same_past (Excluded a) (Included b) h = absurd h
-  same_past (Excluded a) Unbounded h = absurd h
-  same_past Unbounded (Included b) h = absurd h
-  same_past Unbounded (Excluded b) h = absurd h
+  same_past bound other_bound h = grind (arith, common_steps, same_start, tied_itself, position_total, past, end_position)
 
   pub known_turned : (b : Bound K) → IsKnownBound order b → IsKnownBound order (flipped_bound b)
-  known_turned (Included a) h = h
-  known_turned (Excluded a) h = h
-  known_turned Unbounded h = h
+  known_turned bound h = grind (arith, common_steps)
 
   end_by : (s t b : Bound K)
       → places order lawful (past order (end_position order t)) (start_position order s) ≡ Equal
@@ -77,10 +66,7 @@ module _ {K : Type 0} (order : KeyOrder K) (lawful : IsLawful order) where
 
   not_past_all : (e a : Bound K) → None ≡ flipped e → IsKnownBound order a
       → PLt lawful (past order (end_position order e)) (past order (end_position order a)) → ⊥
-  not_past_all (Included k) a turns known l = cc
-  not_past_all (Excluded k) a turns known l = cc
-  not_past_all Unbounded a turns known l =
-      lt_not_le lawful _ _ l (unbounded_end order lawful a known)
+  not_past_all bound a turns known l = grind (arith, common_steps, lt_not_le, unbounded_end)
 
   -- nothing ends after an unbounded end
   pub ends_never : (r i : AnyRange K) → IsKnownRange order i → None ≡ flipped r.end → IsTrue false
@@ -89,9 +75,7 @@ module _ {K : Type 0} (order : KeyOrder K) (lawful : IsLawful order) where
       (λ h. absurd (cc), λ l. absurd (not_past_all r.end i.end turns known.1 l))
 
   pub le_is : (o : Ordering) → IsTrue (is_le o) ↔ is_gt o ≡ false
-  le_is Less = (λ h. refl, λ h. refl)
-  le_is Equal = (λ h. refl, λ h. refl)
-  le_is Greater = (λ h. absurd (cc), λ h. absurd (cc))
+  le_is compared = grind (arith, common_steps)
 
   -- a range ends after another where it reaches the start just after it
   pub ends_after_is : (r i : AnyRange K) (s : Bound K) → IsKnownRange order r → IsKnownRange order i

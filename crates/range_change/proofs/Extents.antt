@@ -30,17 +30,11 @@ module _ {K : Type 0} (order : KeyOrder K) (lawful : IsLawful order) where
   pub past_le : (e f : Bound K) → IsKnownBound order e → IsKnownBound order f
       → PLe (end_position order e) (end_position order f)
       → PLe (past order (end_position order e)) (past order (end_position order f))
-  past_le e (Included b) known known' le =
-      past_turned e (Included b) (Excluded b) refl known known' le
-  past_le e (Excluded b) known known' le =
-      past_turned e (Excluded b) (Included b) refl known known' le
-  past_le e Unbounded known known' le = unbounded_end order lawful e known
+  past_le e bound known known' le = grind (arith, common_steps, past_turned, unbounded_end)
 
   -- the neighbour before a key that has none is nobody's neighbour
   told_none : (o p : Option K) (a : K) → Tells order o a → SameAnswer order o p → p ≡ None → ⊥
-  told_none None p a t s n = t
-  told_none (Some x) None a t s n = s
-  told_none (Some x) (Some y) a t s n = cc
+  told_none option p a t s n = grind (arith, common_steps)
 
   next_below : (a b d : K) → order.succ a ≡ Some d → order.is_key b → order.pred b ≡ None
       → order.cmp a b ≡ Less → order.cmp d b ≡ Less
@@ -52,34 +46,22 @@ module _ {K : Type 0} (order : KeyOrder K) (lawful : IsLawful order) where
 
   at_before : (a b : K) (o : Option K) → order.succ a ≡ o → order.is_key b → order.pred b ≡ None
       → order.cmp a b ≡ Less → PLt (at_told o (Beside a After)) (Beside b At)
-  at_before a b None next key first l = less_then_any (order.cmp a b) Greater l
-  at_before a b (Some d) next key first l =
-      less_then_any (order.cmp d b) Equal (next_below a b d next key first l)
+  at_before a b option next key first l = grind (arith, common_steps, less_then_any, next_below)
 
   at_at : (a b : K) (o p : Option K) → order.succ a ≡ o → order.succ b ≡ p → order.is_key a
       → order.is_key b → order.cmp a b ≡ Less
       → PLt (at_told o (Beside a After)) (at_told p (Beside b After))
-  at_at a b None None next next' key key' l = less_then_any (order.cmp a b) Equal l
-  at_at a b None (Some e) next next' key key' l = less_then_any (order.cmp a e) Greater
-      (Orders.lt_trans order.cmp lawful.total a b e l (lawful.succ_above b e next'))
-  at_at a b (Some d) None next next' key key' l =
-      (less_unless_less (order.cmp d b)).1 (lawful.none_between a d b next key' l)
-  at_at a b (Some d) (Some e) next next' key key' l = grind (arith, common_steps)
+  at_at a b option other_option next next' key key' l = grind (arith, common_steps, less_then_any, less_unless_less)
 
   before_at : (a b : K) (p : Option K) → order.succ b ≡ p → is_gt (order.cmp a b) ≡ false
       → PLt (Beside a At) (at_told p (Beside b After))
-  before_at a b None next le = (less_unless_less (order.cmp a b)).1 le
-  before_at a b (Some e) next le = less_then_any (order.cmp a e) Equal
-      (Orders.le_lt_trans order.cmp lawful.total a b e le (lawful.succ_above b e next))
+  before_at a b option next le = grind (arith, common_steps, less_unless_less, less_then_any, le_lt_trans)
 
   at_infinity : (a : K) (o : Option K) → PLt (at_told o (Beside a After)) PlusInfinity
-  at_infinity a None = refl
-  at_infinity a (Some d) = refl
+  at_infinity a option = grind (arith, common_steps)
 
   infinity_last : (f : Position K) → PLt PlusInfinity f → ⊥
-  infinity_last MinusInfinity l = cc
-  infinity_last (Beside a x) l = cc
-  infinity_last PlusInfinity l = cc
+  infinity_last place l = grind (arith, common_steps)
 
   past_lt : (e f : Position K) → IsEnd order e → IsEnd order f → PLt e f
       → PLt (past order e) (past order f)

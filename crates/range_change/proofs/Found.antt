@@ -7,19 +7,13 @@ use Rattle.range_change.proofs.Forms.{places}
 use Rattle.range_change.proofs.Listed.{IsListed, stored_list_is_listed}
 
 pub not_less : (o : Ordering) → is_lt o ≡ false → o ≡ Less → ⊥
-not_less Less h e = cc
-not_less Equal h e = cc
-not_less Greater h e = cc
+not_less compared h e = grind (arith, common_steps)
 
 le_is_at_most : (o : Ordering) → is_gt o ≡ false ↔ is_le o ≡ true
-le_is_at_most Less = (λ _. refl, λ _. refl)
-le_is_at_most Equal = (λ _. refl, λ _. refl)
-le_is_at_most Greater = (λ e. cc, λ e. cc)
+le_is_at_most compared = grind (arith, common_steps)
 
 not_at_most : (o : Ordering) → is_le o ≡ false → is_gt o ≡ false → ⊥
-not_at_most Less h e = cc
-not_at_most Equal h e = cc
-not_at_most Greater h e = cc
+not_at_most compared h e = grind (arith, common_steps)
 
 module _ {K : Type 0} (order : KeyOrder K) (lawful : IsLawful order) {V : Type 0}
     (same : V → V → Bool) where
@@ -35,13 +29,11 @@ module _ {K : Type 0} (order : KeyOrder K) (lawful : IsLawful order) {V : Type 0
 
   stored_nonempty : (i : Item (AnyRange K) V) (rest : List (Item (AnyRange K) V))
       → IsListed order lawful same (i ∷ rest) → IsEmptyRange order i.key → ⊥
-  stored_nonempty i [] h = h.1
-  stored_nonempty i (j ∷ rest) h = h.1
+  stored_nonempty i list h = grind (arith, common_steps)
 
   pub stored_tail : (i : Item (AnyRange K) V) (rest : List (Item (AnyRange K) V))
       → IsListed order lawful same (i ∷ rest) → IsListed order lawful same rest
-  stored_tail i [] h = tt
-  stored_tail i (j ∷ rest) h = h.4
+  stored_tail i list h = grind (arith, common_steps)
 
   -- what follows an item starts past its end
   pub starts_rise : (i : Item (AnyRange K) V) (rest : List (Item (AnyRange K) V))

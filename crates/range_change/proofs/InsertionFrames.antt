@@ -77,9 +77,7 @@ module _ {K : Type 0} {order : KeyOrder K} (lawful : IsLawful order) {V : Type 0
   -- where some item of a run is the reason, one of a wider run is
   within_wider : {A B : Type 0} {some wide : Type 0} → (some → wide) → A ⊎ (some ⊎ B)
       → A ⊎ (wide ⊎ B)
-  within_wider f (inl own) = inl own
-  within_wider f (inr (inl one)) = inr (inl (f one))
-  within_wider f (inr (inr turned)) = inr (inr turned)
+  within_wider f either = grind (arith, common_steps)
 
   -- what is put in the place of a run is put so in that of a wider one
   made_within : (run wider made : List (Item (AnyRange K) V))
@@ -100,9 +98,7 @@ module _ {K : Type 0} {order : KeyOrder K} (lawful : IsLawful order) {V : Type 0
       → Every (λ i. IsTrue (same i.value v)) run
       → Every (IsNewItem order same run r v) (option_items rest)
       → Every (λ i. ¬ IsTrue (same i.value v)) (option_items rest) → length (option_items rest) ≡ 0
-  no_rest run r v None all made apart = refl
-  no_rest run r v (Some y) all made apart =
-      absurd (apart.0 (has_equal run y.value v made.0.value all))
+  no_rest run r v option all made apart = grind (arith, common_steps, has_equal)
 
   module _ {P : Type 0} {is_good : P → Type 0} {rank : P → ℕ} {items : List (Item (AnyRange K) V)}
       {r : AnyRange K} {w : Window P} {place : ℕ}

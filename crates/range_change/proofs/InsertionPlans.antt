@@ -5,8 +5,7 @@ use Rattle.range_change.proofs.RangeSides.{left_rest_whole, left_rest_cut, right
 use Rattle.range_change.proofs.ItemPlaces.{element_at, element_at_is_read, upto_item, from_item}
 
 none_last : {X : Type 0} (xs : List X) (y : X) → xs ++ y ∷ [] ≡ [] → ⊥
-none_last [] y e = cc
-none_last (x ∷ xs) y e = cc
+none_last list y e = grind (arith, common_steps)
 
 module _ {K : Type 0} {order : KeyOrder K} (lawful : IsLawful order) {V : Type 0}
     {same : V → V → Bool} (equal : IsEquivalence same) {P : Type 0} {is_good : P → Type 0}

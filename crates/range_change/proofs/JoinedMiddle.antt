@@ -22,8 +22,7 @@ got_none P o is m e = absurd (cc)
 -- only an item that joins gives way beyond the window
 pub seam_count : {K P : Type 0} (joined reaching : Option P) (b : Bound K)
     → joined_count (seam_border joined reaching b) ≡ length (option_items joined)
-seam_count None reaching b = cut_joins_none reaching b
-seam_count (Some q) reaching b = refl
+seam_count option reaching b = grind (arith, common_steps, cut_joins_none)
 
 module _ {K : Type 0} {order : KeyOrder K} (lawful : IsLawful order) {V : Type 0} (r : AnyRange K)
     (same : V → V → Bool) where
@@ -206,9 +205,7 @@ module _ {K : Type 0} (order : KeyOrder K) (lawful : IsLawful order) {V : Type 0
         → places order lawful (item_upper order z) (upper order r) ≡ Equal
         → places order lawful (item_upper order (item_with_end finish z))
         (past order (end_position order (unwrap_or finish r.end))) ≡ Equal
-    ended_upper None z at = at
-    ended_upper (Some b) z at =
-        tied_itself (position_total order.cmp lawful.total) (past order (end_position order b))
+    ended_upper option z at = grind (arith, common_steps, tied_itself, position_total, past, end_position)
 
     ended_known : (finish : Option (Bound K)) (z : Item (AnyRange K) V) → IsKnownRange order z.key
         → IsKnownBound order (unwrap_or finish r.end)

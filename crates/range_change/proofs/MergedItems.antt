@@ -49,10 +49,7 @@ way_follows follows way = grind (arith, common_steps)
 module _ {K : Type 0} (order : KeyOrder K) {V : Type 0} (same : V → V → Bool) (r : AnyRange K) where
   merged_within : (front list behind : List (Item (AnyRange K) V)) (i : Item (AnyRange K) V)
       → IsMergedInto order same list r i → IsMergedInto order same (front ++ list ++ behind) r i
-  merged_within front list behind i (inl h) =
-      inl (h.0, any_left _ (front ++ list) behind (any_right _ front list h.1))
-  merged_within front list behind i (inr h) =
-      inr (h.0, any_left _ (front ++ list) behind (any_right _ front list h.1))
+  merged_within front list behind i either = grind (arith, common_steps, any_left, any_right)
 
   -- what is beside the run stands, and what is in it meets the range or is merged
   pub rest_stands : (front run others behind : List (Item (AnyRange K) V))

@@ -68,9 +68,7 @@ module _ {K V : Type 0} where
 
   pub length_started : (start : Option (Bound K)) (xs : List (Item (AnyRange K) V))
       → length (with_first_start start xs) ≡ length xs
-  length_started None xs = refl
-  length_started (Some b) [] = refl
-  length_started (Some b) (i ∷ rest) = refl
+  length_started start xs = grind (arith, common_steps)
 
   pub length_ended : (finish : Option (Bound K)) (xs : List (Item (AnyRange K) V))
       → length (with_last_end finish xs) ≡ length xs
@@ -85,9 +83,7 @@ module _ {K V : Type 0} where
       (xs : List (Item (AnyRange K) V))
       → ((i : Item (AnyRange K) V) (b : Bound K) → start ≡ Some b → P i → P (with_start i b))
       → Every P xs → Every P (with_first_start start xs)
-  every_started P None xs f h = h
-  every_started P (Some b) [] f h = h
-  every_started P (Some b) (i ∷ rest) f h = (f i b refl h.0, h.1)
+  every_started P start xs f h = grind (arith, common_steps)
 
   pub every_ended : (P : Item (AnyRange K) V → Type 0) (finish : Option (Bound K))
       (xs : List (Item (AnyRange K) V))

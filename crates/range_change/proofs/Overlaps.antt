@@ -130,5 +130,4 @@ module _ {K : Type 0} (order : KeyOrder K) {V : Type 0} (same : V → V → Bool
   -- a key is bound where its binding is to some value
   pub holding_is : (items : List (Item (AnyRange K) V)) (k : K) (b : Option (Bor V))
       → Binds order same items k (option_copied b) → IsTrue (is_some b) ↔ IsBound order items k
-  holding_is items k None h = (λ e. absurd (cc), λ e. absurd (h e))
-  holding_is items k (Some v) h = (λ e. binds_bound items k v.now h, λ e. refl)
+  holding_is items k option h = grind (arith, common_steps, binds_bound)

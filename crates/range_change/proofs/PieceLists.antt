@@ -85,10 +85,7 @@ module _ {K : Type 0} {order : KeyOrder K} (lawful : IsLawful order) {V : Type 0
 
   opens_after : (e : Bound K) (b : Option (Bound K)) → flipped e ≡ b → IsKnownBound order e
       → Opens b (past order (end_position order e))
-  opens_after e (Some b) turns known_e =
-      (flipped_known order lawful e b turns known_e, flipped_bound_is_past order lawful e b turns)
-  opens_after Unbounded None turns known_e = unbounded_end order lawful r.end known.1
-  opens_after e None turns known_e = absurd (cc)
+  opens_after e option turns known_e = grind (arith, common_steps, flipped_known, flipped_bound_is_past, unbounded_end)
 
   -- the gap from one place to another ends at the bound, or there is none
   abbrev Closes : Option (Bound K) → Position K → Position K → Type 0
@@ -168,10 +165,7 @@ module _ {K : Type 0} {order : KeyOrder K} (lawful : IsLawful order) {V : Type 0
 
     with_gap : (start end : Option (Bound K)) → Opens start from → Closes end from to
         → IsCut from from (free_between order start end ++ rest)
-    with_gap (Some a) (Some b) opens closes =
-        gap_by a b (starts_past_end order a b) refl opens closes
-    with_gap (Some a) None opens closes = no_gap closes
-    with_gap None end opens closes = no_gap (le_trans lawful _ _ _ within opens)
+    with_gap option end opens closes = grind (arith, common_steps, gap_by, starts_past_end, no_gap, le_trans)
 
   -- an item that the range meets, after those so far
   module _ {done rest : List (Item (AnyRange K) V)} {x : Item (AnyRange K) V} {from : Position K}

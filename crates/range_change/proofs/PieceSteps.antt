@@ -7,13 +7,11 @@ module _ {K : Type 0} {order : KeyOrder K} (lawful : IsLawful order) where
   none_past : (e s : Bound K) → flipped e ≡ Some s → IsKnownBound order e → (t : Bool)
       → starts_past_end order s e ≡ t
       → ◌≡◌ {A = List (AnyRange K)} (if t then [] else record { start = s; end = e } ∷ []) []
-  none_past e s turns known true is = refl
-  none_past e s turns known false is = grind (arith, common_steps, lt_not_le, before_is, flipped_known, eq_le, flipped_bound_is_past)
+  none_past e s turns known test is = grind (arith, common_steps, lt_not_le, before_is, flipped_known, eq_le, flipped_bound_is_past)
 
   none_after_end : (e : Bound K) (s : Option (Bound K)) → flipped e ≡ s → IsKnownBound order e
       → between order s (Some e) ≡ []
-  none_after_end e None turns known = refl
-  none_after_end e (Some s) turns known = none_past e s turns known (starts_past_end order s e) refl
+  none_after_end e option turns known = grind (arith, common_steps, none_past, starts_past_end)
 
   none_before_start : (s : Bound K) (e : Option (Bound K)) → flipped s ≡ e → IsKnownBound order s
       → between order (Some s) e ≡ []

@@ -83,8 +83,7 @@ module _ {K : Type 0} (order : KeyOrder K) (lawful : IsLawful order) where
   chosen_by : (p q : Position K) (b : Bool) → is_gt (position_cmp order.cmp p q) ≡ b
       → (PLe p (if b then p else q) × PLe q (if b then p else q))
       × (PLe (if b then q else p) p × PLe (if b then q else p) q)
-  chosen_by p q true e = grind (arith, common_steps)
-  chosen_by p q false e = ((e, le_refl lawful q), (le_refl lawful p, e))
+  chosen_by p q test e = grind (arith, common_steps, le_refl)
 
   pub later_over : (p q : Position K) → PLe p (later order p q) × PLe q (later order p q)
   later_over p q = (chosen_by p q (is_gt (position_cmp order.cmp p q)) refl).0
@@ -94,8 +93,7 @@ module _ {K : Type 0} (order : KeyOrder K) (lawful : IsLawful order) where
 
   pub either_choice_holds : (P : Position K → Type 0) (b : Bool) (p q : Position K) → P p → P q
       → P (if b then p else q)
-  either_choice_holds P true p q h k = h
-  either_choice_holds P false p q h k = k
+  either_choice_holds P test p q h k = grind (arith, common_steps)
 
   -- the common part of two ranges starts at the later start and ends at the earlier end
   pub common_is : (r i : AnyRange K) → IsCommonPart order r i (common order i r)
@@ -143,10 +141,7 @@ module _ {K : Type 0} (order : KeyOrder K) (lawful : IsLawful order) where
 
   pub apart_not : (i r : AnyRange K) → IsKnownRange order i → IsKnownRange order r
       → PLe (Hi i) (Lo r) ⊎ PLe (Hi r) (Lo i) → Overlap order i r → ⊥
-  apart_not i r known known' (inl le) h =
-      h.0 ((before_is order lawful i.end r.start known.1 known'.0).1 le)
-  apart_not i r known known' (inr le) h =
-      h.1 ((before_is order lawful r.end i.start known'.1 known.0).1 le)
+  apart_not i r known known' either h = grind (arith, common_steps, before_is)
 
   module _ {V : Type 0} (items : List (Item (AnyRange K) V)) (r : AnyRange K) where
     abbrev pub IsFull : Item (AnyRange K) V → Type 0

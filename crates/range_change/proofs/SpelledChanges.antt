@@ -40,12 +40,7 @@ module _ {K : Type 0} {order : KeyOrder K} (lawful : IsLawful order) {V : Type 0
         → ((p : P) → reaching ≡ Some p → (x : Item (AnyRange K) V) → x ≡ get_or items (rank p) x
         → IsSpelled (side.shortened x b)) → KeepsSpelling order items (option_items rest)
         × ((c : Bound K) → given ≡ Some c → As c)
-    border_spelled side As outer None None b low high rest given (at, none, free) cut =
-        (rw none tt, λ c e. absurd (cc))
-    border_spelled side As outer None (Some p) b low high rest given
-        (good, here, next, free, (x, read, is)) cut = grind (arith, common_steps)
-    border_spelled side As outer (Some q) reaching b low high rest given
-        (good, here, next, none, (x, read, is)) cut = grind (arith, common_steps, same_Some, one_is_spelled)
+    border_spelled side As outer joined reaching b low high rest given shape cut = grind (arith, common_steps, same_Some, one_is_spelled)
 
     cut_before : (p : P) → reach.first ≡ Some p → (x : Item (AnyRange K) V)
         → x ≡ get_or items (rank p) x → IsSpelled (with_end x (flipped_bound r.start))

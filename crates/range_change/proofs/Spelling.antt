@@ -51,15 +51,11 @@ module _ {K : Type 0} {order : KeyOrder K} (lawful : IsLawful order) where
 
   spans_own : (side : RangeSide) (s : AnyRange K) → IsOpen s
       → Spans s (place_on order side (bound_on side s))
-  spans_own StartSide s h =
-      (le_refl lawful _, (reaching_is_before_past order lawful s.start s.end h.0.0 h.0.1).1 h.1)
-  spans_own EndSide s h =
-      ((reaching_is_before_past order lawful s.start s.end h.0.0 h.0.1).1 h.1, le_refl lawful _)
+  spans_own side s h = grind (arith, common_steps, le_refl, reaching_is_before_past)
 
   same_place : (side : RangeSide) (a b : Bound K) → SameBound order a b
       → places order lawful (place_on order side a) (place_on order side b) ≡ Equal
-  same_place StartSide a b clone = same_start order lawful a b clone
-  same_place EndSide a b clone = same_end order lawful a b clone
+  same_place side a b clone = grind (arith, common_steps, same_start, same_end)
 
   -- one that has the place of a bound has that of its clone
   back : (side : RangeSide) (p : Position K) (a b : Bound K) → SameBound order a b

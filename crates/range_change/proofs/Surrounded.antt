@@ -13,8 +13,7 @@ use Rattle.range_change.proofs.InsertionPlans.{left_frame_inside, left_frame_cut
 use Rattle.range_change.proofs.UpdatedLists.{whole_piece}
 
 none_of : {P : Type 0} (o : Option P) → length (option_items o) ≤ 0 → o ≡ None
-none_of None few = refl
-none_of (Some p) few = absurd (omega (arith, few))
+none_of option few = grind (arith, common_steps)
 
 module _ {K : Type 0} {order : KeyOrder K} {V : Type 0} {same : V → V → Bool} {P : Type 0}
     {is_good : P → Type 0} {rank : P → ℕ} {items : List (Item (AnyRange K) V)} {r : AnyRange K}

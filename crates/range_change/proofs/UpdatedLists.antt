@@ -46,8 +46,7 @@ module _ {K : Type 0} (order : KeyOrder K) {V : Type 0} (same : V → V → Bool
 
   meets_alone : (i : Item (AnyRange K) V) (v : V) → JoinsOrMeets order same r v i
       → (IsConnectedTo order i.key r → Overlap order i.key r) → Overlap order i.key r
-  meets_alone i v (inl meets) alone = meets
-  meets_alone i v (inr touches) alone = alone (inr touches.0)
+  meets_alone i v either alone = grind (arith, common_steps)
 
   module _ (old : V) where
     inserted_frame : (v : V)
@@ -82,8 +81,7 @@ module _ {K : Type 0} (order : KeyOrder K) {V : Type 0} (same : V → V → Bool
 
     some_of : (v : V) (k : K) (b : Option V) → Binds order same new k b ↔ IsSomeOf order same v b
         → Binds order same new k b ↔ IsAsAnswered same (Some v) b
-    some_of v k None h = h
-    some_of v k (Some w) h = h
+    some_of v k option h = grind (arith, common_steps)
 
     pub by_insertion : (v : V)
         → Every (λ i. IsConnectedTo order i.key r → Overlap order i.key r) items

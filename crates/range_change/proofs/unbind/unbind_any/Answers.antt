@@ -8,7 +8,7 @@ unbind-requires-clause-nonempty g c e =
     not_both c.if-is_empty.false (c.is_empty.ensures.by_position.1 e)
 
 pub returns : goal.returns
-returns g c = grind (arith, common_steps, common_steps, not_both)
+returns g c = grind (arith, common_steps, not_both)
 
 pub returns-then-is_empty : goal.returns-then-is_empty
-returns-then-is_empty g c = grind (arith, common_steps, common_steps, le_sum, rules)
+returns-then-is_empty g c = grind (arith, common_steps, le_sum, rules)
