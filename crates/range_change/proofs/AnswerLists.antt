@@ -96,7 +96,6 @@ module _ {K : Type 0} (order : KeyOrder K) (lawful : IsLawful order) {V : Type 0
           chain = was.chain;
           inside = every_weaker (LiesUpTo m) (LiesUpTo n) middle lies_up_to_later_place was.inside;
           has = λ p W alike.
-
               (grind (arith, common_steps, any_left, any_but_end));
           valued = more_valued a middle was.valued;
         }

@@ -69,7 +69,6 @@ module _ {L V X : Type 0} (line : Line L V X) where
       → line.same (line.value x) v ≡ true → IsRightOf line (front ++ x ∷ rest) rest d (line.hi x) v
   right_joined front x rest d v chain reaches ends alike_value =
       let whole = chain_right line front (x ∷ rest) chain in
-
       let before : Every (λ z. Le line.cmp (line.hi z) (line.hi x)) front = grind (arith, common_steps, every_weaker, le_trans, chain_before) in
       record {
         right = record {

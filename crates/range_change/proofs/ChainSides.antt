@@ -116,7 +116,6 @@ module _ {L V X : Type 0} (line : Line L V X) where
       let good : Lt line.cmp (line.lo y) (line.hi y) = grind (arith, common_steps) in
       let follows = follows_like line x y behind at_hi alike_value whole.1 in
       let above = follows_above line x behind whole.1 in
-
       record {
         chain = (good, follows);
         starts = grind (arith, common_steps, eq_ge, every_weaker, le_trans);

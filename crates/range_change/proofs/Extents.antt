@@ -19,7 +19,6 @@ module _ {K : Type 0} (order : KeyOrder K) (lawful : IsLawful order) where
       let start = flipped_known order lawful f i turns known' in
       let pe = past order (end_position order e) in
       let pf = past order (end_position order f) in
-
       not_lt lawful pe pf (λ l.
       let under = le_lt_trans lawful _ _ _ (eq_ge lawful _ _ at) l in
       let reached = (reaching_is_before_past order lawful i e start known).1 under in

@@ -185,7 +185,6 @@ module _ {K : Type 0} (order : KeyOrder K) (lawful : IsLawful order) {V : Type 0
       → Every (λ i. PLe lawful (Start i) (Beside k At)) (take (place + 1) items)
       → false ≡ is_lt (places order lawful (End x) (Beside k At)) → Holds order x.key k
   holds_at items k place x key within read upto ends =
-
       (holds_by_position order lawful x.key k key).1 (grind (arith, common_steps, starts_here, not_lt, not_less))
 
   pub item_at : (items : List (Item (AnyRange K) V)) (place : ℕ) (x : Item (AnyRange K) V)

@@ -149,7 +149,6 @@ module _ {K : Type 0} {order : KeyOrder K} (lawful : IsLawful order) {V : Type 0
         let size = run_size items place w.count window.in_range in
         let met = every_at (λ i. Overlap order i.key r) (take w.count (drop place items)) 0 x
         all_meet (omega (arith, size)) in
-
         let there : get_or (take w.count (drop place items)) 0 x ≡ get_or items place x = grind (arith, common_steps) in
         any_at (λ i. Overlap order i.key r) items place x within read
         (subst (λ (y : Item (AnyRange K) V). Overlap order y.key r) (there ∙ sym read) met)
@@ -178,7 +177,6 @@ module _ {K : Type 0} {order : KeyOrder K} (lawful : IsLawful order) {V : Type 0
         ++ drop (place + w.count) items → IsRemovalFrame order same items new r
     cut_way new left right some made_left made_right list =
         let met = take w.count (drop place items) in
-
         record {
           front = take place items;
           run = met;
@@ -202,7 +200,6 @@ module _ {K : Type 0} {order : KeyOrder K} (lawful : IsLawful order) {V : Type 0
         let m : Item (AnyRange K) V = joined_item (record { key = r; value = u }) start finish in
         let met = take w.count (drop place items) in
         let run = on_left.extra ++ met ++ on_right.extra in
-
         let regroup : run ≡ on_left.extra ++ (met ++ on_right.extra) =
         append_assoc on_left.extra met on_right.extra in
         let on_start = λ (Q : Item (AnyRange K) V → Type 0) (h : Any Q (on_left.extra ++ met)).

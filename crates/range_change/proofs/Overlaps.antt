@@ -111,8 +111,7 @@ module _ {K : Type 0} (order : KeyOrder K) (lawful : IsLawful order) where
     last_started_decides same items r p e place x false start end stored full within read upto above
         ends =
         let cmp = position_cmp order.cmp in
-        let starts = starts_here order lawful same items e place x within read upto in
-        (
+        let starts = starts_here order lawful same items e place x within read upto in (
           λ h. (
             full,
             any_at (λ i. Overlap order i.key r) items place x within read (grind (arith, common_steps, not_less, lt_not_le)),

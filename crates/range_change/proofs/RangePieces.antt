@@ -108,8 +108,6 @@ module _ {K : Type 0} (order : KeyOrder K) (lawful : IsLawful order) where
       let q = start_position order i.start in
       let u = end_position order r.end in
       let v = end_position order i.end in
-
-
       let latest = later_over p q in
       let first = earlier_under u v in
       let at = eq_ge lawful _ _ h.starts in

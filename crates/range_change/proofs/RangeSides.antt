@@ -86,7 +86,6 @@ module _ {K : Type 0} {order : KeyOrder K} (lawful : IsLawful order) {V : Type 0
         let full =
         chain_right line (take (place + w.count) items) (x ∷ drop (place + w.count + 1) items)
         (rw (listed_at items (place + w.count) x within read) at in_order) in
-
         (grind (arith, common_steps, touches_is, le_trans, lt_le))
 
     -- no item of the window starts before the range
@@ -179,7 +178,6 @@ module _ {K : Type 0} {order : KeyOrder K} (lawful : IsLawful order) {V : Type 0
     right_rest_cut x read some ends b known_b same_b u values =
         let k = place + w.count - 1 in
         let end = place + w.count in
-
         let within : k < length items = omega (arith, some, window.in_range) in
         let known_x = known_at k x within read in
         let y : Item (AnyRange K) V =
@@ -374,7 +372,6 @@ module _ {K : Type 0} {order : KeyOrder K} (lawful : IsLawful order) {V : Type 0
     -- a range that meets nothing is unbound
     pub unmet_is_unbound : w.count ≡ 0 → IsRemoved order same items items r
     unmet_is_unbound none =
-
         let list : items ≡ take place items ++ [] ++ [] ++ [] ++ drop (place + w.count) items = grind (arith, common_steps) in
         removed_by items place (place + w.count) None None
         (left_rest_whole (λ x some read. absurd (omega (arith, some, none))))

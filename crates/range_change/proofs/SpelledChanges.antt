@@ -92,7 +92,6 @@ module _ {K : Type 0} {order : KeyOrder K} (lawful : IsLawful order) {V : Type 0
         let right = border_spelled right_side (IsEndAsIn order items) (λ x s. s.1) other reach.last
         (flipped_bound r.end) plan.right.upto end beyond finish plan.right.shape cut_after in
         let front = take at items in
-
         let tail = drop end items in
         let before = every_left IsSpelled front (drop at items) (subst (KeepsSpelling order items)
         (list_is_take_and_drop items at) list_keeps_spelling) in
@@ -136,7 +135,6 @@ module _ {K : Type 0} {order : KeyOrder K} (lawful : IsLawful order) {V : Type 0
 
     start_within : IsStartAsIn order items r.start
     start_within =
-
         within_is_kept lawful equal items known chain (take place items) (drop (place + 1) items) x
         list StartSide r.start r.start (same_itself order lawful r.start) (grind (arith, common_steps, lt_le, starts, reaching_is_before_past, known_x, ends_after_start)) (λ e. absurd (lt_not_le lawful _ _ starts (eq_ge lawful _ _ e)))
 

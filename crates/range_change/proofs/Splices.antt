@@ -47,7 +47,6 @@ module _ {L V X : Type 0} (line : Line L V X) where
       → IsFilled items front (other ∷ ms) (m ∷ ms) c
   filled_joined items front m other ms c s left chain at_c at_s at_hi alike_value =
       let value_back = same_is_symmetric line (line.value other) (line.value m) alike_value in
-
       let s_low = eq_le line _ _ at_s in
       let hi_low = eq_le line _ _ at_hi in
       let hi_high = eq_ge line _ _ at_hi in

@@ -128,8 +128,6 @@ module _ {K : Type 0} (order : KeyOrder K) (lawful : IsLawful order) {V : Type 0
   whole_common : IsCommonPart order r x.key r
   whole_common =
       let cmp = position_cmp order.cmp in
-
-
       let u = end_position order r.end in
       let v = end_position order x.key.end in
       let under = end_le order lawful r.end x.key.end known.1 known_x.1 (lt_le lawful _ _ ends) in

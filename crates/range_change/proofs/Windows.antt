@@ -33,7 +33,6 @@ module _ {K : Type 0} (order : KeyOrder K) (lawful : IsLawful order) {V : Type 0
       (place_before rank (length items) from)
   window_is is_good rank items r p e before from last after count known nonempty stored at_start
       at_end found walk =
-
       let place = place_before rank (length items) from in
       let all = stored.known in
       let end = place + count in
