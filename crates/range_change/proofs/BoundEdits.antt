@@ -1,5 +1,5 @@
 -- How edits of one bound on each side of a run change a list.
-use Rattle.range_change.proofs.Common.{common_steps, ◌≡◌, ℕ, ◌+◌, ◌<◌, ◌≤◌, List, [], ◌∷◌, ◌++◌, length, take, drop, get_or, refl, ap, sym, ◌∙◌, arith, Option, Some, None, append_assoc, set, length-set, append-nil, get_or-drop, take-set, take-set-le, take_more_set, drop-set, drop-set-lt, Bound, Unbounded, AnyRange, Item, ForSome, place_before, with_start, with_end, option_items, BorderSide, IsBorderShape, joined_count, border_at, IsGoodBorder, IsLeftShape, IsRightShape, IsLeftEdited, IsRightEdited, Border, Plain, Cut, Joined}
+use Rattle.range_change.proofs.Common.{common_steps, ◌≡◌, ℕ, ◌+◌, ◌<◌, ◌≤◌, List, [], ◌∷◌, ◌++◌, length, take, drop, get_or, ap, sym, ◌∙◌, arith, Option, append_assoc, length-set, append-nil, take-set, take-set-le, take_more_set, drop-set, drop-set-lt, Bound, AnyRange, Item, ForSome, place_before, option_items, BorderSide, IsBorderShape, joined_count, border_at, IsGoodBorder, IsLeftShape, IsRightShape, IsLeftEdited, IsRightEdited, Border, Plain, Cut, Joined}
 
 pub opening_regroups : {X : Type 0} (a b c e : List X) (m : X)
     → (a ++ b) ++ m ∷ (c ++ e) ≡ a ++ b ++ (m ∷ []) ++ c ++ e

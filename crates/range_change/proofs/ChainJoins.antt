@@ -1,5 +1,5 @@
 -- What a range joins beside it, and the chain in which it is bound or unbound.
-use Rattle.range_change.proofs.Common.{common_steps, ◌≡◌, refl, arith, ℕ, suc, ◌+◌, length, get_or, sym, ◌∙◌, Bool, true, List, [], ◌∷◌, ◌++◌, ◌↔◌, ◌⊎◌, inl, inr, tied_itself, Every, Le, Lt, any_left, any_right, any_split, every_weaker, every_append, Line, Leads, Trails, Follows, IsChain, Has, Held, Respects, Leading, Trailing, IsLeft, IsRight, IsLeftOf, IsRightOf, IsMade, IsBoundTo, IsUnbound, IsSpliced}
+use Rattle.range_change.proofs.Common.{common_steps, ◌≡◌, refl, arith, ℕ, suc, ◌+◌, length, get_or, Bool, true, List, [], ◌∷◌, ◌++◌, ◌↔◌, ◌⊎◌, inl, inr, tied_itself, Every, Le, Lt, any_left, any_right, any_split, every_weaker, every_append, Line, Leads, Trails, Follows, IsChain, Has, Held, Respects, Leading, Trailing, IsLeft, IsRight, IsLeftOf, IsRightOf, IsMade, IsBoundTo, IsUnbound, IsSpliced}
 use Rattle.range_change.proofs.Chains.{same_is_symmetric, chain_right, chain_tail, chain_above, follows_above, strictly_leads, strictly_trails, chain_before, chains_join, join_apart, inside_or_out, le_refl, lt_le, le_trans, lt_not_le, lt_le_trans, le_lt_trans}
 use Rattle.range_change.proofs.ChainSides.{none_below, none_above, only_first, only_second, held_alone, leading_like, left_whole}
 

@@ -1,6 +1,6 @@
 -- What stands on each side of a range that is cut out of a chain.
-use Rattle.range_change.proofs.Common.{arith, common_steps, ◌≡◌, ◌∙◌, Bool, true, List, [], ◌∷◌, ◌++◌, ◌⊎◌, ◌↔◌, inl, inr, Every, Equal, Le, Lt, any_left, any_right, any_split, any_none, every_weaker, every_append, Line, IsChain, Has, Held, Respects, Leading, IsLeft, IsRight}
-use Rattle.range_change.proofs.Chains.{same_is_symmetric, chain_left, chain_right, follows_above, chain_before, chains_join, follows_like, lt_le, eq_le, eq_ge, le_trans, lt_not_le, lt_le_trans, le_lt_trans}
+use Rattle.range_change.proofs.Common.{arith, common_steps, ◌≡◌, Bool, true, List, [], ◌∷◌, ◌++◌, ◌⊎◌, ◌↔◌, inl, inr, Every, Equal, Le, Lt, any_left, any_right, any_split, any_none, every_weaker, every_append, Line, IsChain, Has, Held, Respects, Leading, IsLeft, IsRight}
+use Rattle.range_change.proofs.Chains.{same_is_symmetric, chain_left, chain_right, follows_above, chain_before, chains_join, follows_like, lt_le, eq_le, eq_ge, le_trans, lt_not_le, lt_le_trans}
 
 pub only_first : {A B : Type 0} → (B → ⊥) → A ⊎ B → A
 only_first f either = grind (arith, common_steps)

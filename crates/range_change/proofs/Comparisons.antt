@@ -1,5 +1,5 @@
 -- What one comparison of an element says of the items after it.
-use Rattle.range_change.proofs.Common.{common_steps, PLt, ◌≡◌, ℕ, zero, suc, ◌<◌, ◌≤◌, List, [], ◌∷◌, length, get_or, refl, sym, ◌∙◌, arith, Bool, true, false, not, ◌||◌, IsTrue, Every, Bound, Included, Excluded, Unbounded, Equal, is_gt, is_lt, is_eq, KeyOrder, IsLawful, start_position, end_position, position_cmp, position_total, Position, eq_is_equal, lt_is_less, not_greater, AnyRange, IsKnownRange, IsEmptyRange, starts_at_end, past, Lt, eq_ge, lt_not_le, le_lt_trans, lt_trans, every_at, every_weaker, flipped_bound_is_past, Item, EachNext, LiesBefore}
+use Rattle.range_change.proofs.Common.{common_steps, PLt, ◌≡◌, ℕ, zero, suc, ◌<◌, ◌≤◌, List, [], ◌∷◌, length, get_or, refl, sym, ◌∙◌, arith, Bool, not, ◌||◌, IsTrue, Every, Bound, Included, Excluded, Unbounded, Equal, is_gt, is_lt, is_eq, KeyOrder, IsLawful, start_position, end_position, position_cmp, position_total, Position, eq_is_equal, lt_is_less, not_greater, AnyRange, IsKnownRange, IsEmptyRange, starts_at_end, past, eq_ge, lt_not_le, le_lt_trans, lt_trans, every_at, every_weaker, flipped_bound_is_past, Item, EachNext, LiesBefore}
 use Rattle.range_change.specs.Searches.{ElementIsBefore}
 use Rattle.range_change.proofs.Forms.{before_is}
 use Rattle.range_change.proofs.Listed.{before_by_parts}
@@ -83,5 +83,4 @@ module _ {K : Type 0} (order : KeyOrder K) (lawful : IsLawful order) where
     before_from (y ∷ ys) e connected (suc m) x known others full rising read h zero d from within =
         absurd (omega arith)
     before_from (y ∷ ys) e connected (suc m) x known others full rising read h (suc j) d from within
-        = before_from ys e connected m x known others full.1 rising.1 read h j d (omega arith)
-        (omega arith)
+        = grind (arith, common_steps, before_from ys e connected m x known others full.1 rising.1 read h j d (omega arith) (omega arith))

@@ -1,5 +1,5 @@
 -- Which ranges meet a list in which a range was bound, by the places that the list covers.
-use Rattle.range_change.proofs.Common.{arith, common_steps, refl, true, Bool, Result, Ok, Err, OnOk, List, [], ◌∷◌, inl, inr, ◌↔◌, Every, IsEquivalence, KeyOrder, IsLawful, Position, AnyRange, IsKnownRange, lower, upper, line_of, IsBoundTo, le_refl, lt_le, le_lt_trans, lt_not_le, cases, not_le, PLe, PLt, Item, item_lower, item_upper, MeetsSome, MeetAlso, Overlap}
+use Rattle.range_change.proofs.Common.{arith, common_steps, refl, true, Bool, Result, OnOk, List, [], ◌∷◌, inl, inr, ◌↔◌, Every, IsEquivalence, KeyOrder, IsLawful, Position, AnyRange, IsKnownRange, lower, upper, line_of, IsBoundTo, le_refl, lt_le, le_lt_trans, lt_not_le, cases, not_le, PLe, PLt, Item, item_lower, item_upper, MeetsSome, MeetAlso, Overlap}
 use Rattle.range_change.proofs.Chains.{inside_or_out}
 use Rattle.range_change.proofs.Forms.{nonempty_good, before_is, Known, Chained, Hold, respects_any}
 

@@ -1,5 +1,5 @@
 -- What is left of an item that a range cuts, by places.
-use Rattle.range_change.proofs.Common.{arith, common_steps, same_itself, ◌≡◌, refl, sym, ◌∙◌, ◌↔◌, Some, None, false, IsTrue, Bound, Included, Excluded, Unbounded, Ordering, Less, Equal, Greater, is_gt, is_le, tied_back, tied_itself, KeyOrder, IsLawful, start_position, end_position, position_total, AnyRange, IsKnownBound, IsKnownRange, flipped, SameBound, same_start, eq_le, eq_ge, le_lt_trans, lt_not_le, PLt, past, upper, flipped_bound, reaching_is_before_past, flipped_bound_is_past, flipped_known, unbounded_start, unbounded_end, Option, Border, seam_border}
+use Rattle.range_change.proofs.Common.{arith, common_steps, same_itself, ◌≡◌, refl, sym, ◌∙◌, ◌↔◌, Some, None, false, IsTrue, Bound, Included, Excluded, Unbounded, Ordering, Equal, is_gt, is_le, tied_back, tied_itself, KeyOrder, IsLawful, start_position, end_position, position_total, AnyRange, IsKnownBound, IsKnownRange, flipped, SameBound, same_start, eq_le, eq_ge, le_lt_trans, lt_not_le, PLt, past, upper, flipped_bound, reaching_is_before_past, flipped_bound_is_past, flipped_known, unbounded_start, unbounded_end, Option, Border, seam_border}
 use Rattle.range_change.specs.Borders.{IsSeamAt}
 use Rattle.range_change.proofs.Forms.{places}
 

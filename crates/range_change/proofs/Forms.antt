@@ -1,5 +1,5 @@
 -- What is stored and bound, by places.
-use Rattle.range_change.proofs.Common.{arith, common_steps, ◌≡◌, ℕ, take, drop, refl, sym, ◌∙◌, ◌↔◌, Option, Some, None, Bool, true, IsTrue, List, [], ◌∷◌, ◌⊎◌, inl, inr, Every, Bound, Included, Excluded, Unbounded, Ordering, Less, IsEquivalence, KeyOrder, IsLawful, start_position, end_position, position_cmp, position_total, Position, Beside, At, not_both_greater_and_not, eq_is_equal, not_greater, AnyRange, Holds, IsKnownBound, IsKnownRange, IsEmptyRange, flipped, start_is_at, starts_at_end, Item, Le, Lt, eq_ge, le_trans, lt_not_le, cases, not_le, not_lt, both, line_of, IsChain, Has, Respects, IsBoundTo, IsUnbound, past, lower, upper, IsStored, IsBound, BindsTo, Binds, IsSomeOf, IsBoundAfter, IsUnboundAfter, list_is_take_and_drop, every_left, every_right, reaching_is_before_past, flipped_bound_is_past, unbounded_end, held_between}
+use Rattle.range_change.proofs.Common.{arith, common_steps, ◌≡◌, ℕ, take, drop, refl, sym, ◌∙◌, ◌↔◌, Option, Some, None, Bool, true, IsTrue, List, [], ◌∷◌, ◌⊎◌, inl, inr, Every, Bound, Included, Excluded, Unbounded, Ordering, Less, IsEquivalence, KeyOrder, IsLawful, start_position, end_position, position_cmp, position_total, Position, Beside, At, eq_is_equal, AnyRange, Holds, IsKnownBound, IsKnownRange, IsEmptyRange, flipped, start_is_at, starts_at_end, Item, Le, Lt, eq_ge, le_trans, lt_not_le, not_le, not_lt, both, line_of, IsChain, Has, Respects, IsBoundTo, IsUnbound, past, lower, upper, IsStored, IsBound, BindsTo, Binds, IsSomeOf, IsBoundAfter, IsUnboundAfter, list_is_take_and_drop, every_left, every_right, reaching_is_before_past, flipped_bound_is_past, unbounded_end, held_between}
 use Rattle.range_change.proofs.Chains.{inside_or_out}
 use Rattle.range_change.proofs.Listed.{IsListed, stored_list_is_listed, stored_by}
 
@@ -78,14 +78,7 @@ module _ {K : Type 0} (order : KeyOrder K) (lawful : IsLawful order) where
         → IsListed order lawful same items
     chain_listed [] known chain = tt
     chain_listed (i ∷ []) known chain = (known.0, (nonempty_good i.key known.0).1 chain.0)
-    chain_listed (i ∷ j ∷ rest) known chain = (
-      known.0,
-      (nonempty_good i.key known.0).1 chain.0,
-      (before_is i.key.end j.key.start known.0.1 known.1.0.0).1 chain.1.0.0,
-      λ touching s. chain.1.0.1
-          ((touches_is i.key.end j.key known.1.0 chain.1.1.0 chain.1.0.0).0 touching) s,
-      chain_listed (j ∷ rest) known.1 chain.1.1,
-    )
+    chain_listed (i ∷ j ∷ rest) known chain = grind (arith, common_steps, chain_listed (j ∷ rest) known.1 chain.1.1, nonempty_good, before_is, touches_is)
 
     pub chain_stored : (items : List (Item (AnyRange K) V)) → Known items → Chained items
         → IsStored order same items
@@ -95,16 +88,12 @@ module _ {K : Type 0} (order : KeyOrder K) (lawful : IsLawful order) where
     pub binds_hold : (items : List (Item (AnyRange K) V)) (k : K) (v : V) → Known items
         → order.is_key k → BindsTo order same items k v ↔ Hold (λ u. same u v) (Beside k At) items
     binds_hold [] k v known key = (λ h. h, λ h. h)
-    binds_hold (i ∷ rest) k v known key =
-        let own = held_between order lawful i.key k known.0 key in
-        let others = binds_hold rest k v known.1 key in (grind (arith, common_steps))
+    binds_hold (i ∷ rest) k v known key = grind (arith, common_steps, binds_hold rest k v known.1 key, held_between, common_steps)
 
     pub bound_hold : (items : List (Item (AnyRange K) V)) (k : K) → Known items → order.is_key k
         → IsBound order items k ↔ Hold (λ u. true) (Beside k At) items
     bound_hold [] k known key = (λ h. h, λ h. h)
-    bound_hold (i ∷ rest) k known key =
-        let own = held_between order lawful i.key k known.0 key in
-        let others = bound_hold rest k known.1 key in (grind (arith, common_steps))
+    bound_hold (i ∷ rest) k known key = grind (arith, common_steps, bound_hold rest k known.1 key, held_between, common_steps)
 
     respects_same : (v : V) → Respects (line_of order lawful same equal) (λ u. same u v)
     respects_same v a b s h = sym (equal.congr a b v s) ∙ h

@@ -1,5 +1,5 @@
 -- Where a range meets no stored one, no item is cut beside it; a list that is made keeps its form.
-use Rattle.range_change.proofs.Common.{arith, common_steps, ◌≡◌, refl, Bool, List, Option, Some, None, Result, Ok, Err, OnOk, OnErr, Bound, KeyOrder, AnyRange, Item, IsInserted, seam_border, IsStored}
+use Rattle.range_change.proofs.Common.{arith, common_steps, ◌≡◌, Bool, List, Option, None, Result, OnOk, OnErr, Bound, KeyOrder, AnyRange, Item, IsInserted, seam_border, IsStored}
 
 -- so it is the same where it would be cut
 pub seam_alike : {K P : Type 0} (found : Option P) (b c : Bound K)

@@ -1,5 +1,5 @@
 -- Which items give way to a range, and what stands in their place.
-use Rattle.range_change.proofs.Common.{common_steps, ◌≡◌, ℕ, zero, suc, ◌+◌, ◌-◌, ◌<◌, ◌≤◌, List, [], ◌∷◌, ◌++◌, length, take, drop, get_or, refl, ap, sym, ◌∙◌, arith, subst, Option, Some, None, Bool, true, IsTrue, ◌⊎◌, inl, inr, length-append, append_assoc, append-nil, get_or-drop, get_or-take, drop-take, drop-drop, IsEquivalence, Every, unwrap_or, Bound, KeyOrder, IsLawful, AnyRange, Any, lt_trans, le_lt_trans, PLt, line_of, upper, list_is_take_and_drop, every_at, any_left, any_right, any_none, every_weaker, every_append, every_left, every_right, Item, item_lower, MeetsSome, Overlap, IsWindow, option_items, Window, IsEndOf, HasValue, IsNewItem, IsSpliceFrame, IsInsertionFrame, IsPart, IsRemovalFrame, joined_item, IsLeftFrame, IsRightFrame}
+use Rattle.range_change.proofs.Common.{common_steps, ◌≡◌, ℕ, zero, suc, ◌+◌, ◌-◌, ◌<◌, ◌≤◌, List, [], ◌∷◌, ◌++◌, length, take, drop, get_or, refl, ap, sym, ◌∙◌, arith, subst, Option, Some, Bool, true, IsTrue, ◌⊎◌, inl, inr, length-append, append_assoc, append-nil, get_or-drop, get_or-take, drop-take, drop-drop, IsEquivalence, Every, unwrap_or, Bound, KeyOrder, IsLawful, AnyRange, Any, lt_trans, le_lt_trans, PLt, line_of, upper, list_is_take_and_drop, every_at, any_left, any_right, any_none, every_weaker, every_append, every_left, every_right, Item, item_lower, MeetsSome, Overlap, IsWindow, option_items, Window, IsEndOf, HasValue, IsNewItem, IsSpliceFrame, IsInsertionFrame, IsPart, IsRemovalFrame, joined_item, IsLeftFrame, IsRightFrame}
 use Rattle.range_change.proofs.Chains.{chain_before, chain_left}
 use Rattle.range_change.proofs.CoveredPlaces.{chained_items_have_places, overlap_is}
 use Rattle.range_change.proofs.ItemPlaces.{element_at, element_at_is_read, listed_at, upto_item}

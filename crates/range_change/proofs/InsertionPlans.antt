@@ -1,8 +1,8 @@
 -- What is to become of the items on each side of a range that is bound.
-use Rattle.range_change.proofs.Common.{common_steps, ◌≡◌, ℕ, ◌+◌, ◌-◌, ◌<◌, List, length, get_or, refl, ap, sym, ◌∙◌, arith, subst, Option, Some, None, Bool, true, false, IsTrue, [], ◌∷◌, ◌++◌, take, drop, inl, inr, append-nil, any_left, any_right, Any, Touches, IsPart, IsNewItem, IsLeftCutting, IsRightCutting, MatchOption, IsRunStart, seam_border, IsEquivalence, Bound, KeyOrder, IsLawful, AnyRange, IsKnownBound, SameBound, Item, IsAt, IsWindow, option_items, Window, flipped_bound, with_start, with_end, ReachesBefore, ReachesAfter, border_at, TouchesBefore, TouchesNoneBefore, TouchesAfter, TouchesNoneAfter, IsLeftFrame, IsRightFrame, IsLeftPlan, IsRightPlan, Plain, Cut, Joined, lt_le}
+use Rattle.range_change.proofs.Common.{common_steps, ◌≡◌, ℕ, ◌+◌, ◌-◌, ◌<◌, List, length, get_or, refl, ap, sym, ◌∙◌, arith, subst, Option, Some, None, Bool, true, false, IsTrue, [], ◌∷◌, ◌++◌, take, drop, inl, inr, append-nil, any_left, any_right, Any, Touches, IsPart, IsNewItem, IsLeftCutting, IsRightCutting, MatchOption, IsRunStart, seam_border, IsEquivalence, Bound, KeyOrder, IsLawful, AnyRange, IsKnownBound, SameBound, Item, IsAt, IsWindow, option_items, Window, flipped_bound, with_start, with_end, ReachesBefore, ReachesAfter, border_at, TouchesBefore, TouchesNoneBefore, TouchesAfter, TouchesNoneAfter, IsLeftFrame, IsRightFrame, IsLeftPlan, IsRightPlan, Cut, Joined, lt_le}
 use Rattle.range_change.proofs.InsertionFrames.{any_of_run, run_some}
 use Rattle.range_change.proofs.RangeSides.{left_rest_whole, left_rest_cut, right_rest_whole, right_rest_cut, left_border_at, left_border_rest, left_border_none, right_border_at, right_border_rest, right_border_none, first_reaches, last_starts, touching_before, touching_after}
-use Rattle.range_change.proofs.ItemPlaces.{element_at, element_at_is_read, upto_item, from_item}
+use Rattle.range_change.proofs.ItemPlaces.{element_at, element_at_is_read, from_item}
 
 none_last : {X : Type 0} (xs : List X) (y : X) → xs ++ y ∷ [] ≡ [] → ⊥
 none_last list y e = grind (arith, common_steps)

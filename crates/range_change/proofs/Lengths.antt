@@ -1,5 +1,5 @@
 -- How long a list is once it was changed.
-use Rattle.range_change.proofs.Common.{common_steps, ◌≡◌, ℕ, ◌+◌, ◌≤◌, List, ◌++◌, length, take, drop, refl, ap, arith, Option, Some, None, Bound, AnyRange, Item, Border, Plain, Cut, Joined, BorderSide, IsBorderShape, joined_count, option_items}
+use Rattle.range_change.proofs.Common.{common_steps, ◌≡◌, ℕ, ◌+◌, ◌≤◌, List, ◌++◌, length, take, drop, arith, Option, None, Bound, AnyRange, Item, Border, BorderSide, IsBorderShape, joined_count, option_items}
 
 -- an option names at most one item
 pub one_item : {T : Type 0} (o : Option T) → length (option_items o) ≤ 1

@@ -1,5 +1,5 @@
 -- The form of a stored list, item by item.
-use Rattle.range_change.proofs.Common.{arith, common_steps, Every, refl, ◌↔◌, Bool, true, false, not, ◌||◌, if◌then◌else◌, IsTrue, List, [], ◌∷◌, is_gt, is_lt, is_eq, KeyOrder, IsLawful, start_position, end_position, position_cmp, lt_is_less, not_greater, IsKnownRange, IsEmptyRange, starts_at_end, is_before, le_lt_trans, AnyRange, Item, EachNext, LiesBefore, Touches, IsFollowedBy, IsStored}
+use Rattle.range_change.proofs.Common.{arith, common_steps, Every, ◌↔◌, Bool, false, not, ◌||◌, if◌then◌else◌, IsTrue, List, [], ◌∷◌, is_gt, is_lt, is_eq, KeyOrder, IsLawful, start_position, end_position, position_cmp, lt_is_less, not_greater, IsKnownRange, IsEmptyRange, starts_at_end, is_before, le_lt_trans, AnyRange, Item, EachNext, LiesBefore, Touches, IsFollowedBy, IsStored}
 use Rattle.range_algebra.specs.declared.ordering.RangeOrdering.TheVariants.{Before, Intersecting, After}
 
 one_false_is_not_both : (t c : Bool) → IsTrue (not t || not c) ↔ (IsTrue t → IsTrue c → ⊥)
@@ -50,9 +50,7 @@ module _ {K : Type 0} (order : KeyOrder K) (lawful : IsLawful order) {V : Type 0
       → EachNext (IsFollowedBy order same) items → IsListed items
   by_parts [] known full rising = tt
   by_parts (i ∷ []) known full rising = (known.0, full.0)
-  by_parts (i ∷ j ∷ rest) known full rising =
-      let next = (followed_is_before_and_apart i j full.0).0 rising.0 in
-      (known.0, full.0, next.0, next.1, by_parts (j ∷ rest) known.1 full.1 rising.1)
+  by_parts (i ∷ j ∷ rest) known full rising = grind (arith, common_steps, by_parts (j ∷ rest) known.1 full.1 rising.1, followed_is_before_and_apart)
 
   pub stored_list_is_listed : (items : List (Item (AnyRange K) V)) → IsStored order same items
       → IsListed items

@@ -1,5 +1,5 @@
 -- What a range that is changed meets or is merged with, and that all else stands.
-use Rattle.range_change.proofs.Common.{arith, common_steps, Touches, ◌≡◌, refl, Bool, List, [], ◌∷◌, ◌++◌, ◌⊎◌, inl, inr, IsEquivalence, Every, KeyOrder, IsLawful, any_left, any_right, every_weaker, every_append, every_left, every_right, line_of, lower, upper, Any, le_lt_trans, lt_le_trans, lt_trans, PLt, IsKnownRange, AnyRange, Item, IsMergedInto, IsUpdateFrame, IsSpliceFrame, item_lower, item_upper, IsConnectedTo, Overlap}
+use Rattle.range_change.proofs.Common.{arith, common_steps, ◌≡◌, refl, Bool, List, [], ◌∷◌, ◌++◌, ◌⊎◌, inl, inr, IsEquivalence, Every, KeyOrder, IsLawful, any_left, any_right, every_weaker, every_append, every_left, every_right, line_of, lower, upper, Any, le_lt_trans, lt_le_trans, lt_trans, PLt, IsKnownRange, AnyRange, Item, IsMergedInto, IsUpdateFrame, IsSpliceFrame, item_lower, item_upper, IsConnectedTo, Overlap}
 use Rattle.range_change.proofs.Chains.{chain_right, chain_before, follows_above}
 use Rattle.range_change.proofs.RangePieces.{every_with, IsFull}
 use Rattle.range_change.proofs.Forms.{Chained}

@@ -1,5 +1,5 @@
 -- A list whose first item has another start, and its last another end.
-use Rattle.range_change.proofs.Common.{common_steps, unwrap_or, ◌≡◌, ◌+◌, ◌-◌, ◌<◌, ◌≤◌, ℕ, suc, List, [], ◌∷◌, ◌++◌, length, take, drop, get_or, refl, ap, sym, ◌∙◌, arith, Option, Some, None, Bool, inl, inr, length-append, append_assoc, take_at, drop_at, drop-drop, length-take-le, set, Every, slice_get, IsEquivalence, Bound, KeyOrder, every_weaker, Any, AnyRange, Item, with_start, with_end, HasValue, with_first_start, with_last_end}
+use Rattle.range_change.proofs.Common.{common_steps, unwrap_or, ◌≡◌, ◌+◌, ◌-◌, ◌<◌, ◌≤◌, ℕ, suc, List, [], ◌∷◌, ◌++◌, length, take, drop, get_or, refl, ap, sym, ◌∙◌, arith, Option, Some, None, Bool, inl, inr, append_assoc, take_at, drop_at, drop-drop, set, Every, slice_get, IsEquivalence, Bound, KeyOrder, every_weaker, Any, AnyRange, Item, with_start, with_end, HasValue, with_first_start, with_last_end}
 
 -- the last of some items
 pub last_of : {X : Type 0} (x : X) (xs : List X)
@@ -122,10 +122,7 @@ module _ {K V : Type 0} where
   pub own_values : (order : KeyOrder K) (same : V → V → Bool) → IsEquivalence same
       → (xs : List (Item (AnyRange K) V)) → Every (λ j. HasValue order same xs j.value) xs
   own_values order same equal [] = tt
-  own_values order same equal (x ∷ xs) = (
-    inl (equal.refl x.value),
-    every_weaker _ _ xs (λ j h. inr h) (own_values order same equal xs),
-  )
+  own_values order same equal (x ∷ xs) = grind (arith, common_steps, own_values order same equal xs, every_weaker)
 
 pub prefix_is_all : {X : Type 0} (done rest all : List X) → done ++ rest ≡ all → length rest ≡ 0
     → done ≡ all

@@ -1,5 +1,5 @@
 -- Which stored ranges a range meets, and which keys both then hold.
-use Rattle.range_change.proofs.Common.{common_steps, PLe, PLt, common, common_known, earlier_is, later_is, ◌≡◌, ℕ, zero, suc, ◌+◌, ◌<◌, Bool, List, [], ◌∷◌, ◌++◌, length, take, drop, get_or, refl, sym, arith, true, false, inl, inr, not, IsTrue, ◌↔◌, Option, Some, None, Every, option_copied, is_some, Bound, is_lt, KeyOrder, IsLawful, IsComplete, start_position, end_position, position_cmp, Position, not_both_greater_and_not, not_greater, AnyRange, Holds, IsKnownRange, IsEmptyRange, Le, Lt, Any, le_trans, lt_not_le, not_lt, list_is_take_and_drop, any_none, any_split, Item, IsBound, BindsTo, Binds, IsStored, MeetsSome, BindsKeyOf, Overlap}
+use Rattle.range_change.proofs.Common.{common_steps, PLe, PLt, common, common_known, earlier_is, later_is, ◌≡◌, ℕ, zero, suc, ◌+◌, ◌<◌, Bool, List, [], ◌∷◌, ◌++◌, length, take, drop, get_or, refl, arith, true, false, inl, inr, not, IsTrue, ◌↔◌, Option, Every, option_copied, is_some, Bound, is_lt, KeyOrder, IsLawful, IsComplete, start_position, end_position, position_cmp, Position, not_both_greater_and_not, not_greater, AnyRange, Holds, IsKnownRange, IsEmptyRange, Any, le_trans, lt_not_le, not_lt, list_is_take_and_drop, any_none, any_split, Item, IsBound, BindsTo, Binds, IsStored, MeetsSome, BindsKeyOf, Overlap}
 use Rattle.std.specs.Borrow.{Bor}
 use Rattle.range_algebra.proofs.Commons.{common_holds}
 use Rattle.range_algebra.proofs.Completeness.{nonempty_holds}
@@ -68,9 +68,7 @@ module _ {K : Type 0} (order : KeyOrder K) (lawful : IsLawful order) where
     meeting_by (i ∷ rest) r complete known full others full_r (inl h) =
         let found = shared_key i.key r complete known.0 others full.0 full_r h in
         (found.0, found.1, found.3, inl found.2)
-    meeting_by (i ∷ rest) r complete known full others full_r (inr h) =
-        let found = meeting_by rest r complete known.1 full.1 others full_r h in
-        (found.0, found.1, found.2, inr found.3)
+    meeting_by (i ∷ rest) r complete known full others full_r (inr h) = grind (arith, common_steps, meeting_by rest r complete known.1 full.1 others full_r h)
 
     -- over complete keys a nonempty range that meets some item has a bound key
     pub meeting_binds : (same : V → V → Bool) (items : List (Item (AnyRange K) V)) (r : AnyRange K)

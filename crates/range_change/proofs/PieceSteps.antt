@@ -1,5 +1,5 @@
 -- One piece after the other, from either end.
-use Rattle.range_change.proofs.Common.{common_steps, ◌≡◌, refl, sym, ap, ◌∙◌, List, [], ◌∷◌, ◌++◌, Option, Some, None, Bool, true, false, map, if◌then◌else◌, append_assoc, arith, length, length-append, ◌<◌, Bound, KeyOrder, IsLawful, common, flipped, starts_past_end, IsKnownBound, IsKnownRange, AnyRange, flipped_back, flipped_bound_is_past, flipped_known, Item, between, free_piece, bound_piece, free_between, pieces_from, eq_le, lt_not_le}
+use Rattle.range_change.proofs.Common.{common_steps, ◌≡◌, refl, ap, List, [], ◌∷◌, ◌++◌, Option, Some, None, Bool, map, if◌then◌else◌, append_assoc, arith, length, length-append, ◌<◌, Bound, KeyOrder, IsLawful, common, flipped, starts_past_end, IsKnownBound, IsKnownRange, AnyRange, flipped_back, flipped_bound_is_past, flipped_known, Item, between, free_piece, bound_piece, free_between, pieces_from, eq_le, lt_not_le}
 use Rattle.range_change.proofs.Forms.{before_is}
 
 module _ {K : Type 0} {order : KeyOrder K} (lawful : IsLawful order) where
@@ -34,12 +34,7 @@ module _ {K : Type 0} {order : KeyOrder K} (lawful : IsLawful order) where
         ≡ pieces_from order r s (flipped i.key.start) init
         ++ bound_piece order r i ∷ free_between order (flipped i.key.end) e
     pieces_end s e [] i = refl
-    pieces_end s e (j ∷ rest) i =
-        let gap = free_between order s (flipped j.key.start) in
-        let more = pieces_from order r (flipped j.key.end) (flipped i.key.start) rest in
-        let end = bound_piece order r i ∷ free_between order (flipped i.key.end) e in
-        ap (λ ps. gap ++ bound_piece order r j ∷ ps) (pieces_end (flipped j.key.end) e rest i)
-        ∙ sym (append_assoc gap (bound_piece order r j ∷ more) end)
+    pieces_end s e (j ∷ rest) i = grind (arith, common_steps, pieces_end (flipped j.key.end) e rest i, free_between, flipped, pieces_from, bound_piece, append_assoc)
 
     module _ (s e : Option (Bound K)) {items : List (Item (AnyRange K) V)}
         (init : List (Item (AnyRange K) V)) (i : Item (AnyRange K) V)

@@ -1,5 +1,5 @@
 -- What a change makes of a list where both sides of a range are planned.
-use Rattle.range_change.proofs.Common.{common_steps, ◌∷◌, append_assoc, append-nil, insert, IsWindow, Plain, Window, ◌≡◌, ℕ, ◌+◌, ◌*◌, ◌<◌, ◌≤◌, List, [], ◌++◌, length, take, drop, refl, ap, sym, ◌∙◌, arith, subst, Option, Some, None, Bool, IsEquivalence, ForSome, Bound, KeyOrder, IsLawful, AnyRange, place_before, IsAt, Item, place_at, kept_at, good_at, IsInserted, joined_item, joined_count, IsGoodBorder, IsLeftShape, IsRightShape, left_side, right_side, IsLeftPlan, IsRightPlan, IsLeftCutting, IsRightCutting, IsRunStart, IsReach, IsRemoved, IsKnownBound, SameBound, flipped_bound, seam_border, option_items, Border}
+use Rattle.range_change.proofs.Common.{common_steps, ◌∷◌, append_assoc, append-nil, insert, IsWindow, Plain, Window, ◌≡◌, ℕ, ◌+◌, ◌*◌, ◌<◌, ◌≤◌, List, [], ◌++◌, length, take, drop, refl, ap, sym, ◌∙◌, arith, subst, Option, Some, None, Bool, IsEquivalence, ForSome, Bound, KeyOrder, IsLawful, AnyRange, place_before, IsAt, Item, kept_at, good_at, IsInserted, joined_item, joined_count, IsGoodBorder, IsLeftShape, IsRightShape, left_side, right_side, IsLeftPlan, IsRightPlan, IsLeftCutting, IsRightCutting, IsRunStart, IsReach, IsRemoved, IsKnownBound, SameBound, flipped_bound, seam_border, option_items, Border}
 use Rattle.range_change.specs.declared.borders.Joins.{Joins}
 use Rattle.range_change.specs.declared.reach.Reach.{Reach}
 use Rattle.range_change.specs.Borders.{IsSeamAt, run_length}

@@ -1,5 +1,5 @@
 -- Parts that share out a range are its pieces.
-use Rattle.range_change.proofs.Common.{arith, common_steps, ◌≡◌, refl, sym, subst, ap, ◌∙◌, ℕ, ◌<◌, length, get_or, Option, Some, None, Bool, true, false, List, [], ◌∷◌, ◌++◌, ◌⊎◌, inl, inr, map, if◌then◌else◌, Every, Equal, is_gt, IsEquivalence, tied_back, KeyOrder, IsLawful, start_position, end_position, position_cmp, position_total, Position, gt_is_greater, equal_then_equal, AnyRange, IsKnownRange, Le, Lt, Any, le_refl, lt_le, eq_le, eq_ge, le_trans, lt_not_le, cases, both, le_lt_trans, lt_le_trans, every_at, every_weaker, line_of, common, gt_le, later_is, earlier_is, lower, upper, LiesBefore, Item, EachNext, later, earlier, IsCommonPart, LiesIn, IsFreePart, IsPiece, ArePieces, Overlap}
+use Rattle.range_change.proofs.Common.{arith, common_steps, ◌≡◌, refl, sym, subst, ap, ◌∙◌, ℕ, ◌<◌, length, get_or, Option, Some, None, Bool, List, [], ◌∷◌, ◌++◌, ◌⊎◌, inl, inr, map, if◌then◌else◌, Every, Equal, is_gt, IsEquivalence, tied_back, KeyOrder, IsLawful, start_position, end_position, position_cmp, position_total, Position, equal_then_equal, AnyRange, IsKnownRange, Le, Lt, Any, le_refl, lt_le, eq_ge, le_trans, lt_not_le, cases, both, le_lt_trans, lt_le_trans, every_at, every_weaker, line_of, common, later_is, earlier_is, lower, upper, LiesBefore, Item, EachNext, later, earlier, IsCommonPart, LiesIn, IsFreePart, IsPiece, ArePieces, Overlap}
 use Rattle.range_algebra.specs.RangeOrder.{range_cmp}
 use Rattle.range_change.proofs.Chains.{follows_above, chain_tail}
 use Rattle.range_algebra.proofs.Commons.{later_over as starts_over, earlier_under as ends_under}
@@ -323,10 +323,7 @@ module _ {K : Type 0} (order : KeyOrder K) (lawful : IsLawful order) where
           → EachNext (λ p q. LiesBefore order p.key q.key) pieces
       rising_apart [] h k = tt
       rising_apart (p ∷ []) h k = (tt, tt)
-      rising_apart (p ∷ q ∷ rest) h k = (
-        (before_is order lawful p.key.end q.key.start h.0.0.1 h.1.0.0.0).1 k.0.0,
-        rising_apart (q ∷ rest) h.1 k.1,
-      )
+      rising_apart (p ∷ q ∷ rest) h k = grind (arith, common_steps, rising_apart (q ∷ rest) h.1 k.1, before_is)
 
       -- such parts are the pieces of the range
       pub cut_all : (same : V → V → Bool) (equal : IsEquivalence same) (full : Every IsFull items)

@@ -1,16 +1,16 @@
 -- The list in which a middle stands for what a range held.
-use Rattle.range_change.proofs.Common.{common_steps, ◌≡◌, ℕ, ◌+◌, ◌-◌, ◌≤◌, List, ◌++◌, length, take, drop, ◌∙◌, arith, subst, Option, Bool, IsTrue, ◌⊎◌, inl, inr, append_assoc, IsEquivalence, Every, slice_get, Bound, KeyOrder, IsLawful, Beside, At, SameBound, Any, IsKnownBound, IsKnownRange, IsEmptyRange, AnyRange, any_left, any_right, every_weaker, every_append, every_left, every_right, held_between, Item, flipped_bound, HasValue, Overlap, AreWithin, IsReplaced, IsRunStart, seam_border, right_side, with_first_start, with_last_end, IsJoiningFirst, IsJoiningLast, IsReach, place_before, IsStored, option_items}
+use Rattle.range_change.proofs.Common.{common_steps, ◌≡◌, ℕ, ◌+◌, ◌-◌, ◌≤◌, List, ◌++◌, length, take, drop, ◌∙◌, arith, Option, Bool, IsTrue, ◌⊎◌, inl, inr, append_assoc, IsEquivalence, Every, slice_get, KeyOrder, IsLawful, Beside, At, Any, IsKnownRange, AnyRange, any_left, any_right, every_weaker, every_append, every_left, every_right, held_between, Item, flipped_bound, HasValue, Overlap, AreWithin, IsReplaced, IsRunStart, seam_border, right_side, with_first_start, with_last_end, IsJoiningFirst, IsJoiningLast, IsReach, place_before, IsStored, option_items}
 use Rattle.range_change.specs.declared.reach.Reach.{Reach}
 use Rattle.range_change.specs.Borders.{run_length}
 use Rattle.range_change.specs.Reach.{AreApart}
 use Rattle.range_change.proofs.OuterBounds.{every_started, every_ended, any_ended, own_values}
 use Rattle.range_change.proofs.RangePieces.{any_with}
-use Rattle.range_change.proofs.Forms.{nonempty_good, chain_stored, same_binds, unheld_lies_outside}
+use Rattle.range_change.proofs.Forms.{chain_stored, same_binds, unheld_lies_outside}
 use Rattle.range_change.proofs.InsertionFrames.{widened_frame}
 use Rattle.range_change.proofs.CoveredPlaces.{overlap_is}
 use Rattle.range_change.proofs.Lengths.{border_length}
 use Rattle.range_change.proofs.Planned.{IsFit, plan_fits}
-use Rattle.range_change.proofs.JoinedMiddle.{seam_count, Crosses, TakesStartOf, IsLeftFill, IsRightFill, left_fill, right_fill}
+use Rattle.range_change.proofs.JoinedMiddle.{Crosses, TakesStartOf, IsLeftFill, IsRightFill, left_fill, right_fill}
 
 module _ {K : Type 0} (order : KeyOrder K) {V : Type 0} (same : V → V → Bool) where
   value_within : (run wider middle made : List (Item (AnyRange K) V))

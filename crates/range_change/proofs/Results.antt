@@ -1,5 +1,5 @@
 -- What an error answers.
-use Rattle.range_change.proofs.Common.{arith, common_steps, Result, Ok, Err, OnErr}
+use Rattle.range_change.proofs.Common.{arith, common_steps, Result, OnErr}
 use Rattle.std.specs.Result.{IfOk, IsErr}
 
 pub error_has_no_value : {A E : Type 0} (P : A → Type 0) (r : Result A E) → IsErr r → IfOk r P

@@ -1,5 +1,5 @@
 -- That what a change puts in the place of a range is spelled as what it replaces.
-use Rattle.range_change.proofs.Common.{common_steps, ◌≡◌, refl, BorderSide, IsBorderShape, left_side, right_side, with_start, with_end, sym, ap, subst, ◌∙◌, ℕ, ◌+◌, ◌-◌, ◌<◌, ◌≤◌, arith, Option, Some, None, Bool, List, ◌∷◌, ◌++◌, inl, inr, length, get_or, take, drop, IsEquivalence, Every, Bound, KeyOrder, IsLawful, AnyRange, same_itself, lower, upper, lt_le, eq_le, eq_ge, lt_not_le, lt_trans, PLt, IsKnownRange, every_weaker, every_append, every_left, every_right, list_is_take_and_drop, reaching_is_before_past, Item, IsInserted, IsRemoved, IsLeftShape, IsRightShape, joined_count, seam_border, flipped_bound, IsStartOf, IsEndOf, IsNewItem, IsPart, ReachesBefore, ReachesAfter, IsReach, IsSurrounded, with_first_start, with_last_end, IsStartAsIn, IsEndAsIn, IsSpelledAsIn, KeepsSpelling, IsStored, item_lower, option_items, Window}
+use Rattle.range_change.proofs.Common.{common_steps, ◌≡◌, BorderSide, IsBorderShape, left_side, right_side, with_start, with_end, sym, ap, subst, ◌∙◌, ℕ, ◌+◌, ◌-◌, ◌<◌, arith, Option, Some, Bool, List, ◌∷◌, ◌++◌, inl, inr, length, get_or, take, drop, IsEquivalence, Every, Bound, KeyOrder, IsLawful, AnyRange, same_itself, lower, upper, lt_le, eq_le, eq_ge, lt_not_le, lt_trans, PLt, IsKnownRange, every_weaker, every_append, every_left, every_right, list_is_take_and_drop, reaching_is_before_past, Item, IsInserted, IsRemoved, seam_border, flipped_bound, IsStartOf, IsEndOf, IsNewItem, IsPart, IsReach, IsSurrounded, with_first_start, with_last_end, IsStartAsIn, IsEndAsIn, IsSpelledAsIn, KeepsSpelling, IsStored, item_lower, option_items, Window}
 use Rattle.std.proofs.lemmas.Option.{same_Some}
 use Rattle.range_change.specs.declared.reach.Reach.{Reach}
 use Rattle.range_change.proofs.RangePieces.{any_use, item_at}

@@ -1,15 +1,14 @@
 -- What becomes of the one item that a range meets where it surrounds the range.
-use Rattle.range_change.proofs.Common.{common_steps, ◌≡◌, ℕ, ◌+◌, ◌-◌, ◌<◌, ◌≤◌, List, [], ◌∷◌, ◌++◌, length, take, drop, get_or, refl, ap, sym, ◌∙◌, arith, Option, Some, None, Result, Bool, true, false, IsTrue, IsEquivalence, Shared, Bor, Every, KeyOrder, IsLawful, SameBound, lower, upper, IsKnownBound, AnyRange, Item, AnswersPiece, MayAnswer, IsInserted, IsRemoved, IsDivided, flipped_bound, with_end, Overlap, IsConnectedTo, ArePieces, ReachesBefore, ReachesAfter, IsReach, IsSurrounded, option_items, Window, PLt, lt_le}
+use Rattle.range_change.proofs.Common.{common_steps, ◌≡◌, ℕ, ◌+◌, ◌-◌, ◌<◌, ◌≤◌, List, [], ◌∷◌, ◌++◌, length, take, drop, get_or, refl, ap, sym, ◌∙◌, arith, Option, Some, None, Result, Bool, true, false, IsTrue, IsEquivalence, Shared, Bor, Every, KeyOrder, IsLawful, SameBound, lower, upper, IsKnownBound, AnyRange, Item, AnswersPiece, MayAnswer, IsInserted, IsRemoved, IsDivided, flipped_bound, with_end, Overlap, IsConnectedTo, ArePieces, IsReach, IsSurrounded, option_items, Window, PLt, lt_le}
 use Rattle.range_change.specs.declared.cut.DividedItem.{DividedItem}
 use Rattle.range_change.specs.declared.reach.Reach.{Reach}
 use Rattle.range_change.proofs.RangePieces.{IsFull, all_full, item_at}
 use Rattle.range_change.proofs.ItemPlaces.{listed_at}
 use Rattle.range_change.proofs.RangeSides.{borders_insert, borders_remove, left_border_at, right_border_at, first_reaches, last_starts, left_rest_cut, right_rest_cut, left_border_rest, right_border_rest}
 use Rattle.range_change.proofs.Forms.{Chained, stored_chain, nonempty_good}
-use Rattle.range_change.proofs.Lengths.{changed_length}
 use Rattle.range_change.proofs.MergedItems.{surrounded_alone}
 use Rattle.range_change.proofs.BoundEdits.{standing_item_splits_list}
-use Rattle.range_change.proofs.InsertionPlans.{left_frame_inside, left_frame_cut, right_frame_inside, right_frame_cut, left_part, right_part}
+use Rattle.range_change.proofs.InsertionPlans.{left_frame_inside, left_frame_cut, right_frame_inside, right_frame_cut, left_part}
 use Rattle.range_change.proofs.UpdatedLists.{whole_piece}
 
 none_of : {P : Type 0} (o : Option P) → length (option_items o) ≤ 0 → o ≡ None

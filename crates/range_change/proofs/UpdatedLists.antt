@@ -1,5 +1,5 @@
 -- A list that was changed as a closure answers, by what was put in the place of a range.
-use Rattle.range_change.proofs.Common.{arith, common_steps, ◌≡◌, refl, sym, subst, ◌∙◌, Option, Some, None, Bool, true, IsTrue, List, [], ◌∷◌, ◌++◌, ◌⊎◌, inl, inr, ◌↔◌, Result, Ok, Shared, Bor, Every, is_gt, IsEquivalence, KeyOrder, IsLawful, start_position, end_position, position_cmp, AnyRange, Holds, IsKnownRange, Any, le_refl, lt_le, both, PLe, PLt, any_right, every_weaker, every_left, every_right, Item, MayAnswer, Answered, IsAsAnswered, IsGivenBy, IsGathered, IsUpdated, AreAnswersTo, Binds, IsSomeOf, IsInserted, IsRemoved, IsUpdateFrame, IsMergedInto, IsMergeFrame, HasValue, JoinsOrMeets, IsNewItem, IsPart, IsInsertionFrame, IsRemovalFrame, IsConnectedTo, Overlap, ArePieces, IsCommonPart, IsReplaced, lower, upper}
+use Rattle.range_change.proofs.Common.{arith, common_steps, ◌≡◌, refl, ◌∙◌, Option, Some, None, Bool, true, IsTrue, List, [], ◌∷◌, ◌++◌, ◌⊎◌, inl, inr, ◌↔◌, Result, Ok, Shared, Bor, Every, is_gt, IsEquivalence, KeyOrder, IsLawful, end_position, position_cmp, AnyRange, IsKnownRange, Any, le_refl, lt_le, both, PLe, PLt, any_right, every_weaker, every_left, every_right, Item, MayAnswer, Answered, IsAsAnswered, IsGivenBy, IsGathered, IsUpdated, AreAnswersTo, Binds, IsSomeOf, IsInserted, IsRemoved, IsUpdateFrame, IsMergedInto, IsMergeFrame, HasValue, JoinsOrMeets, IsPart, IsInsertionFrame, IsRemovalFrame, IsConnectedTo, Overlap, ArePieces, IsCommonPart, IsReplaced, lower, upper}
 use Rattle.range_change.proofs.RangePieces.{IsFull, IsInside, IsRight, any_use, any_over, every_with, later_over, earlier_under, either_choice_holds, cut_all}
 use Rattle.range_change.proofs.Extents.{end_le}
 use Rattle.range_change.proofs.Forms.{Chained}

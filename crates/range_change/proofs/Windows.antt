@@ -1,7 +1,7 @@
 -- The items that a range meets, by places.
 use Rattle.range_change.proofs.Common.{common_steps, ◌≡◌, ℕ, suc, ◌+◌, ◌-◌, ◌<◌, ◌≤◌, List, [], ◌∷◌, ◌++◌, length, take, drop, get_or, arith, ◌∙◌, sym, ap, Option, Bool, length-drop, IsEquivalence, drop_more, take_more, get_or-drop, Every, KeyOrder, IsLawful, start_position, end_position, Position, AnyRange, IsEmptyRange, IsKnownRange, Item, place_before, line_of, lower, upper, item_lower, IsStored, IsFound, IsWalk, IsWindow, reaching_is_before_past, every_at, list_is_take_and_drop, every_weaker, PLe, PLt}
 use Rattle.range_change.proofs.Chains.{chain_above, chain_right}
-use Rattle.range_change.proofs.Forms.{every_front, every_back, places, before_is, Known, Chained, stored_chain}
+use Rattle.range_change.proofs.Forms.{every_front, every_back, before_is, Known, Chained, stored_chain}
 
 pub every_both : {X : Type 0} (P Q : X → Type 0) (xs : List X) → Every P xs → Every Q xs
     → Every (λ x. P x × Q x) xs

@@ -1,8 +1,8 @@
 -- What is to become of the items beside a range in which a list of items comes to stand.
 use Rattle.std.specs.Prelude.{◌≡◌, ◌+◌, ◌∷◌, ◌⊎◌}
-use Rattle.range_change.specs.Common.{Every, ℕ, Bool, List, [], length, take, drop, Option, Some, None, IsEquivalence, Equal, Bound, KeyOrder, IsLawful, position_cmp, SameBound, lower, upper, IsKnownBound, Lt, AnyRange, Item, IsAt, place_before, Border, Reach}
-use Rattle.range_change.specs.Borders.{IsLeftRest, IsRightRest, IsLeftShape, IsRightShape, IsRunStart, seam_border}
-use Rattle.range_change.specs.Edits.{flipped_bound, with_start, with_end}
+use Rattle.range_change.specs.Common.{Every, ℕ, Bool, List, [], length, take, drop, Option, Some, None, IsEquivalence, Equal, Bound, KeyOrder, IsLawful, position_cmp, lower, upper, Lt, AnyRange, Item, IsAt, Border, Reach}
+use Rattle.range_change.specs.Borders.{IsLeftRest, IsRightRest, IsLeftShape, IsRightShape}
+use Rattle.range_change.specs.Edits.{with_start, with_end}
 use Rattle.range_change.specs.Frames.{IsPart}
 use Rattle.range_change.specs.Stored.{item_lower, item_upper}
 use Rattle.range_change.specs.Plans.{JoinsAfter, JoinsBefore}

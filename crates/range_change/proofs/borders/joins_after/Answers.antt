@@ -1,4 +1,4 @@
-use Rattle.range_change.proofs.Common.{arith, common_steps, sym}
+use Rattle.range_change.proofs.Common.{arith, common_steps}
 use Rattle.range_change.proofs.InsertionPlans.{right_plan_inside, right_plan_cut, right_touched}
 use Rattle.range_change.proofs.borders.joins_after.Goals as goal
 

@@ -1,4 +1,4 @@
-use Rattle.range_change.proofs.Common.{arith, common_steps, sym}
+use Rattle.range_change.proofs.Common.{arith, common_steps}
 use Rattle.range_change.proofs.InsertionPlans.{left_plan_inside, left_plan_cut, left_touched}
 use Rattle.range_change.proofs.borders.joins_before.Goals as goal
 

@@ -1,4 +1,4 @@
-use Rattle.range_change.proofs.Common.{arith, common_steps, refl, bound_of}
+use Rattle.range_change.proofs.Common.{arith, common_steps, bound_of}
 use Rattle.range_change.proofs.CutParts.{seam_stands}
 use Rattle.range_change.proofs.borders.seam_at.Goals as goal
 

@@ -1,4 +1,4 @@
-use Rattle.range_change.proofs.Common.{arith, common_steps, ◌≡◌, None, ◌∙◌}
+use Rattle.range_change.proofs.Common.{arith, common_steps, ◌≡◌, None}
 use Rattle.range_change.proofs.CutParts.{seam_stands}
 use Rattle.range_change.proofs.Freeing.{seam_alike}
 use Rattle.range_change.proofs.Surrounded.{none_reach}

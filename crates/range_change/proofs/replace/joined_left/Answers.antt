@@ -1,4 +1,4 @@
-use Rattle.range_change.proofs.Common.{arith, common_steps, position_cmp, both, not_lt, false≢true, refl, ap, inl, inr, option_copied, lower, Lt, AnyRange, Item, item_lower}
+use Rattle.range_change.proofs.Common.{arith, common_steps, position_cmp, both, not_lt, false≢true, refl, ap, inl, inr, option_copied, lower, item_lower}
 use Rattle.range_change.proofs.JoinedMiddle.{got_only, got_none}
 use Rattle.range_change.proofs.replace.joined_left.Goals as goal
 

@@ -1,4 +1,4 @@
-use Rattle.range_change.proofs.Common.{arith, common_steps, position_cmp, both, not_lt, false≢true, refl, ap, inl, inr, option_copied, upper, Lt, AnyRange, Item, item_upper}
+use Rattle.range_change.proofs.Common.{arith, common_steps, position_cmp, both, not_lt, false≢true, refl, ap, inl, inr, option_copied, upper, item_upper}
 use Rattle.range_change.proofs.Extents.{past_le}
 use Rattle.range_change.proofs.JoinedMiddle.{got_only, got_none}
 use Rattle.range_change.proofs.replace.joined_right.Goals as goal

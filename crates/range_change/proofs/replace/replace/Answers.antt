@@ -1,4 +1,4 @@
-use Rattle.range_change.proofs.Common.{common_steps, ◌-◌, length, refl, ap, ◌∙◌, arith, slice_get, option_copied, place_before, joined_count}
+use Rattle.range_change.proofs.Common.{common_steps, ◌-◌, length, refl, ap, ◌∙◌, arith, slice_get, joined_count}
 use Rattle.range_change.proofs.InsertionFrames.{all_meet}
 use Rattle.range_change.proofs.Replaced.{IsReplacement, plans_replacement, replacement_fits, replacement_is_made}
 use Rattle.range_change.proofs.JoinedMiddle.{seam_count}

@@ -1,4 +1,4 @@
-use Rattle.range_change.proofs.Common.{common_steps, rules, refl, arith}
+use Rattle.range_change.proofs.Common.{common_steps, rules, arith}
 use Rattle.range_change.proofs.Lengths.{le_sum}
 use Rattle.range_change.proofs.Tests.{not_both}
 use Rattle.range_change.proofs.unbind.unbind_any.Goals as goal
