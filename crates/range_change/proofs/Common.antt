@@ -14,7 +14,7 @@ pub use Rattle.std.specs.declared.cmp.Ordering.{Ordering}
 pub use Rattle.std.specs.declared.cmp.Ordering.TheVariants.{Equal, Greater, Less}
 pub use Rattle.std.specs.declared.ops.Bound.{Bound}
 pub use Rattle.std.specs.declared.ops.Bound.TheVariants.{Excluded, Included, Unbounded}
-pub use Rattle.range_keys.proofs.Orderings.{eq_is_equal, equal_then_equal, gt_is_greater, less_or_not, less_then_any, less_unless_equal, less_unless_greater, less_unless_less, lt_is_less, not_both_greater_and_not, not_greater}
+pub use Rattle.range_keys.proofs.Orderings.{eq_is_equal, equal_then_equal, less_or_not, less_then_any, less_unless_equal, less_unless_greater, less_unless_less, lt_is_less, not_both_greater_and_not, not_greater}
 pub use Rattle.range_keys.specs.Directed.{reference_position}
 pub use Rattle.range_keys.specs.Order.{IsComplete, IsLawful, KeyOrder, SameAnswer, Tells}
 pub use Rattle.range_keys.specs.Position.{at_told, bound_of, end_position, position_cmp, start_position}
