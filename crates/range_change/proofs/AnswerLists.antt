@@ -1,6 +1,8 @@
 -- Answers put one after the other, those that touch with equal values as one.
-use Rattle.range_change.proofs.Common.{◌⊎◌, ◌≡◌, refl, ap, ◌∙◌, ℕ, zero, suc, ◌+◌, ◌-◌, ◌<◌, Option, Some, None, Bool, true, List, [], ◌∷◌, ◌++◌, inl, inr, ◌↔◌, length, get_or, arith, Every, slice_set, Bound, Equal, IsEquivalence, tied_back, KeyOrder, IsLawful, start_position, end_position, position_cmp, position_total, Position, AnyRange, past, lower, upper, IsBoundClone, SameBound, same_start, IsKnownRange, Any, lt_le, eq_le, eq_ge, le_trans, cases, le_lt_trans, lt_le_trans, PLe, PLt, any_left, any_split, every_weaker, every_append, every_left, every_right, line_of, Leads, Respects, Touches, Item, Answered, JoinsNoLast, IsPut, with_end, item_lower}
-use Rattle.range_change.proofs.Chains.{strictly_leads, chain_left, chain_right, chain_before, chains_join, same_is_symmetric}
+use Rattle.range_change.proofs.Common.{common_steps, ◌⊎◌, ◌≡◌, refl, ap, ◌∙◌, ℕ, zero, suc, ◌+◌, ◌-◌, ◌<◌, Option, Some, None, Bool, true, List, [], ◌∷◌, ◌++◌, inl, inr, ◌↔◌, length, get_or, arith, Every, slice_set, Bound, Equal, IsEquivalence, tied_back, KeyOrder, IsLawful, start_position, end_position, position_cmp, position_total, Position, AnyRange, past, lower, upper, IsBoundClone, SameBound, same_start, IsKnownRange, Any, lt_le, eq_le, eq_ge, le_trans, PLe, PLt, any_left, any_split, every_weaker, every_append, every_left, every_right, line_of, Respects, IsBoundTo, IsLeftOf, sym, append-nil, lt_not_le, IsKnownBound, Touches, Item, Answered, JoinsNoLast, IsPut, with_end, item_lower}
+use Rattle.range_change.proofs.Chains.{chain_right, inside_or_out}
+use Rattle.range_change.proofs.ChainJoins.{leading_by, left_joined, places_between_are_bound}
+use Rattle.range_change.proofs.ChainSides.{none_above}
 use Rattle.range_change.proofs.CutParts.{same_past}
 use Rattle.range_change.proofs.RangePieces.{any_end}
 use Rattle.range_change.proofs.Forms.{Known, Chained, Hold, touches_is}
@@ -77,18 +79,12 @@ module _ {K : Type 0} (order : KeyOrder K) (lawful : IsLawful order) {V : Type 0
         le_trans lawful _ _ _ from (le_trans lawful _ _ _ (lt_le lawful _ _ inside.2) upto)
 
     lies_up_to_later_place : (j : Item (AnyRange K) V) → LiesUpTo m j → LiesUpTo n j
-    lies_up_to_later_place j h = (
-      h.0,
-      h.1,
-      le_trans lawful _ _ _ h.2 later_place_is_not_before,
-    )
+    lies_up_to_later_place j h = grind (arith, common_steps, le_trans, later_place_is_not_before)
 
     more_valued : (a : Answered K V) (middle : List (Item (AnyRange K) V))
         → Every (λ j. Any (λ b. b.answer ≡ Some j.value) answers) middle
         → Every (λ j. Any (λ b. b.answer ≡ Some j.value) (answers ++ a ∷ [])) middle
-    more_valued a middle h = every_weaker (λ j. Any (λ b. b.answer ≡ Some j.value) answers)
-        (λ j. Any (λ b. b.answer ≡ Some j.value) (answers ++ a ∷ [])) middle
-        (λ j g. any_left (λ b. b.answer ≡ Some j.value) answers (a ∷ []) g) h
+    more_valued a middle h = grind (arith, common_steps, every_weaker, any_left)
 
     filled_free : (value : Option V) (middle : List (Item (AnyRange K) V))
         → IsFilledUpTo m answers middle
@@ -100,187 +96,146 @@ module _ {K : Type 0} (order : KeyOrder K) (lawful : IsLawful order) {V : Type 0
           chain = was.chain;
           inside = every_weaker (LiesUpTo m) (LiesUpTo n) middle lies_up_to_later_place was.inside;
           has = λ p W alike.
-              let P = λ (b : Answered K V). HoldsAt p b.key × Gives W b.answer in
-              let old = was.has p W alike in (
-                λ h. any_left P answers (a ∷ []) (old.0 h),
-                λ h. elim (any_but_end P answers a h) [ inl g ↦ old.1 g | inr e ↦ absurd e.1 ],
-              );
+              (grind (arith, common_steps, any_left, any_but_end));
           valued = more_valued a middle was.valued;
         }
 
-    lead_all : (j : Item (AnyRange K) V)
-        → position_cmp order.cmp (lower order j.key) (lower order key) ≡ Equal
-        → (xs : List (Item (AnyRange K) V)) → Chained order lawful same equal xs
-        → Every (LiesUpTo m) xs → ((k : ℕ) (d : Item (AnyRange K) V) → k + 1 ≡ length xs
-        → Touches order (get_or xs k d).key key → same (get_or xs k d).value j.value ≡ true → ⊥)
-        → Every (λ x. Leads (line_of order lawful same equal) x (item_lower order j) j.value) xs
-    lead_all j at [] chain within apart = tt
-    lead_all j at (x ∷ []) chain within apart =
-        let before = le_trans lawful _ _ _ within.0.2 from in (
-          (
-            le_trans lawful _ _ _ before (eq_ge lawful _ _ at),
-            λ le alike. apart 0 x refl ((touches_is order lawful x.key.end key inside.0 inside.2
-                before).1 (le_trans lawful _ _ _ (eq_ge lawful _ _ at) le)) alike,
-          ),
-          tt,
-        )
-    lead_all j at (x ∷ y ∷ ys) chain within apart =
-        let rest = lead_all j at (y ∷ ys) chain.1.1 within.1 (λ k d size. apart (suc k) d
-        (omega (arith, size))) in
-        let strict =
-        le_lt_trans lawful _ _ _ chain.1.0.0 (lt_le_trans lawful _ _ _ chain.1.1.0 rest.0.0) in (
-          strictly_leads (line_of order lawful same equal) x (item_lower order j) j.value strict,
-          rest,
-        )
+    -- the key bound to the answer's value, in a list that ends before it
+    module _ (v : V) (value : Option V) (old : List (Item (AnyRange K) V))
+        (was : IsFilledUpTo m answers old) where
+      abbrev more : List (Answered K V)
+      more = answers ++ record { key = key; value = value; answer = Some v } ∷ []
 
-    filled_with_item_after : (v : V) (value : Option V) (own : AnyRange K)
-        (middle : List (Item (AnyRange K) V)) → IsFilledUpTo m answers middle
-        → IsKnownRange order own
-        → position_cmp order.cmp (lower order own) (lower order key) ≡ Equal
-        → position_cmp order.cmp (upper order own) (upper order key) ≡ Equal
-        → JoinsNoLast order same middle key v
-        → IsFilledUpTo n (answers ++ record { key = key; value = value; answer = Some v } ∷ [])
-        (middle ++ record { key = own; value = v } ∷ [])
-    filled_with_item_after v value own middle was known at to apart =
-        let a : Answered K V = record { key = key; value = value; answer = Some v } in
-        let j : Item (AnyRange K) V = record { key = own; value = v } in
-        let good = lt_le_trans lawful _ _ _ (le_lt_trans lawful _ _ _ (eq_le lawful _ _ at)
-        inside.2) (eq_ge lawful _ _ to) in
-        record {
-          known =
-              every_append (λ i. IsKnownRange order i.key) middle (j ∷ []) was.known (known, tt);
-          chain = chains_join (line_of order lawful same equal) middle j [] was.chain (good, tt)
-              (lead_all j at middle was.chain was.inside
-              (λ k d size. let last : k ≡ length middle - 1 = omega (arith, size) in rw last
-              (apart d (omega (arith, size)))));
-          inside = every_append (LiesUpTo n) middle (j ∷ []) (every_weaker (LiesUpTo m) (LiesUpTo n)
-              middle lies_up_to_later_place was.inside) (
-                (
-                  le_trans lawful _ _ _ inside.1 (eq_ge lawful _ _ at),
-                  le_trans lawful _ _ _ (eq_le lawful _ _ to) inside.3,
-                  le_trans lawful _ _ _ (eq_le lawful _ _ to) upto,
-                ),
-                tt,
-              );
-          has = λ p W alike.
-              let P = λ (b : Answered K V). HoldsAt p b.key × Gives W b.answer in
-              let Q = λ (i : Item (AnyRange K) V). HoldsAt p i.key × (W i.value ≡ true) in
-              let old = was.has p W alike in (
-                λ h. elim (any_but_end Q middle j h) [
-                  | inl g ↦ any_left P answers (a ∷ []) (old.0 g)
-                  | inr e ↦ any_end P answers a (
-                    (
-                      le_trans lawful _ _ _ (eq_ge lawful _ _ at) e.0.0,
-                      lt_le_trans lawful _ _ _ e.0.1 (eq_le lawful _ _ to),
-                    ),
-                    e.1,
-                  )
-                ],
-                λ h. elim (any_but_end P answers a h) [
-                  | inl g ↦ any_left Q middle (j ∷ []) (old.1 g)
-                  | inr e ↦ any_end Q middle j (
-                    (
-                      le_trans lawful _ _ _ (eq_le lawful _ _ at) e.0.0,
-                      lt_le_trans lawful _ _ _ e.0.1 (eq_ge lawful _ _ to),
-                    ),
-                    e.1,
-                  )
-                ],
-              );
-          valued = every_append (λ i. Any (λ b. b.answer ≡ Some i.value) (answers ++ a ∷ [])) middle
-              (j ∷ []) (more_valued a middle was.valued) (
-                any_end (λ b. b.answer ≡ Some j.value)
-                    answers a refl,
-                tt,
-              );
-        }
+      ended : Every (λ i. PLe lawful (upper order i.key) m) old
+      ended = every_weaker _ _ old (λ i h. h.2) was.inside
 
-    filled_on : (v : V) (value : Option V) (front : List (Item (AnyRange K) V))
-        (last : Item (AnyRange K) V) (e : Bound K) → IsFilledUpTo m answers (front ++ last ∷ [])
-        → IsKnownRange order (with_end last e).key
-        → position_cmp order.cmp (past_of e) (upper order key) ≡ Equal
-        → PLe lawful (lower order key) (upper order last.key) → same last.value v ≡ true
-        → IsFilledUpTo n (answers ++ record { key = key; value = value; answer = Some v } ∷ [])
-        (front ++ with_end last e ∷ [])
-    filled_on v value front last e was known to touches alike_values =
-        let a : Answered K V = record { key = key; value = value; answer = Some v } in
-        let j = with_end last e in
-        let tail = chain_right (line_of order lawful same equal) front (last ∷ []) was.chain in
-        let within = every_right (LiesUpTo m) front (last ∷ []) was.inside in
-        let before = le_trans lawful _ _ _ within.0.2 from in
-        let upto_hi = le_trans lawful _ _ _ before (lt_le lawful _ _ inside.2) in
-        let good = lt_le_trans lawful _ _ _ (lt_le_trans lawful _ _ _ tail.0 upto_hi)
-        (eq_ge lawful _ _ to) in
-        let leads = chain_before (line_of order lawful same equal) front last [] was.chain in
-        let old_valued = every_right (λ i. Any (λ b. b.answer ≡ Some i.value) answers) front
-        (last ∷ []) was.valued in
-        record {
-          known = every_append (λ i. IsKnownRange order i.key) front (j ∷ [])
-              (every_left (λ i. IsKnownRange order i.key) front (last ∷ []) was.known) (known, tt);
-          chain = chains_join (line_of order lawful same equal) front j []
-              (chain_left (line_of order lawful same equal) front (last ∷ []) was.chain) (good, tt)
-              leads;
-          inside = every_append (LiesUpTo n) front (j ∷ []) (every_weaker (LiesUpTo m) (LiesUpTo n)
-              front lies_up_to_later_place (every_left (LiesUpTo m) front (last ∷ []) was.inside)) (
-                (
-                  within.0.0,
-                  le_trans lawful _ _ _ (eq_le lawful _ _ to) inside.3,
-                  le_trans lawful _ _ _ (eq_le lawful _ _ to) upto,
-                ),
-                tt,
+      old_valued : Every (λ j. Any (λ b. b.answer ≡ Some j.value) more) old
+      old_valued = more_valued _ old was.valued
+
+      more_has : {new : List (Item (AnyRange K) V)} → IsBoundTo (line_of order lawful same equal) old
+          new (lower order key) (upper order key) v → (p : Position K) (W : V → Bool) → Alike W
+          → Hold order lawful same equal W p new
+          ↔ Any (λ a. HoldsAt p a.key × Gives W a.answer) more
+      more_has {new} bound p W alike =
+          let a : Answered K V = record { key = key; value = value; answer = Some v } in
+          let P = λ (b : Answered K V). HoldsAt p b.key × Gives W b.answer in
+          let before = was.has p W alike in
+          let beside : PLt lawful p (lower order key) ⊎ PLe lawful (upper order key) p
+          → Hold order lawful same equal W p new ↔ Any P more = λ out.
+          (grind (arith, common_steps, any_left, any_but_end, lt_not_le)) in
+          elim (inside_or_out (line_of order lawful same equal) p (lower order key)
+          (upper order key)) [
+            | inl within ↦ let own = bound.inside p W alike within.0 within.1 in (
+              λ h. any_end P answers a (within, own.0 h),
+              λ h. own.1 (elim (any_but_end P answers a h) [
+                | inl g ↦ absurd (none_above (line_of order lawful same equal) p m W old
+                    (le_trans lawful _ _ _ from within.0) ended (before.1 g))
+                | inr e ↦ e.1
+              ]),
+            )
+            | inr out ↦ beside out
+          ]
+
+      filled_bound : (front rest : List (Item (AnyRange K) V)) (j : Item (AnyRange K) V)
+          → old ≡ front ++ rest → IsLeftOf (line_of order lawful same equal) old front
+          (lower order key) (item_lower order j) v
+          → position_cmp order.cmp (upper order j.key) (upper order key) ≡ Equal
+          → same j.value v ≡ true → IsKnownRange order j.key
+          → PLe lawful (lower order r) (lower order j.key)
+          → Any (λ b. b.answer ≡ Some j.value) more → IsFilledUpTo n more (front ++ j ∷ [])
+      filled_bound front rest j list left to alike_values known starts valued =
+          let line = line_of order lawful same equal in
+          let under = eq_le lawful _ _ to in
+          let over = eq_ge lawful _ _ to in
+          let bound = places_between_are_bound line old front [] j (lower order key)
+          (upper order key) v left (record {
+            right = record {
+              chain = tt;
+              starts = tt;
+              holds = λ p W alike le. (
+                λ h. absurd h,
+                λ h. absurd (none_above line p m W old
+                    (le_trans lawful _ _ _ from (le_trans lawful _ _ _ (lt_le lawful _ _ inside.2)
+                    (le_trans lawful _ _ _ over le))) ended h),
               );
-          has = λ p W alike.
-              let P = λ (b : Answered K V). HoldsAt p b.key × Gives W b.answer in
-              let Q = λ (i : Item (AnyRange K) V). HoldsAt p i.key × (W i.value ≡ true) in
-              let old = was.has p W alike in (
-                λ h. elim (any_but_end Q front j h) [
-                  | inl g ↦ any_left P answers (a ∷ []) (old.0 (any_left Q front (last ∷ []) g))
-                  | inr e ↦ elim (cases lawful p (upper order last.key)) [
-                    | inl l ↦
-                        any_left P answers (a ∷ []) (old.0 (any_end Q front last ((e.0.0, l), e.1)))
-                    | inr le ↦ any_end P answers a (
-                      (
-                        le_trans lawful _ _ _ touches le,
-                        lt_le_trans lawful _ _ _ e.0.1 (eq_le lawful _ _ to),
-                      ),
-                      alike last.value v alike_values e.1,
-                    )
-                  ]
-                ],
-                λ h. elim (any_but_end P answers a h) [
-                  | inl g ↦ elim (any_but_end Q front last (old.1 g)) [
-                    | inl f ↦ any_left Q front (j ∷ []) f
-                    | inr e ↦ any_end Q front j (
-                      (
-                        e.0.0,
-                        lt_le_trans lawful _ _ _ (lt_le_trans lawful _ _ _ e.0.1 upto_hi)
-                            (eq_ge lawful _ _ to),
-                      ),
-                      e.1,
-                    )
-                  ]
-                  | inr e ↦ any_end Q front j (
-                    (
-                      le_trans lawful _ _ _ (le_trans lawful _ _ _ (lt_le lawful _ _ tail.0)
-                          before) e.0.0,
-                      lt_le_trans lawful _ _ _ e.0.1 (eq_ge lawful _ _ to),
-                    ),
-                    alike v last.value (same_is_symmetric (line_of order lawful same equal)
-                        last.value v alike_values) e.1,
-                  )
-                ],
-              );
-          valued = every_append (λ i. Any (λ b. b.answer ≡ Some i.value) (answers ++ a ∷ [])) front
-              (j ∷ []) (more_valued a front (every_left (λ i. Any (λ b. b.answer ≡ Some i.value)
-              answers) front (last ∷ []) was.valued)) (
-                any_left (λ b. b.answer ≡ Some j.value)
-                    answers (a ∷ []) old_valued.0,
-                tt,
-              );
-        }
+            };
+            trails = tt;
+            above = over;
+            joined = λ p W alike on l. absurd (lt_not_le lawful _ _ l (le_trans lawful _ _ _ under on));
+          }) inside.2 alike_values in
+          record {
+            known = every_append (λ i. IsKnownRange order i.key) front (j ∷ [])
+                (every_left _ front rest (rw list at was.known)) (known, tt);
+            chain = bound.chain;
+            inside = every_append (LiesUpTo n) front (j ∷ []) (every_weaker (LiesUpTo m) (LiesUpTo n)
+                front lies_up_to_later_place (every_left (LiesUpTo m) front rest
+                (rw list at was.inside))) (
+                  (grind (arith, common_steps, le_trans, inside)),
+                  tt,
+                );
+            has = more_has bound;
+            valued = every_append _ front (j ∷ [])
+                (every_left _ front rest (rw list at old_valued)) (valued, tt);
+          }
+
+      -- no item joins it
+      filled_with_item_after : (own : AnyRange K) → IsKnownRange order own
+          → position_cmp order.cmp (lower order own) (lower order key) ≡ Equal
+          → position_cmp order.cmp (upper order own) (upper order key) ≡ Equal
+          → JoinsNoLast order same old key v
+          → IsFilledUpTo n more (old ++ record { key = own; value = v } ∷ [])
+      filled_with_item_after own known at to apart =
+          let line = line_of order lawful same equal in
+          let c = lower order own in
+          let low = eq_ge lawful _ _ at in
+          let under = every_weaker _ _ old (λ i le. le_trans lawful _ _ _ le
+          (le_trans lawful _ _ _ from low)) ended in
+          filled_bound old [] (record { key = own; value = v }) (sym (append-nil old)) (record {
+            left = record {
+              chain = was.chain;
+              ends = under;
+              holds = λ p W alike l. (λ h. h, λ h. h);
+            };
+            leads = leading_by line old c v was.chain under (λ k size d le on t.
+                let last : k ≡ length old - 1 = omega (arith, size) in
+                let apart = rw (← last) at (apart d (omega (arith, size))) in
+                apart (grind (arith, common_steps, touches_is, get_or, inside, le_trans, eq_le))
+                t);
+            below = eq_le lawful _ _ at;
+            joined = λ p W alike on l. absurd (lt_not_le lawful _ _ l (le_trans lawful _ _ _ low on));
+          }) to (equal.refl v) known (le_trans lawful _ _ _ inside.1 low)
+          (any_end _ answers _ refl)
+
+      -- the last item joins it
+      filled_on : (front : List (Item (AnyRange K) V)) (last : Item (AnyRange K) V) (e : Bound K)
+          → old ≡ front ++ last ∷ [] → IsKnownBound order e
+          → position_cmp order.cmp (past_of e) (upper order key) ≡ Equal
+          → Touches order last.key key → same last.value v ≡ true
+          → IsFilledUpTo n more (front ++ with_end last e ∷ [])
+      filled_on front last e list known to touching alike_values =
+          let line = line_of order lawful same equal in
+          let chain = rw list at was.chain in
+          let good = chain_right line front (last ∷ []) chain in
+          let within = every_right (LiesUpTo m) front (last ∷ []) (rw list at was.inside) in
+          let before = le_trans lawful _ _ _ within.0.2 from in
+          filled_bound front (last ∷ []) (with_end last e) list (rw list (left_joined line front last
+          [] (lower order key) v chain (le_trans lawful _ _ _ (lt_le lawful _ _ good.0) before)
+          ((touches_is order lawful last.key.end key inside.0 inside.2 before).0 touching)
+          alike_values)) to alike_values (
+            (every_right (λ i. IsKnownRange order i.key) front
+                (last ∷ []) (rw list at was.known)).0.0,
+            known,
+          ) within.0.0 (every_right (λ i.
+          Any (λ b. b.answer ≡ Some i.value) more) front (last ∷ [])
+          (rw list at old_valued)).0
 
     module _ (is_clone : K → K → Type 0)
         (clones : (a b : Bound K) → IsBoundClone is_clone a b → SameBound order a b) where
+      ends_there : (e : Bound K) → IsBoundClone is_clone key.end e
+          → position_cmp order.cmp (past_of e) (upper order key) ≡ Equal
+      ends_there e clone = tied_back (position_total order.cmp lawful.total) (upper order key)
+          (past_of e) (same_past order lawful key.end e (clones key.end e clone))
+
       -- one answer more
       pub fill_more : (value answer : Option V) (old new : List (Item (AnyRange K) V))
           → IsFilledUpTo m answers old → IsPut order same is_clone old new key answer
@@ -288,26 +243,14 @@ module _ {K : Type 0} (order : KeyOrder K) (lawful : IsLawful order) {V : Type 0
           new
       fill_more value None old new was put = rw put (filled_free value old was)
       fill_more value (Some v) old new was (inl put) = rw put.list
-          (filled_with_item_after v value (record { start = put.start; end = put.end }) old was
-          put.known (tied_back (position_total order.cmp lawful.total) (lower order key)
-          (start_position order put.start) (same_start order lawful key.start put.start
-          (clones key.start put.start put.start_clone))) (tied_back
-          (position_total order.cmp lawful.total) (upper order key) (past_of put.end)
-          (same_past order lawful key.end put.end (clones key.end put.end put.end_clone)))
+          (filled_with_item_after v value old was (record { start = put.start; end = put.end })
+          put.known (grind (arith, common_steps, tied_back, position_total, lower, start_position, same_start)) (ends_there put.end put.end_clone)
           put.apart)
       fill_more value (Some v) old new was (inr put) =
           let some : 0 < length old = put.joins.0 in
           let parts = split_last old (length old - 1) (omega (arith, some)) in
           let last = parts.1 in
           let joins = rw (parts.3 last) at (put.joins.1 last) in
-          let j = with_end last put.end in
-          let list : new ≡ parts.0 ++ j ∷ [] = rw (parts.3 last) at (put.list last) ∙ parts.4 j in
-          let was_parts : IsFilledUpTo m answers (parts.0 ++ last ∷ []) = rw parts.2 at was in
-          let within = every_right (LiesUpTo m) parts.0 (last ∷ []) was_parts.inside in
-          let known =
-          every_right (λ i. IsKnownRange order i.key) parts.0 (last ∷ []) was_parts.known in
-          let before = le_trans lawful _ _ _ within.0.2 from in
-          rw list (filled_on v value parts.0 last put.end was_parts (known.0.0, put.known)
-          (tied_back (position_total order.cmp lawful.total) (upper order key) (past_of put.end)
-          (same_past order lawful key.end put.end (clones key.end put.end put.end_clone)))
-          ((touches_is order lawful last.key.end key inside.0 inside.2 before).0 joins.0) joins.1)
+          rw (rw (parts.3 last) at (put.list last) ∙ parts.4 (with_end last put.end))
+          (filled_on v value old was parts.0 last put.end parts.2 put.known
+          (ends_there put.end put.end_clone) joins.0 joins.1)

@@ -1,15 +1,13 @@
 -- A range that lies apart from all stored ones, and the list with it.
-use Rattle.range_change.proofs.Common.{◌≡◌, ℕ, ◌+◌, ◌<◌, List, [], ◌∷◌, ◌++◌, length, take, drop, get_or, refl, ap, sym, subst, ◌∙◌, arith, Option, Some, None, Bool, true, false, ◌&&◌, IsTrue, ◌⊎◌, ◌↔◌, inl, inr, Every, IfSome, MatchOption, IsEquivalence, Bound, KeyOrder, IsLawful, end_position, position_cmp, start_position, Position, less_or_not, line_of, IsBoundTo, flipped, starts_at_end, lower, upper, Le, Lt, eq_ge, eq_le, le_lt_trans, le_refl, le_trans, lt_le, lt_le_trans, lt_not_le, lt_trans, not_le, IsEmptyRange, IsKnownRange, AnyRange, drop_all, list_is_take_and_drop, any_none, any_split, every_append, every_right, every_weaker, flipped_bound_is_past, IsAt, place_before, Item, IsBoundAfter, item_lower, item_upper, IsStored, IsConnectedTo, IsConnectedToSome, MeetAlso, Overlap, LiesBefore, Touches, IsFound, IsJustBefore}
+use Rattle.range_change.proofs.Common.{common_steps, PLe, PLt, ◌≡◌, ℕ, ◌+◌, ◌<◌, List, [], ◌∷◌, ◌++◌, length, take, drop, get_or, refl, ap, sym, ◌∙◌, arith, Option, Some, None, Bool, false, ◌&&◌, IsTrue, ◌⊎◌, ◌↔◌, inl, inr, Every, IfSome, MatchOption, IsEquivalence, Bound, KeyOrder, IsLawful, Position, end_position, position_cmp, start_position, less_or_not, line_of, flipped, starts_at_end, lower, upper, eq_ge, eq_le, le_lt_trans, le_refl, le_trans, lt_le, lt_le_trans, lt_not_le, lt_trans, not_le, IsEmptyRange, IsKnownRange, AnyRange, drop_all, list_is_take_and_drop, any_none, any_split, every_append, every_right, every_weaker, flipped_bound_is_past, IsAt, place_before, Item, item_lower, item_upper, IsStored, IsConnectedTo, IsConnectedToSome, LiesBefore, IsFound, IsJustBefore}
 use Rattle.std.proofs.lemmas.Bool.{and_parts, true_from_ne_false}
 use Rattle.range_change.proofs.Tests.{not_both}
-use Rattle.range_change.proofs.Chains.{chain_above, chain_before, chain_right, strictly_leads, strictly_trails}
-use Rattle.range_change.proofs.ChainSides.{left_whole, right_whole}
-use Rattle.range_change.proofs.ChainJoins.{places_between_are_bound, left_apart, right_apart}
+use Rattle.range_change.proofs.Chains.{chain_above, chain_before, chain_right}
 use Rattle.range_change.specs.Apart.{LiesApartAt, IsAnswerAt, IsGap, LiesApart}
-use Rattle.range_change.proofs.Forms.{Chained, Known, before_is, bound_after, chain_stored, nonempty_good, stored_chain, touches_by, touches_is, every_front, every_back}
+use Rattle.range_change.proofs.Forms.{Chained, before_is, nonempty_good, stored_chain, touches_by, touches_is, every_front, every_back}
 use Rattle.range_change.proofs.Overlaps.{any_at}
 use Rattle.range_change.proofs.Comparisons.{touching_same}
-use Rattle.range_change.proofs.CoveredPlaces.{chained_items_have_places, meets_bound}
+use Rattle.range_change.proofs.CoveredPlaces.{chained_items_have_places}
 use Rattle.range_change.proofs.ItemPlaces.{element_at, element_at_is_read, listed_at, upto_item, from_item}
 use Rattle.range_change.proofs.RangePieces.{item_at}
 use Rattle.range_change.proofs.Windows.{every_both}
@@ -17,25 +15,17 @@ use Rattle.range_change.proofs.Windows.{every_both}
 last_place : {X P : Type 0} (is_good : P → Type 0) (rank : P → ℕ) (items : List X) (last : Option P)
     → MatchOption last (items ≡ []) (λ p. is_good p × (rank p + 1 ≡ length items))
     → IsJustBefore is_good rank last (length items)
-last_place is_good rank items None at = rw at refl
-last_place is_good rank items (Some p) at = at
+last_place is_good rank items option at = grind (arith, common_steps)
 
 must_touch : (A : Type 0) (t : Bool) → A → (A × (IsTrue t → ⊥) → ⊥) → IsTrue t
 must_touch A t a h = true_from_ne_false t (λ e. h (a, λ is. not_both e is))
 
 one_fails : (free a b : Bool) → free ≡ (a && b) → free ≡ false → (a ≡ false) ⊎ (b ≡ false)
-one_fails free true b e f = inr (sym e ∙ f)
-one_fails free false b e f = inl refl
+one_fails free test b e f = grind (arith, common_steps)
 
 module _ {K : Type 0} (order : KeyOrder K) (lawful : IsLawful order) where
-  abbrev PLe : Position K → Position K → Type 0
-  PLe p q = Le (position_cmp order.cmp) p q
-
-  abbrev PLt : Position K → Position K → Type 0
-  PLt p q = Lt (position_cmp order.cmp) p q
-
   apart_is : (r s : AnyRange K) → IsKnownRange order r → IsKnownRange order s
-      → (IsEmptyRange order s → ⊥) → LiesApart order r s → PLt (upper order r) (lower order s)
+      → (IsEmptyRange order s → ⊥) → LiesApart order r s → PLt lawful (upper order r) (lower order s)
   apart_is r s known others full h =
       let le = (before_is order lawful r.end s.start known.1 others.0).0 h.0 in
       let touch =
@@ -45,50 +35,25 @@ module _ {K : Type 0} (order : KeyOrder K) (lawful : IsLawful order) where
   -- they lie apart where the start that follows the one comes before the other
   pub apart_by_start : (r s : AnyRange K) (i : Bound K) → flipped r.end ≡ Some i
       → IsKnownRange order r → IsKnownRange order s
-      → LiesApart order r s ↔ PLt (start_position order i) (lower order s)
-  apart_by_start r s i turns known others =
-      let before = before_is order lawful r.end s.start known.1 others.0 in
-      let same = flipped_bound_is_past order lawful r.end i turns in
-      let touch =
-      λ (le : PLe (upper order r) (lower order s)). touches_by order lawful r.end i s turns le in (
-        λ h. not_le lawful (start_position order i) (lower order s) (λ back.
-            h.1 (rw turns ((touch (before.0 h.0)).1 (le_trans lawful _ _ _ back
-            (eq_ge lawful _ _ same))))),
-        λ l.
-            let lt : PLt (upper order r) (lower order s) =
-            le_lt_trans lawful _ _ _ (eq_le lawful _ _ same) l in
-            let le = lt_le lawful _ _ lt in (
-              before.1 le,
-              λ t. lt_not_le lawful _ _ lt ((touch le).0 (rw turns at t)),
-            ),
-      )
+      → LiesApart order r s ↔ PLt lawful (start_position order i) (lower order s)
+  apart_by_start r s i turns known others = grind (arith, common_steps, before_is, flipped_bound_is_past, upper, lower, touches_by, not_le, start_position, le_trans, eq_ge, le_lt_trans, eq_le, lt_le, lt_not_le)
 
   -- ranges with a place between are not connected
   pub apart_not : (r s : AnyRange K) → IsKnownRange order r → IsKnownRange order s
-      → PLt (lower order r) (upper order r) → PLt (lower order s) (upper order s)
-      → PLt (upper order r) (lower order s)
-      → (Overlap order r s → ⊥) × (Touches order r s → ⊥) × (Touches order s r → ⊥)
-      × (LiesBefore order r s)
-  apart_not r s known others good good_s l =
-      let before =
-      (before_is order lawful r.end s.start known.1 others.0).1 (lt_le lawful _ _ l) in (
-        λ meets. meets.0 before,
-        λ t. lt_not_le lawful _ _ l (eq_ge lawful _ _
-            (touching_same order lawful r.end (lower order s) t)),
-        λ t. lt_not_le lawful _ _ (lt_trans lawful _ _ _ good (lt_trans lawful _ _ _ l good_s))
-            (eq_le lawful _ _ (touching_same order lawful s.end (lower order r) t)),
-        before,
-      )
+      → PLt lawful (lower order r) (upper order r) → PLt lawful (lower order s) (upper order s)
+      → PLt lawful (upper order r) (lower order s)
+      → (IsConnectedTo order r s → ⊥) × (IsConnectedTo order s r → ⊥)
+  apart_not r s known others good good_s l = grind (arith, common_steps, before_is, lt_le, lt_not_le, eq_ge, touching_same, lower, lt_trans, eq_le)
 
   module _ {V : Type 0} (same : V → V → Bool) (equal : IsEquivalence same) where
     abbrev Before : AnyRange K → Item (AnyRange K) V → Type 0
-    Before r i = PLt (item_upper order i) (lower order r)
+    Before r i = PLt lawful (item_upper order i) (lower order r)
 
     abbrev Behind : AnyRange K → Item (AnyRange K) V → Type 0
-    Behind r i = PLt (upper order r) (item_lower order i)
+    Behind r i = PLt lawful (upper order r) (item_lower order i)
 
     abbrev Good : Item (AnyRange K) V → Type 0
-    Good i = PLt (item_lower order i) (item_upper order i)
+    Good i = PLt lawful (item_lower order i) (item_upper order i)
 
     module _ (items : List (Item (AnyRange K) V)) (r : AnyRange K)
         (stored : IsStored order same items) (known : IsKnownRange order r)
@@ -100,32 +65,6 @@ module _ {K : Type 0} (order : KeyOrder K) (lawful : IsLawful order) where
           → IsKnownRange order x.key
       known_at n x within read =
           item_at (λ i. IsKnownRange order i.key) items n x stored.known within read
-
-      clear_front : (n : ℕ) (x : Item (AnyRange K) V) → n < length items → x ≡ get_or items n x
-          → LiesApart order x.key r → Every (Before r) (take (n + 1) items)
-      clear_front n x within read apart =
-          let whole = rw (listed_at items n x within read) at in_order in
-          let good = chain_right (line_of order lawful same equal) (take n items)
-          (x ∷ drop (n + 1) items) whole in
-          let before = chain_before (line_of order lawful same equal) (take n items) x
-          (drop (n + 1) items) whole in
-          let own = apart_is x.key r (known_at n x within read) known full apart in
-          rw (upto_item items n (n + 1) x refl within read) (every_append (Before r) (take n items)
-          (x ∷ []) (every_weaker _ _ (take n items) (λ y h. le_lt_trans lawful _ _ _ h.0
-          (lt_trans lawful _ _ _ good.0 own)) before) (own, tt))
-
-      clear_back : (n : ℕ) (x : Item (AnyRange K) V) → n < length items → x ≡ get_or items n x
-          → LiesApart order r x.key → Every (Behind r) (drop n items)
-      clear_back n x within read apart =
-          let chain = chain_right (line_of order lawful same equal) (take n items)
-          (x ∷ drop (n + 1) items) (rw (listed_at items n x within read) at in_order) in
-          let above = chain_above (line_of order lawful same equal) (item_lower order x) x
-          (drop (n + 1) items) chain (le_refl lawful (item_lower order x)) in
-          let known_x = known_at n x within read in
-          let own = apart_is r x.key known known_x ((nonempty_good order lawful x.key known_x).1
-          chain.0) apart in
-          rw (from_item items n x within read) (every_weaker _ _ (x ∷ drop (n + 1) items)
-          (λ y h. lt_le_trans lawful _ _ _ own h) above)
 
       -- by the answers at positions of a container
       module _ {P : Type 0} (is_good : P → Type 0) (rank : P → ℕ)
@@ -139,7 +78,15 @@ module _ {K : Type 0} (order : KeyOrder K) (lawful : IsLawful order) where
             let within = good_in_range q at.0 in
             let x = element_at items (rank q) within in
             let read = element_at_is_read items (rank q) within x in
-            rw (← at.1) (clear_front (rank q) x within read ((answer x read).0 h))
+            let whole = rw (listed_at items (rank q) x within read) at in_order in
+            let good = chain_right (line_of order lawful same equal) (take (rank q) items) _ whole in
+            let own = apart_is x.key r (known_at (rank q) x within read) known full
+            ((answer x read).0 h) in
+            rw (upto_item items (rank q) place x at.1 within read) (every_append (Before r)
+            (take (rank q) items) (x ∷ []) (every_weaker _ _ (take (rank q) items)
+            (λ y h. le_lt_trans lawful _ _ _ h.0 (lt_trans lawful _ _ _ good.0 own))
+            (chain_before (line_of order lawful same equal) (take (rank q) items) x _ whole))
+            (own, tt))
 
         clear_after : (from : Option P) (place : ℕ) (b : Bool)
             → IsAt is_good rank (length items) from place
@@ -150,7 +97,14 @@ module _ {K : Type 0} (order : KeyOrder K) (lawful : IsLawful order) where
             let within = good_in_range q at.0 in
             let x = element_at items (rank q) within in
             let read = element_at_is_read items (rank q) within x in
-            rw (← at.1) (clear_back (rank q) x within read ((answer x read).0 h))
+            let chain = chain_right (line_of order lawful same equal) (take (rank q) items) _
+            (rw (listed_at items (rank q) x within read) at in_order) in
+            let known_x = known_at (rank q) x within read in
+            let own = apart_is r x.key known known_x ((nonempty_good order lawful x.key known_x).1
+            chain.0) ((answer x read).0 h) in
+            rw (← at.1, from_item items (rank q) x within read) (every_weaker _ _ (x ∷ _)
+            (λ y h. lt_le_trans lawful _ _ _ own h) (chain_above (line_of order lawful same equal)
+            (item_lower order x) x _ chain (le_refl lawful (item_lower order x))))
 
         -- where the last of all lies apart, the range can follow it
         pub all_before : (last : Option P) (b : Bool)
@@ -181,19 +135,19 @@ module _ {K : Type 0} (order : KeyOrder K) (lawful : IsLawful order) where
         refused_previous_is_connected : (before : Option P) (place : ℕ) (b : Bool)
             → IsJustBefore is_good rank before place
             → IsAnswerAt order (λ i. LiesApart order i.key r) rank items before b
-            → Every (λ i. PLt (end_position order i.key.end) (lower order r)) (take place items)
+            → Every (λ i. PLt lawful (end_position order i.key.end) (lower order r)) (take place items)
             → b ≡ false → IsConnectedToSome order items r
         refused_previous_is_connected None place b at answer below f =
-            absurd (let clash : false ≡ true = sym f ∙ answer in cc)
+            absurd (cc)
         refused_previous_is_connected (Some q) place b at answer below f =
             let within = good_in_range q at.0 in
             let x = element_at items (rank q) within in
             let read = element_at_is_read items (rank q) within x in
-            let last = every_right (λ i. PLt (end_position order i.key.end) (lower order r))
+            let last = every_right (λ i. PLt lawful (end_position order i.key.end) (lower order r))
             (take (rank q) items) (x ∷ []) (rw (upto_item items (rank q) place x at.1 within read)
             at below) in
             let refused : LiesApart order x.key r → ⊥ = λ h. let t =
-            (answer x read).1 h in let clash : false ≡ true = sym f ∙ t in cc in
+            (answer x read).1 h in cc in
             any_at (λ i. IsConnectedTo order i.key r) items (rank q) x within read
             (inr (inl (must_touch (LiesBefore order x.key r)
             (starts_at_end order x.key.end (lower order r)) last.0 refused)))
@@ -201,20 +155,20 @@ module _ {K : Type 0} (order : KeyOrder K) (lawful : IsLawful order) where
         refused_next_is_connected : (from : Option P) (place : ℕ) (b : Bool)
             → IsAt is_good rank (length items) from place
             → IsAnswerAt order (λ i. LiesApart order r i.key) rank items from b
-            → Every (λ i. PLe (lower order r) (end_position order i.key.end)) (drop place items)
+            → Every (λ i. PLe lawful (lower order r) (end_position order i.key.end)) (drop place items)
             → b ≡ false → IsConnectedToSome order items r
         refused_next_is_connected None place b at answer above f =
-            absurd (let clash : false ≡ true = sym f ∙ answer in cc)
+            absurd (cc)
         refused_next_is_connected (Some q) place b at answer above f =
             let within = good_in_range q at.0 in
             let x = element_at items (rank q) within in
             let read = element_at_is_read items (rank q) within x in
             let more : drop place items ≡ x ∷ drop (rank q + 1) items =
             ap (λ n. drop n items) (sym at.1) ∙ from_item items (rank q) x within read in
-            let ends : Every (λ i. PLe (lower order r) (end_position order i.key.end))
+            let ends : Every (λ i. PLe lawful (lower order r) (end_position order i.key.end))
             (x ∷ drop (rank q + 1) items) = rw more at above in
             let refused : LiesApart order r x.key → ⊥ = λ h. let t =
-            (answer x read).1 h in let clash : false ≡ true = sym f ∙ t in cc in
+            (answer x read).1 h in cc in
             any_at (λ i. IsConnectedTo order i.key r) items (rank q) x within read
             (elim (less_or_not (position_cmp order.cmp (end_position order r.end)
             (lower order x.key))) [
@@ -234,12 +188,7 @@ module _ {K : Type 0} (order : KeyOrder K) (lawful : IsLawful order) where
             let place = place_before rank (length items) from in
             record {
               position = found.position;
-              apart = λ h.
-                  let both_are = and_parts a b (sym both ∙ h) in record {
-                    in_range = found.in_range;
-                    before = clear_before before place a found.previous first both_are.0;
-                    behind = clear_after from place b found.position second both_are.1;
-                  };
+              apart = grind (arith, common_steps, and_parts, clear_before, clear_after);
               taken = λ f. elim (one_fails free a b both f) [
                 | inl e ↦ refused_previous_is_connected before place a found.previous first
                     (rw start at found.below) e
@@ -250,26 +199,8 @@ module _ {K : Type 0} (order : KeyOrder K) (lawful : IsLawful order) where
 
       module _ (place : ℕ) (front : Every (Before r) (take place items))
           (back : Every (Behind r) (drop place items)) where
-        range_good : PLt (lower order r) (upper order r)
+        range_good : PLt lawful (lower order r) (upper order r)
         range_good = (nonempty_good order lawful r known).0 full
-
-        item_before_is_unconnected : (i : Item (AnyRange K) V)
-            → (IsKnownRange order i.key × Good i) × Before r i → IsConnectedTo order i.key r → ⊥
-        item_before_is_unconnected i h (inl meets) =
-            (apart_not i.key r h.0.0 known h.0.1 range_good h.1).0 meets
-        item_before_is_unconnected i h (inr (inl t)) =
-            (apart_not i.key r h.0.0 known h.0.1 range_good h.1).1 t
-        item_before_is_unconnected i h (inr (inr t)) =
-            (apart_not i.key r h.0.0 known h.0.1 range_good h.1).2 t
-
-        item_after_is_unconnected : (i : Item (AnyRange K) V)
-            → (IsKnownRange order i.key × Good i) × Behind r i → IsConnectedTo order i.key r → ⊥
-        item_after_is_unconnected i h (inl meets) =
-            (apart_not r i.key known h.0.0 range_good h.0.1 h.1).0 (meets.1, meets.0)
-        item_after_is_unconnected i h (inr (inl t)) =
-            (apart_not r i.key known h.0.0 range_good h.0.1 h.1).2 t
-        item_after_is_unconnected i h (inr (inr t)) =
-            (apart_not r i.key known h.0.0 range_good h.0.1 h.1).1 t
 
         -- a range with such a place is connected to no item
         pub free_not : IsConnectedToSome order items r → ⊥
@@ -282,49 +213,9 @@ module _ {K : Type 0} (order : KeyOrder K) (lawful : IsLawful order) where
             elim (any_split (λ i. IsConnectedTo order i.key r) (take place items)
             (drop place items) some) [
               | inl k ↦ any_none _ _ (take place items) (every_both _ (Before r) _
-                  (every_front _ place items all) front) item_before_is_unconnected k
+                  (every_front _ place items all) front) (λ i h.
+                  (apart_not i.key r h.0.0 known h.0.1 range_good h.1).0) k
               | inr k ↦ any_none _ _ (drop place items) (every_both _ (Behind r) _
-                  (every_back _ place items all) back) item_after_is_unconnected k
+                  (every_back _ place items all) back) (λ i h.
+                  (apart_not r i.key known h.0.0 range_good h.0.1 h.1).1) k
             ]
-
-        -- and can be put in there
-        pub put_in : (v : V) → let x : Item (AnyRange K) V =
-            record { key = r; value = v } in IsStored order same
-            (take place items ++ x ∷ drop place items)
-            × IsBoundAfter order same items (take place items ++ x ∷ drop place items) r v
-            × MeetAlso order items (take place items ++ x ∷ drop place items) r
-        put_in v =
-            let line = line_of order lawful same equal in
-            let x : Item (AnyRange K) V = record { key = r; value = v } in
-            let c = lower order r in
-            let d = upper order r in
-            let new = take place items ++ x ∷ drop place items in
-            let parts = list_is_take_and_drop items place in
-            let all = stored.known in
-            let whole : Chained order lawful same equal (take place items ++ drop place items) =
-            rw parts at in_order in
-            let left = left_whole line (take place items) (drop place items) c whole
-            (every_weaker _ _ (take place items) (λ i h. lt_le lawful _ _ h) front)
-            (every_weaker _ _ (drop place items) (λ i h. lt_le lawful _ _
-            (lt_trans lawful _ _ _ range_good h)) back) in
-            let right = right_whole line (take place items) (drop place items) d whole
-            (every_weaker _ _ (take place items) (λ i h. lt_le lawful _ _
-            (lt_trans lawful _ _ _ h range_good)) front) (every_weaker _ _ (drop place items)
-            (λ i h. lt_le lawful _ _ h) back) in
-            let on_left =
-            left_apart line (take place items ++ drop place items) (take place items) c v left
-            (every_weaker _ _ (take place items) (λ i h. strictly_leads line i c v h) front) in
-            let on_right =
-            right_apart line (take place items ++ drop place items) (drop place items) d v right
-            (every_weaker _ _ (drop place items) (λ i h. strictly_trails line i d v h) back) in
-            let changed = subst (λ ys. IsBoundTo line ys new c d v) (sym parts)
-            (places_between_are_bound line (take place items ++ drop place items) (take place items)
-            (drop place items) x c d v on_left on_right range_good (equal.refl v)) in
-            let new_known : Known order lawful same equal new = every_append
-            (λ i. IsKnownRange order i.key) (take place items) (x ∷ drop place items)
-            (every_front _ place items all) (known, every_back _ place items all) in (
-              chain_stored order lawful same equal new new_known changed.chain,
-              bound_after order lawful same equal items new r v known all new_known changed,
-              meets_bound order lawful same equal items new r v all new_known in_order known
-                  range_good changed,
-            )

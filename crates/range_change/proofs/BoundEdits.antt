@@ -1,5 +1,5 @@
 -- How edits of one bound on each side of a run change a list.
-use Rattle.range_change.proofs.Common.{common_steps, ◌≡◌, ℕ, ◌+◌, ◌<◌, ◌≤◌, List, [], ◌∷◌, ◌++◌, length, take, drop, get_or, refl, ap, sym, ◌∙◌, arith, Option, Some, None, append_assoc, set, length-set, append-nil, get_or-drop, take-set, take-set-le, take_more_set, drop-set, drop-set-lt, Bound, Unbounded, AnyRange, Item, ForSome, place_before, with_start, with_end, option_items, BorderSide, IsBorderShape, joined_count, border_at, IsGoodBorder, IsLeftShape, IsRightShape, IsLeftEdited, IsRightEdited, Border, Plain, Cut, Joined}
+use Rattle.range_change.proofs.Common.{common_steps, ◌≡◌, ℕ, ◌+◌, ◌<◌, ◌≤◌, List, [], ◌∷◌, ◌++◌, length, take, drop, get_or, ap, sym, ◌∙◌, arith, Option, append_assoc, length-set, append-nil, take-set, take-set-le, take_more_set, drop-set, drop-set-lt, Bound, AnyRange, Item, ForSome, place_before, option_items, BorderSide, IsBorderShape, joined_count, border_at, IsGoodBorder, IsLeftShape, IsRightShape, IsLeftEdited, IsRightEdited, Border, Plain, Cut, Joined}
 
 pub opening_regroups : {X : Type 0} (a b c e : List X) (m : X)
     → (a ++ b) ++ m ∷ (c ++ e) ≡ a ++ b ++ (m ∷ []) ++ c ++ e
@@ -15,22 +15,17 @@ standing_item_splits_list xs n m x within read next = grind (arith, common_steps
 
 pub cut_joins_none : {K P : Type 0} (item : Option P) (b : Bound K)
     → joined_count (border_at item b) ≡ 0
-cut_joins_none None b = refl
-cut_joins_none (Some p) b = refl
+cut_joins_none item b = grind (arith, common_steps)
 
 -- a change that keeps positions and the length keeps places
 pub kept_place : {P : Type 0} {is_good is_good' : P → Type 0} {rank rank' : P → ℕ} {len len' : ℕ}
     → ((p : P) → is_good p → is_good' p × (rank' p ≡ rank p)) → len' ≡ len → (at : Option P)
     → ForSome at is_good → place_before rank' len' at ≡ place_before rank len at
-kept_place kept size None h = size
-kept_place kept size (Some p) h = (kept p (h p refl)).1
+kept_place kept size at h = grind (arith, common_steps)
 
 same_at : {X : Type 0} (xs ys : List X) (n : ℕ) (d : X) → drop n xs ≡ drop n ys
     → get_or xs n d ≡ get_or ys n d
-same_at xs ys n d e =
-    let plus : n + 0 ≡ n = omega arith in
-    ap (λ m. get_or xs m d) (sym plus) ∙ (sym (get_or-drop n xs 0 d) ∙
-    (ap (λ zs. get_or zs 0 d) e ∙ (get_or-drop n ys 0 d ∙ ap (λ m. get_or ys m d) plus)))
+same_at xs ys n d e = grind (arith, common_steps)
 
 module _ {K V P : Type 0} (is_good : P → Type 0) (rank : P → ℕ) (items : List (Item (AnyRange K) V))
     (in_range : (p : P) → is_good p → rank p < length items) where
@@ -46,36 +41,16 @@ module _ {K V P : Type 0} (is_good : P → Type 0) (rank : P → ℕ) (items : L
       (rest : Option (Item (AnyRange K) V)) (start given : Option (Bound K))
       → IsLeftShape is_good rank items border at from rest start
       → IsLeftEdited rank items new border given → IsOpenedLeft new border at from rest start given
-  left_opened new Plain at from rest start given shape edited = record {
-    front = rw (edited.0, shape.0, shape.1) (sym (append-nil (take at items)));
-    behind = λ n le. ap (drop n) edited.0;
-    same_start = edited.1 ∙ sym shape.2;
-    size = ap length edited.0;
-  }
-  left_opened new (Cut p b) at from rest start given shape edited =
-      let x = shape.4.0 in
-      let new_is : new ≡ set items at (with_end x b) =
-      rw (shape.1, sym shape.4.1) at (edited.0 x) in
-      let within : at < length items = omega (arith, shape.1, in_range p shape.0) in
-      record {
-        front = rw (shape.2, new_is, shape.4.2) (take_more_set items at (with_end x b) within);
-        behind = λ n le. let lt : at < n =
-            omega (arith, shape.2, le) in rw new_is (drop-set-lt n items at (with_end x b) lt);
-        same_start = edited.1 ∙ sym shape.3;
-        size = rw new_is (length-set items at (with_end x b));
-      }
-  left_opened new (Joined p) at from rest start given shape edited =
-      let x = shape.4.0 in
-      let new_is : new ≡ set items at (with_start x Unbounded) =
-      rw (sym shape.4.1, shape.1) at (edited x).0 in
-      record {
-        front = rw (shape.2, shape.3, new_is) (take-set items at (with_start x Unbounded) ∙ sym
-            (append-nil (take at items)));
-        behind = λ n le. let lt : at < n = omega (arith, shape.2, le) in rw new_is
-            (drop-set-lt n items at (with_start x Unbounded) lt);
-        same_start = rw (sym shape.4.1) at (edited x).1 ∙ sym shape.4.2;
-        size = rw new_is (length-set items at (with_start x Unbounded));
-      }
+  left_opened new border at from rest start given shape edited = grind (
+    arith,
+    common_steps,
+    append-nil,
+    take_more_set,
+    drop-set-lt,
+    length-set,
+    take-set,
+    in_range,
+  )
 
   -- what the second edit leaves of the list that the first one left
   pub record IsOpenedRight (base new : List (Item (AnyRange K) V)) (border : Border K P)
@@ -95,45 +70,19 @@ module _ {K V P : Type 0} (is_good : P → Type 0) (rank : P → ℕ) (items : L
       → IsRightEdited rank' base new border given
       → IsOpenedRight base new border upto end rest finish given
   right_opened base new rank' clear ranks kept same_size Plain upto end rest finish given le shape
-      edited = record {
-        front = λ n l. ap (take n) edited.0;
-        behind = rw (edited.0, shape.1) (kept upto (omega arith) ∙ ap (λ n. drop n items) (sym shape.0));
-        same_end = edited.1 ∙ sym shape.2;
-        size = ap length edited.0;
-      }
+      edited = grind (arith, common_steps)
   right_opened base new rank' clear ranks kept same_size
       (Cut p b) upto end rest finish given le shape edited =
-      let x = shape.4.0 in
-      let index : rank' p ≡ upto = ranks p shape.0 ∙ shape.1 in
-      let item = same_at base items upto x (kept upto (omega arith)) ∙ sym shape.4.1 in
-      let new_is : new ≡ set base upto (with_start x b) = rw (index, item) at (edited.0 x) in
-      let within : upto < length base = omega (arith, shape.1, in_range p shape.0, same_size) in
-      record {
-        front = λ n l. let below : n ≤ upto =
-            omega arith in rw new_is (take-set-le n base upto (with_start x b) below);
-        behind = rw (new_is, shape.4.2) (drop-set base upto (with_start x b) within ∙ ap
-            (λ ys. with_start x b ∷ ys) (kept (upto + 1) (omega arith) ∙ ap (λ n. drop n items)
-            (sym shape.2)));
-        same_end = edited.1 ∙ sym shape.3;
-        size = rw new_is (length-set base upto (with_start x b));
-      }
+      let item = same_at base items upto shape.4.0 (kept upto (omega arith)) in
+      let more = kept (upto + 1) (omega arith) in
+      let new_is = edited.0 shape.4.0 in
+      grind (arith, common_steps, item, more, new_is, take-set-le, drop-set, length-set, in_range)
   right_opened base new rank' clear ranks kept same_size
       (Joined p) upto end rest finish given le shape edited =
-      let x = shape.4.0 in
-      let i = rank p in
-      let index : rank' p ≡ i = ranks p shape.0 in
-      let from : clear ≤ i = omega (arith, shape.1) in
-      let item = same_at base items i x (kept i from) ∙ sym shape.4.1 in
-      let new_is : new ≡ set base i (with_end x Unbounded) = rw (index, item) at (edited x).0 in
-      let lt : i < upto = omega (arith, shape.1) in
-      record {
-        front = λ n l. let below : n ≤ i =
-            omega (arith, shape.1) in rw new_is (take-set-le n base i (with_end x Unbounded) below);
-        behind = rw (new_is, shape.3) (drop-set-lt upto base i (with_end x Unbounded) lt ∙
-            (kept upto (omega arith) ∙ ap (λ n. drop n items) (sym shape.2)));
-        same_end = rw (index, item) at (edited x).1 ∙ sym shape.4.2;
-        size = rw new_is (length-set base i (with_end x Unbounded));
-      }
+      let item = same_at base items (rank p) shape.4.0 (kept (rank p) (omega (arith, shape.1))) in
+      let more = kept upto (omega arith) in
+      let new_is = edited shape.4.0 in
+      grind (arith, common_steps, item, more, new_is, take-set-le, drop-set-lt, length-set)
 
 module _ {K V P : Type 0} {is_good is_good' : P → Type 0} {rank rank' : P → ℕ}
     {items items' : List (Item (AnyRange K) V)}
@@ -168,6 +117,4 @@ module _ {K V P : Type 0} {is_good is_good' : P → Type 0} {rank rank' : P → 
       (rest : Option (Item (AnyRange K) V)) (given : Option (Bound K))
       → IsBorderShape side is_good rank items border low high rest given
       → IsGoodBorder is_good' border
-  border_good side Plain low high rest given h = tt
-  border_good side (Cut p b) low high rest given h = (kept p h.0).0
-  border_good side (Joined p) low high rest given h = (kept p h.0).0
+  border_good side border low high rest given h = grind (arith, common_steps)

@@ -1,6 +1,6 @@
 -- What a range joins beside it, and the chain in which it is bound or unbound.
-use Rattle.range_change.proofs.Common.{◌≡◌, sym, ◌∙◌, Bool, true, List, [], ◌∷◌, ◌++◌, ◌↔◌, ◌⊎◌, inl, inr, tied_itself, Every, Le, Lt, any_left, any_right, any_split, every_weaker, every_append, Line, Leads, Trails, Follows, IsChain, Has, Held, Respects, Leading, Trailing, IsLeft, IsRight, IsLeftOf, IsRightOf, IsMade, IsBoundTo, IsUnbound, IsSpliced}
-use Rattle.range_change.proofs.Chains.{same_is_symmetric, chain_right, chain_tail, chain_above, follows_above, strictly_leads, strictly_trails, chain_before, chains_join, join_apart, cases, le_refl, lt_le, le_trans, lt_not_le, lt_le_trans, le_lt_trans}
+use Rattle.range_change.proofs.Common.{common_steps, ◌≡◌, refl, arith, ℕ, suc, ◌+◌, length, get_or, Bool, true, List, [], ◌∷◌, ◌++◌, ◌↔◌, ◌⊎◌, inl, inr, tied_itself, Every, Le, Lt, any_left, any_right, any_split, every_weaker, every_append, Line, Leads, Trails, Follows, IsChain, Has, Held, Respects, Leading, Trailing, IsLeft, IsRight, IsLeftOf, IsRightOf, IsMade, IsBoundTo, IsUnbound, IsSpliced}
+use Rattle.range_change.proofs.Chains.{same_is_symmetric, chain_right, chain_tail, chain_above, follows_above, strictly_leads, strictly_trails, chain_before, chains_join, join_apart, inside_or_out, le_refl, lt_le, le_trans, lt_not_le, lt_le_trans, le_lt_trans}
 use Rattle.range_change.proofs.ChainSides.{none_below, none_above, only_first, only_second, held_alone, leading_like, left_whole}
 
 pub both_ways : {A B C : Type 0} → A ↔ B → C ↔ B → A ↔ C
@@ -12,37 +12,35 @@ module _ {L V X : Type 0} (line : Line L V X) where
   leading_last front y c v chain leads =
       let before = chain_before line front y [] chain in
       let good = chain_right line front (y ∷ []) chain in
-      every_append _ front (y ∷ []) (every_weaker _ _ front
-      (λ z h. strictly_leads line z c v (le_lt_trans line _ _ _ h.0
-      (lt_le_trans line _ _ _ good.0 leads.0))) before) (leads, tt)
+      every_append _ front (y ∷ []) (grind (arith, common_steps, every_weaker, strictly_leads, le_lt_trans, lt_le_trans)) (leads, tt)
+
+  -- a chain leads to a place where its last item does
+  pub leading_by : (xs : List X) (c : L) (v : V) → IsChain line xs
+      → Every (λ x. Le line.cmp (line.hi x) c) xs
+      → ((n : ℕ) → n + 1 ≡ length xs → (d : X) → Le line.cmp (line.hi (get_or xs n d)) c
+      → Le line.cmp c (line.hi (get_or xs n d)) → line.same (line.value (get_or xs n d)) v ≡ true
+      → ⊥) → Leading line c v xs
+  leading_by [] c v chain ends apart = tt
+  leading_by (x ∷ []) c v chain ends apart = ((ends.0, apart 0 refl x ends.0), tt)
+  leading_by (x ∷ y ∷ ys) c v chain ends apart = (
+    strictly_leads line x c v (le_lt_trans line _ _ _ chain.1.0.0
+        (lt_le_trans line _ _ _ chain.1.1.0 ends.1.0)),
+    leading_by (y ∷ ys) c v chain.1.1 ends.1 (λ n at. apart (suc n) (omega (arith, at))),
+  )
 
   pub trailing_first : (y : X) (ys : List X) (d : L) (v : V) → IsChain line (y ∷ ys)
       → Trails line d v y → Trailing line d v (y ∷ ys)
   trailing_first y ys d v chain trails =
-      let above = follows_above line y ys chain.1 in (
-        trails,
-        every_weaker _ _ ys (λ z h. strictly_trails line z d v
-            (le_lt_trans line _ _ _ trails.0 (lt_le_trans line _ _ _ chain.0 h))) above,
-      )
+      let above = follows_above line y ys chain.1 in (grind (arith, common_steps, every_weaker, strictly_trails, le_lt_trans, lt_le_trans))
 
   -- nothing beside the range joins it
   pub left_apart : (items kept : List X) (c : L) (v : V) → IsLeft line items kept c
       → Leading line c v kept → IsLeftOf line items kept c c v
-  left_apart items kept c v left leads = record {
-    left = left;
-    leads = leads;
-    below = le_refl line c;
-    joined = λ p W alike from l. absurd (lt_not_le line _ _ l from);
-  }
+  left_apart items kept c v left leads = grind (arith, common_steps)
 
   pub right_apart : (items kept : List X) (d : L) (v : V) → IsRight line items kept d
       → Trailing line d v kept → IsRightOf line items kept d d v
-  right_apart items kept d v right trails = record {
-    right = right;
-    trails = trails;
-    above = le_refl line d;
-    joined = λ p W alike from l. absurd (lt_not_le line _ _ l from);
-  }
+  right_apart items kept d v right trails = grind (arith, common_steps)
 
   -- an item with the value reaches or touches the range
   pub left_joined : (front : List X) (x : X) (rest : List X) (c : L) (v : V)
@@ -55,11 +53,7 @@ module _ {L V X : Type 0} (line : Line L V X) where
         left = left_whole line front (x ∷ rest) (line.lo x) chain
             (every_weaker _ _ front (λ z h. h.0) before) (chain_above line (line.lo x) x rest whole
             (le_refl line (line.lo x)));
-        leads = every_weaker _ _ front (λ z h. (
-          h.0,
-          λ k s. h.1 k (line.equal.congr (line.value z) v (line.value x) s ∙ same_is_symmetric
-              line (line.value x) v alike_value),
-        )) before;
+        leads = grind (arith, common_steps, every_weaker, same_is_symmetric);
         below = starts;
         joined = λ p W alike from l. held_alone line front x rest p W v chain
             (from, lt_le_trans line _ _ _ l reaches) alike alike_value;
@@ -75,9 +69,7 @@ module _ {L V X : Type 0} (line : Line L V X) where
       → line.same (line.value x) v ≡ true → IsRightOf line (front ++ x ∷ rest) rest d (line.hi x) v
   right_joined front x rest d v chain reaches ends alike_value =
       let whole = chain_right line front (x ∷ rest) chain in
-      let low = lt_le line _ _ whole.0 in
-      let before : Every (λ z. Le line.cmp (line.hi z) (line.hi x)) front = every_weaker _ _ front
-      (λ z h. le_trans line _ _ _ h.0 low) (chain_before line front x rest chain) in
+      let before : Every (λ z. Le line.cmp (line.hi z) (line.hi x)) front = grind (arith, common_steps, every_weaker, le_trans, chain_before) in
       record {
         right = record {
           chain = chain_tail line x rest whole.1;
@@ -89,10 +81,7 @@ module _ {L V X : Type 0} (line : Line L V X) where
                 (any_split _ front (x ∷ rest) h)),
           );
         };
-        trails = every_weaker _ _ rest (λ z h. (
-          h.0,
-          λ k s. h.1 k (line.equal.congr (line.value x) v (line.value z) alike_value ∙ s),
-        )) (follows_trails x rest whole.1);
+        trails = grind (arith, common_steps, every_weaker, follows_trails);
         above = ends;
         joined = λ p W alike from l. held_alone line front x rest p W v chain
             (le_trans line _ _ _ reaches from, l) alike alike_value;
@@ -117,9 +106,7 @@ module _ {L V X : Type 0} (line : Line L V X) where
         outside = λ p W alike where_. elim where_ [
           | inl under ↦ (
             λ h. (left.holds p W alike under).0 (only_first
-                (none_below line p c W (middle ++ behind) under
-                (every_append (λ x. Le line.cmp c (line.lo x)) middle behind above
-                (every_weaker _ _ behind (λ x h. le_trans line _ _ _ low h) right.starts)))
+                (grind (arith, common_steps, none_below, every_append, every_weaker, le_trans))
                 (any_split _ front (middle ++ behind) h)),
             λ h. any_left _ front (middle ++ behind) ((left.holds p W alike under).1 h),
           )
@@ -147,18 +134,10 @@ module _ {L V X : Type 0} (line : Line L V X) where
     inside = λ p W alike from upto. let wide = made.inside p W alike (le_trans line _ _ _ low from)
         (lt_le_trans line _ _ _ upto high) in let narrow = own p W alike from upto in
         (λ h. narrow.0 (wide.0 h), λ h. wide.1 (narrow.1 h));
-    outside = λ p W alike where_. elim where_ [
-      | inl under ↦ elim (cases line p s) [
-        | inl below ↦ made.outside p W alike (inl below)
-        | inr from ↦ both_ways (made.inside p W alike from (lt_le_trans line _ _ _ under
-            (le_trans line _ _ _ (lt_le line _ _ l) high))) (beside p W alike (inl (from, under)))
-      ]
-      | inr over ↦ elim (cases line p e) [
-        | inl upto ↦ both_ways (made.inside p W alike (le_trans line _ _ _ low
-            (le_trans line _ _ _ (lt_le line _ _ l) over)) upto)
-            (beside p W alike (inr (over, upto)))
-        | inr above ↦ made.outside p W alike (inr above)
-      ]
+    outside = λ p W alike where_. elim (inside_or_out line p s e) [
+      | inl within ↦ both_ways (made.inside p W alike within.0 within.1) (beside p W alike
+          (grind (arith, common_steps)))
+      | inr out ↦ made.outside p W alike out
     ];
   }
 
@@ -172,15 +151,7 @@ module _ {L V X : Type 0} (line : Line L V X) where
   pub trailing_follows : (m : X) (ys : List X) (e : L) (v : V) → Le line.cmp (line.hi m) e
       → Le line.cmp e (line.hi m) → line.same (line.value m) v ≡ true → IsChain line ys
       → Trailing line e v ys → Follows line m ys
-  trailing_follows m [] e v h k s chain trails = tt
-  trailing_follows m (y ∷ ys) e v h k s chain trails = (
-    (
-      le_trans line _ _ _ h trails.0.0,
-      λ q t. trails.0.1 (le_trans line _ _ _ q h)
-          (sym (line.equal.congr (line.value m) v (line.value y) s) ∙ t),
-    ),
-    chain,
-  )
+  trailing_follows m list e v h k s chain trails = grind (arith, common_steps)
 
   -- the new item is all that the hull holds
   pub places_between_are_bound : (items front behind : List X) (m : X) (c d : L) (v : V)
@@ -191,11 +162,7 @@ module _ {L V X : Type 0} (line : Line L V X) where
       let high = le_trans line _ _ _ (lt_le line _ _ l) right.above in
       let good : Lt line.cmp (line.lo m) (line.hi m) = le_lt_trans line _ _ _ left.below
       (lt_le_trans line _ _ _ l right.above) in
-      let chain = chains_join line front m behind left.left.chain (
-        good,
-        trailing_follows m behind (line.hi m) v (le_refl line (line.hi m))
-            (le_refl line (line.hi m)) alike_value right.right.chain right.trails,
-      ) (leading_like line front m (line.lo m) v left.leads (tied_itself line.total (line.lo m))
+      let chain = chains_join line front m behind left.left.chain (grind (arith, common_steps)) (leading_like line front m (line.lo m) v left.leads (tied_itself line.total (line.lo m))
       alike_value) in
       let made = places_between_hold items front (m ∷ []) behind (line.lo m) (line.hi m) left.left
       right.right good chain (le_refl line (line.lo m), tt) (le_refl line (line.hi m), tt) in
@@ -203,14 +170,8 @@ module _ {L V X : Type 0} (line : Line L V X) where
       → Has line W p (m ∷ []) ↔ (W v ≡ true) =
       λ p W alike held. held_alone line [] m [] p W v (good, tt) held alike alike_value in
       hull items (front ++ m ∷ behind) c d (line.lo m) (line.hi m) (λ p W. Has line W p (m ∷ []))
-      (λ p W. W v ≡ true) left.below l right.above made (λ p W alike from upto. own p W alike (
-        le_trans line _ _ _ left.below from,
-        lt_le_trans line _ _ _ upto right.above,
-      )) (λ p W alike where_. elim where_ [
+      (λ p W. W v ≡ true) left.below l right.above made (λ p W alike from upto. own p W alike (grind (arith, common_steps))) (λ p W alike where_. elim where_ [
         | inl k ↦ both_ways (left.joined p W alike k.0 k.1) (own p W alike
             (k.0, lt_le_trans line _ _ _ k.1 high))
-        | inr k ↦ both_ways (right.joined p W alike k.0 k.1) (own p W alike (
-          le_trans line _ _ _ left.below (le_trans line _ _ _ (lt_le line _ _ l) k.0),
-          k.1,
-        ))
+        | inr k ↦ both_ways (right.joined p W alike k.0 k.1) (own p W alike (grind (arith, common_steps)))
       ])

@@ -1,14 +1,12 @@
 -- What stands on each side of a range that is cut out of a chain.
-use Rattle.range_change.proofs.Common.{◌≡◌, ◌∙◌, Bool, true, List, [], ◌∷◌, ◌++◌, ◌⊎◌, ◌↔◌, inl, inr, Every, Equal, Le, Lt, any_left, any_right, any_split, any_none, every_weaker, every_append, Line, IsChain, Has, Held, Respects, Leading, IsLeft, IsRight}
-use Rattle.range_change.proofs.Chains.{same_is_symmetric, chain_left, chain_right, follows_above, chain_before, chains_join, follows_like, lt_le, eq_le, eq_ge, le_trans, lt_not_le, lt_le_trans, le_lt_trans}
+use Rattle.range_change.proofs.Common.{arith, common_steps, ◌≡◌, Bool, true, List, [], ◌∷◌, ◌++◌, ◌⊎◌, ◌↔◌, inl, inr, Every, Equal, Le, Lt, any_left, any_right, any_split, any_none, every_weaker, every_append, Line, IsChain, Has, Held, Respects, Leading, IsLeft, IsRight}
+use Rattle.range_change.proofs.Chains.{same_is_symmetric, chain_left, chain_right, follows_above, chain_before, chains_join, follows_like, lt_le, eq_le, eq_ge, le_trans, lt_not_le, lt_le_trans}
 
 pub only_first : {A B : Type 0} → (B → ⊥) → A ⊎ B → A
-only_first f (inl a) = a
-only_first f (inr b) = absurd (f b)
+only_first f either = grind (arith, common_steps)
 
 pub only_second : {A B : Type 0} → (A → ⊥) → A ⊎ B → B
-only_second f (inl a) = absurd (f a)
-only_second f (inr b) = b
+only_second f either = grind (arith, common_steps)
 
 module _ {L V X : Type 0} (line : Line L V X) where
   -- nothing holds a place below where all start
@@ -36,10 +34,7 @@ module _ {L V X : Type 0} (line : Line L V X) where
               | inl k ↦ alike (line.value x) v alike_value k.1
               | inr k ↦ absurd (none_below p (line.hi x) W rest held.1 above k)
             ],
-        λ w. any_right _ front (x ∷ rest) (inl (
-          held,
-          alike v (line.value x) (same_is_symmetric line (line.value x) v alike_value) w,
-        )),
+        λ w. any_right _ front (x ∷ rest) (inl (grind (arith, common_steps))),
       )
 
   -- an item in the place of another with an equal value, at a place that it holds too
@@ -51,23 +46,14 @@ module _ {L V X : Type 0} (line : Line L V X) where
   like_item front others behind beyond x y p W alike alike_value held left right h =
       elim (any_split _ front (x ∷ behind) h) [
         | inl k ↦ any_left _ others (y ∷ beyond) (left k)
-        | inr k ↦ any_right _ others (y ∷ beyond) (elim k [
-          | inl e ↦ inl (held e.0, alike (line.value x) (line.value y) alike_value e.1)
-          | inr e ↦ inr (right e)
-        ])
+        | inr k ↦ any_right _ others (y ∷ beyond) (grind (arith, common_steps))
       ]
 
   -- what leads to an item leads to one that starts there with an equal value
   pub leading_like : (front : List X) (m : X) (s : L) (v : V) → Leading line s v front
       → line.cmp (line.lo m) s ≡ Equal → line.same (line.value m) v ≡ true
       → Leading line (line.lo m) (line.value m) front
-  leading_like front m s v leads at alike_value =
-      let high = eq_ge line _ _ at in
-      every_weaker _ _ front (λ z h. (
-        le_trans line _ _ _ h.0 high,
-        λ k t. h.1 (le_trans line _ _ _ high k)
-            (line.equal.congr (line.value z) (line.value m) v t ∙ alike_value),
-      )) leads
+  leading_like front m s v leads at alike_value = grind (arith, common_steps, eq_ge, every_weaker, le_trans)
 
   -- a front that ends at the place at most, before what starts there at least
   pub left_whole : (front rest : List X) (c : L) → IsChain line (front ++ rest)
@@ -91,26 +77,17 @@ module _ {L V X : Type 0} (line : Line L V X) where
   left_cut front x rest y c chain starts reaches at_lo at_hi alike_value =
       let whole = chain_right line front (x ∷ rest) chain in
       let above = follows_above line x rest whole.1 in
-      let good : Lt line.cmp (line.lo y) (line.hi y) = le_lt_trans line _ _ _ (eq_le line _ _ at_lo)
-      (lt_le_trans line _ _ _ starts (eq_ge line _ _ at_hi)) in
+      let good : Lt line.cmp (line.lo y) (line.hi y) = grind (arith, common_steps) in
       let value_back = same_is_symmetric line (line.value y) (line.value x) alike_value in
       let leads = leading_like front y (line.lo x) (line.value x)
       (chain_before line front x rest chain) at_lo alike_value in
       record {
         chain =
             chains_join line front y [] (chain_left line front (x ∷ rest) chain) (good, tt) leads;
-        ends = every_append _ front (y ∷ []) (every_weaker _ _ front
-            (λ z h. le_trans line _ _ _ h.0 (le_trans line _ _ _ (eq_le line _ _ at_lo)
-            (lt_le line _ _ starts))) leads) (eq_le line _ _ at_hi, tt);
+        ends = every_append _ front (y ∷ []) (grind (arith, common_steps, every_weaker, le_trans, eq_le, lt_le)) (eq_le line _ _ at_hi, tt);
         holds = λ p W alike l. let inside = lt_le_trans line _ _ _ l reaches in (
-          like_item front front [] rest y x p W alike alike_value (λ h. (
-            le_trans line _ _ _ (eq_ge line _ _ at_lo) h.0,
-            inside,
-          )) (λ k. k) (λ k. absurd k),
-          like_item front front rest [] x y p W alike value_back (λ h. (
-            le_trans line _ _ _ (eq_le line _ _ at_lo) h.0,
-            lt_le_trans line _ _ _ l (eq_ge line _ _ at_hi),
-          )) (λ k. k) (none_below p (line.hi x) W rest inside above),
+          like_item front front [] rest y x p W alike alike_value (λ h. (grind (arith, common_steps))) (λ k. k) (λ k. absurd k),
+          like_item front front rest [] x y p W alike value_back (λ h. (grind (arith, common_steps))) (λ k. k) (none_below p (line.hi x) W rest inside above),
         );
       }
 
@@ -136,27 +113,16 @@ module _ {L V X : Type 0} (line : Line L V X) where
   right_cut rest x behind y d chain reaches ends at_lo at_hi alike_value =
       let whole = chain_right line rest (x ∷ behind) chain in
       let before = chain_before line rest x behind chain in
-      let good : Lt line.cmp (line.lo y) (line.hi y) = le_lt_trans line _ _ _ (eq_le line _ _ at_lo)
-      (lt_le_trans line _ _ _ ends (eq_ge line _ _ at_hi)) in
+      let good : Lt line.cmp (line.lo y) (line.hi y) = grind (arith, common_steps) in
       let follows = follows_like line x y behind at_hi alike_value whole.1 in
       let above = follows_above line x behind whole.1 in
-      let d_low = lt_le line _ _ ends in
       record {
         chain = (good, follows);
-        starts = (
-          eq_ge line _ _ at_lo,
-          every_weaker _ _ behind (λ z h. le_trans line _ _ _ d_low h) above,
-        );
-        holds = λ p W alike l. let inside = le_trans line _ _ _ reaches l in (
-          like_item [] rest behind behind y x p W alike alike_value (λ h. (
-            inside,
-            lt_le_trans line _ _ _ h.1 (eq_le line _ _ at_hi),
-          )) (λ k. absurd k) (λ k. k),
+        starts = grind (arith, common_steps, eq_ge, every_weaker, le_trans);
+        holds = λ p W alike l. (
+          like_item [] rest behind behind y x p W alike alike_value (λ h. (grind (arith, common_steps))) (λ k. absurd k) (λ k. k),
           like_item rest [] behind behind x y p W alike (same_is_symmetric line (line.value y)
-              (line.value x) alike_value) (λ h. (
-                le_trans line _ _ _ (eq_le line _ _ at_lo) l,
-                lt_le_trans line _ _ _ h.1 (eq_ge line _ _ at_hi),
-              )) (none_above p d W rest l (every_weaker _ _ rest
+              (line.value x) alike_value) (λ h. (grind (arith, common_steps))) (none_above p d W rest l (every_weaker _ _ rest
               (λ z e. le_trans line _ _ _ e.0 reaches) before)) (λ k. k),
         );
       }

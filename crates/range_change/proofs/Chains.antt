@@ -1,5 +1,5 @@
 -- Chains in parts, and chains that are joined.
-use Rattle.range_change.proofs.Common.{◌≡◌, ◌∙◌, ◌⊎◌, true, List, [], ◌∷◌, ◌++◌, Every, Equal, Le, Lt, Line, Leads, Trails, Follows, IsChain}
+use Rattle.range_change.proofs.Common.{arith, common_steps, inl, inr, ◌≡◌, ◌∙◌, ◌⊎◌, true, List, [], ◌∷◌, ◌++◌, Every, Equal, Le, Lt, Line, Leads, Trails, Follows, IsChain}
 use Rattle.range_algebra.specs.Orders
 
 module _ {L V X : Type 0} (line : Line L V X) where
@@ -30,6 +30,14 @@ module _ {L V X : Type 0} (line : Line L V X) where
   pub cases : (p q : L) → Lt line.cmp p q ⊎ Le line.cmp q p
   cases = Orders.cases line.cmp line.total
 
+  -- a place lies between two others, or below the first, or from the second on
+  pub inside_or_out : (p c d : L) → (Le line.cmp c p × Lt line.cmp p d)
+      ⊎ (Lt line.cmp p c ⊎ Le line.cmp d p)
+  inside_or_out p c d = elim (cases p c) [
+    | inl below ↦ inr (inl below)
+    | inr from ↦ elim (cases p d) [ inl upto ↦ inl (from, upto) | inr above ↦ inr (inr above) ]
+  ]
+
   pub same_is_symmetric : (a b : V) → line.same a b ≡ true → line.same b a ≡ true
   same_is_symmetric a b h = line.equal.symm b a ∙ h
 
@@ -39,8 +47,7 @@ module _ {L V X : Type 0} (line : Line L V X) where
   chain_left (x ∷ x' ∷ xs) ys h = (h.0, (h.1.0, chain_left (x' ∷ xs) ys h.1.1))
 
   pub chain_tail : (x : X) (xs : List X) → Follows line x xs → IsChain line xs
-  chain_tail x [] h = tt
-  chain_tail x (y ∷ ys) h = h.1
+  chain_tail x list h = grind (arith, common_steps)
 
   pub chain_right : (xs ys : List X) → IsChain line (xs ++ ys) → IsChain line ys
   chain_right [] ys h = h
@@ -68,16 +75,10 @@ module _ {L V X : Type 0} (line : Line L V X) where
   )
 
   pub strictly_leads : (x : X) (p : L) (v : V) → Lt line.cmp (line.hi x) p → Leads line x p v
-  strictly_leads x p v h = (
-    lt_le _ _ h,
-    λ k _. absurd (lt_not_le _ _ h k),
-  )
+  strictly_leads x p v h = grind (arith, common_steps)
 
   pub strictly_trails : (x : X) (p : L) (v : V) → Lt line.cmp p (line.lo x) → Trails line p v x
-  strictly_trails x p v h = (
-    lt_le _ _ h,
-    λ k _. absurd (lt_not_le _ _ h k),
-  )
+  strictly_trails x p v h = grind (arith, common_steps)
 
   -- all that stand before an item lead to it
   pub chain_before : (xs : List X) (y : X) (ys : List X) → IsChain line (xs ++ y ∷ ys)
@@ -85,9 +86,7 @@ module _ {L V X : Type 0} (line : Line L V X) where
   chain_before [] y ys h = tt
   chain_before (x ∷ []) y ys h = (h.1.0, tt)
   chain_before (x ∷ x' ∷ xs) y ys h =
-      let rest = chain_before (x' ∷ xs) y ys h.1.1 in
-      let strict = le_lt_trans _ _ _ h.1.0.0 (lt_le_trans _ _ _ h.1.1.0 rest.0.0) in
-      (strictly_leads x (line.lo y) (line.value y) strict, rest)
+      let rest = chain_before (x' ∷ xs) y ys h.1.1 in grind (arith, common_steps, rest, le_lt_trans, lt_le_trans, strictly_leads)
 
   pub chains_join : (xs : List X) (y : X) (ys : List X) → IsChain line xs → IsChain line (y ∷ ys)
       → Every (λ x. Leads line x (line.lo y) (line.value y)) xs → IsChain line (xs ++ y ∷ ys)
@@ -97,11 +96,7 @@ module _ {L V X : Type 0} (line : Line L V X) where
 
   strict_follows : (x : X) (ys : List X) (c d : L) → Le line.cmp (line.hi x) c → Lt line.cmp c d
       → IsChain line ys → Every (λ y. Le line.cmp d (line.lo y)) ys → Follows line x ys
-  strict_follows x [] c d h l k e = tt
-  strict_follows x (y ∷ ys) c d h l k e = (
-    strictly_leads x (line.lo y) (line.value y) (le_lt_trans _ _ _ h (lt_le_trans _ _ _ l e.0)),
-    k,
-  )
+  strict_follows x list c d h l k e = grind (arith, common_steps)
 
   pub join_apart : (xs ys : List X) (c d : L) → Lt line.cmp c d → IsChain line xs → IsChain line ys
       → Every (λ x. Le line.cmp (line.hi x) c) xs → Every (λ y. Le line.cmp d (line.lo y)) ys
@@ -115,11 +110,4 @@ module _ {L V X : Type 0} (line : Line L V X) where
   pub follows_like : (x y : X) (ys : List X) → line.cmp (line.hi y) (line.hi x) ≡ Equal
       → line.same (line.value y) (line.value x) ≡ true → Follows line x ys → Follows line y ys
   follows_like x y [] e s f = tt
-  follows_like x y (z ∷ zs) e s f = (
-    (
-      le_trans _ _ _ (eq_le _ _ e) f.0.0,
-      λ k t. f.0.1 (le_trans _ _ _ k (eq_le _ _ e)) (line.equal.congr (line.value x) (line.value y)
-          (line.value z) (same_is_symmetric (line.value y) (line.value x) s) ∙ t),
-    ),
-    f.1,
-  )
+  follows_like x y (z ∷ zs) e s f = grind (arith, common_steps)

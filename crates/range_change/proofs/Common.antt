@@ -14,7 +14,7 @@ pub use Rattle.std.specs.declared.cmp.Ordering.{Ordering}
 pub use Rattle.std.specs.declared.cmp.Ordering.TheVariants.{Equal, Greater, Less}
 pub use Rattle.std.specs.declared.ops.Bound.{Bound}
 pub use Rattle.std.specs.declared.ops.Bound.TheVariants.{Excluded, Included, Unbounded}
-pub use Rattle.range_keys.proofs.Orderings.{eq_is_equal, equal_then_equal, gt_is_greater, less_or_not, less_then_any, less_unless_equal, less_unless_greater, less_unless_less, lt_is_less, not_both_greater_and_not, not_greater}
+pub use Rattle.range_keys.proofs.Orderings.{eq_is_equal, equal_then_equal, less_or_not, less_then_any, less_unless_equal, less_unless_greater, less_unless_less, lt_is_less, not_both_greater_and_not, not_greater}
 pub use Rattle.range_keys.specs.Directed.{reference_position}
 pub use Rattle.range_keys.specs.Order.{IsComplete, IsLawful, KeyOrder, SameAnswer, Tells}
 pub use Rattle.range_keys.specs.Position.{at_told, bound_of, end_position, position_cmp, start_position}
@@ -54,7 +54,7 @@ pub use Rattle.range_change.specs.Put.{IsPut, JoinsNoLast}
 pub use Rattle.range_change.specs.Reach.{IsReach, IsSurrounded, ReachesAfter, ReachesBefore, inner_count}
 pub use Rattle.range_change.specs.Replaced.{AreWithin, IsReplaced}
 pub use Rattle.range_change.specs.Runs.{AreOverlapping}
-pub use Rattle.range_change.specs.Seams.{IsLeftCutting, IsLeftSeam, IsRightCutting, IsRightSeam, with_first_start, with_last_end}
+pub use Rattle.range_change.specs.Seams.{IsJoiningFirst, IsJoiningLast, IsLeftCutting, IsRightCutting, with_first_start, with_last_end}
 pub use Rattle.range_change.specs.Spelling.{IsEndAsIn, IsSpelledAsIn, IsStartAsIn, KeepsSpelling}
 pub use Rattle.range_change.specs.Stored.{IsFollowedBy, IsStored, item_lower, item_upper}
 pub use Rattle.range_change.specs.Window.{IsFound, IsJustBefore, IsLastOf, IsLastStarting, IsWalk, IsWindow, option_items, place_after}

@@ -1,10 +1,10 @@
 -- Which ranges meet a list in which a range was bound, by the places that the list covers.
-use Rattle.range_change.proofs.Common.{refl, true, Bool, Result, Ok, Err, OnOk, List, [], ◌∷◌, inl, inr, ◌↔◌, Every, IsEquivalence, KeyOrder, IsLawful, Position, AnyRange, IsKnownRange, lower, upper, line_of, IsBoundTo, le_refl, lt_le, le_lt_trans, lt_not_le, cases, not_le, PLe, PLt, Item, item_lower, item_upper, MeetsSome, MeetAlso, Overlap}
+use Rattle.range_change.proofs.Common.{arith, common_steps, refl, true, Bool, Result, OnOk, List, [], ◌∷◌, inl, inr, ◌↔◌, Every, IsEquivalence, KeyOrder, IsLawful, Position, AnyRange, IsKnownRange, lower, upper, line_of, IsBoundTo, le_refl, lt_le, le_lt_trans, lt_not_le, cases, not_le, PLe, PLt, Item, item_lower, item_upper, MeetsSome, MeetAlso, Overlap}
+use Rattle.range_change.proofs.Chains.{inside_or_out}
 use Rattle.range_change.proofs.Forms.{nonempty_good, before_is, Known, Chained, Hold, respects_any}
 
 pub on_ok : {A E : Type 0} (P Q : Type 0) (r : Result A E) → (P → Q) → OnOk r P → OnOk r Q
-on_ok P Q (Ok x) f h = f h
-on_ok P Q (Err e) f h = tt
+on_ok P Q answer f h = grind (arith, common_steps)
 
 module _ {K : Type 0} (order : KeyOrder K) (lawful : IsLawful order) where
   -- two ranges meet where each starts below the other's end
@@ -18,10 +18,7 @@ module _ {K : Type 0} (order : KeyOrder K) (lawful : IsLawful order) where
           not_le lawful (lower order r) (upper order s) (λ k. h.1 (behind.1 k)),
           not_le lawful (lower order s) (upper order r) (λ k. h.0 (before.1 k)),
         ),
-        λ h. (
-          λ k. lt_not_le lawful _ _ h.1 (before.0 k),
-          λ k. lt_not_le lawful _ _ h.0 (behind.0 k),
-        ),
+        λ h. (grind (arith, common_steps, lt_not_le)),
       )
 
   -- a place that two ranges share
@@ -57,11 +54,7 @@ module _ {K : Type 0} (order : KeyOrder K) (lawful : IsLawful order) where
   pub shared_place_is_overlap : (r s : AnyRange K) (p : Position K) → IsKnownRange order r
       → IsKnownRange order s → PLe lawful (lower order r) p → PLt lawful p (upper order r)
       → PLe lawful (lower order s) p → PLt lawful p (upper order s) → Overlap order r s
-  shared_place_is_overlap r s p known others from upto other_from other_upto =
-      (overlap_is r s known others).1 (
-        le_lt_trans lawful _ _ _ from other_upto,
-        le_lt_trans lawful _ _ _ other_from upto,
-      )
+  shared_place_is_overlap r s p known others from upto other_from other_upto = grind (arith, common_steps, overlap_is, le_lt_trans, from, other_upto, other_from, upto)
 
   module _ {V : Type 0} (same : V → V → Bool) (equal : IsEquivalence same) where
     pub chained_items_have_places : (items : List (Item (AnyRange K) V))
@@ -115,20 +108,17 @@ module _ {K : Type 0} (order : KeyOrder K) (lawful : IsLawful order) where
         IsBoundTo (line_of order lawful same equal) items new (lower order r) (upper order r) v
         → MeetAlso order items new r
     meets_bound items new r v all all_new chain known good changed = λ s known_s full.
+        let line = line_of order lawful same equal in
         let any = respects_any order lawful same equal in
         let good_s = (nonempty_good order lawful s known_s).0 full in (
           λ h.
               let at = met_range_is_covered s new known_s good_s all_new
               (chained_items_have_places new changed.chain) h in
-              elim (cases lawful at.place (lower order r)) [
-                | inl below ↦ inr (held_place_is_met s items at.place known_s all at.from at.upto
-                    ((changed.outside at.place (λ u. true) any (inl below)).0 at.held))
-                | inr from ↦ elim (cases lawful at.place (upper order r)) [
-                  | inl upto ↦ inl (shared_place_is_overlap r s at.place known known_s from upto
-                      at.from at.upto)
-                  | inr above ↦ inr (held_place_is_met s items at.place known_s all at.from at.upto
-                      ((changed.outside at.place (λ u. true) any (inr above)).0 at.held))
-                ]
+              elim (inside_or_out line at.place (lower order r) (upper order r)) [
+                | inl within ↦ inl (shared_place_is_overlap r s at.place known known_s within.0
+                    within.1 at.from at.upto)
+                | inr out ↦ inr (held_place_is_met s items at.place known_s all at.from at.upto
+                    ((changed.outside at.place (λ u. true) any out).0 at.held))
               ],
           λ h. elim h [
             | inl met ↦ let at = overlapping_ranges_share_place r s known known_s good good_s met in
@@ -138,12 +128,10 @@ module _ {K : Type 0} (order : KeyOrder K) (lawful : IsLawful order) where
                 let at = met_range_is_covered s items known_s good_s all
                 (chained_items_have_places items chain) met in
                 held_place_is_met s new at.place known_s all_new at.from at.upto
-                (elim (cases lawful at.place (lower order r)) [
-                  | inl below ↦ (changed.outside at.place (λ u. true) any (inl below)).1 at.held
-                  | inr from ↦ elim (cases lawful at.place (upper order r)) [
-                    | inl upto ↦ (changed.inside at.place (λ u. true) any from upto).1 refl
-                    | inr above ↦ (changed.outside at.place (λ u. true) any (inr above)).1 at.held
-                  ]
+                (elim (inside_or_out line at.place (lower order r) (upper order r)) [
+                  | inl within ↦
+                      (changed.inside at.place (λ u. true) any within.0 within.1).1 refl
+                  | inr out ↦ (changed.outside at.place (λ u. true) any out).1 at.held
                 ])
           ],
         )

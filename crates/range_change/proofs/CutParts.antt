@@ -1,5 +1,5 @@
 -- What is left of an item that a range cuts, by places.
-use Rattle.range_change.proofs.Common.{same_itself, ◌≡◌, refl, sym, ◌∙◌, ◌↔◌, Some, None, false, IsTrue, Bound, Included, Excluded, Unbounded, Ordering, Less, Equal, Greater, is_gt, is_le, tied_back, tied_itself, KeyOrder, IsLawful, start_position, end_position, position_total, AnyRange, IsKnownBound, IsKnownRange, flipped, SameBound, same_start, eq_le, eq_ge, le_lt_trans, lt_not_le, PLt, past, upper, flipped_bound, reaching_is_before_past, flipped_bound_is_past, flipped_known, unbounded_start, unbounded_end, Option, Border, seam_border}
+use Rattle.range_change.proofs.Common.{arith, common_steps, same_itself, ◌≡◌, refl, sym, ◌∙◌, ◌↔◌, Some, None, false, IsTrue, Bound, Included, Excluded, Unbounded, Ordering, Equal, is_gt, is_le, tied_back, tied_itself, KeyOrder, IsLawful, start_position, end_position, position_total, AnyRange, IsKnownBound, IsKnownRange, flipped, SameBound, same_start, eq_le, eq_ge, le_lt_trans, lt_not_le, PLt, past, upper, flipped_bound, reaching_is_before_past, flipped_bound_is_past, flipped_known, unbounded_start, unbounded_end, Option, Border, seam_border}
 use Rattle.range_change.specs.Borders.{IsSeamAt}
 use Rattle.range_change.proofs.Forms.{places}
 
@@ -8,30 +8,10 @@ module _ {K : Type 0} (order : KeyOrder K) (lawful : IsLawful order) where
   pub same_past : (a b : Bound K) → SameBound order a b
       → places order lawful (past order (end_position order a)) (past order (end_position order b))
       ≡ Equal
-  same_past (Included a) (Included b) h = same_start order lawful (Excluded a) (Excluded b) h
-  same_past (Excluded a) (Excluded b) h =
-      let total = position_total order.cmp lawful.total in
-      let at = flipped_bound_is_past order lawful (Excluded a) (Included a) refl in
-      let other = flipped_bound_is_past order lawful (Excluded b) (Included b) refl in
-      let starts = same_start order lawful (Included a) (Included b) h in
-      total.congr (past order (end_position order (Excluded a))) (start_position order (Included a))
-      (past order (end_position order (Excluded b))) at ∙ (total.congr
-      (start_position order (Included a)) (start_position order (Included b))
-      (past order (end_position order (Excluded b))) starts ∙ tied_back total
-      (past order (end_position order (Excluded b))) (start_position order (Included b)) other)
-  same_past Unbounded Unbounded h = tied_itself (position_total order.cmp lawful.total)
-      (past order (end_position order Unbounded))
-  same_past (Included a) (Excluded b) h = absurd h
-  same_past (Included a) Unbounded h = absurd h
-  same_past (Excluded a) (Included b) h = absurd h
-  same_past (Excluded a) Unbounded h = absurd h
-  same_past Unbounded (Included b) h = absurd h
-  same_past Unbounded (Excluded b) h = absurd h
+  same_past bound other_bound h = grind (arith, common_steps, same_start, tied_itself, position_total, past, end_position)
 
   pub known_turned : (b : Bound K) → IsKnownBound order b → IsKnownBound order (flipped_bound b)
-  known_turned (Included a) h = h
-  known_turned (Excluded a) h = h
-  known_turned Unbounded h = h
+  known_turned bound h = grind (arith, common_steps)
 
   end_by : (s t b : Bound K)
       → places order lawful (past order (end_position order t)) (start_position order s) ≡ Equal
@@ -82,19 +62,11 @@ module _ {K : Type 0} (order : KeyOrder K) (lawful : IsLawful order) where
   pub seam_stands : {P : Type 0} (joined reaching : Option P) (bound : Bound K)
       {border : Border K P} → IsKnownBound order bound → border ≡ seam_border joined reaching (flipped_bound bound)
       → IsSeamAt order joined reaching bound border
-  seam_stands joined reaching bound known at = record {
-    cut = flipped_bound bound;
-    at = at;
-    known = known_turned bound known;
-    flipped = same_turned bound;
-  }
+  seam_stands joined reaching bound known at = grind (arith, common_steps)
 
   not_past_all : (e a : Bound K) → None ≡ flipped e → IsKnownBound order a
       → PLt lawful (past order (end_position order e)) (past order (end_position order a)) → ⊥
-  not_past_all (Included k) a turns known l = cc
-  not_past_all (Excluded k) a turns known l = cc
-  not_past_all Unbounded a turns known l =
-      lt_not_le lawful _ _ l (unbounded_end order lawful a known)
+  not_past_all bound a turns known l = grind (arith, common_steps, lt_not_le, unbounded_end)
 
   -- nothing ends after an unbounded end
   pub ends_never : (r i : AnyRange K) → IsKnownRange order i → None ≡ flipped r.end → IsTrue false
@@ -103,9 +75,7 @@ module _ {K : Type 0} (order : KeyOrder K) (lawful : IsLawful order) where
       (λ h. absurd (cc), λ l. absurd (not_past_all r.end i.end turns known.1 l))
 
   pub le_is : (o : Ordering) → IsTrue (is_le o) ↔ is_gt o ≡ false
-  le_is Less = (λ h. refl, λ h. refl)
-  le_is Equal = (λ h. refl, λ h. refl)
-  le_is Greater = (λ h. absurd (cc), λ h. absurd (cc))
+  le_is compared = grind (arith, common_steps)
 
   -- a range ends after another where it reaches the start just after it
   pub ends_after_is : (r i : AnyRange K) (s : Bound K) → IsKnownRange order r → IsKnownRange order i

@@ -1,5 +1,5 @@
 -- The ends of ranges and the places past them lie in the same order.
-use Rattle.range_change.proofs.Common.{◌≡◌, refl, Option, Some, None, false, Bound, Included, Excluded, Unbounded, Less, Equal, Greater, is_gt, KeyOrder, IsLawful, Tells, SameAnswer, start_position, end_position, position_cmp, at_told, Position, MinusInfinity, Beside, PlusInfinity, Before, At, After, less_unless_greater, less_unless_equal, less_unless_less, less_then_any, IsKnownBound, flipped, Le, Lt, eq_le, eq_ge, le_trans, lt_not_le, not_lt, le_lt_trans, past, reaching_is_before_past, flipped_bound_is_past, flipped_known, unbounded_end}
+use Rattle.range_change.proofs.Common.{arith, common_steps, ◌≡◌, refl, Option, Some, None, false, Bound, Less, Equal, is_gt, KeyOrder, IsLawful, Tells, SameAnswer, end_position, position_cmp, at_told, Position, MinusInfinity, Beside, PlusInfinity, Before, At, After, less_unless_greater, less_unless_equal, less_unless_less, less_then_any, IsKnownBound, flipped, Le, Lt, eq_le, eq_ge, le_trans, lt_not_le, not_lt, le_lt_trans, past, reaching_is_before_past, flipped_bound_is_past, flipped_known, unbounded_end}
 use Rattle.range_keys.proofs.BoundPositions.{IsEnd, ends_lie_at_ends}
 use Rattle.range_algebra.specs.Orders
 
@@ -19,7 +19,6 @@ module _ {K : Type 0} (order : KeyOrder K) (lawful : IsLawful order) where
       let start = flipped_known order lawful f i turns known' in
       let pe = past order (end_position order e) in
       let pf = past order (end_position order f) in
-      let s = start_position order i in
       not_lt lawful pe pf (λ l.
       let under = le_lt_trans lawful _ _ _ (eq_ge lawful _ _ at) l in
       let reached = (reaching_is_before_past order lawful i e start known).1 under in
@@ -30,17 +29,11 @@ module _ {K : Type 0} (order : KeyOrder K) (lawful : IsLawful order) where
   pub past_le : (e f : Bound K) → IsKnownBound order e → IsKnownBound order f
       → PLe (end_position order e) (end_position order f)
       → PLe (past order (end_position order e)) (past order (end_position order f))
-  past_le e (Included b) known known' le =
-      past_turned e (Included b) (Excluded b) refl known known' le
-  past_le e (Excluded b) known known' le =
-      past_turned e (Excluded b) (Included b) refl known known' le
-  past_le e Unbounded known known' le = unbounded_end order lawful e known
+  past_le e bound known known' le = grind (arith, common_steps, past_turned, unbounded_end)
 
   -- the neighbour before a key that has none is nobody's neighbour
   told_none : (o p : Option K) (a : K) → Tells order o a → SameAnswer order o p → p ≡ None → ⊥
-  told_none None p a t s n = t
-  told_none (Some x) None a t s n = s
-  told_none (Some x) (Some y) a t s n = cc
+  told_none option p a t s n = grind (arith, common_steps)
 
   next_below : (a b d : K) → order.succ a ≡ Some d → order.is_key b → order.pred b ≡ None
       → order.cmp a b ≡ Less → order.cmp d b ≡ Less
@@ -52,36 +45,22 @@ module _ {K : Type 0} (order : KeyOrder K) (lawful : IsLawful order) where
 
   at_before : (a b : K) (o : Option K) → order.succ a ≡ o → order.is_key b → order.pred b ≡ None
       → order.cmp a b ≡ Less → PLt (at_told o (Beside a After)) (Beside b At)
-  at_before a b None next key first l = less_then_any (order.cmp a b) Greater l
-  at_before a b (Some d) next key first l =
-      less_then_any (order.cmp d b) Equal (next_below a b d next key first l)
+  at_before a b option next key first l = grind (arith, common_steps, less_then_any, next_below)
 
   at_at : (a b : K) (o p : Option K) → order.succ a ≡ o → order.succ b ≡ p → order.is_key a
       → order.is_key b → order.cmp a b ≡ Less
       → PLt (at_told o (Beside a After)) (at_told p (Beside b After))
-  at_at a b None None next next' key key' l = less_then_any (order.cmp a b) Equal l
-  at_at a b None (Some e) next next' key key' l = less_then_any (order.cmp a e) Greater
-      (Orders.lt_trans order.cmp lawful.total a b e l (lawful.succ_above b e next'))
-  at_at a b (Some d) None next next' key key' l =
-      (less_unless_less (order.cmp d b)).1 (lawful.none_between a d b next key' l)
-  at_at a b (Some d) (Some e) next next' key key' l = less_then_any (order.cmp d e) Equal
-      (Orders.le_lt_trans order.cmp lawful.total d b e (lawful.none_between a d b next key' l)
-      (lawful.succ_above b e next'))
+  at_at a b option other_option next next' key key' l = grind (arith, common_steps, less_then_any, less_unless_less)
 
   before_at : (a b : K) (p : Option K) → order.succ b ≡ p → is_gt (order.cmp a b) ≡ false
       → PLt (Beside a At) (at_told p (Beside b After))
-  before_at a b None next le = (less_unless_less (order.cmp a b)).1 le
-  before_at a b (Some e) next le = less_then_any (order.cmp a e) Equal
-      (Orders.le_lt_trans order.cmp lawful.total a b e le (lawful.succ_above b e next))
+  before_at a b option next le = grind (arith, common_steps, less_unless_less, less_then_any, le_lt_trans)
 
   at_infinity : (a : K) (o : Option K) → PLt (at_told o (Beside a After)) PlusInfinity
-  at_infinity a None = refl
-  at_infinity a (Some d) = refl
+  at_infinity a option = grind (arith, common_steps)
 
   infinity_last : (f : Position K) → PLt PlusInfinity f → ⊥
-  infinity_last MinusInfinity l = cc
-  infinity_last (Beside a x) l = cc
-  infinity_last PlusInfinity l = cc
+  infinity_last place l = grind (arith, common_steps)
 
   past_lt : (e f : Position K) → IsEnd order e → IsEnd order f → PLt e f
       → PLt (past order e) (past order f)
@@ -107,6 +86,4 @@ module _ {K : Type 0} (order : KeyOrder K) (lawful : IsLawful order) where
   pub end_le : (e f : Bound K) → IsKnownBound order e → IsKnownBound order f
       → PLe (past order (end_position order e)) (past order (end_position order f))
       → PLe (end_position order e) (end_position order f)
-  end_le e f known known' le = not_lt lawful (end_position order e) (end_position order f)
-      (λ l. lt_not_le lawful _ _ (past_lt (end_position order f) (end_position order e)
-      (ends_lie_at_ends order lawful f known') (ends_lie_at_ends order lawful e known) l) le)
+  end_le e f known known' le = grind (arith, common_steps, not_lt, end_position, lt_not_le, past_lt, ends_lie_at_ends)

@@ -1,5 +1,6 @@
 -- What is stored and bound, by places.
-use Rattle.range_change.proofs.Common.{◌≡◌, ℕ, take, drop, refl, sym, ◌∙◌, ◌↔◌, Option, Some, None, Bool, true, IsTrue, List, [], ◌∷◌, ◌⊎◌, inl, inr, Every, Bound, Included, Excluded, Unbounded, Ordering, Less, IsEquivalence, KeyOrder, IsLawful, start_position, end_position, position_cmp, position_total, Position, Beside, At, not_both_greater_and_not, eq_is_equal, not_greater, AnyRange, Holds, IsKnownBound, IsKnownRange, IsEmptyRange, flipped, start_is_at, starts_at_end, Item, Le, Lt, eq_ge, le_trans, lt_not_le, cases, not_le, not_lt, both, line_of, IsChain, Has, Respects, IsBoundTo, IsUnbound, past, lower, upper, IsStored, IsBound, BindsTo, Binds, IsSomeOf, IsBoundAfter, IsUnboundAfter, list_is_take_and_drop, every_left, every_right, reaching_is_before_past, flipped_bound_is_past, unbounded_end, held_between}
+use Rattle.range_change.proofs.Common.{arith, common_steps, ◌≡◌, ℕ, take, drop, refl, sym, ◌∙◌, ◌↔◌, Option, Some, None, Bool, true, IsTrue, List, [], ◌∷◌, ◌⊎◌, inl, inr, Every, Bound, Included, Excluded, Unbounded, Ordering, Less, IsEquivalence, KeyOrder, IsLawful, start_position, end_position, position_cmp, position_total, Position, Beside, At, eq_is_equal, AnyRange, Holds, IsKnownBound, IsKnownRange, IsEmptyRange, flipped, start_is_at, starts_at_end, Item, Le, Lt, eq_ge, le_trans, lt_not_le, not_le, not_lt, both, line_of, IsChain, Has, Respects, IsBoundTo, IsUnbound, past, lower, upper, IsStored, IsBound, BindsTo, Binds, IsSomeOf, IsBoundAfter, IsUnboundAfter, list_is_take_and_drop, every_left, every_right, reaching_is_before_past, flipped_bound_is_past, unbounded_end, held_between}
+use Rattle.range_change.proofs.Chains.{inside_or_out}
 use Rattle.range_change.proofs.Listed.{IsListed, stored_list_is_listed, stored_by}
 
 pub every_front : {X : Type 0} (P : X → Type 0) (n : ℕ) (xs : List X) → Every P xs
@@ -18,12 +19,7 @@ module _ {K : Type 0} (order : KeyOrder K) (lawful : IsLawful order) where
   pub nonempty_good : (r : AnyRange K) → IsKnownRange order r → (IsEmptyRange order r → ⊥)
       ↔ Lt places (lower order r) (upper order r)
   nonempty_good r known =
-      let reach = reaching_is_before_past order lawful r.start r.end known.0 known.1 in (
-        λ h. reach.0 (not_greater (places (start_position order r.start) (end_position order r.end))
-            h),
-        λ h. not_both_greater_and_not
-            (places (start_position order r.start) (end_position order r.end)) (reach.1 h),
-      )
+      let reach = reaching_is_before_past order lawful r.start r.end known.0 known.1 in (grind (arith, common_steps))
 
   pub before_is : (e s : Bound K) → IsKnownBound order e → IsKnownBound order s
       → places (end_position order e) (start_position order s) ≡ Less
@@ -40,14 +36,7 @@ module _ {K : Type 0} (order : KeyOrder K) (lawful : IsLawful order) where
       → Le places (past order (end_position order e)) (lower order s)
       → IsTrue (start_is_at order (Some i) (lower order s))
       ↔ Le places (lower order s) (past order (end_position order e))
-  touches_by e i s turns le =
-      let at = flipped_bound_is_past order lawful e i turns in
-      let other = eq_is_equal (places (start_position order i) (lower order s)) in (
-        λ h. le_trans lawful _ _ _ (eq_ge lawful _ _ (other.0 h)) (eq_ge lawful _ _ at),
-        λ h. other.1 (sym ((position_total order.cmp lawful.total).congr
-            (past order (end_position order e)) (start_position order i) (lower order s) at) ∙ both
-            lawful _ _ le h),
-      )
+  touches_by e i s turns le = grind (arith, common_steps, flipped_bound_is_past, eq_is_equal, start_position, lower, le_trans, eq_ge, position_total, past, end_position, both)
 
   -- a range touches another where the place past it is that of the other
   pub touches_is : (e : Bound K) (s : AnyRange K) → IsKnownRange order s
@@ -57,11 +46,7 @@ module _ {K : Type 0} (order : KeyOrder K) (lawful : IsLawful order) where
       ↔ Le places (lower order s) (past order (end_position order e))
   touches_is (Included a) s known good le = touches_by (Included a) (Excluded a) s refl le
   touches_is (Excluded a) s known good le = touches_by (Excluded a) (Included a) s refl le
-  touches_is Unbounded s known good le = (
-    λ h. absurd (cc),
-    λ h. absurd (lt_not_le lawful _ _ good (le_trans lawful _ _ _
-        (unbounded_end order lawful s.end known.1) le)),
-  )
+  touches_is Unbounded s known good le = grind (arith, common_steps, lt_not_le, le_trans, unbounded_end)
 
   module _ {V : Type 0} (same : V → V → Bool) (equal : IsEquivalence same) where
     abbrev pub Known : List (Item (AnyRange K) V) → Type 0
@@ -82,11 +67,7 @@ module _ {K : Type 0} (order : KeyOrder K) (lawful : IsLawful order) where
     listed_chain [] known h = tt
     listed_chain (i ∷ []) known h = ((nonempty_good i.key known.0).0 h.1, tt)
     listed_chain (i ∷ j ∷ rest) known h =
-        let chain = listed_chain (j ∷ rest) known.1 h.4 in
-        let le = (before_is i.key.end j.key.start known.0.1 known.1.0.0).0 h.2 in (
-          (nonempty_good i.key known.0).0 h.1,
-          ((le, λ k s. h.3 ((touches_is i.key.end j.key known.1.0 chain.0 le).1 k) s), chain),
-        )
+        let chain = listed_chain (j ∷ rest) known.1 h.4 in grind (arith, common_steps, chain, before_is, nonempty_good, touches_is)
 
     pub stored_chain : (items : List (Item (AnyRange K) V)) → IsStored order same items
         → Chained items
@@ -97,14 +78,7 @@ module _ {K : Type 0} (order : KeyOrder K) (lawful : IsLawful order) where
         → IsListed order lawful same items
     chain_listed [] known chain = tt
     chain_listed (i ∷ []) known chain = (known.0, (nonempty_good i.key known.0).1 chain.0)
-    chain_listed (i ∷ j ∷ rest) known chain = (
-      known.0,
-      (nonempty_good i.key known.0).1 chain.0,
-      (before_is i.key.end j.key.start known.0.1 known.1.0.0).1 chain.1.0.0,
-      λ touching s. chain.1.0.1
-          ((touches_is i.key.end j.key known.1.0 chain.1.1.0 chain.1.0.0).0 touching) s,
-      chain_listed (j ∷ rest) known.1 chain.1.1,
-    )
+    chain_listed (i ∷ j ∷ rest) known chain = grind (arith, common_steps, chain_listed (j ∷ rest) known.1 chain.1.1, nonempty_good, before_is, touches_is)
 
     pub chain_stored : (items : List (Item (AnyRange K) V)) → Known items → Chained items
         → IsStored order same items
@@ -114,22 +88,12 @@ module _ {K : Type 0} (order : KeyOrder K) (lawful : IsLawful order) where
     pub binds_hold : (items : List (Item (AnyRange K) V)) (k : K) (v : V) → Known items
         → order.is_key k → BindsTo order same items k v ↔ Hold (λ u. same u v) (Beside k At) items
     binds_hold [] k v known key = (λ h. h, λ h. h)
-    binds_hold (i ∷ rest) k v known key =
-        let own = held_between order lawful i.key k known.0 key in
-        let others = binds_hold rest k v known.1 key in (
-          λ h. elim h [ inl e ↦ inl (own.0 e.0, e.1) | inr e ↦ inr (others.0 e) ],
-          λ h. elim h [ inl e ↦ inl (own.1 e.0, e.1) | inr e ↦ inr (others.1 e) ],
-        )
+    binds_hold (i ∷ rest) k v known key = grind (arith, common_steps, binds_hold rest k v known.1 key, held_between, common_steps)
 
     pub bound_hold : (items : List (Item (AnyRange K) V)) (k : K) → Known items → order.is_key k
         → IsBound order items k ↔ Hold (λ u. true) (Beside k At) items
     bound_hold [] k known key = (λ h. h, λ h. h)
-    bound_hold (i ∷ rest) k known key =
-        let own = held_between order lawful i.key k known.0 key in
-        let others = bound_hold rest k known.1 key in (
-          λ h. elim h [ inl e ↦ inl (own.0 e, refl) | inr e ↦ inr (others.0 e) ],
-          λ h. elim h [ inl e ↦ inl (own.1 e.0) | inr e ↦ inr (others.1 e) ],
-        )
+    bound_hold (i ∷ rest) k known key = grind (arith, common_steps, bound_hold rest k known.1 key, held_between, common_steps)
 
     respects_same : (v : V) → Respects (line_of order lawful same equal) (λ u. same u v)
     respects_same v a b s h = sym (equal.congr a b v s) ∙ h
@@ -140,11 +104,11 @@ module _ {K : Type 0} (order : KeyOrder K) (lawful : IsLawful order) where
     pub unheld_lies_outside : (r : AnyRange K) (k : K) → IsKnownRange order r → order.is_key k
         → (Holds order r k → ⊥)
         → Lt places (Beside k At) (lower order r) ⊎ Le places (upper order r) (Beside k At)
-    unheld_lies_outside r k known key h = elim (cases lawful (Beside k At) (lower order r)) [
-      | inl l ↦ inl l
-      | inr from ↦ inr (not_lt lawful (upper order r) (Beside k At)
-          (λ upto. h ((held_between order lawful r k known key).1 (from, upto))))
-    ]
+    unheld_lies_outside r k known key h = elim (inside_or_out (line_of order lawful same equal)
+        (Beside k At) (lower order r) (upper order r)) [
+          | inl within ↦ absurd (h ((held_between order lawful r k known key).1 within))
+          | inr out ↦ out
+        ]
 
     pub same_binds : (before after : List (Item (AnyRange K) V)) (k : K) → Known before
         → Known after → order.is_key k
@@ -162,19 +126,31 @@ module _ {K : Type 0} (order : KeyOrder K) (lawful : IsLawful order) where
         let new = bound_hold after k known' key in
         (λ h e. h (new.1 (own.1 (old.0 e))), λ h e. h (old.1 (own.0 (new.0 e))))
 
-    inside_bound : (before after : List (Item (AnyRange K) V)) (r : AnyRange K) (v : V) (k : K)
-        → Known after → order.is_key k
-        → IsBoundTo (line_of order lawful same equal) before after (lower order r) (upper order r) v
-        → Le places (lower order r) (Beside k At) → Lt places (Beside k At) (upper order r)
-        → (b : Option V) → Binds order same after k b ↔ IsSomeOf order same v b
-    inside_bound before after r v k known key changed from upto (Some w) =
-        let own = changed.inside (Beside k At) (λ u. same u w) (respects_same w) from upto in
-        let new = binds_hold after k w known key in
-        (λ h. own.0 (new.0 h), λ h. new.1 (own.1 h))
-    inside_bound before after r v k known key changed from upto None = (
-      λ h. h ((bound_hold after k known key).1 ((changed.inside (Beside k At) (λ u. true)
-          respects_any from upto).1 refl)),
+    -- what the places of a key hold is its binding
+    pub binds_as : (items : List (Item (AnyRange K) V)) (k : K) (v : V) → Known items
+        → order.is_key k → ((W : V → Bool) → Respects (line_of order lawful same equal) W
+        → Hold W (Beside k At) items ↔ (W v ≡ true)) → (b : Option V)
+        → Binds order same items k b ↔ IsSomeOf order same v b
+    binds_as items k v known key has (Some w) =
+        let own = has (λ u. same u w) (respects_same w) in
+        let here = binds_hold items k w known key in
+        (λ h. own.0 (here.0 h), λ h. here.1 (own.1 h))
+    binds_as items k v known key has None = (
+      λ h. h ((bound_hold items k known key).1 ((has (λ u. true) respects_any).1 refl)),
       λ h. absurd h,
+    )
+
+    pub unbinds_as : (items : List (Item (AnyRange K) V)) (k : K) → Known items → order.is_key k
+        → ((W : V → Bool) → Respects (line_of order lawful same equal) W
+        → Hold W (Beside k At) items ↔ ⊥) → (b : Option V)
+        → Binds order same items k b ↔ (b ≡ None)
+    unbinds_as items k known key has (Some w) = (
+      λ h. absurd ((has (λ u. same u w) (respects_same w)).0 ((binds_hold items k w known key).0 h)),
+      λ h. absurd (cc),
+    )
+    unbinds_as items k known key has None = (
+      λ h. refl,
+      λ h e. (has (λ u. true) respects_any).0 ((bound_hold items k known key).0 e),
     )
 
     pub bound_after : (before after : List (Item (AnyRange K) V)) (r : AnyRange K) (v : V)
@@ -182,36 +158,18 @@ module _ {K : Type 0} (order : KeyOrder K) (lawful : IsLawful order) where
         → IsBoundTo (line_of order lawful same equal) before after (lower order r) (upper order r) v
         → IsBoundAfter order same before after r v
     bound_after before after r v known_range known known' changed = record {
-      held = λ k key h. let within = (held_between order lawful r k known_range key).0 h in
-          inside_bound before after r v k known' key changed within.0 within.1;
+      held = grind (arith, common_steps, held_between, binds_as);
       others = λ k key h. same_binds before after k known known' key
           (λ W alike. changed.outside (Beside k At) W alike (unheld_lies_outside r k known_range key
           h));
     }
-
-    inside_unbound : (before after : List (Item (AnyRange K) V)) (r : AnyRange K) (k : K)
-        → Known after → order.is_key k
-        → IsUnbound (line_of order lawful same equal) before after (lower order r) (upper order r)
-        → Le places (lower order r) (Beside k At) → Lt places (Beside k At) (upper order r)
-        → (b : Option V) → Binds order same after k b ↔ (b ≡ None)
-    inside_unbound before after r k known key changed from upto (Some w) = (
-      λ h. absurd ((changed.inside (Beside k At) (λ u. same u w) (respects_same w) from upto).0
-          ((binds_hold after k w known key).0 h)),
-      λ h. absurd (cc),
-    )
-    inside_unbound before after r k known key changed from upto None = (
-      λ h. refl,
-      λ h e. (changed.inside (Beside k At) (λ u. true) respects_any from upto).0
-          ((bound_hold after k known key).0 e),
-    )
 
     pub unbound_after : (before after : List (Item (AnyRange K) V)) (r : AnyRange K)
         → IsKnownRange order r → Known before → Known after
         → IsUnbound (line_of order lawful same equal) before after (lower order r) (upper order r)
         → IsUnboundAfter order same before after r
     unbound_after before after r known_range known known' changed = record {
-      held = λ k key h. let within = (held_between order lawful r k known_range key).0 h in
-          inside_unbound before after r k known' key changed within.0 within.1;
+      held = grind (arith, common_steps, held_between, unbinds_as);
       others = λ k key h. same_binds before after k known known' key
           (λ W alike. changed.outside (Beside k At) W alike (unheld_lies_outside r k known_range key
           h));

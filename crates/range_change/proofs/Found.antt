@@ -1,5 +1,5 @@
 -- What a search among stored items finds.
-use Rattle.range_change.proofs.Common.{◌≡◌, ◌↔◌, ℕ, zero, suc, ◌+◌, ◌<◌, List, [], ◌∷◌, ◌++◌, length, take, drop, get_or, refl, ap, sym, subst, arith, Option, None, Some, Bool, true, false, inl, inr, Every, MatchOption, Ordering, Less, Equal, Greater, is_gt, is_le, is_lt, IsEquivalence, take_more, KeyOrder, IsLawful, start_position, end_position, Position, Beside, At, lt_is_less, not_greater, AnyRange, Holds, IsEmptyRange, Item, IsAt, IsFrontOf, place_at, Any, Le, Lt, lt_le, lt_not_le, le_trans, not_le, not_lt, lt_le_trans, le_lt_trans, lt_trans, PLe, PLt, IsStored, IsItemFor, IsStoredFor, IsBound, BindsTo, IsFound, IsJustBefore, IsLastStarting, place_after, every_append, every_at, every_right, every_take, every_drop, list_is_take_and_drop, every_weaker}
+use Rattle.range_change.proofs.Common.{common_steps, get_or_read, ◌≡◌, ◌↔◌, ℕ, zero, suc, ◌+◌, ◌<◌, List, [], ◌∷◌, ◌++◌, length, take, drop, get_or, refl, ap, sym, arith, Option, None, Some, Bool, true, false, inl, inr, Every, MatchOption, Ordering, Less, is_gt, is_le, is_lt, IsEquivalence, KeyOrder, IsLawful, start_position, end_position, Position, Beside, At, lt_is_less, not_greater, AnyRange, Holds, IsEmptyRange, Item, IsAt, IsFrontOf, place_at, Any, Le, Lt, lt_le, lt_not_le, le_trans, not_le, not_lt, lt_le_trans, le_lt_trans, lt_trans, PLe, PLt, IsStored, IsItemFor, IsStoredFor, IsBound, BindsTo, IsFound, IsJustBefore, IsLastStarting, place_after, every_append, every_at, every_take, every_drop, list_is_take_and_drop, every_weaker}
 use Rattle.std.specs.List.Sorted.{IsPartitionedBy}
 use Rattle.range_algebra.proofs.Holding.{holds_by_position}
 use Rattle.range_algebra.specs.Orders.{lt_of}
@@ -7,19 +7,13 @@ use Rattle.range_change.proofs.Forms.{places}
 use Rattle.range_change.proofs.Listed.{IsListed, stored_list_is_listed}
 
 pub not_less : (o : Ordering) → is_lt o ≡ false → o ≡ Less → ⊥
-not_less Less h e = cc
-not_less Equal h e = cc
-not_less Greater h e = cc
+not_less compared h e = grind (arith, common_steps)
 
 le_is_at_most : (o : Ordering) → is_gt o ≡ false ↔ is_le o ≡ true
-le_is_at_most Less = (λ _. refl, λ _. refl)
-le_is_at_most Equal = (λ _. refl, λ _. refl)
-le_is_at_most Greater = (λ e. cc, λ e. cc)
+le_is_at_most compared = grind (arith, common_steps)
 
 not_at_most : (o : Ordering) → is_le o ≡ false → is_gt o ≡ false → ⊥
-not_at_most Less h e = cc
-not_at_most Equal h e = cc
-not_at_most Greater h e = cc
+not_at_most compared h e = grind (arith, common_steps)
 
 module _ {K : Type 0} (order : KeyOrder K) (lawful : IsLawful order) {V : Type 0}
     (same : V → V → Bool) where
@@ -35,13 +29,11 @@ module _ {K : Type 0} (order : KeyOrder K) (lawful : IsLawful order) {V : Type 0
 
   stored_nonempty : (i : Item (AnyRange K) V) (rest : List (Item (AnyRange K) V))
       → IsListed order lawful same (i ∷ rest) → IsEmptyRange order i.key → ⊥
-  stored_nonempty i [] h = h.1
-  stored_nonempty i (j ∷ rest) h = h.1
+  stored_nonempty i list h = grind (arith, common_steps)
 
   pub stored_tail : (i : Item (AnyRange K) V) (rest : List (Item (AnyRange K) V))
       → IsListed order lawful same (i ∷ rest) → IsListed order lawful same rest
-  stored_tail i [] h = tt
-  stored_tail i (j ∷ rest) h = h.4
+  stored_tail i list h = grind (arith, common_steps)
 
   -- what follows an item starts past its end
   pub starts_rise : (i : Item (AnyRange K) V) (rest : List (Item (AnyRange K) V))
@@ -170,41 +162,22 @@ module _ {K : Type 0} (order : KeyOrder K) (lawful : IsLawful order) {V : Type 0
       λ h. not_bound (take place items ++ drop place items) k none
       (rw (list_is_take_and_drop items place) at h)
 
-  ends_upto_listed : (items : List (Item (AnyRange K) V)) (p : Position K) (place : ℕ)
-      (d : Item (AnyRange K) V) → IsListed order lawful same items → place < length items
-      → PLt lawful (End (get_or items place d)) p
-      → Every (λ i. PLt lawful (End i) p) (take (suc place) items)
-  ends_upto_listed [] p place d h within ends = absurd (omega arith)
-  ends_upto_listed (i ∷ rest) p zero d h within ends = (ends, tt)
-  ends_upto_listed (i ∷ rest) p (suc place) d h within ends =
-      let cmp = places order lawful in
-      let y = get_or rest place d in
-      let rise = every_at (λ j. Lt cmp (End i) (Start j)) rest place d (starts_rise i rest h)
-      (omega (arith, within)) in
-      let own = every_at (λ j. Le cmp (Start j) (End j)) rest place d
-      (every_nonempty rest (stored_tail i rest h)) (omega (arith, within)) in (
-        lt_trans lawful _ _ _ (lt_le_trans lawful _ _ _ rise own) ends,
-        ends_upto_listed rest p place d (stored_tail i rest h) (omega (arith, within)) ends,
-      )
-
   -- with an item that ends before a position, those before it do
   pub ends_upto : (items : List (Item (AnyRange K) V)) (p : Position K) (place : ℕ)
       (x : Item (AnyRange K) V) → IsStored order same items → place < length items
       → x ≡ get_or items place x → true ≡ is_lt (places order lawful (End x) p)
       → Every (λ i. PLt lawful (End i) p) (take (place + 1) items)
-  ends_upto items p place x stored within read ends =
-      let next : suc place ≡ place + 1 = omega arith in
-      rw next at (ends_upto_listed items p place x
-      (stored_list_is_listed order lawful same items stored) within
-      (subst (λ y. PLt lawful (End y) p) read (lt_of (places order lawful (End x) p) (sym ends))))
+  ends_upto items p place x stored within read ends = every_weaker _ _ (take (place + 1) items)
+      (λ i e. lt_of (places order lawful (End i) p) e)
+      (every_take (λ i. is_lt (places order lawful (End i) p) ≡ true) items (place + 1)
+      (omega (arith, within)) (λ k d low below. found_partitions items p stored k place d
+      (omega (arith, below)) within (rw (← get_or_read items place x within read d) (sym ends))))
 
   -- the item at the place is the last of those up to it
   pub starts_here : (items : List (Item (AnyRange K) V)) (p : Position K) (place : ℕ)
       (x : Item (AnyRange K) V) → place < length items → x ≡ get_or items place x
       → Every (λ i. PLe lawful (Start i) p) (take (place + 1) items) → PLe lawful (Start x) p
-  starts_here items p place x within read upto = subst (λ y. PLe lawful (Start y) p) (sym read)
-      (every_right (λ i. PLe lawful (Start i) p) (take place items) (get_or items place x ∷ [])
-      (rw (take_more items place x within) at upto)).0
+  starts_here items p place x within read upto = grind (arith, common_steps)
 
   -- an item that starts at the key at most and does not end before it holds it
   pub holds_at : (items : List (Item (AnyRange K) V)) (k : K) (place : ℕ) (x : Item (AnyRange K) V)
@@ -212,11 +185,7 @@ module _ {K : Type 0} (order : KeyOrder K) (lawful : IsLawful order) {V : Type 0
       → Every (λ i. PLe lawful (Start i) (Beside k At)) (take (place + 1) items)
       → false ≡ is_lt (places order lawful (End x) (Beside k At)) → Holds order x.key k
   holds_at items k place x key within read upto ends =
-      let cmp = places order lawful in
-      (holds_by_position order lawful x.key k key).1 (
-        starts_here items (Beside k At) place x within read upto,
-        not_lt lawful _ _ (not_less (cmp (End x) (Beside k At)) (sym ends)),
-      )
+      (holds_by_position order lawful x.key k key).1 (grind (arith, common_steps, starts_here, not_lt, not_less))
 
   pub item_at : (items : List (Item (AnyRange K) V)) (place : ℕ) (x : Item (AnyRange K) V)
       → place < length items → x ≡ get_or items place x → Any (λ j. j ≡ x) items

@@ -1,16 +1,14 @@
 -- Where a range meets no stored one, no item is cut beside it; a list that is made keeps its form.
-use Rattle.range_change.proofs.Common.{◌≡◌, refl, Bool, List, Option, Some, None, Result, Ok, Err, OnOk, OnErr, Bound, KeyOrder, AnyRange, Item, IsInserted, seam_border, IsStored}
+use Rattle.range_change.proofs.Common.{arith, common_steps, ◌≡◌, Bool, List, Option, None, Result, OnOk, OnErr, Bound, KeyOrder, AnyRange, Item, IsInserted, seam_border, IsStored}
 
 -- so it is the same where it would be cut
 pub seam_alike : {K P : Type 0} (found : Option P) (b c : Bound K)
     → seam_border found None b ≡ seam_border found None c
-seam_alike None b c = refl
-seam_alike (Some q) b c = refl
+seam_alike found b c = grind (arith, common_steps)
 
 module _ {K : Type 0} (order : KeyOrder K) {V : Type 0} (same : V → V → Bool) where
   -- what was inserted or refused is in stored form
   pub form_after : {A E : Type 0} (answer : Result A E) (items new : List (Item (AnyRange K) V))
       (r : AnyRange K) (v : V) → OnOk answer (IsInserted order same items new r v)
       → OnErr answer (new ≡ items) → IsStored order same items → IsStored order same new
-  form_after (Ok a) items new r v done refused form = done.stored
-  form_after (Err e) items new r v done refused form = rw refused form
+  form_after answer items new r v done refused form = grind (arith, common_steps)

@@ -1,5 +1,5 @@
 -- Which items give way to a range, and what stands in their place.
-use Rattle.range_change.proofs.Common.{common_steps, ◌≡◌, ℕ, zero, suc, ◌+◌, ◌-◌, ◌<◌, ◌≤◌, List, [], ◌∷◌, ◌++◌, length, take, drop, get_or, refl, ap, sym, ◌∙◌, arith, subst, Option, Some, None, Bool, true, IsTrue, ◌⊎◌, inl, inr, length-append, append_assoc, append-nil, get_or-drop, get_or-take, drop-take, drop-drop, IsEquivalence, Every, unwrap_or, Bound, KeyOrder, IsLawful, AnyRange, Any, lt_trans, le_lt_trans, PLt, line_of, upper, list_is_take_and_drop, every_at, any_left, any_right, any_none, every_weaker, every_append, every_left, every_right, Item, item_lower, MeetsSome, Overlap, IsWindow, option_items, Window, IsEndOf, HasValue, IsNewItem, IsSpliceFrame, IsInsertionFrame, IsPart, IsRemovalFrame, joined_item, IsLeftFrame, IsRightFrame}
+use Rattle.range_change.proofs.Common.{common_steps, ◌≡◌, ℕ, zero, suc, ◌+◌, ◌-◌, ◌<◌, ◌≤◌, List, [], ◌∷◌, ◌++◌, length, take, drop, get_or, refl, ap, sym, ◌∙◌, arith, subst, Option, Some, Bool, true, IsTrue, ◌⊎◌, inl, inr, length-append, append_assoc, append-nil, get_or-drop, get_or-take, drop-take, drop-drop, IsEquivalence, Every, unwrap_or, Bound, KeyOrder, IsLawful, AnyRange, Any, lt_trans, le_lt_trans, PLt, line_of, upper, list_is_take_and_drop, every_at, any_left, any_right, any_none, every_weaker, every_append, every_left, every_right, Item, item_lower, MeetsSome, Overlap, IsWindow, option_items, Window, IsEndOf, HasValue, IsNewItem, IsSpliceFrame, IsInsertionFrame, IsPart, IsRemovalFrame, joined_item, IsLeftFrame, IsRightFrame}
 use Rattle.range_change.proofs.Chains.{chain_before, chain_left}
 use Rattle.range_change.proofs.CoveredPlaces.{chained_items_have_places, overlap_is}
 use Rattle.range_change.proofs.ItemPlaces.{element_at, element_at_is_read, listed_at, upto_item}
@@ -64,9 +64,7 @@ widened_frame items new Way place count front extra rest body beyond more tail b
       run = extra ++ met ++ more;
       others = rest ++ body ++ beyond;
       behind = tail;
-      before = list_is_take_and_drop items place ∙ (ap (λ ys. ys ++ drop place items) before ∙
-          (ap (λ ys. (front ++ extra) ++ ys) (parts_of items place count ∙ ap (λ ys. met ++ ys)
-          after) ∙ append_reassociates front extra met more tail));
+      before = list_is_take_and_drop items place ∙ (grind (arith, common_steps, drop, parts_of, append_reassociates));
       after = changed ∙ reassociate_pieces front rest body beyond tail;
       such = such;
     }
@@ -79,22 +77,13 @@ module _ {K : Type 0} {order : KeyOrder K} (lawful : IsLawful order) {V : Type 0
   -- where some item of a run is the reason, one of a wider run is
   within_wider : {A B : Type 0} {some wide : Type 0} → (some → wide) → A ⊎ (some ⊎ B)
       → A ⊎ (wide ⊎ B)
-  within_wider f (inl own) = inl own
-  within_wider f (inr (inl one)) = inr (inl (f one))
-  within_wider f (inr (inr turned)) = inr (inr turned)
+  within_wider f either = grind (arith, common_steps)
 
   -- what is put in the place of a run is put so in that of a wider one
   made_within : (run wider made : List (Item (AnyRange K) V))
       → ((Q : Item (AnyRange K) V → Type 0) → Any Q run → Any Q wider) → (r : AnyRange K) (v : V)
       → Every (IsNewItem order same run r v) made → Every (IsNewItem order same wider r v) made
-  made_within run wider made inside r v all = every_weaker _ _ made (λ j h. record {
-    start = within_wider (inside (λ i. j.key.start ≡ i.key.start)) h.start;
-    end = within_wider (inside (λ i. j.key.end ≡ i.key.end)) h.end;
-    value = elim h.value [
-      | inl e ↦ inl e
-      | inr k ↦ inr (inside (λ i. IsTrue (same j.value i.value)) k)
-    ];
-  }) all
+  made_within run wider made inside r v all = grind (arith, common_steps, every_weaker, within_wider)
 
   -- a value that a run has equals v where all values of the run do
   has_equal : (run : List Stored) (u v : V) → IsTrue (same u v) ⊎ HasValue order same run u
@@ -109,9 +98,7 @@ module _ {K : Type 0} {order : KeyOrder K} (lawful : IsLawful order) {V : Type 0
       → Every (λ i. IsTrue (same i.value v)) run
       → Every (IsNewItem order same run r v) (option_items rest)
       → Every (λ i. ¬ IsTrue (same i.value v)) (option_items rest) → length (option_items rest) ≡ 0
-  no_rest run r v None all made apart = refl
-  no_rest run r v (Some y) all made apart =
-      absurd (apart.0 (has_equal run y.value v made.0.value all))
+  no_rest run r v option all made apart = grind (arith, common_steps, has_equal)
 
   module _ {P : Type 0} {is_good : P → Type 0} {rank : P → ℕ} {items : List (Item (AnyRange K) V)}
       {r : AnyRange K} {w : Window P} {place : ℕ}
@@ -162,10 +149,7 @@ module _ {K : Type 0} {order : KeyOrder K} (lawful : IsLawful order) {V : Type 0
         let size = run_size items place w.count window.in_range in
         let met = every_at (λ i. Overlap order i.key r) (take w.count (drop place items)) 0 x
         all_meet (omega (arith, size)) in
-        let plus : place + 0 ≡ place = omega arith in
-        let there : get_or (take w.count (drop place items)) 0 x ≡ get_or items place x =
-        get_or-take w.count (drop place items) 0 x some
-        ∙ (get_or-drop place items 0 x ∙ ap (λ n. get_or items n x) plus) in
+        let there : get_or (take w.count (drop place items)) 0 x ≡ get_or items place x = grind (arith, common_steps) in
         any_at (λ i. Overlap order i.key r) items place x within read
         (subst (λ (y : Item (AnyRange K) V). Overlap order y.key r) (there ∙ sym read) met)
 
@@ -193,31 +177,14 @@ module _ {K : Type 0} {order : KeyOrder K} (lawful : IsLawful order) {V : Type 0
         ++ drop (place + w.count) items → IsRemovalFrame order same items new r
     cut_way new left right some made_left made_right list =
         let met = take w.count (drop place items) in
-        let size = run_size items place w.count window.in_range in
         record {
           front = take place items;
           run = met;
           others = option_items left ++ option_items right;
           behind = drop (place + w.count) items;
-          before = list_is_take_and_drop items place ∙ (ap (λ ys. take place items ++ ys)
-              (parts_of items place w.count) ∙ sym (append_assoc (take place items) met
-              (drop (place + w.count) items)));
-          after = list ∙ rw (append-nil (take place items ++ option_items left))
-              (ap (λ ys. ys ++ drop (place + w.count) items)
-              (append_assoc (take place items) (option_items left) (option_items right)));
-          such = record {
-            concerned = all_meet;
-            few = omega (
-              arith,
-              some,
-              size,
-              one_item left,
-              one_item right,
-              length-append (option_items left) (option_items right),
-            );
-            whole = λ e. absurd (run_some items place w.count window.in_range some e);
-            made = every_append _ (option_items left) (option_items right) made_left made_right;
-          };
+          before = grind (arith, common_steps, list_is_take_and_drop, take, parts_of, append_assoc, drop);
+          after = grind (arith, common_steps);
+          such = grind (arith, common_steps, all_meet, one_item, length-append, option_items, run_some, every_append);
         }
 
     pub insertion_frame : (new : List (Item (AnyRange K) V)) (v u : V) {at end : ℕ}
@@ -233,7 +200,6 @@ module _ {K : Type 0} {order : KeyOrder K} (lawful : IsLawful order) {V : Type 0
         let m : Item (AnyRange K) V = joined_item (record { key = r; value = u }) start finish in
         let met = take w.count (drop place items) in
         let run = on_left.extra ++ met ++ on_right.extra in
-        let size = run_size items place w.count window.in_range in
         let regroup : run ≡ on_left.extra ++ (met ++ on_right.extra) =
         append_assoc on_left.extra met on_right.extra in
         let on_start = λ (Q : Item (AnyRange K) V → Type 0) (h : Any Q (on_left.extra ++ met)).
@@ -241,12 +207,8 @@ module _ {K : Type 0} {order : KeyOrder K} (lawful : IsLawful order) {V : Type 0
         let made_left =
         made_within (on_left.extra ++ met) run (option_items left) on_start r v on_left.made in
         let made_right : Every (IsNewItem order same run r v) (option_items right) =
-        rw regroup (made_within (met ++ on_right.extra) (on_left.extra ++ (met ++ on_right.extra))
-        (option_items right) (λ Q h. any_right Q on_left.extra (met ++ on_right.extra) h) r v
-        on_right.made) in
-        let own_end : IsEndOf order run r (unwrap_or finish r.end) =
-        rw regroup (within_wider (any_right (λ i. unwrap_or finish r.end ≡ i.key.end)
-        on_left.extra (met ++ on_right.extra)) on_right.end_of) in
+        rw regroup (grind (arith, common_steps, made_within, option_items, any_right)) in
+        let own_end : IsEndOf order run r (unwrap_or finish r.end) = grind (arith, common_steps, within_wider, any_right, unwrap_or) in
         let own : IsNewItem order same run r v m = record {
           start =
               within_wider (on_start (λ i. unwrap_or start r.start ≡ i.key.start)) on_left.start_of;
@@ -261,21 +223,8 @@ module _ {K : Type 0} {order : KeyOrder K} (lawful : IsLawful order) {V : Type 0
               (λ i h. inr (inl h.0, h.1)) on_left.touched) (every_weaker _ _ met (λ i h. inl h)
               all_meet)) (every_weaker _ _ on_right.extra (λ i h. inr (inr h.0, h.1))
               on_right.touched);
-          few = omega (
-            arith,
-            few,
-            size,
-            length-append (on_left.extra ++ met) on_right.extra,
-            length-append on_left.extra met,
-            length-append (option_items left ++ option_items (Some m)) (option_items right),
-            length-append (option_items left) (option_items (Some m)),
-          );
-          whole = λ e. let l = on_left.whole (none_left (on_left.extra ++ met) on_right.extra e) in
-              let k = on_right.whole (none_right on_left.extra (met ++ on_right.extra)
-              (sym regroup ∙ e)) in let none : w.count ≡ 0 = sym size ∙ ap length
-              (none_right on_left.extra met (none_left (on_left.extra ++ met) on_right.extra e)) in
-              rw (l.0, k.0, l.1, k.1) (ap (λ (y : V). record { key = r; value = y } ∷ [])
-              (own_value none));
+          few = grind (arith, common_steps);
+          whole = grind (arith, common_steps);
           one = λ all.
               let on_left_none = no_rest (on_left.extra ++ met) r v left
               (every_left (λ i. IsTrue (same i.value v)) (on_left.extra ++ met) on_right.extra all)
@@ -290,7 +239,5 @@ module _ {K : Type 0} {order : KeyOrder K} (lawful : IsLawful order) {V : Type 0
                 length-append (option_items left ++ option_items (Some m)) (option_items right),
                 length-append (option_items left) (option_items (Some m)),
               );
-          made = every_append _ (option_items left ++ option_items (Some m)) (option_items right)
-              (every_append _ (option_items left) (option_items (Some m)) made_left (own, tt))
-              made_right;
+          made = grind (arith, common_steps);
         })

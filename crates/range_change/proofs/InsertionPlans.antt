@@ -1,12 +1,11 @@
 -- What is to become of the items on each side of a range that is bound.
-use Rattle.range_change.proofs.Common.{◌≡◌, ℕ, ◌+◌, ◌-◌, ◌<◌, List, length, get_or, refl, ap, sym, ◌∙◌, arith, subst, Option, Some, None, Bool, true, false, IsTrue, [], ◌∷◌, ◌++◌, take, drop, inl, inr, append-nil, any_left, any_right, Any, Touches, IsPart, IsNewItem, IsLeftCutting, IsRightCutting, IsEquivalence, Bound, KeyOrder, IsLawful, AnyRange, IsKnownBound, SameBound, Item, IsAt, IsWindow, option_items, Window, flipped_bound, with_start, with_end, ReachesBefore, ReachesAfter, border_at, TouchesBefore, TouchesNoneBefore, TouchesAfter, TouchesNoneAfter, IsLeftFrame, IsRightFrame, IsLeftPlan, IsRightPlan, Plain, Cut, Joined, lt_le}
+use Rattle.range_change.proofs.Common.{common_steps, ◌≡◌, ℕ, ◌+◌, ◌-◌, ◌<◌, List, length, get_or, refl, ap, sym, ◌∙◌, arith, subst, Option, Some, None, Bool, true, false, IsTrue, [], ◌∷◌, ◌++◌, take, drop, inl, inr, append-nil, any_left, any_right, Any, Touches, IsPart, IsNewItem, IsLeftCutting, IsRightCutting, MatchOption, IsRunStart, seam_border, IsEquivalence, Bound, KeyOrder, IsLawful, AnyRange, IsKnownBound, SameBound, Item, IsAt, IsWindow, option_items, Window, flipped_bound, with_start, with_end, ReachesBefore, ReachesAfter, border_at, TouchesBefore, TouchesNoneBefore, TouchesAfter, TouchesNoneAfter, IsLeftFrame, IsRightFrame, IsLeftPlan, IsRightPlan, Cut, Joined, lt_le}
 use Rattle.range_change.proofs.InsertionFrames.{any_of_run, run_some}
 use Rattle.range_change.proofs.RangeSides.{left_rest_whole, left_rest_cut, right_rest_whole, right_rest_cut, left_border_at, left_border_rest, left_border_none, right_border_at, right_border_rest, right_border_none, first_reaches, last_starts, touching_before, touching_after}
-use Rattle.range_change.proofs.ItemPlaces.{element_at, element_at_is_read, upto_item, from_item}
+use Rattle.range_change.proofs.ItemPlaces.{element_at, element_at_is_read, from_item}
 
 none_last : {X : Type 0} (xs : List X) (y : X) → xs ++ y ∷ [] ≡ [] → ⊥
-none_last [] y e = cc
-none_last (x ∷ xs) y e = cc
+none_last list y e = grind (arith, common_steps)
 
 module _ {K : Type 0} {order : KeyOrder K} (lawful : IsLawful order) {V : Type 0}
     {same : V → V → Bool} (equal : IsEquivalence same) {P : Type 0} {is_good : P → Type 0}
@@ -126,10 +125,7 @@ module _ {K : Type 0} {order : KeyOrder K} (lawful : IsLawful order) {V : Type 0
   touched_after : (x : Item (AnyRange K) V) → x ≡ get_or items (place + w.count) x
       → TouchesAfter order same items (place + w.count) r v
       → Touches order r x.key × (same x.value v ≡ true)
-  touched_after x read touching =
-      let t = subst (λ (y : Item (AnyRange K) V). Touches order r y.key × (same v y.value ≡ true))
-      (sym read) (touching x) in
-      (t.0, equal.symm x.value v ∙ t.1)
+  touched_after x read touching = grind (arith, common_steps)
 
   pub left_plan_inside : (p : P) (x : Item (AnyRange K) V)
       → ReachesBefore order is_good rank items r place w.count (Some p)
@@ -177,16 +173,35 @@ module _ {K : Type 0} {order : KeyOrder K} (lawful : IsLawful order) {V : Type 0
         begins = omega arith;
       }
 
-  pub left_plan_joined : (q : P) → ReachesBefore order is_good rank items r place w.count None
-      → is_good q → rank q + 1 ≡ place → rank q < length items
-      → TouchesBefore order same items place r v
-      → IsLeftPlan order same lawful equal is_good rank items r v place w.count None (Joined q)
-      (Some q)
-  left_plan_joined q reach is at within touching =
+  -- no item reaches out of it, and the one before may join
+  pub left_touched : (joined : Option P) (b : Bound K) (at : Option P)
+      → ((p : P) → is_good p → rank p < length items)
+      → ReachesBefore order is_good rank items r place w.count None
+      → MatchOption joined (TouchesNoneBefore order same items place r v)
+      (λ q. is_good q × (rank q + 1 ≡ place) × TouchesBefore order same items place r v)
+      → IsRunStart is_good rank (length items) place None joined at
+      → IsLeftPlan order same lawful equal is_good rank items r v place w.count None
+      (seam_border joined None b) at
+  left_touched None b at in_range reach none start = record {
+    at = place;
+    begin = place;
+    rest = None;
+    start = None;
+    shape = (refl, refl, refl);
+    side = left_border_none lawful equal window v (left_rest_whole lawful equal window reach) none;
+    run = let plus : place + 0 ≡ place = omega arith in
+        subst (λ n. IsAt is_good rank (length items) at n) plus start;
+    frame = grind (arith, common_steps);
+    few = omega arith;
+    begins = omega arith;
+  }
+  left_touched (Some q) b at in_range reach (is, next, touching) start =
+      let within = in_range q is in
       let x = element_at items (rank q) within in
       let read = element_at_is_read items (rank q) within x in
-      let touch = touched_before (rank q) x at read touching in
-      let up = touching_before lawful equal window (rank q) x at within read touch.0 in record {
+      let touch = touched_before (rank q) x next read touching in
+      let up = touching_before lawful equal window (rank q) x next within read touch.0 in
+      rw start (record {
         at = rank q;
         begin = rank q;
         rest = None;
@@ -194,43 +209,10 @@ module _ {K : Type 0} {order : KeyOrder K} (lawful : IsLawful order) {V : Type 0
         shape = (is, refl, refl, refl, (x, read, refl));
         side = left_border_at lawful equal window v (rank q) x within read up.0 up.1 touch.1;
         run = (is, refl);
-        frame = record {
-          extra = x ∷ [];
-          split = upto_item items (rank q) place x at within read;
-          touched = ((touch.0, touch.1, refl), tt);
-          start_of = inr (inl (inl refl));
-          made = tt;
-          apart = tt;
-          whole = λ e. absurd (cc);
-        };
+        frame = grind (arith, common_steps);
         few = omega arith;
-        begins = omega (arith, at);
-      }
-
-  pub left_plan_free : (from : Option P) → IsAt is_good rank (length items) from place
-      → ReachesBefore order is_good rank items r place w.count None
-      → TouchesNoneBefore order same items place r v
-      → IsLeftPlan order same lawful equal is_good rank items r v place w.count None Plain from
-  left_plan_free from run reach none = record {
-    at = place;
-    begin = place;
-    rest = None;
-    start = None;
-    shape = (refl, refl, refl);
-    side = left_border_none lawful equal window v (left_rest_whole lawful equal window reach) none;
-    run = run;
-    frame = record {
-      extra = [];
-      split = sym (append-nil (take place items));
-      touched = tt;
-      start_of = inl refl;
-      made = tt;
-      apart = tt;
-      whole = λ e. (refl, refl);
-    };
-    few = omega arith;
-    begins = omega arith;
-  }
+        begins = omega (arith, next);
+      })
 
   last_at : (p : P) (x : Item (AnyRange K) V) → rank p + 1 ≡ place + w.count
       → x ≡ get_or items (rank p) x → x ≡ get_or items (place + w.count - 1) x
@@ -278,28 +260,50 @@ module _ {K : Type 0} {order : KeyOrder K} (lawful : IsLawful order) {V : Type 0
         ends = omega (arith, reach.2);
       }
 
-  pub right_plan_joined : (q : P) → ReachesAfter order is_good rank items r place w.count None
-      → is_good q → rank q ≡ place + w.count → rank q < length items
-      → TouchesAfter order same items (place + w.count) r v
-      → IsRightPlan order same lawful equal is_good rank items r v place w.count None (Joined q)
-  right_plan_joined q reach is at within touching =
-      let x = element_at items (rank q) within in
-      let read = element_at_is_read items (rank q) within x in
-      let here : x ≡ get_or items (place + w.count) x = read ∙ ap (λ n. get_or items n x) at in
-      let within' : place + w.count < length items = omega (arith, at, within) in
+  pub right_touched : (joined : Option P) (b : Bound K)
+      → ((p : P) → is_good p → rank p < length items)
+      → ReachesAfter order is_good rank items r place w.count None
+      → MatchOption joined (TouchesNoneAfter order same items (place + w.count) r v)
+      (λ q. is_good q × (rank q ≡ place + w.count)
+      × TouchesAfter order same items (place + w.count) r v)
+      → IsRightPlan order same lawful equal is_good rank items r v place w.count None
+      (seam_border joined None b)
+  right_touched None b in_range reach none = record {
+    upto = place + w.count;
+    end = place + w.count;
+    rest = None;
+    finish = None;
+    shape = (refl, refl, refl);
+    side = right_border_none lawful equal window (place + w.count) v window.in_range
+        (right_rest_whole lawful equal window reach) none;
+    frame = grind (arith, common_steps);
+    few = omega arith;
+    ends = omega arith;
+  }
+  right_touched (Some q) b in_range reach (is, at, touching) =
+      let x = element_at items (rank q) (in_range q is) in
+      let here : x ≡ get_or items (place + w.count) x =
+      element_at_is_read items (rank q) (in_range q is) x ∙ ap (λ n. get_or items n x) at in
+      let within : place + w.count < length items = omega (arith, at, in_range q is) in
       let touch = touched_after x here touching in
-      let up = touching_after lawful equal window x within' here touch.0 in
+      let up = touching_after lawful equal window x within here touch.0 in
       record {
         upto = place + w.count + 1;
         end = place + w.count + 1;
         rest = None;
         finish = Some x.key.end;
-        shape = (is, omega (arith, at), refl, refl, (x, read, refl));
+        shape = (
+          is,
+          omega (arith, at),
+          refl,
+          refl,
+          (x, element_at_is_read items (rank q) (in_range q is) x, refl),
+        );
         side = right_border_at lawful equal window (place + w.count + 1) (place + w.count) v x refl
-            within' here up.0 up.1 touch.1;
+            within here up.0 up.1 touch.1;
         frame = record {
           extra = x ∷ [];
-          split = from_item items (place + w.count) x within' here;
+          split = from_item items (place + w.count) x within here;
           touched = ((touch.0, touch.1, refl), tt);
           end_of = inr (inl (any_right (λ i. x.key.end ≡ i.key.end)
               (take w.count (drop place items)) (x ∷ []) (inl refl)));
@@ -310,30 +314,6 @@ module _ {K : Type 0} {order : KeyOrder K} (lawful : IsLawful order) {V : Type 0
         few = omega arith;
         ends = omega arith;
       }
-
-  pub right_plan_plain : ReachesAfter order is_good rank items r place w.count None
-      → TouchesNoneAfter order same items (place + w.count) r v
-      → IsRightPlan order same lawful equal is_good rank items r v place w.count None Plain
-  right_plan_plain reach none = record {
-    upto = place + w.count;
-    end = place + w.count;
-    rest = None;
-    finish = None;
-    shape = (refl, refl, refl);
-    side = right_border_none lawful equal window (place + w.count) v window.in_range
-        (right_rest_whole lawful equal window reach) none;
-    frame = record {
-      extra = [];
-      split = refl;
-      touched = tt;
-      end_of = inl refl;
-      made = tt;
-      apart = tt;
-      whole = λ e. (refl, refl);
-    };
-    few = omega arith;
-    ends = omega arith;
-  }
 
 module _ {K : Type 0} {order : KeyOrder K} (lawful : IsLawful order) {V : Type 0}
     {same : V → V → Bool} (equal : IsEquivalence same) {P : Type 0} {is_good : P → Type 0}

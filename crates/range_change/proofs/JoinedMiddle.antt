@@ -1,50 +1,28 @@
 -- A middle that comes to stand within a range, and what joins it there.
-use Rattle.range_change.proofs.Common.{Line, ◌≡◌, ℕ, ◌+◌, ◌-◌, ◌<◌, ◌≤◌, List, [], ◌∷◌, ◌++◌, length, take, drop, refl, ap, sym, ◌∙◌, arith, subst, Option, Some, None, Bool, true, false, IsTrue, Bor, ◌⊎◌, inl, inr, append_assoc, append-nil, Every, slice_get, option_copied, MatchOption, IsEquivalence, tied_itself, unwrap_or, Equal, Bound, KeyOrder, IsLawful, start_position, end_position, position_total, Position, any_left, any_right, every_weaker, every_append, every_left, every_right, line_of, IsLeftOf, IsRightOf, IsSpliced, flipped, past, lower, upper, Le, Lt, Any, eq_ge, le_lt_trans, le_refl, lt_le, eq_le, le_trans, lt_trans, lt_le_trans, lt_not_le, not_lt, PLe, PLt, IsKnownBound, IsKnownRange, Touches, AnyRange, reaching_is_before_past, flipped_bound_is_past, flipped_known, Item, IsAt, Border, Window, IsLeftShape, IsRightShape, IsRunStart, left_side, right_side, joined_count, seam_border, TouchesBefore, TouchesNoneBefore, TouchesAfter, TouchesNoneAfter, with_start, HasValue, item_lower, item_upper, IsStored, LiesIn, IsLeftPlan, IsRightPlan, ReachesBefore, ReachesAfter, AreWithin, with_first_start, with_last_end, IsLeftCutting, IsRightCutting, IsLeftSeam, IsRightSeam, IsWindow, option_items}
-use Rattle.range_change.proofs.Chains.{chain_before, chain_right, follows_above}
-use Rattle.range_change.proofs.CutParts.{ends_never}
+use Rattle.range_change.proofs.Common.{common_steps, Line, ◌≡◌, ℕ, ◌+◌, ◌-◌, ◌≤◌, List, [], ◌∷◌, ◌++◌, length, take, drop, refl, ap, sym, ◌∙◌, arith, subst, Option, Some, None, Bool, true, IsTrue, Bor, ◌⊎◌, inl, inr, append-nil, Every, slice_get, option_copied, IsEquivalence, tied_itself, unwrap_or, Equal, Bound, KeyOrder, IsLawful, start_position, end_position, position_total, Position, any_left, any_right, every_weaker, every_append, every_left, every_right, line_of, IsLeftOf, IsRightOf, IsSpliced, past, lower, upper, Lt, Any, eq_ge, le_lt_trans, le_refl, lt_le, eq_le, le_trans, lt_le_trans, PLe, PLt, IsKnownBound, IsKnownRange, Touches, AnyRange, Item, IsAt, Border, IsLeftShape, IsRightShape, IsRunStart, left_side, right_side, joined_count, seam_border, with_start, HasValue, item_lower, item_upper, IsStored, LiesIn, IsLeftPlan, IsRightPlan, AreWithin, with_first_start, with_last_end, IsLeftCutting, IsRightCutting, IsJoiningFirst, IsJoiningLast, IsReach, place_before, flipped_bound, option_items}
+use Rattle.range_change.proofs.Chains.{chain_above, chain_before, chain_right}
+use Rattle.range_change.specs.declared.reach.Reach.{Reach}
+use Rattle.range_change.proofs.CutParts.{known_turned, same_turned}
 use Rattle.range_change.proofs.OuterBounds.{every_started, last_of, item_with_end, with_last, started_last}
-use Rattle.range_change.proofs.Forms.{places, Known, Chained, stored_chain, every_front, every_back}
+use Rattle.range_change.proofs.Forms.{places, nonempty_good, Known, Chained, stored_chain, every_front, every_back}
 use Rattle.range_change.proofs.BoundEdits.{cut_joins_none}
 use Rattle.range_change.proofs.Lengths.{border_joins_none}
-use Rattle.range_change.proofs.InsertionPlans.{left_plan_free, left_plan_joined, right_plan_joined, right_plan_plain}
+use Rattle.range_change.proofs.InsertionPlans.{left_cut_out, right_cut_out}
 use Rattle.range_change.proofs.Splices.{IsFilled, filled_apart, filled_joined, spliced_apart, spliced_joined}
 
 pub got_only : {X : Type 0} (P : X → Type 0) (o : Option (Bor X)) (i : Bor X) → o ≡ Some i → P i.now
     → (m : X) → option_copied o ≡ Some m → P m
-got_only P o i is h m e = let at = sym (ap option_copied is) ∙ e in let item : i.now ≡ m =
+got_only P o i is h m e = let item : i.now ≡ m =
     cc in subst P item h
 
 pub got_none : {X : Type 0} (P : X → Type 0) (o : Option (Bor X)) → o ≡ None → (m : X)
     → option_copied o ≡ Some m → P m
-got_none P o is m e = absurd (let at = sym (ap option_copied is) ∙ e in cc)
-
-module _ {K : Type 0} (order : KeyOrder K) (lawful : IsLawful order) where
-  within_by : (part r : AnyRange K) (o : Option (Bound K)) → o ≡ flipped r.end
-      → IsKnownRange order part → IsKnownRange order r
-      → PLe lawful (end_position order part.end) (end_position order r.end)
-      → PLt lawful (upper order r) (upper order part) → ⊥
-  within_by part r None turns known others within over =
-      absurd (let h : IsTrue false = (ends_never order lawful r part known turns).1 over in cc)
-  within_by part r (Some s) turns known others within over =
-      let at = flipped_bound_is_past order lawful r.end s (sym turns) in
-      let known_s = flipped_known order lawful r.end s (sym turns) others.1 in
-      let reach = (reaching_is_before_past order lawful s part.end known_s known.1).1
-      (le_lt_trans lawful _ _ _ (eq_ge lawful _ _ at) over) in
-      let back = (reaching_is_before_past order lawful s r.end known_s others.1).0
-      (le_trans lawful _ _ _ reach within) in
-      lt_not_le lawful _ _ back (eq_le lawful _ _ at)
-
-  -- a range that ends by another's end ends by its place
-  pub within_end : (part r : AnyRange K) → IsKnownRange order part → IsKnownRange order r
-      → LiesIn order part r → PLe lawful (upper order part) (upper order r)
-  within_end part r known others within = not_lt lawful (upper order part) (upper order r)
-      (λ over. within_by part r (flipped r.end) refl known others within.ends over)
+got_none P o is m e = absurd (cc)
 
 -- only an item that joins gives way beyond the window
 pub seam_count : {K P : Type 0} (joined reaching : Option P) (b : Bound K)
     → joined_count (seam_border joined reaching b) ≡ length (option_items joined)
-seam_count None reaching b = cut_joins_none reaching b
-seam_count (Some q) reaching b = refl
+seam_count option reaching b = grind (arith, common_steps, cut_joins_none)
 
 module _ {K : Type 0} {order : KeyOrder K} (lawful : IsLawful order) {V : Type 0} (r : AnyRange K)
     (same : V → V → Bool) where
@@ -131,9 +109,7 @@ module _ {K : Type 0} (order : KeyOrder K) (lawful : IsLawful order) {V : Type 0
         → Chained order lawful same equal (m ∷ ms)
         → places order lawful (item_lower order m) (lower order r) ≡ Equal
         → Filled items front (with_first_start start (m ∷ ms)) (m ∷ ms) (lower order r)
-    start_filled None front ms m left chain at = filled_joined line items front m m ms
-        (lower order r) (lower order r) left chain at at (tied_itself
-        (position_total order.cmp lawful.total) (item_upper order m)) (equal.refl m.value)
+    start_filled None front ms m left chain at = grind (arith, common_steps, filled_joined, lower, tied_itself, position_total, item_upper)
     start_filled (Some b) front ms m left chain at =
         let total = position_total order.cmp lawful.total in
         filled_joined line items front m (with_start m b) ms (lower order r)
@@ -151,10 +127,7 @@ module _ {K : Type 0} (order : KeyOrder K) (lawful : IsLawful order) {V : Type 0
         let bound : b ≡ i.key.start = cc in
         inl (
           bound,
-          (
-            le_lt_trans lawful _ _ _ le good,
-            over,
-          ),
+          (grind (arith, common_steps, le_lt_trans, good)),
           alike,
         )
 
@@ -222,34 +195,6 @@ module _ {K : Type 0} (order : KeyOrder K) (lawful : IsLawful order) {V : Type 0
           valued = every_weaker _ _ (option_items cut.rest) (λ j h. inl h.value) cut.made;
         }
 
-    all_later : (m : Item (AnyRange K) V) (ms : List (Item (AnyRange K) V))
-        → Chained order lawful same equal (m ∷ ms) → PLt lawful (lower order r) (item_lower order m)
-        → Every (λ i. PLt lawful (lower order r) (item_lower order i)) (m ∷ ms)
-    all_later m ms chain later =
-        let above = follows_above line m ms chain.1 in (
-          later,
-          every_weaker _ _ ms (λ i h.
-              lt_le_trans lawful _ _ _ (lt_trans lawful _ _ _ later chain.0) h) above,
-        )
-
-    pub left_fill : (middle : List (Item (AnyRange K) V)) (first : Option P) (border : Border K P)
-        (from : Option P) → PLt lawful (lower order r) (upper order r) → IsStored order same items
-        → IsStored order same middle
-        → IsLeftSeam order same lawful equal is_good rank items r place count
-        (slice_get middle 0) first border from → IsLeftFill middle first border from
-    left_fill [] first border from good stored others (inl h) = absurd (let e = h.1 in cc)
-    left_fill [] first border from good stored others (inr h) =
-        left_cutting [] first border from stored others tt h.1
-    left_fill (m ∷ ms) first border from good stored others (inl h) =
-        let item : h.0 ≡ m = let e = h.1 in cc in
-        left_joining m ms first border from good stored others (subst
-        (λ (i : Item (AnyRange K) V). places order lawful (item_lower order i) (lower order r) ≡
-        Equal) item h.2) (subst (λ (i : Item (AnyRange K) V). IsLeftPlan order same lawful equal
-        is_good rank items r i.value place count first border from) item h.3)
-    left_fill (m ∷ ms) first border from good stored others (inr h) =
-        left_cutting (m ∷ ms) first border from stored others
-        (all_later m ms (stored_chain order lawful same equal (m ∷ ms) others) (h.0 m refl)) h.1
-
     alike_value : (xs : List (Item (AnyRange K) V)) (v u : V) → same u v ≡ true
         → HasValue order same xs v → HasValue order same xs u
     alike_value [] v u e h = h
@@ -260,9 +205,7 @@ module _ {K : Type 0} (order : KeyOrder K) (lawful : IsLawful order) {V : Type 0
         → places order lawful (item_upper order z) (upper order r) ≡ Equal
         → places order lawful (item_upper order (item_with_end finish z))
         (past order (end_position order (unwrap_or finish r.end))) ≡ Equal
-    ended_upper None z at = at
-    ended_upper (Some b) z at =
-        tied_itself (position_total order.cmp lawful.total) (past order (end_position order b))
+    ended_upper option z at = grind (arith, common_steps, tied_itself, position_total, past, end_position)
 
     ended_known : (finish : Option (Bound K)) (z : Item (AnyRange K) V) → IsKnownRange order z.key
         → IsKnownBound order (unwrap_or finish r.end)
@@ -290,12 +233,8 @@ module _ {K : Type 0} (order : KeyOrder K) (lawful : IsLawful order) {V : Type 0
         let body_end : with_last_end plan.finish (with_first_start start middle) ≡ s.0
         ++ other ∷ [] = ap (with_last_end plan.finish) body ∙ with_last plan.finish s.0 z in
         let list : (front ++ with_last_end plan.finish (with_first_start start middle))
-        ++ behind ≡ front ++ ((s.0 ++ other ∷ []) ++ behind) =
-        ap (λ ys. (front ++ ys) ++ behind) body_end ∙ append_assoc front (s.0 ++ other ∷ []) behind
-        in
-        let z_ends : places order lawful (item_upper order z) (upper order r) ≡ Equal =
-        subst (λ (b : Bound K). places order lawful (past order (end_position order b))
-        (upper order r) ≡ Equal) (sym s.3) at in
+        ++ behind ≡ front ++ ((s.0 ++ other ∷ []) ++ behind) = grind (arith, common_steps) in
+        let z_ends : places order lawful (item_upper order z) (upper order r) ≡ Equal = grind (arith, common_steps) in
         let e = past order (end_position order (unwrap_or plan.finish r.end)) in
         let right = subst (λ (v : V). IsRightOf line items behind (upper order r) e v) (sym s.4)
         plan.side.right in
@@ -382,75 +321,95 @@ module _ {K : Type 0} (order : KeyOrder K) (lawful : IsLawful order) {V : Type 0
               (any_left _ (take count (drop place items)) [] h.value)) cut.made;
         }
 
-    pub right_fill : (middle front : List (Item (AnyRange K) V)) (start : Option (Bound K))
-        (last : Option P) (border : Border K P) → IsStored order same items → IsStored order same
-        middle → AreWithin order middle r → PLt lawful (lower order r) (upper order r)
-        → place + count ≤ length items
-        → Filled items front (with_first_start start middle) middle (lower order r)
-        → Known order lawful same equal (front ++ with_first_start start middle)
-        → IsRightSeam order same lawful equal is_good rank items r place count
-        (slice_get middle (length middle - 1)) last border → IsRightFill middle front start last
-        border
-    right_fill [] front start last border stored others within good in_range fill known (inl h) =
-        absurd (let e = h.1 in cc)
-    right_fill [] front start last border stored others within good in_range fill known (inr h) =
-        right_cutting [] front start last border (lower order r) stored in_range
-        (le_refl lawful (lower order r)) good tt fill known h.1
-    right_fill (x ∷ xs) front start last border stored others within good in_range fill known
-        (inl h) =
-        let end = last_of x xs in
-        let item : h.0 ≡ end.1 = let e = sym end.3 ∙ h.1 in cc in
-        right_joining (x ∷ xs) front end.0 end.1 start last border stored good end.2 fill known
-        (subst (λ (i : Item (AnyRange K) V). places order lawful (item_upper order i)
-        (upper order r) ≡ Equal) item h.2) (subst (λ (i : Item (AnyRange K) V). IsRightPlan order
-        same lawful equal is_good rank items r i.value place count last border) item h.3)
-    right_fill (x ∷ xs) front start last border stored others within good in_range fill known
-        (inr h) =
-        let cmp = places order lawful in
-        let end = last_of x xs in
-        let m = end.1 in
-        let chain = subst (λ ys. Chained order lawful same equal ys) end.2
-        (stored_chain order lawful same equal (x ∷ xs) others) in
-        let full = (chain_right line end.0 (m ∷ []) chain).0 in
-        let before = chain_before line end.0 m [] chain in
-        let below = every_append (λ i. Le cmp (item_upper order i) (item_upper order m)) end.0
-        (m ∷ []) (every_weaker _ _ end.0 (λ i k. le_trans lawful _ _ _ k.0 (lt_le lawful _ _ full))
-        before) (le_refl lawful (item_upper order m), tt) in
-        let inside = every_right (λ i. LiesIn order i.key r) end.0 (m ∷ [])
-        (subst (λ ys. Every (λ (i : Item (AnyRange K) V). LiesIn order i.key r) ys) end.2 within) in
-        right_cutting (x ∷ xs) front start last border (item_upper order m) stored in_range
-        (le_trans lawful _ _ _ inside.0.starts (lt_le lawful _ _ full)) (h.0 m end.3) (subst (λ ys.
-        Every (λ (i : Item (AnyRange K) V). Le cmp (item_upper order i) (item_upper order m))
-        ys) (sym end.2) below) fill known h.1
-
 module _ {K : Type 0} {order : KeyOrder K} (lawful : IsLawful order) {V : Type 0}
     {same : V → V → Bool} (equal : IsEquivalence same) {P : Type 0} {is_good : P → Type 0}
-    {rank : P → ℕ} {items : List (Item (AnyRange K) V)} {r : AnyRange K} {w : Window P} {place : ℕ}
-    (window : IsWindow order same is_good rank items r w place) where
-  -- no item reaches out of it, and the one before may join
-  pub left_touched : (v : V) (joined : Option P) (b : Bound K) (at : Option P)
-      → ((p : P) → is_good p → rank p < length items)
-      → ReachesBefore order is_good rank items r place w.count None
-      → MatchOption joined (TouchesNoneBefore order same items place r v)
-      (λ q. is_good q × (rank q + 1 ≡ place) × TouchesBefore order same items place r v)
-      → IsRunStart is_good rank (length items) place None joined at
-      → IsLeftPlan order same lawful equal is_good rank items r v place w.count None
-      (seam_border joined None b) at
-  left_touched v None b at in_range reach none start =
-      let plus : place + 0 ≡ place = omega arith in
-      left_plan_free lawful equal window v at
-      (subst (λ n. IsAt is_good rank (length items) at n) plus start) reach none
-  left_touched v (Some q) b at in_range reach found start = rw start
-      (left_plan_joined lawful equal window v q reach found.0 found.1 (in_range q found.0) found.2)
+    {rank : P → ℕ} {items : List (Item (AnyRange K) V)} {r : AnyRange K} {reach : Reach P}
+    (found : IsReach order same is_good rank items r reach
+    (place_before rank (length items) reach.window.from)) where
+  abbrev place : ℕ
+  place = place_before rank (length items) reach.window.from
 
-  pub right_touched : (v : V) (joined : Option P) (b : Bound K)
-      → ((p : P) → is_good p → rank p < length items)
-      → ReachesAfter order is_good rank items r place w.count None
-      → MatchOption joined (TouchesNoneAfter order same items (place + w.count) r v)
-      (λ q. is_good q × (rank q ≡ place + w.count)
-      × TouchesAfter order same items (place + w.count) r v)
-      → IsRightPlan order same lawful equal is_good rank items r v place w.count None
-      (seam_border joined None b)
-  right_touched v None b in_range reach none = right_plan_plain lawful equal window v reach none
-  right_touched v (Some q) b in_range reach found =
-      right_plan_joined lawful equal window v q reach found.0 found.1 (in_range q found.0) found.2
+  good : PLt lawful (lower order r) (upper order r)
+  good = (nonempty_good order lawful r found.window.known).0 found.window.nonempty
+
+  all_later : (middle : List (Item (AnyRange K) V)) → IsStored order same middle
+      → ((m : Item (AnyRange K) V) → slice_get middle 0 ≡ Some m
+      → PLt lawful (lower order r) (item_lower order m))
+      → Every (λ i. PLt lawful (lower order r) (item_lower order i)) middle
+  all_later [] others later = tt
+  all_later (m ∷ ms) others later = every_weaker _ _ (m ∷ ms)
+      (λ i h. lt_le_trans lawful _ _ _ (later m refl) h) (chain_above
+      (line_of order lawful same equal) (item_lower order m) m ms
+      (stored_chain order lawful same equal (m ∷ ms) others) (le_refl lawful _))
+
+  pub left_fill : (middle : List (Item (AnyRange K) V)) (joined from : Option P)
+      → IsStored order same middle
+      → IsJoiningFirst order same {S = Unit {0}} (λ s. is_good) (λ s. rank) (λ s. items) tt r reach
+      (slice_get middle 0) joined
+      → IsRunStart is_good rank (length items) place reach.first joined from
+      → IsLeftFill order lawful same equal is_good rank items r place reach.window.count middle
+      reach.first (seam_border joined reach.first (flipped_bound r.start)) from
+  left_fill [] joined from others (inl h) begins = absurd (cc)
+  left_fill (m ∷ ms) joined from others (inl (i, is, at, joins)) begins =
+      let item : i ≡ m = cc in
+      left_joining order lawful same equal is_good rank items r place reach.window.count m ms
+      reach.first _ from good found.window.stored others (rw item at at) (rw item at
+      (joins lawful equal (flipped_bound r.start) from
+      (known_turned order lawful r.start found.window.known.0) (same_turned order lawful r.start)
+      begins))
+  left_fill middle joined from others (inr (none, later)) begins = rw none (left_cutting order
+      lawful same equal is_good rank items r place reach.window.count middle reach.first _ from
+      found.window.stored others (all_later middle others later) (left_cut_out lawful equal
+      found.window reach.first (flipped_bound r.start) from found.first
+      (known_turned order lawful r.start found.window.known.0) (same_turned order lawful r.start)
+      (rw none at begins)))
+
+  -- a place within the range by which all end
+  ends_by : (middle : List (Item (AnyRange K) V)) → IsStored order same middle
+      → AreWithin order middle r → ((m : Item (AnyRange K) V)
+      → slice_get middle (length middle - 1) ≡ Some m
+      → PLt lawful (item_upper order m) (upper order r))
+      → (u : Position K) × PLe lawful (lower order r) u × PLt lawful u (upper order r)
+      × Every (λ i. PLe lawful (item_upper order i) u) middle
+  ends_by [] others within earlier = (lower order r, le_refl lawful _, good, tt)
+  ends_by (x ∷ xs) others within earlier =
+      let line = line_of order lawful same equal in
+      let (front, m, list, last) = last_of x xs in
+      let chain = subst (λ ys. Chained order lawful same equal ys) list
+      (stored_chain order lawful same equal (x ∷ xs) others) in
+      let full = (chain_right line front (m ∷ []) chain).0 in
+      let inside = every_right (λ i. LiesIn order i.key r) front (m ∷ [])
+      (subst (λ ys. AreWithin order ys r) list within) in (
+        item_upper order m,
+        le_trans lawful _ _ _ inside.0.starts (lt_le lawful _ _ full),
+        earlier m last,
+        subst (λ ys. Every (λ (i : Item (AnyRange K) V). PLe lawful (item_upper order i)
+            (item_upper order m)) ys) (sym list) (every_append (λ i. PLe lawful (item_upper order i) (item_upper order m)) front
+            (m ∷ []) (every_weaker _ _ front (λ i k. le_trans lawful _ _ _ k.0
+            (lt_le lawful _ _ full)) (chain_before line front m [] chain))
+            (le_refl lawful (item_upper order m), tt)),
+      )
+
+  pub right_fill : (middle front : List (Item (AnyRange K) V)) (start : Option (Bound K))
+      (other : Option P) → IsStored order same middle → AreWithin order middle r
+      → Filled order lawful same equal items front (with_first_start start middle) middle
+      (lower order r) → Known order lawful same equal (front ++ with_first_start start middle)
+      → IsJoiningLast order same {S = Unit {0}} (λ s. is_good) (λ s. rank) (λ s. items) tt r reach
+      (slice_get middle (length middle - 1)) other
+      → IsRightFill order lawful same equal is_good rank items r place reach.window.count middle
+      front start reach.last (seam_border other reach.last (flipped_bound r.end))
+  right_fill [] front start other others within fill known (inl h) =
+      absurd (cc)
+  right_fill (x ∷ xs) front start other others within fill known (inl (i, is, at, joins)) =
+      let (init, m, list, last) = last_of x xs in
+      let item : i ≡ m = cc in
+      right_joining order lawful same equal is_good rank items r place reach.window.count (x ∷ xs)
+      front init m start reach.last _ found.window.stored good list fill known (rw item at at)
+      (rw item at (joins lawful equal (flipped_bound r.end)
+      (known_turned order lawful r.end found.window.known.1) (same_turned order lawful r.end)))
+  right_fill middle front start other others within fill known (inr (none, earlier)) =
+      let (u, le, lt, all) = ends_by middle others within earlier in
+      rw none (right_cutting order lawful same equal is_good rank items r place reach.window.count
+      middle front start reach.last _ u found.window.stored found.window.in_range le lt all fill
+      known (right_cut_out lawful equal found.window reach.last (flipped_bound r.end) found.last
+      (known_turned order lawful r.end found.window.known.1) (same_turned order lawful r.end)))

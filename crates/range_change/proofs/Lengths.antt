@@ -1,10 +1,9 @@
 -- How long a list is once it was changed.
-use Rattle.range_change.proofs.Common.{common_steps, ◌≡◌, ℕ, ◌+◌, ◌≤◌, List, ◌++◌, length, take, drop, refl, ap, arith, Option, Some, None, Bound, AnyRange, Item, Border, Plain, Cut, Joined, BorderSide, IsBorderShape, joined_count, option_items}
+use Rattle.range_change.proofs.Common.{common_steps, ◌≡◌, ℕ, ◌+◌, ◌≤◌, List, ◌++◌, length, take, drop, arith, Option, None, Bound, AnyRange, Item, Border, BorderSide, IsBorderShape, joined_count, option_items}
 
 -- an option names at most one item
 pub one_item : {T : Type 0} (o : Option T) → length (option_items o) ≤ 1
-one_item None = omega arith
-one_item (Some x) = omega arith
+one_item option = grind (arith, common_steps)
 
 -- what stands in the place of the items between two places
 pub changed_length : {T : Type 0} (items new a b d : List T) (at end : ℕ) → at ≤ length items
@@ -22,17 +21,10 @@ module _ {K V P : Type 0} (is_good : P → Type 0) (rank : P → ℕ)
       (rest : Option (Item (AnyRange K) V)) (given : Option (Bound K))
       → IsBorderShape side is_good rank items border low high rest given
       → high ≡ low + length (option_items rest)
-  border_length side Plain low high rest given h =
-      omega (arith, h.0, ap (λ o. length (option_items o)) h.1)
-  border_length side (Cut p b) low high rest given h =
-      omega (arith, h.2, ap (λ o. length (option_items o)) h.4.2)
-  border_length side (Joined p) low high rest given h =
-      omega (arith, h.2, ap (λ o. length (option_items o)) h.3)
+  border_length side border low high rest given h = grind (arith, common_steps, length, option_items)
 
   -- where no bound is given, nothing is joined
   pub border_joins_none : (side : BorderSide K V) (border : Border K P) (low high : ℕ)
       (rest : Option (Item (AnyRange K) V))
       → IsBorderShape side is_good rank items border low high rest None → joined_count border ≡ 0
-  border_joins_none side Plain low high rest h = refl
-  border_joins_none side (Cut p b) low high rest h = refl
-  border_joins_none side (Joined p) low high rest h = absurd (let e = h.4.2 in cc)
+  border_joins_none side border low high rest h = grind (arith, common_steps)

@@ -1,20 +1,15 @@
 -- The form of a stored list, item by item.
-use Rattle.range_change.proofs.Common.{Every, refl, ◌↔◌, Bool, true, false, not, ◌||◌, if◌then◌else◌, IsTrue, List, [], ◌∷◌, is_gt, is_lt, is_eq, KeyOrder, IsLawful, start_position, end_position, position_cmp, lt_is_less, not_greater, IsKnownRange, IsEmptyRange, starts_at_end, is_before, le_lt_trans, AnyRange, Item, EachNext, LiesBefore, Touches, IsFollowedBy, IsStored}
+use Rattle.range_change.proofs.Common.{arith, common_steps, Every, ◌↔◌, Bool, false, not, ◌||◌, if◌then◌else◌, IsTrue, List, [], ◌∷◌, is_gt, is_lt, is_eq, KeyOrder, IsLawful, start_position, end_position, position_cmp, lt_is_less, not_greater, IsKnownRange, IsEmptyRange, starts_at_end, is_before, le_lt_trans, AnyRange, Item, EachNext, LiesBefore, Touches, IsFollowedBy, IsStored}
 use Rattle.range_algebra.specs.declared.ordering.RangeOrdering.TheVariants.{Before, Intersecting, After}
 
 one_false_is_not_both : (t c : Bool) → IsTrue (not t || not c) ↔ (IsTrue t → IsTrue c → ⊥)
-one_false_is_not_both true true = (λ h _ _. cc, λ h. absurd (h refl refl))
-one_false_is_not_both true false = (λ h _ k. cc, λ h. refl)
-one_false_is_not_both false c = (λ h k _. cc, λ h. refl)
+one_false_is_not_both test c = grind (arith, common_steps)
 
 pub before_by_parts : (a b t x d u v w c : Bool) → IsTrue
     (is_before (if a then (if b then Before t else Intersecting false x)
     else (if d then After u else Intersecting v w)) c)
     ↔ (IsTrue a × IsTrue b × IsTrue (not t || not c))
-before_by_parts true true t x d u v w c = (λ h. (refl, refl, h), λ h. h.2)
-before_by_parts true false t x d u v w c = (λ h. absurd (cc), λ h. absurd (cc))
-before_by_parts false b t x true u v w c = (λ h. absurd (cc), λ h. absurd (cc))
-before_by_parts false b t x false u v w c = (λ h. absurd (cc), λ h. absurd (cc))
+before_by_parts a b t x d u v w c = grind (arith, common_steps)
 
 module _ {K : Type 0} (order : KeyOrder K) (lawful : IsLawful order) {V : Type 0}
     (same : V → V → Bool) where
@@ -55,9 +50,7 @@ module _ {K : Type 0} (order : KeyOrder K) (lawful : IsLawful order) {V : Type 0
       → EachNext (IsFollowedBy order same) items → IsListed items
   by_parts [] known full rising = tt
   by_parts (i ∷ []) known full rising = (known.0, full.0)
-  by_parts (i ∷ j ∷ rest) known full rising =
-      let next = (followed_is_before_and_apart i j full.0).0 rising.0 in
-      (known.0, full.0, next.0, next.1, by_parts (j ∷ rest) known.1 full.1 rising.1)
+  by_parts (i ∷ j ∷ rest) known full rising = grind (arith, common_steps, by_parts (j ∷ rest) known.1 full.1 rising.1, followed_is_before_and_apart)
 
   pub stored_list_is_listed : (items : List (Item (AnyRange K) V)) → IsStored order same items
       → IsListed items

@@ -1,5 +1,5 @@
 -- What a range that is changed meets or is merged with, and that all else stands.
-use Rattle.range_change.proofs.Common.{Touches, ◌≡◌, refl, Bool, List, [], ◌∷◌, ◌++◌, ◌⊎◌, inl, inr, IsEquivalence, Every, KeyOrder, IsLawful, any_left, any_right, every_weaker, every_append, every_left, every_right, line_of, lower, upper, Any, le_lt_trans, lt_le_trans, lt_trans, PLt, IsKnownRange, AnyRange, Item, IsMergedInto, IsUpdateFrame, IsSpliceFrame, item_lower, item_upper, IsConnectedTo, Overlap}
+use Rattle.range_change.proofs.Common.{arith, common_steps, ◌≡◌, refl, Bool, List, [], ◌∷◌, ◌++◌, ◌⊎◌, inl, inr, IsEquivalence, Every, KeyOrder, IsLawful, any_left, any_right, every_weaker, every_append, every_left, every_right, line_of, lower, upper, Any, le_lt_trans, lt_le_trans, lt_trans, PLt, IsKnownRange, AnyRange, Item, IsMergedInto, IsUpdateFrame, IsSpliceFrame, item_lower, item_upper, IsConnectedTo, Overlap}
 use Rattle.range_change.proofs.Chains.{chain_right, chain_before, follows_above}
 use Rattle.range_change.proofs.RangePieces.{every_with, IsFull}
 use Rattle.range_change.proofs.Forms.{Chained}
@@ -22,30 +22,6 @@ module _ {K : Type 0} (order : KeyOrder K) (lawful : IsLawful order) where
     abbrev IsAlone : Item (AnyRange K) V → Type 0
     IsAlone i = IsConnectedTo order i.key r → Overlap order i.key r
 
-    alone_by : (i : Item (AnyRange K) V) → (Touches order i.key r → ⊥) → (Touches order r i.key → ⊥)
-        → IsAlone i
-    alone_by i before after h = elim h [
-      | inl meets ↦ meets
-      | inr (inl touches) ↦ absurd (before touches)
-      | inr (inr touches) ↦ absurd (after touches)
-    ]
-
-    alone_before : (i : Item (AnyRange K) V) → IsFull order lawful items r i
-        → PLt lawful (item_upper order i) (lower order r) → IsAlone i
-    alone_before i own l =
-        let apart = apart_not order lawful i.key r own.0 known own.1 some l in
-        alone_by i apart.1 apart.2
-
-    alone_after : (i : Item (AnyRange K) V) → IsFull order lawful items r i
-        → PLt lawful (upper order r) (item_lower order i) → IsAlone i
-    alone_after i own l =
-        let apart = apart_not order lawful r i.key known own.0 some own.1 l in
-        alone_by i apart.2 apart.1
-
-    alone_around : IsFull order lawful items r x → IsAlone x
-    alone_around own = λ h. (overlap_is order lawful x.key r own.0 known).1
-        (lt_trans lawful _ _ _ starts some, lt_trans lawful _ _ _ some ends)
-
     -- no other item touches a range that one surrounds
     pub surrounded_alone : Every (λ i. IsConnectedTo order i.key r → Overlap order i.key r) items
     surrounded_alone =
@@ -56,52 +32,37 @@ module _ {K : Type 0} (order : KeyOrder K) (lawful : IsLawful order) where
         let after = follows_above (line_of order lawful same equal) x rest
         (chain_right (line_of order lawful same equal) done (x ∷ rest) whole).1 in
         let front = every_with _ _ IsAlone done before (every_left _ done (x ∷ rest) all)
-        (λ i h f. alone_before i f (le_lt_trans lawful _ _ _ h.0 starts)) in
-        let behind = every_with _ _ IsAlone rest after own.1 (λ i h f. alone_after i f
-        (lt_le_trans lawful _ _ _ ends h)) in
-        rw list (every_append IsAlone done (x ∷ rest) front (alone_around own.0, behind))
+        (λ i h f c. absurd ((apart_not order lawful i.key r f.0 known f.1 some
+        (le_lt_trans lawful _ _ _ h.0 starts)).0 c)) in
+        let behind = every_with _ _ IsAlone rest after own.1 (λ i h f c. absurd
+        ((apart_not order lawful r i.key known f.0 some f.1 (lt_le_trans lawful _ _ _ ends h)).1 c)) in
+        let around = (overlap_is order lawful x.key r own.0.0 known).1
+        (lt_trans lawful _ _ _ starts some, lt_trans lawful _ _ _ some ends) in
+        rw list (every_append IsAlone done (x ∷ rest) front ((λ c. around), behind))
 
 -- what holds of a run that gave way may be said otherwise
 pub way_follows : {T : Type 0} {items new : List T} {P Q : List T → List T → Type 0}
     → ((run others : List T) → P run others → Q run others) → IsSpliceFrame items new P
     → IsSpliceFrame items new Q
-way_follows follows way = record {
-  front = way.front;
-  run = way.run;
-  others = way.others;
-  behind = way.behind;
-  before = way.before;
-  after = way.after;
-  such = follows way.run way.others way.such;
-}
+way_follows follows way = grind (arith, common_steps)
 
 module _ {K : Type 0} (order : KeyOrder K) {V : Type 0} (same : V → V → Bool) (r : AnyRange K) where
   merged_within : (front list behind : List (Item (AnyRange K) V)) (i : Item (AnyRange K) V)
       → IsMergedInto order same list r i → IsMergedInto order same (front ++ list ++ behind) r i
-  merged_within front list behind i (inl h) =
-      inl (h.0, any_left _ (front ++ list) behind (any_right _ front list h.1))
-  merged_within front list behind i (inr h) =
-      inr (h.0, any_left _ (front ++ list) behind (any_right _ front list h.1))
+  merged_within front list behind i either = grind (arith, common_steps, any_left, any_right)
 
   -- what is beside the run stands, and what is in it meets the range or is merged
   pub rest_stands : (front run others behind : List (Item (AnyRange K) V))
       → Every (λ i. Overlap order i.key r ⊎ IsMergedInto order same others r i) run
       → IsUpdateFrame order same (front ++ run ++ behind) (front ++ others ++ behind) r
   rest_stands front run others behind concerned =
-      let before = every_weaker _ (λ i. (Overlap order i.key r → ⊥) → Any (λ j. j ≡ i)
-      (front ++ others ++ behind) ⊎ IsMergedInto order same (front ++ others ++ behind) r i) front
+      let Stays = λ (i : Item (AnyRange K) V). (Overlap order i.key r → ⊥)
+      → Any (λ j. j ≡ i) (front ++ others ++ behind)
+      ⊎ IsMergedInto order same (front ++ others ++ behind) r i in
+      every_append Stays (front ++ run) behind (every_append Stays front run (every_weaker _ _ front
       (λ i h out. inl (any_left _ (front ++ others) behind (any_left _ front others h)))
-      (each_is_one front) in
-      let inside = every_weaker _ (λ i. (Overlap order i.key r → ⊥) → Any (λ j. j ≡ i)
-      (front ++ others ++ behind) ⊎ IsMergedInto order same (front ++ others ++ behind) r i) run
-      (λ i h out. elim h [
-        | inl meets ↦ absurd (out meets)
-        | inr merged ↦ inr (merged_within front others behind i merged)
-      ]) concerned in
-      let after = every_weaker _ (λ i. (Overlap order i.key r → ⊥) → Any (λ j. j ≡ i)
-      (front ++ others ++ behind) ⊎ IsMergedInto order same (front ++ others ++ behind) r i) behind
-      (λ i h out. inl (any_right _ (front ++ others) behind h)) (each_is_one behind) in
-      every_append _ (front ++ run) behind (every_append _ front run before inside) after
+      (each_is_one front)) (grind (arith, common_steps, every_weaker, merged_within))) (every_weaker _ _ behind
+      (λ i h out. inl (any_right _ (front ++ others) behind h)) (each_is_one behind))
 
   -- so does a list that is not changed
   pub unchanged_stands : (items : List (Item (AnyRange K) V))

@@ -1,5 +1,5 @@
 -- A list whose first item has another start, and its last another end.
-use Rattle.range_change.proofs.Common.{common_steps, unwrap_or, ◌≡◌, ◌+◌, ◌-◌, ◌<◌, ◌≤◌, ℕ, suc, List, [], ◌∷◌, ◌++◌, length, take, drop, get_or, refl, ap, sym, ◌∙◌, arith, Option, Some, None, Bool, inl, inr, length-append, append_assoc, take_at, drop_at, drop-drop, length-take-le, set, Every, slice_get, IsEquivalence, Bound, KeyOrder, every_weaker, Any, AnyRange, Item, with_start, with_end, HasValue, with_first_start, with_last_end}
+use Rattle.range_change.proofs.Common.{common_steps, unwrap_or, ◌≡◌, ◌+◌, ◌-◌, ◌<◌, ◌≤◌, ℕ, suc, List, [], ◌∷◌, ◌++◌, length, take, drop, get_or, refl, ap, sym, ◌∙◌, arith, Option, Some, None, Bool, inl, inr, append_assoc, take_at, drop_at, drop-drop, set, Every, slice_get, IsEquivalence, Bound, KeyOrder, every_weaker, Any, AnyRange, Item, with_start, with_end, HasValue, with_first_start, with_last_end}
 
 -- the last of some items
 pub last_of : {X : Type 0} (x : X) (xs : List X)
@@ -21,9 +21,7 @@ put_parts : {X : Type 0} (before now done : List X) (place left less : ℕ)
     → place + left ≤ length before → (take (place + length done) now ≡ take place before ++ done)
     × ((n : ℕ) → drop (place + length done + n) now ≡ drop (place + (left - less) + n) before)
 put_parts before now done place left less was within =
-    let size : length (take place before ++ done) ≡ place + length done =
-    length-append (take place before) done
-    ∙ ap (λ n. n + length done) (length-take-le place before (omega (arith, within))) in
+    let size : length (take place before ++ done) ≡ place + length done = grind (arith, common_steps) in
     let rest = drop (place + (left - less)) before in
     let at = place + length done in (
       ap (take at) was ∙ take_at (take place before ++ done) rest at size,
@@ -37,14 +35,7 @@ pub put_next : {X : Type 0} (before now new done : List X) (place left less fewe
     → less ≡ left - length done → place + left ≤ length before → fewer ≡ less - 1
     → new ≡ take (place + length done) now ++ x ∷ drop (place + length done + (less - fewer)) now
     → new ≡ take place before ++ (done ++ x ∷ []) ++ drop (place + (left - fewer)) before
-put_next before now new done place left less fewer x was few within one changed =
-    let parts = put_parts before now done place left less was within in
-    let index : place + (left - less) + (less - fewer) ≡ place + (left - fewer) =
-    omega (arith, few, one) in
-    changed ∙ (ap (λ ys. ys ++ x ∷ drop (place + length done + (less - fewer)) now) parts.0 ∙
-    (ap (λ ys. (take place before ++ done) ++ x ∷ ys) (parts.1 (less - fewer) ∙ ap
-    (λ n. drop n before) index) ∙ sym (regrouped_last (take place before) done
-    (drop (place + (left - fewer)) before) x)))
+put_next before now new done place left less fewer x was few within one changed = grind (arith, common_steps, put_parts, drop, length, take, regrouped_last)
 
 -- the rest of the run is removed
 pub put_all : {X : Type 0} (before now new done : List X) (place left less : ℕ)
@@ -52,11 +43,7 @@ pub put_all : {X : Type 0} (before now new done : List X) (place left less : ℕ
     → less ≡ left - length done → place + left ≤ length before
     → new ≡ take (place + length done) now ++ drop (place + length done + less) now
     → new ≡ take place before ++ done ++ drop (place + left) before
-put_all before now new done place left less was few within changed =
-    let parts = put_parts before now done place left less was within in
-    let index : place + (left - less) + less ≡ place + left = omega (arith, few) in
-    changed ∙ (ap (λ ys. ys ++ drop (place + length done + less) now) parts.0 ∙ ap
-    (λ ys. (take place before ++ done) ++ ys) (parts.1 less ∙ ap (λ n. drop n before) index))
+put_all before now new done place left less was few within changed = grind (arith, common_steps, put_parts, drop, length, take)
 
 module _ {K V : Type 0} where
   abbrev pub item_with_end : Option (Bound K) → Item (AnyRange K) V → Item (AnyRange K) V
@@ -81,9 +68,7 @@ module _ {K V : Type 0} where
 
   pub length_started : (start : Option (Bound K)) (xs : List (Item (AnyRange K) V))
       → length (with_first_start start xs) ≡ length xs
-  length_started None xs = refl
-  length_started (Some b) [] = refl
-  length_started (Some b) (i ∷ rest) = refl
+  length_started start xs = grind (arith, common_steps)
 
   pub length_ended : (finish : Option (Bound K)) (xs : List (Item (AnyRange K) V))
       → length (with_last_end finish xs) ≡ length xs
@@ -98,9 +83,7 @@ module _ {K V : Type 0} where
       (xs : List (Item (AnyRange K) V))
       → ((i : Item (AnyRange K) V) (b : Bound K) → start ≡ Some b → P i → P (with_start i b))
       → Every P xs → Every P (with_first_start start xs)
-  every_started P None xs f h = h
-  every_started P (Some b) [] f h = h
-  every_started P (Some b) (i ∷ rest) f h = (f i b refl h.0, h.1)
+  every_started P start xs f h = grind (arith, common_steps)
 
   pub every_ended : (P : Item (AnyRange K) V → Type 0) (finish : Option (Bound K))
       (xs : List (Item (AnyRange K) V))
@@ -139,10 +122,7 @@ module _ {K V : Type 0} where
   pub own_values : (order : KeyOrder K) (same : V → V → Bool) → IsEquivalence same
       → (xs : List (Item (AnyRange K) V)) → Every (λ j. HasValue order same xs j.value) xs
   own_values order same equal [] = tt
-  own_values order same equal (x ∷ xs) = (
-    inl (equal.refl x.value),
-    every_weaker _ _ xs (λ j h. inr h) (own_values order same equal xs),
-  )
+  own_values order same equal (x ∷ xs) = grind (arith, common_steps, own_values order same equal xs, every_weaker)
 
 pub prefix_is_all : {X : Type 0} (done rest all : List X) → done ++ rest ≡ all → length rest ≡ 0
     → done ≡ all

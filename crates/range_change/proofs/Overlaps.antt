@@ -1,5 +1,5 @@
 -- Which stored ranges a range meets, and which keys both then hold.
-use Rattle.range_change.proofs.Common.{common, common_known, earlier_is, later_is, ◌≡◌, ℕ, zero, suc, ◌+◌, ◌<◌, Bool, List, [], ◌∷◌, ◌++◌, length, take, drop, get_or, refl, sym, arith, true, false, inl, inr, not, IsTrue, ◌↔◌, Option, Some, None, Every, option_copied, is_some, Bound, is_lt, KeyOrder, IsLawful, IsComplete, start_position, end_position, position_cmp, Position, not_both_greater_and_not, not_greater, AnyRange, Holds, IsKnownRange, IsEmptyRange, Le, Lt, Any, le_trans, lt_not_le, not_lt, list_is_take_and_drop, any_none, any_split, Item, IsBound, BindsTo, Binds, IsStored, MeetsSome, BindsKeyOf, Overlap}
+use Rattle.range_change.proofs.Common.{common_steps, PLe, PLt, common, common_known, earlier_is, later_is, ◌≡◌, ℕ, zero, suc, ◌+◌, ◌<◌, Bool, List, [], ◌∷◌, ◌++◌, length, take, drop, get_or, refl, arith, true, false, inl, inr, not, IsTrue, ◌↔◌, Option, Every, option_copied, is_some, Bound, is_lt, KeyOrder, IsLawful, IsComplete, start_position, end_position, position_cmp, Position, not_both_greater_and_not, not_greater, AnyRange, Holds, IsKnownRange, IsEmptyRange, Any, le_trans, lt_not_le, not_lt, list_is_take_and_drop, any_none, any_split, Item, IsBound, BindsTo, Binds, IsStored, MeetsSome, BindsKeyOf, Overlap}
 use Rattle.std.specs.Borrow.{Bor}
 use Rattle.range_algebra.proofs.Commons.{common_holds}
 use Rattle.range_algebra.proofs.Completeness.{nonempty_holds}
@@ -14,12 +14,6 @@ any_at P (y ∷ ys) zero x within read h = let at : x ≡ y = read in inl (rw at
 any_at P (y ∷ ys) (suc place) x within read h = inr (any_at P ys place x (omega arith) read h)
 
 module _ {K : Type 0} (order : KeyOrder K) (lawful : IsLawful order) where
-  abbrev PLe : Position K → Position K → Type 0
-  PLe p q = Le (position_cmp order.cmp) p q
-
-  abbrev PLt : Position K → Position K → Type 0
-  PLt p q = Lt (position_cmp order.cmp) p q
-
   abbrev Start : AnyRange K → Position K
   Start r = start_position order r.start
 
@@ -29,19 +23,11 @@ module _ {K : Type 0} (order : KeyOrder K) (lawful : IsLawful order) where
   -- ranges that hold the same key meet
   shared_meets : (r s : AnyRange K) (k : K) → order.is_key k → Holds order r k → Holds order s k
       → Overlap order r s
-  shared_meets r s k key h g =
-      let in_r = (holds_by_position order lawful r k key).0 h in
-      let in_s = (holds_by_position order lawful s k key).0 g in (
-        λ l. lt_not_le lawful _ _ l (le_trans lawful _ _ _ in_s.0 in_r.1),
-        λ l. lt_not_le lawful _ _ l (le_trans lawful _ _ _ in_r.0 in_s.1),
-      )
+  shared_meets r s k key h g = grind (arith, common_steps, holds_by_position, lt_not_le, le_trans)
 
   held_nonempty : (r : AnyRange K) (k : K) → order.is_key k → Holds order r k → IsEmptyRange order r
       → ⊥
-  held_nonempty r k key h e =
-      let within = (holds_by_position order lawful r k key).0 h in
-      not_both_greater_and_not (position_cmp order.cmp (Start r) (End r))
-      (le_trans lawful _ _ _ within.0 within.1) e
+  held_nonempty r k key h e = grind (arith, common_steps, holds_by_position, not_both_greater_and_not, position_cmp, le_trans)
 
   -- over complete keys ranges that meet share a key
   shared_key : (r s : AnyRange K) → IsComplete order → IsKnownRange order r → IsKnownRange order s
@@ -50,12 +36,12 @@ module _ {K : Type 0} (order : KeyOrder K) (lawful : IsLawful order) where
   shared_key r s complete known others full full_s meets =
       let cmp = position_cmp order.cmp in
       let ends =
-      λ (b : Bound K) (h : PLe (start_position order b) (End r))
-      (k : PLe (start_position order b) (End s)). earlier_is order lawful r.end s.end
-      (λ e. PLe (start_position order b) (end_position order e)) h k in
+      λ (b : Bound K) (h : PLe lawful (start_position order b) (End r))
+      (k : PLe lawful (start_position order b) (End s)). earlier_is order lawful r.end s.end
+      (λ e. PLe lawful (start_position order b) (end_position order e)) h k in
       let found = nonempty_holds order lawful complete (common order r s)
       (common_known order lawful r s known others) (later_is order lawful r.start s.start
-      (λ b. PLe (start_position order b) (End (common order r s)))
+      (λ b. PLe lawful (start_position order b) (End (common order r s)))
       (ends r.start (not_greater (cmp (Start r) (End r)) full) (not_lt lawful _ _ meets.1))
       (ends s.start (not_lt lawful _ _ meets.0) (not_greater (cmp (Start s) (End s)) full_s))) in
       let held = (common_holds order lawful r s found.0 found.1).0 found.2 in
@@ -82,9 +68,7 @@ module _ {K : Type 0} (order : KeyOrder K) (lawful : IsLawful order) where
     meeting_by (i ∷ rest) r complete known full others full_r (inl h) =
         let found = shared_key i.key r complete known.0 others full.0 full_r h in
         (found.0, found.1, found.3, inl found.2)
-    meeting_by (i ∷ rest) r complete known full others full_r (inr h) =
-        let found = meeting_by rest r complete known.1 full.1 others full_r h in
-        (found.0, found.1, found.2, inr found.3)
+    meeting_by (i ∷ rest) r complete known full others full_r (inr h) = grind (arith, common_steps, meeting_by rest r complete known.1 full.1 others full_r h)
 
     -- over complete keys a nonempty range that meets some item has a bound key
     pub meeting_binds : (same : V → V → Bool) (items : List (Item (AnyRange K) V)) (r : AnyRange K)
@@ -95,15 +79,15 @@ module _ {K : Type 0} (order : KeyOrder K) (lawful : IsLawful order) where
 
     -- up to the place all end before the range, and from there on all start past it
     pub apart_meets : (items : List (Item (AnyRange K) V)) (r : AnyRange K) (p e : Position K)
-        (place : ℕ) → p ≡ Start r → e ≡ End r → Every (λ i. PLt (End i.key) p) (take place items)
-        → Every (λ i. PLt e (Start i.key)) (drop place items) → MeetsSome order items r → ⊥
+        (place : ℕ) → p ≡ Start r → e ≡ End r → Every (λ i. PLt lawful (End i.key) p) (take place items)
+        → Every (λ i. PLt lawful e (Start i.key)) (drop place items) → MeetsSome order items r → ⊥
     apart_meets items r p e place start end below above h =
         let parted : MeetsSome order (take place items ++ drop place items) r =
         rw (list_is_take_and_drop items place) at h in
         elim (any_split (λ i. Overlap order i.key r) (take place items) (drop place items) parted) [
-          | inl k ↦ any_none (λ i. Overlap order i.key r) (λ i. PLt (End i.key) (Start r))
+          | inl k ↦ any_none (λ i. Overlap order i.key r) (λ i. PLt lawful (End i.key) (Start r))
               (take place items) (rw start at below) (λ i l meets. meets.0 l) k
-          | inr k ↦ any_none (λ i. Overlap order i.key r) (λ i. PLt (End r) (Start i.key))
+          | inr k ↦ any_none (λ i. Overlap order i.key r) (λ i. PLt lawful (End r) (Start i.key))
               (drop place items) (rw end at above) (λ i l meets. meets.1 l) k
         ]
 
@@ -112,8 +96,8 @@ module _ {K : Type 0} (order : KeyOrder K) (lawful : IsLawful order) where
         (r : AnyRange K) (p e : Position K) (place : ℕ) (x : Item (AnyRange K) V) (before : Bool)
         → p ≡ Start r → e ≡ End r → IsStored order same items → (IsEmptyRange order r → ⊥)
         → place < length items → x ≡ get_or items place x
-        → Every (λ i. PLe (Start i.key) e) (take (place + 1) items)
-        → Every (λ i. PLt e (Start i.key)) (drop (place + 1) items)
+        → Every (λ i. PLe lawful (Start i.key) e) (take (place + 1) items)
+        → Every (λ i. PLt lawful e (Start i.key)) (drop (place + 1) items)
         → before ≡ is_lt (position_cmp order.cmp (End x.key) p) → IsTrue (not before)
         ↔ ((IsEmptyRange order r → ⊥) × MeetsSome order items r)
     last_started_decides same items r p e place x true start end stored full within read upto above
@@ -125,14 +109,10 @@ module _ {K : Type 0} (order : KeyOrder K) (lawful : IsLawful order) where
     last_started_decides same items r p e place x false start end stored full within read upto above
         ends =
         let cmp = position_cmp order.cmp in
-        let starts = starts_here order lawful same items e place x within read upto in
-        let reaches : is_lt (cmp (End x.key) p) ≡ false = sym ends in (
+        let starts = starts_here order lawful same items e place x within read upto in (
           λ h. (
             full,
-            any_at (λ i. Overlap order i.key r) items place x within read (
-              λ l. not_less (cmp (End x.key) (Start r)) (rw start at reaches) l,
-              λ l. lt_not_le lawful _ _ l (rw end at starts),
-            ),
+            any_at (λ i. Overlap order i.key r) items place x within read (grind (arith, common_steps, not_less, lt_not_le)),
           ),
           λ h. refl,
         )
@@ -147,5 +127,4 @@ module _ {K : Type 0} (order : KeyOrder K) {V : Type 0} (same : V → V → Bool
   -- a key is bound where its binding is to some value
   pub holding_is : (items : List (Item (AnyRange K) V)) (k : K) (b : Option (Bor V))
       → Binds order same items k (option_copied b) → IsTrue (is_some b) ↔ IsBound order items k
-  holding_is items k None h = (λ e. absurd (cc), λ e. absurd (h e))
-  holding_is items k (Some v) h = (λ e. binds_bound items k v.now h, λ e. refl)
+  holding_is items k option h = grind (arith, common_steps, binds_bound)

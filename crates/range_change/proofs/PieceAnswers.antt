@@ -1,7 +1,7 @@
 -- The answers to the pieces of a range, one after the other.
-use Rattle.range_change.proofs.Common.{ℕ, ◌+◌, take, drop, ◌≡◌, refl, sym, ap, ◌∙◌, Option, Some, None, Bool, true, List, [], ◌∷◌, ◌++◌, append_assoc, inl, inr, ◌↔◌, map, Result, Ok, append-nil, drop-drop, map-append, Shared, Bor, Every, Bound, IsEquivalence, KeyOrder, IsLawful, Position, Beside, At, AnyRange, IsBoundClone, SameBound, Any, every_append, every_right, every_weaker, list_is_take_and_drop, held_between, Item, MayAnswer, MayBeAsked, Answered, IsAsAnswered, AnswersPiece, IsGathered, piece_of, Binds, pieces_of, IsPut, AreOverlapping, KeepsSpelling, IsWindow, Window, le_refl, le_trans, lt_not_le, PLe, PLt, lower, upper}
+use Rattle.range_change.proofs.Common.{arith, common_steps, ℕ, ◌+◌, take, drop, ◌≡◌, refl, sym, ap, ◌∙◌, Option, Some, None, Bool, List, [], ◌∷◌, ◌++◌, append_assoc, inl, inr, ◌↔◌, map, Result, Ok, append-nil, drop-drop, map-append, Shared, Bor, Every, Bound, IsEquivalence, KeyOrder, IsLawful, Position, Beside, At, AnyRange, IsBoundClone, SameBound, Any, every_append, every_right, every_weaker, list_is_take_and_drop, held_between, Item, MayAnswer, MayBeAsked, Answered, IsAsAnswered, AnswersPiece, IsGathered, piece_of, Binds, pieces_of, IsPut, AreOverlapping, KeepsSpelling, IsWindow, Window, le_refl, le_trans, lt_not_le, PLe, PLt, lower, upper}
 use Rattle.range_change.proofs.AnswerLists.{IsFilledUpTo, Gives, Alike, filled_none, fill_more}
-use Rattle.range_change.proofs.Forms.{Known, Hold, before_is, binds_hold, bound_hold, chain_stored, every_back, every_front}
+use Rattle.range_change.proofs.Forms.{Known, Hold, before_is, binds_as, unbinds_as, chain_stored, every_back, every_front}
 use Rattle.range_change.proofs.InsertionFrames.{all_meet}
 use Rattle.range_change.proofs.PieceLists.{pieces_are, pieces_are_cut, pieces_are_kept}
 use Rattle.range_change.proofs.RangePieces.{Rises, IsRight, AreCut, any_unmap, any_use, any_with, every_unmap, every_with, lies_in, rises_right}
@@ -42,40 +42,18 @@ module _ {K : Type 0} (order : KeyOrder K) (lawful : IsLawful order) {V : Type 0
       inr (any_with _ _ (λ b. (PLe lawful (lower order b.key) p × PLt lawful p (upper order b.key))
       × IsOnly p b (a ∷ rest)) rest (only_one p rest rising.1 h) above (λ b t le. (
         t.0,
-        λ W. (
-          λ g. elim g [
-            | inl e ↦ absurd (lt_not_le lawful _ _ e.0.1 (le_trans lawful _ _ _ le t.0.0))
-            | inr e ↦ (t.1 W).0 e
-          ],
-          λ g. inr ((t.1 W).1 g),
-        ),
+        λ W. (grind (arith, common_steps, lt_not_le, le_trans)),
       )))
 
   as_answered : (new : List (Item (AnyRange K) V)) (k : K) → Known order lawful same equal new
       → order.is_key k → (answer b : Option V) → ((W : V → Bool) → Alike order lawful same equal r W
       → Hold order lawful same equal W (Beside k At) new ↔ Gives order lawful same equal r W answer)
       → Binds order same new k b ↔ IsAsAnswered same answer b
-  as_answered new k known_new key None None h =
-      let all = h (λ u. true) (λ a b s t. t) in (
-        λ _. refl,
-        λ _ bound. all.0 ((bound_hold order lawful same equal new k known_new key).0 bound),
-      )
-  as_answered new k known_new key None (Some w) h =
-      let own = h (λ u. same u w) (λ a b s t. sym (equal.congr a b w s) ∙ t) in (
-        λ bound.
-            absurd (own.0 ((binds_hold order lawful same equal new k w known_new key).0 bound)),
-        λ e. absurd (cc),
-      )
-  as_answered new k known_new key (Some v) None h =
-      let all = h (λ u. true) (λ a b s t. t) in (
-        λ unbound.
-            unbound ((bound_hold order lawful same equal new k known_new key).1 (all.1 refl)),
-        λ e. absurd e,
-      )
-  as_answered new k known_new key (Some v) (Some w) h =
-      let own = h (λ u. same u w) (λ a b s t. sym (equal.congr a b w s) ∙ t) in
-      let here = binds_hold order lawful same equal new k w known_new key in
-      (λ bound. own.0 (here.0 bound), λ e. here.1 (own.1 e))
+  as_answered new k known key None b h = unbinds_as order lawful same equal new k known key h b
+  as_answered new k known key (Some v) None h =
+      binds_as order lawful same equal new k v known key h None
+  as_answered new k known key (Some v) (Some w) h =
+      binds_as order lawful same equal new k v known key h (Some w)
 
   module _ {F E : Type 0} (calls : Shared F (Option (Bor V) × Unit {0}) (Result (Option V) E))
       (f : F) where

@@ -1,5 +1,5 @@
 -- The pieces that are read off from the items that meet a range are its pieces.
-use Rattle.range_change.proofs.Common.{◌≡◌, refl, sym, ◌∙◌, List, [], ◌∷◌, ◌++◌, ◌⊎◌, inl, inr, Option, Some, None, Bool, true, false, map, if◌then◌else◌, append_assoc, append-nil, IsEquivalence, tied_itself, Every, Equal, Bound, Unbounded, KeyOrder, IsLawful, start_position, end_position, position_cmp, position_total, Position, common, flipped, starts_past_end, past, lower, upper, Le, Lt, Any, IsEmptyRange, IsKnownBound, IsKnownRange, AnyRange, common_known, later_is, earlier_is, any_right, every_weaker, every_append, every_left, every_right, reaching_is_before_past, flipped_bound_is_past, flipped_back, flipped_known, unbounded_start, unbounded_end, Item, line_of, Overlap, free_piece, bound_piece, free_between, pieces_from, pieces_of, IsFreePart, ArePieces, AreOverlapping, IsStored, le_refl, lt_le, eq_le, eq_ge, le_trans, cases, not_le, not_lt, lt_not_le, lt_le_trans, PLe, PLt}
+use Rattle.range_change.proofs.Common.{arith, common_steps, ◌≡◌, refl, sym, ◌∙◌, List, [], ◌∷◌, ◌++◌, ◌⊎◌, inl, inr, Option, Some, None, Bool, true, false, map, if◌then◌else◌, append_assoc, append-nil, IsEquivalence, tied_itself, Every, Equal, Bound, Unbounded, KeyOrder, IsLawful, start_position, end_position, position_cmp, position_total, Position, common, flipped, starts_past_end, past, lower, upper, Le, Lt, Any, IsEmptyRange, IsKnownBound, IsKnownRange, AnyRange, common_known, later_is, earlier_is, any_right, every_weaker, every_append, every_left, every_right, reaching_is_before_past, flipped_bound_is_past, flipped_back, flipped_known, unbounded_start, unbounded_end, Item, line_of, Overlap, free_piece, bound_piece, free_between, pieces_from, pieces_of, IsFreePart, ArePieces, AreOverlapping, IsStored, le_refl, lt_le, eq_le, eq_ge, le_trans, cases, not_le, not_lt, lt_not_le, lt_le_trans, PLe, PLt}
 use Rattle.range_change.proofs.Chains.{chain_above, chain_right, follows_above}
 use Rattle.range_change.proofs.Forms.{Known, Chained, before_is, stored_chain, nonempty_good}
 use Rattle.range_change.proofs.RangePieces.{Rises, IsFull, IsRight, IsInside, AreCut, all_full, any_over, any_with, common_is, common_place_is_not_clear, common_within, cut_all, every_with, free_apart, free_inside}
@@ -85,10 +85,7 @@ module _ {K : Type 0} {order : KeyOrder K} (lawful : IsLawful order) {V : Type 0
 
   opens_after : (e : Bound K) (b : Option (Bound K)) → flipped e ≡ b → IsKnownBound order e
       → Opens b (past order (end_position order e))
-  opens_after e (Some b) turns known_e =
-      (flipped_known order lawful e b turns known_e, flipped_bound_is_past order lawful e b turns)
-  opens_after Unbounded None turns known_e = unbounded_end order lawful r.end known.1
-  opens_after e None turns known_e = absurd (cc)
+  opens_after e option turns known_e = grind (arith, common_steps, flipped_known, flipped_bound_is_past, unbounded_end)
 
   -- the gap from one place to another ends at the bound, or there is none
   abbrev Closes : Option (Bound K) → Position K → Position K → Type 0
@@ -98,10 +95,7 @@ module _ {K : Type 0} {order : KeyOrder K} (lawful : IsLawful order) {V : Type 0
 
   closes_before : (from : Position K) (s : Bound K) (b : Option (Bound K)) → flipped s ≡ b
       → IsKnownBound order s → Le' (Low r) from → Closes b from (start_position order s)
-  closes_before from s (Some b) turns known_s le = (
-    flipped_known order lawful s b turns known_s,
-    flipped_bound_is_past order lawful b s (flipped_back order lawful s b turns),
-  )
+  closes_before from s (Some b) turns known_s le = grind (arith, common_steps, flipped_known, flipped_bound_is_past, flipped_back)
   closes_before from Unbounded None turns known_s le =
       le_trans lawful _ _ _ (unbounded_start order lawful r.start known.0) le
   closes_before from s None turns known_s le = absurd (cc)
@@ -171,10 +165,7 @@ module _ {K : Type 0} {order : KeyOrder K} (lawful : IsLawful order) {V : Type 0
 
     with_gap : (start end : Option (Bound K)) → Opens start from → Closes end from to
         → IsCut from from (free_between order start end ++ rest)
-    with_gap (Some a) (Some b) opens closes =
-        gap_by a b (starts_past_end order a b) refl opens closes
-    with_gap (Some a) None opens closes = no_gap closes
-    with_gap None end opens closes = no_gap (le_trans lawful _ _ _ within opens)
+    with_gap option end opens closes = grind (arith, common_steps, gap_by, starts_past_end, no_gap, le_trans)
 
   -- an item that the range meets, after those so far
   module _ {done rest : List (Item (AnyRange K) V)} {x : Item (AnyRange K) V} {from : Position K}

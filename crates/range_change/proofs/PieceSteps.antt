@@ -1,5 +1,5 @@
 -- One piece after the other, from either end.
-use Rattle.range_change.proofs.Common.{◌≡◌, refl, sym, ap, ◌∙◌, List, [], ◌∷◌, ◌++◌, Option, Some, None, Bool, true, false, map, if◌then◌else◌, append_assoc, arith, length, length-append, ◌<◌, Bound, KeyOrder, IsLawful, common, flipped, starts_past_end, IsKnownBound, IsKnownRange, AnyRange, flipped_back, flipped_bound_is_past, flipped_known, Item, between, free_piece, bound_piece, free_between, pieces_from, eq_le, lt_not_le}
+use Rattle.range_change.proofs.Common.{common_steps, ◌≡◌, refl, ap, List, [], ◌∷◌, ◌++◌, Option, Some, None, Bool, map, if◌then◌else◌, append_assoc, arith, length, length-append, ◌<◌, Bound, KeyOrder, IsLawful, common, flipped, starts_past_end, IsKnownBound, IsKnownRange, AnyRange, flipped_back, flipped_bound_is_past, flipped_known, Item, between, free_piece, bound_piece, free_between, pieces_from, eq_le, lt_not_le}
 use Rattle.range_change.proofs.Forms.{before_is}
 
 module _ {K : Type 0} {order : KeyOrder K} (lawful : IsLawful order) where
@@ -7,15 +7,11 @@ module _ {K : Type 0} {order : KeyOrder K} (lawful : IsLawful order) where
   none_past : (e s : Bound K) → flipped e ≡ Some s → IsKnownBound order e → (t : Bool)
       → starts_past_end order s e ≡ t
       → ◌≡◌ {A = List (AnyRange K)} (if t then [] else record { start = s; end = e } ∷ []) []
-  none_past e s turns known true is = refl
-  none_past e s turns known false is = absurd (lt_not_le lawful _ _
-      ((before_is order lawful e s known (flipped_known order lawful e s turns known)).1
-      (eq_le lawful _ _ (flipped_bound_is_past order lawful e s turns))) is)
+  none_past e s turns known test is = grind (arith, common_steps, lt_not_le, before_is, flipped_known, eq_le, flipped_bound_is_past)
 
   none_after_end : (e : Bound K) (s : Option (Bound K)) → flipped e ≡ s → IsKnownBound order e
       → between order s (Some e) ≡ []
-  none_after_end e None turns known = refl
-  none_after_end e (Some s) turns known = none_past e s turns known (starts_past_end order s e) refl
+  none_after_end e option turns known = grind (arith, common_steps, none_past, starts_past_end)
 
   none_before_start : (s : Bound K) (e : Option (Bound K)) → flipped s ≡ e → IsKnownBound order s
       → between order (Some s) e ≡ []
@@ -30,11 +26,7 @@ module _ {K : Type 0} {order : KeyOrder K} (lawful : IsLawful order) where
         → IsKnownRange order i.key → g ∷ [] ≡ between order s (flipped i.key.start)
         → b ≡ i.key.start → pieces_from order r s e items
         ≡ free_piece g ∷ pieces_from order r (Some b) e items
-    gap_first s e {rest = rest} {i = i} g b list known is start =
-        let more = bound_piece order r i ∷ pieces_from order r (flipped i.key.end) e rest in
-        let none = none_before_start i.key.start (flipped i.key.start) refl known.0 in
-        rw (list, start) (ap (λ gs. map free_piece gs ++ more) (sym is)
-        ∙ ap (λ gs. free_piece g ∷ (map free_piece gs ++ more)) (sym none))
+    gap_first s e {rest = rest} {i = i} g b list known is start = grind (arith, common_steps, bound_piece, pieces_from, flipped, none_before_start, map, free_piece)
 
     -- the piece that comes last
     pieces_end : (s e : Option (Bound K)) (init : List (Item (AnyRange K) V))
@@ -42,12 +34,7 @@ module _ {K : Type 0} {order : KeyOrder K} (lawful : IsLawful order) where
         ≡ pieces_from order r s (flipped i.key.start) init
         ++ bound_piece order r i ∷ free_between order (flipped i.key.end) e
     pieces_end s e [] i = refl
-    pieces_end s e (j ∷ rest) i =
-        let gap = free_between order s (flipped j.key.start) in
-        let more = pieces_from order r (flipped j.key.end) (flipped i.key.start) rest in
-        let end = bound_piece order r i ∷ free_between order (flipped i.key.end) e in
-        ap (λ ps. gap ++ bound_piece order r j ∷ ps) (pieces_end (flipped j.key.end) e rest i)
-        ∙ sym (append_assoc gap (bound_piece order r j ∷ more) end)
+    pieces_end s e (j ∷ rest) i = grind (arith, common_steps, pieces_end (flipped j.key.end) e rest i, free_between, flipped, pieces_from, bound_piece, append_assoc)
 
     module _ (s e : Option (Bound K)) {items : List (Item (AnyRange K) V)}
         (init : List (Item (AnyRange K) V)) (i : Item (AnyRange K) V)
@@ -56,22 +43,13 @@ module _ {K : Type 0} {order : KeyOrder K} (lawful : IsLawful order) where
           → g ∷ [] ≡ between order (flipped i.key.end) e → b ≡ i.key.end
           → pieces_from order r s e items
           ≡ pieces_from order r s (Some b) items ++ free_piece g ∷ []
-      gap_last g b known is end =
-          let more = pieces_from order r s (flipped i.key.start) init in
-          let here = bound_piece order r i in
-          let none = none_after_end i.key.end (flipped i.key.end) refl known.1 in
-          rw (list, end, pieces_end s e init i, pieces_end s (Some i.key.end) init i)
-          (ap (λ gs. more ++ here ∷ map free_piece gs) (sym is)
-          ∙ sym (append_assoc more (here ∷ []) (free_piece g ∷ []))
-          ∙ ap (λ gs. (more ++ here ∷ map free_piece gs) ++ free_piece g ∷ []) (sym none))
+      gap_last g b known is end = grind (arith, common_steps, pieces_from, flipped, bound_piece, none_after_end, pieces_end, map, free_piece, append_assoc)
 
       pub item_last : (t : Option (Bound K)) (part : AnyRange K)
           → [] ≡ between order (flipped i.key.end) e → t ≡ flipped i.key.start
           → part ≡ common order i.key r → pieces_from order r s e items
           ≡ pieces_from order r s t init ++ record { key = part; value = Some i.value } ∷ []
-      item_last t part none start is = rw (list, start, is) (pieces_end s e init i ∙ ap
-          (λ gs. pieces_from order r s (flipped i.key.start) init ++ bound_piece order r i ∷ map
-          free_piece gs) (sym none))
+      item_last t part none start is = grind (arith, common_steps, pieces_end, pieces_from, flipped, bound_piece, map, free_piece)
 
 -- what is left once the last is taken is less
 pub last_is_less : {X : Type 0} (xs ys : List X) (x : X) → xs ≡ ys ++ x ∷ [] → length ys < length xs

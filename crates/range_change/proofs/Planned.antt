@@ -1,5 +1,5 @@
 -- What a change makes of a list where both sides of a range are planned.
-use Rattle.range_change.proofs.Common.{◌∷◌, append_assoc, append-nil, insert, IsWindow, Plain, Window, ◌≡◌, ℕ, ◌+◌, ◌*◌, ◌<◌, ◌≤◌, List, [], ◌++◌, length, take, drop, refl, ap, sym, ◌∙◌, arith, subst, Option, Some, None, Bool, IsEquivalence, ForSome, Bound, KeyOrder, IsLawful, AnyRange, place_before, IsAt, Item, place_at, kept_at, good_at, IsInserted, joined_item, joined_count, IsGoodBorder, IsLeftShape, IsRightShape, left_side, right_side, IsLeftPlan, IsRightPlan, IsLeftCutting, IsRightCutting, IsRunStart, IsReach, IsRemoved, IsKnownBound, SameBound, flipped_bound, seam_border, option_items, Border}
+use Rattle.range_change.proofs.Common.{common_steps, ◌∷◌, append_assoc, append-nil, insert, IsWindow, Plain, Window, ◌≡◌, ℕ, ◌+◌, ◌*◌, ◌<◌, ◌≤◌, List, [], ◌++◌, length, take, drop, refl, ap, sym, ◌∙◌, arith, subst, Option, Some, None, Bool, IsEquivalence, ForSome, Bound, KeyOrder, IsLawful, AnyRange, place_before, IsAt, Item, kept_at, good_at, IsInserted, joined_item, joined_count, IsGoodBorder, IsLeftShape, IsRightShape, left_side, right_side, IsLeftPlan, IsRightPlan, IsLeftCutting, IsRightCutting, IsRunStart, IsReach, IsRemoved, IsKnownBound, SameBound, flipped_bound, seam_border, option_items, Border}
 use Rattle.range_change.specs.declared.borders.Joins.{Joins}
 use Rattle.range_change.specs.declared.reach.Reach.{Reach}
 use Rattle.range_change.specs.Borders.{IsSeamAt, run_length}
@@ -38,9 +38,7 @@ module _ {K V P : Type 0} {is_good is_good' : P → Type 0} {rank rank' : P → 
       sum within =
       let moved = kept_at is_good is_good' rank rank' (length items) from begin kept is_at in
       let size : length items' ≡ length items = ap length same_list in
-      let here : place_before rank' (length items') from ≡ begin =
-      ap (λ n. place_before rank' n from) size
-      ∙ place_at is_good' rank' (length items) from begin moved in
+      let here : place_before rank' (length items') from ≡ begin = grind (arith, common_steps) in
       let least =
       border_length is_good rank items right_side right upto end after finish on_right in
       record {
@@ -50,9 +48,7 @@ module _ {K V P : Type 0} {is_good is_good' : P → Type 0} {rank rank' : P → 
         in_range = rw (here, size, sum) (omega (arith, least, within));
         on_left = subst (λ n. IsLeftShape is_good' rank' items' left at n before start) (sym here)
             (shape_kept kept same_list left_side left at begin before start on_left);
-        on_right = subst (λ n. IsRightShape is_good' rank' items' right n end after finish)
-            (sym (ap (λ n. n + count) here ∙ sum)) (shape_kept kept same_list right_side right upto
-            end after finish on_right);
+        on_right = grind (arith, common_steps, right, shape_kept, right_side, on_right);
       }
 
 module _ {K : Type 0} (order : KeyOrder K) {V : Type 0} (same : V → V → Bool)

@@ -1,5 +1,5 @@
 -- Parts that share out a range are its pieces.
-use Rattle.range_change.proofs.Common.{◌≡◌, refl, sym, subst, ap, ◌∙◌, ℕ, ◌<◌, length, get_or, Option, Some, None, Bool, true, false, List, [], ◌∷◌, ◌++◌, ◌⊎◌, inl, inr, map, if◌then◌else◌, Every, Equal, is_gt, IsEquivalence, tied_back, KeyOrder, IsLawful, start_position, end_position, position_cmp, position_total, Position, gt_is_greater, equal_then_equal, AnyRange, IsKnownRange, Le, Lt, Any, le_refl, lt_le, eq_le, eq_ge, le_trans, lt_not_le, cases, both, le_lt_trans, lt_le_trans, every_at, every_weaker, line_of, common, gt_le, later_is, earlier_is, lower, upper, LiesBefore, Item, EachNext, later, earlier, IsCommonPart, LiesIn, IsFreePart, IsPiece, ArePieces, Overlap}
+use Rattle.range_change.proofs.Common.{arith, common_steps, ◌≡◌, refl, sym, subst, ap, ◌∙◌, ℕ, ◌<◌, length, get_or, Option, Some, None, Bool, List, [], ◌∷◌, ◌++◌, ◌⊎◌, inl, inr, map, if◌then◌else◌, Every, Equal, is_gt, IsEquivalence, tied_back, KeyOrder, IsLawful, start_position, end_position, position_cmp, position_total, Position, equal_then_equal, AnyRange, IsKnownRange, Le, Lt, Any, le_refl, lt_le, eq_ge, le_trans, lt_not_le, cases, both, le_lt_trans, lt_le_trans, every_at, every_weaker, line_of, common, later_is, earlier_is, lower, upper, LiesBefore, Item, EachNext, later, earlier, IsCommonPart, LiesIn, IsFreePart, IsPiece, ArePieces, Overlap}
 use Rattle.range_algebra.specs.RangeOrder.{range_cmp}
 use Rattle.range_change.proofs.Chains.{follows_above, chain_tail}
 use Rattle.range_algebra.proofs.Commons.{later_over as starts_over, earlier_under as ends_under}
@@ -83,10 +83,7 @@ module _ {K : Type 0} (order : KeyOrder K) (lawful : IsLawful order) where
   chosen_by : (p q : Position K) (b : Bool) → is_gt (position_cmp order.cmp p q) ≡ b
       → (PLe p (if b then p else q) × PLe q (if b then p else q))
       × (PLe (if b then q else p) p × PLe (if b then q else p) q)
-  chosen_by p q true e = let le = gt_le (position_cmp order.cmp)
-      (position_total order.cmp lawful.total) p q (gt_is_greater (position_cmp order.cmp p q) e) in
-      ((le_refl lawful p, le), (le, le_refl lawful q))
-  chosen_by p q false e = ((e, le_refl lawful q), (le_refl lawful p, e))
+  chosen_by p q test e = grind (arith, common_steps, le_refl)
 
   pub later_over : (p q : Position K) → PLe p (later order p q) × PLe q (later order p q)
   later_over p q = (chosen_by p q (is_gt (position_cmp order.cmp p q)) refl).0
@@ -96,32 +93,11 @@ module _ {K : Type 0} (order : KeyOrder K) (lawful : IsLawful order) where
 
   pub either_choice_holds : (P : Position K → Type 0) (b : Bool) (p q : Position K) → P p → P q
       → P (if b then p else q)
-  either_choice_holds P true p q h k = h
-  either_choice_holds P false p q h k = k
+  either_choice_holds P test p q h k = grind (arith, common_steps)
 
   -- the common part of two ranges starts at the later start and ends at the earlier end
   pub common_is : (r i : AnyRange K) → IsCommonPart order r i (common order i r)
-  common_is r i =
-      let cmp = position_cmp order.cmp in
-      let c = common order i r in
-      let s = start_position order c.start in
-      let e = end_position order c.end in
-      let over = starts_over order lawful i.start r.start in
-      let under = ends_under order lawful i.end r.end in
-      let p = start_position order r.start in
-      let q = start_position order i.start in
-      let u = end_position order r.end in
-      let v = end_position order i.end in
-      let latest = later_over p q in
-      let first = earlier_under u v in
-      record {
-        starts = both lawful _ _ (later_is order lawful i.start r.start
-            (λ b. PLe (start_position order b) (later order p q)) latest.1 latest.0)
-            (either_choice_holds (λ x. PLe x s) (is_gt (cmp p q)) p q over.1 over.0);
-        ends = both lawful _ _ (either_choice_holds (λ x. PLe e x) (is_gt (cmp u v)) v u under.0
-            under.1) (earlier_is order lawful i.end r.end
-            (λ b. PLe (earlier order u v) (end_position order b)) first.1 first.0);
-      }
+  common_is r i = grind (arith, common_steps, position_cmp, common, start_position, end_position, starts_over, ends_under, later_over, earlier_under, both, later_is, later, either_choice_holds, is_gt, earlier_is, earlier)
 
   -- a common part lies in both
   pub common_within : (r i part : AnyRange K) → IsKnownRange order r → IsKnownRange order i
@@ -132,17 +108,10 @@ module _ {K : Type 0} (order : KeyOrder K) (lawful : IsLawful order) where
       let q = start_position order i.start in
       let u = end_position order r.end in
       let v = end_position order i.end in
-      let s = start_position order part.start in
-      let e = end_position order part.end in
       let latest = later_over p q in
       let first = earlier_under u v in
       let at = eq_ge lawful _ _ h.starts in
-      let to = eq_le lawful _ _ h.ends in (
-        le_trans lawful _ _ _ latest.0 at,
-        le_trans lawful _ _ _ latest.1 at,
-        past_le order lawful part.end r.end known''.1 known.1 (le_trans lawful _ _ _ to first.0),
-        past_le order lawful part.end i.end known''.1 known'.1 (le_trans lawful _ _ _ to first.1),
-      )
+      (grind (arith, common_steps, le_trans, past_le))
 
   lies_places : (r s : AnyRange K) → IsKnownRange order r → IsKnownRange order s → LiesIn order r s
       → PLe (Lo s) (Lo r) × PLe (Hi r) (Hi s)
@@ -164,19 +133,13 @@ module _ {K : Type 0} (order : KeyOrder K) (lawful : IsLawful order) where
         | inr le ↦ inl le
         | inl l ↦ elim (cases lawful (Lo i) (Hi r)) [
           | inr le ↦ inr le
-          | inl m ↦ absurd (none (
-            λ b. lt_not_le lawful _ _ l (first.0 b),
-            λ b. lt_not_le lawful _ _ m (other.0 b),
-          ))
+          | inl m ↦ absurd (none (grind (arith, common_steps, lt_not_le)))
         ]
       ]
 
   pub apart_not : (i r : AnyRange K) → IsKnownRange order i → IsKnownRange order r
       → PLe (Hi i) (Lo r) ⊎ PLe (Hi r) (Lo i) → Overlap order i r → ⊥
-  apart_not i r known known' (inl le) h =
-      h.0 ((before_is order lawful i.end r.start known.1 known'.0).1 le)
-  apart_not i r known known' (inr le) h =
-      h.1 ((before_is order lawful r.end i.start known'.1 known.0).1 le)
+  apart_not i r known known' either h = grind (arith, common_steps, before_is)
 
   module _ {V : Type 0} (items : List (Item (AnyRange K) V)) (r : AnyRange K) where
     abbrev pub IsFull : Item (AnyRange K) V → Type 0
@@ -225,9 +188,7 @@ module _ {K : Type 0} (order : KeyOrder K) (lawful : IsLawful order) where
             every_with _ _ _ items h.free full (λ i n f. (f, apart_of i.key key f.0 h.known n))
 
         pub free_inside : (key : AnyRange K) → IsFreePart order items r key → IsInside key
-        free_inside key h =
-            let within = lies_places key r h.known known_r h.within in
-            (h.known, within.0, (nonempty_good order lawful key h.known).0 h.nonempty, within.1)
+        free_inside key h = grind (arith, common_steps, lies_places, nonempty_good)
 
         -- no free part begins before an open one that it meets, or ends after it
         starts_after : (key other : AnyRange K) → IsOpenPart key → PLe (Lo r) (Lo other)
@@ -271,12 +232,7 @@ module _ {K : Type 0} (order : KeyOrder K) (lawful : IsLawful order) where
 
         same_extent : (key part : AnyRange K) → LiesIn order key part → LiesIn order part key
             → range_cmp order key part ≡ Equal
-        same_extent key part h k =
-            let cmp = position_cmp order.cmp in
-            equal_then_equal (cmp (start_position order key.start)
-            (start_position order part.start))
-            (cmp (end_position order key.end) (end_position order part.end))
-            (both lawful _ _ k.starts h.starts) (both lawful _ _ h.ends k.ends)
+        same_extent key part h k = grind (arith, common_steps, position_cmp, equal_then_equal, start_position, end_position, both)
 
         same_common : (i key part : AnyRange K) → IsCommonPart order r i key
             → IsCommonPart order r i part → range_cmp order key part ≡ Equal
@@ -317,14 +273,7 @@ module _ {K : Type 0} (order : KeyOrder K) (lawful : IsLawful order) where
               → Any (λ i. IsCommonPart order r i.key key × (i.value ≡ v)) items → PLe (Lo key) p
               → PLt p (Hi key)
               → Any (λ i. (IsCommonPart order r i.key key × (i.value ≡ v)) × Holding p i) items
-          common_held p key v known h from upto = any_with _ _ _ items h full (λ i c f.
-              let within = common_within r i.key key known_r f.0 known c.0 in (
-                c,
-                (
-                  le_trans lawful _ _ _ within.1 from,
-                  lt_le_trans lawful _ _ _ upto within.3,
-                ),
-              ))
+          common_held p key v known h from upto = grind (arith, common_steps, any_with, common_within, le_trans, lt_le_trans)
 
           pub common_place_is_not_clear : (p : Position K) (key clear : AnyRange K) (v : V)
               → IsKnownRange order key
@@ -360,35 +309,21 @@ module _ {K : Type 0} (order : KeyOrder K) (lawful : IsLawful order) where
               let good = (nonempty_good order lawful part known).0 piece.0 in
               absurd (common_place_is_not_clear (Lo part) part key v known piece.1
               (le_refl lawful (Lo part)) good h.free from upto)
-          same_piece key part None None chain inside h known piece from upto =
-              let others = free_inside part piece.0 in
-              let inward = lies_in part key known inside.0 from
-              (ends_before key part h others.3 (free_apart part piece.0) upto) in
-              (same_extent key part (piece.1 key (free_part key inside h) inward) inward, refl)
+          same_piece key part None None chain inside h known piece from upto = grind (arith, common_steps, free_inside, lies_in, inside, ends_before, free_apart, same_extent, free_part)
 
       piece_inside : (full : Every IsFull items) (part : AnyRange K) (binding : Option V)
           → IsKnownRange order part → IsPiece order items r part binding
           → PLe (Lo r) (Lo part) × PLt (Lo part) (Hi r)
-      piece_inside full part None known piece =
-          let h = free_inside full part piece.0 in (
-            h.1,
-            lt_le_trans lawful _ _ _ h.2 h.3,
-          )
+      piece_inside full part None known piece = grind (arith, common_steps, free_inside, lt_le_trans)
       piece_inside full part (Some v) known piece = any_use _ _ items piece.1 full (λ i c f.
-          let within = common_within r i.key part known_r f.0 known c.0 in (
-            within.0,
-            lt_le_trans lawful _ _ _ ((nonempty_good order lawful part known).0 piece.0) within.2,
-          ))
+          let within = common_within r i.key part known_r f.0 known c.0 in (grind (arith, common_steps, lt_le_trans, nonempty_good)))
 
       rising_apart : (pieces : List (Item (AnyRange K) (Option V)))
           → Every (λ p. IsInside p.key) pieces → Rises pieces
           → EachNext (λ p q. LiesBefore order p.key q.key) pieces
       rising_apart [] h k = tt
       rising_apart (p ∷ []) h k = (tt, tt)
-      rising_apart (p ∷ q ∷ rest) h k = (
-        (before_is order lawful p.key.end q.key.start h.0.0.1 h.1.0.0.0).1 k.0.0,
-        rising_apart (q ∷ rest) h.1 k.1,
-      )
+      rising_apart (p ∷ q ∷ rest) h k = grind (arith, common_steps, rising_apart (q ∷ rest) h.1 k.1, before_is)
 
       -- such parts are the pieces of the range
       pub cut_all : (same : V → V → Bool) (equal : IsEquivalence same) (full : Every IsFull items)

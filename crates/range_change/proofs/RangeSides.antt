@@ -1,15 +1,14 @@
 -- What stands on each side of a range, and the list in which it is bound or unbound.
-use Rattle.range_change.proofs.Common.{Line, Position, ◌≡◌, ℕ, zero, suc, ◌+◌, ◌-◌, ◌<◌, ◌≤◌, List, [], ◌∷◌, ◌++◌, length, take, drop, get_or, refl, ap, sym, ◌∙◌, arith, subst, Option, Some, None, Bool, true, false, length-drop, append-nil, get_or-drop, IsEquivalence, Every, KeyOrder, IsLawful, position_total, AnyRange, IsKnownRange, Item, lt_le, le_trans, PLe, PLt, line_of, Leads, Trails, IsLeft, IsRight, IsLeftOf, IsRightOf, lower, upper, item_lower, item_upper, IsWindow, option_items, Window, every_at, list_is_take_and_drop, every_weaker, every_append, every_right, tied_itself, Bound, Touches, IsInserted, IsRemoved, Overlap, IsPart, IsRemovalFrame, IsLeftFrame, IsRightFrame, ReachesBefore, ReachesAfter, flipped_bound, with_end, SameBound, IsKnownBound, joined_item, IsLeftRest, IsRightRest, IsLeftBorder, IsRightBorder, TouchesNoneBefore, TouchesNoneAfter}
+use Rattle.range_change.proofs.Common.{common_steps, Line, Position, ◌≡◌, ℕ, zero, suc, ◌+◌, ◌-◌, ◌<◌, ◌≤◌, List, [], ◌∷◌, ◌++◌, length, take, drop, get_or, refl, ap, sym, ◌∙◌, arith, subst, Option, Some, None, Bool, true, false, length-drop, append-nil, length-take-le, get_or-take, get_or-drop, IsEquivalence, Every, KeyOrder, IsLawful, position_total, AnyRange, IsKnownRange, Item, lt_le, le_trans, PLe, PLt, line_of, Trails, IsLeft, IsRight, IsLeftOf, IsRightOf, lower, upper, item_lower, item_upper, IsWindow, option_items, Window, every_at, list_is_take_and_drop, every_weaker, every_append, every_right, tied_itself, Bound, Touches, IsInserted, IsRemoved, Overlap, IsPart, IsRemovalFrame, IsInsertionFrame, IsStored, IsLeftFrame, IsRightFrame, ReachesBefore, ReachesAfter, flipped_bound, with_end, SameBound, IsKnownBound, joined_item, IsLeftRest, IsRightRest, IsLeftBorder, IsRightBorder, TouchesNoneBefore, TouchesNoneAfter}
 use Rattle.range_change.proofs.Tests.{not_both}
 use Rattle.range_change.proofs.Chains.{chain_above, chain_before, chain_right}
 use Rattle.range_change.proofs.ChainSides.{left_whole, left_cut, right_whole, right_cut}
-use Rattle.range_change.proofs.ChainJoins.{places_between_are_unbound, left_apart, left_joined, right_apart, right_joined, leading_last, trailing_first, places_between_are_bound}
+use Rattle.range_change.proofs.ChainJoins.{places_between_are_unbound, left_apart, left_joined, right_apart, right_joined, leading_by, leading_last, trailing_first, places_between_are_bound}
 use Rattle.range_change.proofs.Forms.{nonempty_good, Known, Chained, stored_chain, chain_stored, unbound_after, every_front, every_back}
 use Rattle.range_change.proofs.InsertionFrames.{insertion_frame, cut_way, not_cut}
 use Rattle.range_change.proofs.Forms.{before_is}
 use Rattle.range_change.proofs.Windows.{every_both}
 use Rattle.range_change.proofs.CoveredPlaces.{meets_bound}
-use Rattle.range_change.proofs.BoundEdits.{opening_regroups, regrouped_out}
 use Rattle.range_change.proofs.CutParts.{cut_end, cut_start}
 use Rattle.range_change.proofs.Forms.{touches_is, bound_after}
 use Rattle.range_change.proofs.ItemPlaces.{element_at, element_at_is_read, listed_at, upto_item, from_item}
@@ -18,6 +17,30 @@ module _ {K : Type 0} {order : KeyOrder K} (lawful : IsLawful order) {V : Type 0
     {same : V → V → Bool} (equal : IsEquivalence same) where
   abbrev line : Line (Position K) V (Item (AnyRange K) V)
   line = line_of order lawful same equal
+
+  -- the list in which a range is bound, by what stands on both sides of it
+  pub inserted_between : {items new : List (Item (AnyRange K) V)} {r : AnyRange K} {v : V}
+      (front behind : List (Item (AnyRange K) V)) (m : Item (AnyRange K) V)
+      → IsStored order same items → IsKnownRange order r
+      → PLt lawful (lower order r) (upper order r)
+      → IsLeftOf line items front (lower order r) (item_lower order m) v
+      → IsRightOf line items behind (upper order r) (item_upper order m) v
+      → same m.value v ≡ true → Known order lawful same equal (front ++ m ∷ behind)
+      → new ≡ front ++ m ∷ behind → IsInsertionFrame order same items new r v
+      → IsInserted order same items new r v
+  inserted_between {items} {new} {r} {v} front behind m stored known good left right values others
+      list frame =
+      let made = places_between_are_bound line items front behind m (lower order r) (upper order r) v
+      left right good values in
+      record {
+        stored =
+            rw list (chain_stored order lawful same equal (front ++ m ∷ behind) others made.chain);
+        bound = rw list (bound_after order lawful same equal items (front ++ m ∷ behind) r v known
+            stored.known others made);
+        frame = frame;
+        meets = rw list (meets_bound order lawful same equal items (front ++ m ∷ behind) r v
+            stored.known others (stored_chain order lawful same equal items stored) known good made);
+      }
 
   module _ {P : Type 0} {is_good : P → Type 0} {rank : P → ℕ} {items : List (Item (AnyRange K) V)}
       {r : AnyRange K} {w : Window P} {place : ℕ}
@@ -36,10 +59,7 @@ module _ {K : Type 0} {order : KeyOrder K} (lawful : IsLawful order) {V : Type 0
     -- the first item of the window ends after the range starts, and the last starts before it ends
     pub first_reaches : (x : Item (AnyRange K) V) → x ≡ get_or items place x → 0 < w.count
         → PLe lawful (lower order r) (item_upper order x)
-    first_reaches x read some =
-        let within : place < length items = omega (arith, some, window.in_range) in
-        let first = rw (from_item items place x within read) at window.above in
-        lt_le lawful _ _ first.0
+    first_reaches x read some = grind (arith, common_steps)
 
     pub last_starts : (x : Item (AnyRange K) V) → x ≡ get_or items (place + w.count - 1) x
         → 0 < w.count → PLe lawful (item_lower order x) (upper order r)
@@ -55,10 +75,7 @@ module _ {K : Type 0} {order : KeyOrder K} (lawful : IsLawful order) {V : Type 0
         (rw (listed_at items n x within read) at in_order) in
         let ends : Every (λ i. PLe lawful (item_upper order i) (lower order r)) (x ∷ []) =
         every_right _ (take n items) (x ∷ [])
-        (rw (upto_item items n place x at within read) at window.below) in (
-          le_trans lawful _ _ _ (lt_le lawful _ _ full.0) ends.0,
-          (touches_is order lawful x.key.end r window.known range_has_places ends.0).0 touching,
-        )
+        (rw (upto_item items n place x at within read) at window.below) in (grind (arith, common_steps, le_trans, lt_le, touches_is, range_has_places))
 
     pub touching_after : (x : Item (AnyRange K) V) → place + w.count < length items
         → x ≡ get_or items (place + w.count) x → Touches order r x.key
@@ -68,11 +85,7 @@ module _ {K : Type 0} {order : KeyOrder K} (lawful : IsLawful order) {V : Type 0
         let full =
         chain_right line (take (place + w.count) items) (x ∷ drop (place + w.count + 1) items)
         (rw (listed_at items (place + w.count) x within read) at in_order) in
-        let starts = rw (from_item items (place + w.count) x within read) at window.behind in
-        let known_x = known_at (place + w.count) x within read in (
-          (touches_is order lawful r.end x.key known_x full.0 starts.0).0 touching,
-          le_trans lawful _ _ _ starts.0 (lt_le lawful _ _ full.0),
-        )
+        (grind (arith, common_steps, touches_is, le_trans, lt_le))
 
     -- no item of the window starts before the range
     met_start : (n : ℕ) → w.count ≡ n → ReachesBefore order is_good rank items r place w.count None
@@ -164,13 +177,11 @@ module _ {K : Type 0} {order : KeyOrder K} (lawful : IsLawful order) {V : Type 0
     right_rest_cut x read some ends b known_b same_b u values =
         let k = place + w.count - 1 in
         let end = place + w.count in
-        let next : k + 1 ≡ end = omega (arith, some) in
         let within : k < length items = omega (arith, some, window.in_range) in
         let known_x = known_at k x within read in
         let y : Item (AnyRange K) V =
         record { key = record { start = b; end = x.key.end }; value = u } in
-        let split : items ≡ take k items ++ x ∷ drop end items =
-        listed_at items k x within read ∙ ap (λ m. take k items ++ x ∷ drop m items) next in
+        let split : items ≡ take k items ++ x ∷ drop end items = grind (arith, common_steps) in
         record {
           right = subst (λ ys. IsRight line ys (y ∷ drop end items) (upper order r)) (sym split)
               (right_cut line (take k items) x (drop end items) y (upper order r)
@@ -209,37 +220,25 @@ module _ {K : Type 0} {order : KeyOrder K} (lawful : IsLawful order) {V : Type 0
           known_start = window.known.0;
         }
 
-    all_lead : (n : ℕ) (v : V) → place ≡ n → IsLeftRest order same lawful equal items r place None
-        → TouchesNoneBefore order same items place r v
-        → Every (λ i. Leads line i (lower order r) v) (take place items)
-    all_lead zero v e rest none = rw e tt
-    all_lead (suc n) v e rest none =
-        let next : n + 1 ≡ place = omega (arith, e) in
-        let within : n < length items = omega (arith, e, window.in_range) in
-        let x = element_at items n within in
-        let read = element_at_is_read items n within x in
-        let last = upto_item items n place x next within read in
-        let before : place - 1 ≡ n = omega (arith, e) in
-        let ends = every_right _ (take n items) (x ∷ []) (rw last at window.below) in
-        let apart : Touches order x.key r → same x.value v ≡ true → ⊥ =
-        subst (λ (y : Item (AnyRange K) V). Touches order y.key r → same y.value v ≡ true → ⊥)
-        (ap (λ m. get_or items m x) before ∙ sym read) (none x (omega (arith, e))) in
-        rw last (leading_last line (take n items) x (lower order r) v
-        (rw (append-nil (take place items) ∙ last) at rest.left.chain) (
-          ends.0,
-          λ k t. apart ((touches_is order lawful x.key.end r window.known range_has_places ends.0).1
-              k) t,
-        ))
-
     pub left_border_none : (v : V) → IsLeftRest order same lawful equal items r place None
         → TouchesNoneBefore order same items place r v
         → IsLeftBorder order same lawful equal items r v place None None
-    left_border_none v rest none = record {
-      left = left_apart line items (take place items ++ []) (lower order r) v rest.left
-          (rw (append-nil (take place items)) (all_lead place v refl rest none));
-      known = tt;
-      known_start = window.known.0;
-    }
+    left_border_none v rest none =
+        let chain = rw (append-nil (take place items)) at rest.left.chain in
+        let size = length-take-le place items (omega (arith, window.in_range)) in
+        record {
+          left = left_apart line items (take place items ++ []) (lower order r) v rest.left
+              (rw (append-nil (take place items)) (leading_by line (take place items)
+              (lower order r) v chain window.below (λ n at d le.
+              let lt : n < place = omega (arith, at, size) in
+              let index : place - 1 ≡ n = omega (arith, at, size) in
+              let here = sym (get_or-take place items n d lt) in
+              let apart = rw (index, here) at (none d (omega (arith, lt))) in
+              λ k t. apart ((touches_is order lawful (get_or (take place items) n d).key.end r
+              window.known range_has_places le).1 k) t)));
+          known = tt;
+          known_start = window.known.0;
+        }
 
     pub right_border_at : (end n : ℕ) (v : V) (x : Item (AnyRange K) V) → n + 1 ≡ end
         → n < length items → x ≡ get_or items n x → PLe lawful (item_lower order x) (upper order r)
@@ -263,10 +262,7 @@ module _ {K : Type 0} {order : KeyOrder K} (lawful : IsLawful order) {V : Type 0
     right_border_rest end v y within rest values = record {
       in_range = within;
       right = right_apart line items (y ∷ drop end items) (upper order r) v rest.right
-          (trailing_first line y (drop end items) (upper order r) v rest.right.chain (
-            rest.right.starts.0,
-            λ k t. not_both values (equal.symm y.value v ∙ t),
-          ));
+          (trailing_first line y (drop end items) (upper order r) v rest.right.chain (grind (arith, common_steps)));
       known = rest.known;
       known_end = window.known.1;
     }
@@ -318,29 +314,11 @@ module _ {K : Type 0} {order : KeyOrder K} (lawful : IsLawful order) {V : Type 0
         let all = window.stored.known in
         let front = take at items ++ option_items left in
         let behind = option_items right ++ drop end items in
-        let list : new ≡ front ++ m ∷ behind = changed ∙ sym
-        (opening_regroups (take at items) (option_items left) (option_items right) (drop end items)
-        m) in
-        let result = places_between_are_bound line items front behind m (lower order r)
-        (upper order r) v on_left.left on_right.right range_has_places values in
-        let known_m : IsKnownRange order m.key = (on_left.known_start, on_right.known_end) in
-        let others = every_append _ front (m ∷ behind) (every_append _ (take at items)
-        (option_items left) (every_front _ at items all) on_left.known) (
-          known_m,
-          every_append _ (option_items right) (drop end items) on_right.known
-              (every_back _ end items all),
-        ) in
-        record {
-          stored = rw list
-              (chain_stored order lawful same equal (front ++ m ∷ behind) others result.chain);
-          bound = rw list (bound_after order lawful same equal items (front ++ m ∷ behind) r v
-              window.known all others result);
-          frame = insertion_frame lawful equal window new v u frame_left frame_right few values
-              own_value changed;
-          meets = rw list (meets_bound order lawful same equal items (front ++ m ∷ behind) r v all
-              others (stored_chain order lawful same equal items window.stored) window.known
-              range_has_places result);
-        }
+        let list : new ≡ front ++ m ∷ behind = grind (arith, common_steps) in
+        inserted_between front behind m window.stored window.known range_has_places on_left.left
+        on_right.right values (every_append _ front (m ∷ behind) (every_append _ (take at items)
+        (option_items left) (every_front _ at items all) on_left.known) (grind (arith, common_steps))) list (insertion_frame lawful equal window new v u frame_left frame_right few values
+        own_value changed)
 
     -- the list with the range unbound
     removed_by : (new : List (Item (AnyRange K) V)) (at end : ℕ)
@@ -354,8 +332,7 @@ module _ {K : Type 0} {order : KeyOrder K} (lawful : IsLawful order) {V : Type 0
         let all = window.stored.known in
         let front = take at items ++ option_items left in
         let behind = option_items right ++ drop end items in
-        let list : new ≡ front ++ behind = changed ∙ sym
-        (regrouped_out (take at items) (option_items left) (option_items right) (drop end items)) in
+        let list : new ≡ front ++ behind = grind (arith, common_steps) in
         let result = places_between_are_unbound line items front behind (lower order r)
         (upper order r) on_left.left on_right.right range_has_places in
         let known_front = every_append _ (take at items) (option_items left)
@@ -394,13 +371,7 @@ module _ {K : Type 0} {order : KeyOrder K} (lawful : IsLawful order) {V : Type 0
     -- a range that meets nothing is unbound
     pub unmet_is_unbound : w.count ≡ 0 → IsRemoved order same items items r
     unmet_is_unbound none =
-        let at : place + w.count ≡ place = omega (arith, none) in
-        let list : items ≡ take place items ++ [] ++ [] ++ [] ++ drop (place + w.count) items = rw (
-          at,
-          append-nil (take place items),
-          append-nil (take place items),
-          append-nil (take place items),
-        ) (list_is_take_and_drop items place) in
+        let list : items ≡ take place items ++ [] ++ [] ++ [] ++ drop (place + w.count) items = grind (arith, common_steps) in
         removed_by items place (place + w.count) None None
         (left_rest_whole (λ x some read. absurd (omega (arith, some, none))))
         (right_rest_whole (λ x some read. absurd (omega (arith, some, none))))

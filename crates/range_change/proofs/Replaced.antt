@@ -1,14 +1,16 @@
 -- The list in which a middle stands for what a range held.
-use Rattle.range_change.proofs.Common.{◌≡◌, ℕ, ◌+◌, ◌-◌, ◌≤◌, List, ◌++◌, length, take, drop, ◌∙◌, arith, subst, Option, Bool, IsTrue, ◌⊎◌, inl, inr, append_assoc, IsEquivalence, Every, slice_get, Bound, KeyOrder, IsLawful, Beside, At, SameBound, Any, IsKnownBound, IsKnownRange, IsEmptyRange, AnyRange, any_left, any_right, every_weaker, every_append, every_left, every_right, held_between, Item, flipped_bound, HasValue, Overlap, AreWithin, IsReplaced, IsRunStart, seam_border, right_side, with_first_start, with_last_end, IsLeftSeam, IsRightSeam, IsStored, option_items}
-use Rattle.range_change.proofs.CutParts.{known_turned, same_turned}
+use Rattle.range_change.proofs.Common.{common_steps, ◌≡◌, ℕ, ◌+◌, ◌-◌, ◌≤◌, List, ◌++◌, length, take, drop, ◌∙◌, arith, Option, Bool, IsTrue, ◌⊎◌, inl, inr, append_assoc, IsEquivalence, Every, slice_get, KeyOrder, IsLawful, Beside, At, Any, IsKnownRange, AnyRange, any_left, any_right, every_weaker, every_append, every_left, every_right, held_between, Item, flipped_bound, HasValue, Overlap, AreWithin, IsReplaced, IsRunStart, seam_border, right_side, with_first_start, with_last_end, IsJoiningFirst, IsJoiningLast, IsReach, place_before, IsStored, option_items}
+use Rattle.range_change.specs.declared.reach.Reach.{Reach}
+use Rattle.range_change.specs.Borders.{run_length}
+use Rattle.range_change.specs.Reach.{AreApart}
 use Rattle.range_change.proofs.OuterBounds.{every_started, every_ended, any_ended, own_values}
 use Rattle.range_change.proofs.RangePieces.{any_with}
-use Rattle.range_change.proofs.Forms.{nonempty_good, chain_stored, same_binds, unheld_lies_outside}
+use Rattle.range_change.proofs.Forms.{chain_stored, same_binds, unheld_lies_outside}
 use Rattle.range_change.proofs.InsertionFrames.{widened_frame}
 use Rattle.range_change.proofs.CoveredPlaces.{overlap_is}
 use Rattle.range_change.proofs.Lengths.{border_length}
 use Rattle.range_change.proofs.Planned.{IsFit, plan_fits}
-use Rattle.range_change.proofs.JoinedMiddle.{seam_count, Crosses, TakesStartOf, IsLeftFill, IsRightFill, left_fill, right_fill}
+use Rattle.range_change.proofs.JoinedMiddle.{Crosses, TakesStartOf, IsLeftFill, IsRightFill, left_fill, right_fill}
 
 module _ {K : Type 0} (order : KeyOrder K) {V : Type 0} (same : V → V → Bool) where
   value_within : (run wider middle made : List (Item (AnyRange K) V))
@@ -36,92 +38,76 @@ module _ {K : Type 0} {order : KeyOrder K} (lawful : IsLawful order) {V : Type 0
 
 module _ {K : Type 0} (order : KeyOrder K) (lawful : IsLawful order) {V : Type 0}
     (same : V → V → Bool) (equal : IsEquivalence same) {P : Type 0} (is_good : P → Type 0)
-    (rank : P → ℕ) (items : List (Item (AnyRange K) V)) (r : AnyRange K) (place count : ℕ) where
+    (rank : P → ℕ) (items : List (Item (AnyRange K) V)) (r : AnyRange K) (reach : Reach P) where
+  abbrev place : ℕ
+  place = place_before rank (length items) reach.window.from
+
   -- both sides of what is planned, and the run between them
   pub record IsReplacement (middle : List (Item (AnyRange K) V))
-      (first last joined other from : Option P) : Type 0 where
-    pub left : IsLeftFill order lawful same equal is_good rank items r place count middle first
-        (seam_border joined first (flipped_bound r.start)) from
-    pub right : IsRightFill order lawful same equal is_good rank items r place count middle
-        (take left.at items ++ option_items left.rest) left.start last
-        (seam_border other last (flipped_bound r.end))
-    pub upto : left.begin + (length (option_items joined) +
-        (count - (length (option_items first) + length (option_items last))) + length
-        (option_items other)) ≡ right.upto
+      (joined other from : Option P) : Type 0 where
+    pub left : IsLeftFill order lawful same equal is_good rank items r place reach.window.count
+        middle reach.first (seam_border joined reach.first (flipped_bound r.start)) from
+    pub right : IsRightFill order lawful same equal is_good rank items r place reach.window.count
+        middle (take left.at items ++ option_items left.rest) left.start reach.last
+        (seam_border other reach.last (flipped_bound r.end))
+    pub upto : left.begin + run_length reach (record { before = joined; after = other })
+        ≡ right.upto
     pub within : right.upto ≤ length items
 
-  pub plans_replacement : (middle : List (Item (AnyRange K) V))
-      (first last joined other from : Option P) (next previous : Option (Item (AnyRange K) V))
-      → IsStored order same items → IsStored order same middle → AreWithin order middle r
-      → IsKnownRange order r → (IsEmptyRange order r → ⊥) → place + count ≤ length items
-      → length (option_items first) + length (option_items last) ≤ count →
-      next ≡ slice_get middle 0 → previous ≡ slice_get middle (length middle - 1)
-      → IsRunStart is_good rank (length items) place first joined from →
-      ((b : Bound K) (at : Option P) → IsKnownBound order b
-      → SameBound order (flipped_bound r.start) b
-      → IsRunStart is_good rank (length items) place first joined at
-      → IsLeftSeam order same lawful equal is_good rank items r place count next first
-      (seam_border joined first b) at) →
-      ((b : Bound K) → IsKnownBound order b → SameBound order (flipped_bound r.end) b
-      → IsRightSeam order same lawful equal is_good rank items r place count previous last
-      (seam_border other last b)) → IsReplacement middle first last joined other from
-  plans_replacement middle first last joined other from next previous stored others within known
-      full in_range apart is_first is_last begins on_left on_right =
-      let before = flipped_bound r.start in
-      let behind = flipped_bound r.end in
-      let good = (nonempty_good order lawful r known).0 full in
-      let left = left_fill order lawful same equal is_good rank items r place count middle first
-      (seam_border joined first before) from good stored others (subst
-      (λ o. IsLeftSeam order same lawful equal is_good rank items r place count o first
-      (seam_border joined first before) from) is_first (on_left before from
-      (known_turned order lawful r.start known.0) (same_turned order lawful r.start) begins)) in
-      let right = right_fill order lawful same equal is_good rank items r place count middle
-      (take left.at items ++ option_items left.rest) left.start last (seam_border other last behind)
-      stored others within good in_range left.filled left.known (subst
-      (λ o. IsRightSeam order same lawful equal is_good rank items r place count o last
-      (seam_border other last behind)) is_last (on_right behind
-      (known_turned order lawful r.end known.1) (same_turned order lawful r.end))) in
-      let least = border_length is_good rank items right_side (seam_border other last behind)
-      right.upto right.end right.rest right.finish right.shape in
+module _ {K : Type 0} {order : KeyOrder K} (lawful : IsLawful order) {V : Type 0}
+    {same : V → V → Bool} (equal : IsEquivalence same) {P : Type 0} {is_good : P → Type 0}
+    {rank : P → ℕ} {items : List (Item (AnyRange K) V)} {r : AnyRange K} {reach : Reach P} where
+  pub plans_replacement : (found : IsReach order same is_good rank items r reach
+      (place_before rank (length items) reach.window.from)) → AreApart reach
+      → {middle : List (Item (AnyRange K) V)} {next previous : Option (Item (AnyRange K) V)}
+      {joined other from : Option P} → IsStored order same middle → AreWithin order middle r
+      → next ≡ slice_get middle 0 → previous ≡ slice_get middle (length middle - 1)
+      → IsJoiningFirst order same {S = Unit {0}} (λ s. is_good) (λ s. rank) (λ s. items) tt r reach
+      next joined → IsJoiningLast order same {S = Unit {0}} (λ s. is_good) (λ s. rank)
+      (λ s. items) tt r reach previous other → IsRunStart is_good rank (length items)
+      (place_before rank (length items) reach.window.from) reach.first joined from
+      → IsReplacement order lawful same equal is_good rank items r reach middle joined other from
+  plans_replacement found apart {middle} {joined = joined} {other = other} {from = from} others
+      within is_first is_last on_left on_right begins =
+      let left =
+      left_fill lawful equal found middle joined from others (rw is_first at on_left) begins in
+      let right = right_fill lawful equal found middle (take left.at items
+      ++ option_items left.rest) left.start other others within left.filled left.known
+      (rw is_last at on_right) in
+      let least = border_length is_good rank items right_side
+      (seam_border other reach.last (flipped_bound r.end)) right.upto right.end right.rest
+      right.finish right.shape in
       record {
         left = left;
         right = right;
-        upto = omega (
-          arith,
-          left.begins,
-          right.ends,
-          apart,
-          seam_count joined first before,
-          seam_count other last behind,
-        );
+        upto = grind (arith, common_steps);
         within = omega (arith, least, right.in_range);
       }
 
 module _ {K : Type 0} {order : KeyOrder K} {lawful : IsLawful order} {V : Type 0}
     {same : V → V → Bool} {equal : IsEquivalence same} {P : Type 0} {is_good : P → Type 0}
-    {rank : P → ℕ} {items : List (Item (AnyRange K) V)} {r : AnyRange K} {place count : ℕ}
-    {middle : List (Item (AnyRange K) V)} {first last joined other from : Option P}
-    (plan : IsReplacement order lawful same equal is_good rank items r place count middle first last
-    joined other from) where
+    {rank : P → ℕ} {items : List (Item (AnyRange K) V)} {r : AnyRange K} {reach : Reach P}
+    {middle : List (Item (AnyRange K) V)} {joined other from : Option P}
+    (plan : IsReplacement order lawful same equal is_good rank items r reach middle joined other
+    from) where
   -- what was planned fits a container that keeps its positions and its items
   pub replacement_fits : {is_good' : P → Type 0} {rank' : P → ℕ}
       {items' : List (Item (AnyRange K) V)}
       → ((p : P) → is_good p → is_good' p × (rank' p ≡ rank p)) → items' ≡ items → {left : ℕ}
-      → left ≡ length (option_items joined) +
-      (count - (length (option_items first) + length (option_items last))) + length
-      (option_items other) → IsFit is_good' rank' items'
-      (seam_border joined first (flipped_bound r.start)) (seam_border other last
-      (flipped_bound r.end)) from left plan.left.at plan.right.end plan.left.rest plan.right.rest
+      → left ≡ run_length reach (record { before = joined; after = other })
+      → IsFit is_good' rank' items' (seam_border joined reach.first (flipped_bound r.start))
+      (seam_border other reach.last (flipped_bound r.end)) from left plan.left.at plan.right.end plan.left.rest plan.right.rest
       plan.left.start plan.right.finish
   replacement_fits kept same_list {left} size = plan_fits kept same_list
-      (seam_border joined first (flipped_bound r.start)) (seam_border other last
+      (seam_border joined reach.first (flipped_bound r.start)) (seam_border other reach.last
       (flipped_bound r.end)) from left plan.left.at plan.left.begin plan.right.upto plan.right.end
       plan.left.rest plan.right.rest plan.left.start plan.right.finish plan.left.shape
       plan.right.shape plan.left.run (omega (arith, plan.upto, size)) plan.right.in_range
 
   pub replacement_is_made : (new : List (Item (AnyRange K) V)) → IsStored order same items
       → IsStored order same middle → IsKnownRange order r
-      → Every (λ i. Overlap order i.key r) (take count (drop place items)) →
+      → Every (λ i. Overlap order i.key r) (take reach.window.count
+      (drop (place_before rank (length items) reach.window.from) items)) →
       new ≡ take plan.left.at items ++ option_items plan.left.rest
       ++ with_last_end plan.right.finish (with_first_start plan.left.start middle)
       ++ option_items plan.right.rest ++ drop plan.right.end items →
@@ -129,7 +115,8 @@ module _ {K : Type 0} {order : KeyOrder K} {lawful : IsLawful order} {V : Type 0
   replacement_is_made new stored others known meets changed =
       let left = plan.left in
       let right = plan.right in
-      let met = take count (drop place items) in
+      let place = place_before rank (length items) reach.window.from in
+      let met = take reach.window.count (drop place items) in
       let front = take left.at items in
       let body = with_last_end right.finish (with_first_start left.start middle) in
       let rest = option_items left.rest in
@@ -151,9 +138,7 @@ module _ {K : Type 0} {order : KeyOrder K} {lawful : IsLawful order} {V : Type 0
       (λ Q h. any_left Q (left.extra ++ met) right.extra h) left.valued in
       let on_right : Every (λ j.
       HasValue order same run j.value ⊎ HasValue order same middle j.value) beyond =
-      rw regroup (value_within order same (met ++ right.extra)
-      (left.extra ++ (met ++ right.extra)) middle
-      beyond (λ Q h. any_right Q left.extra (met ++ right.extra) h) right.valued) in
+      rw regroup (grind (arith, common_steps, value_within, right, left, any_right)) in
       let known_body = every_right _ (front ++ rest) body (every_left _ (front ++ rest ++ body)
       (beyond ++ tail) right.known) in
       let took_start =
@@ -170,7 +155,7 @@ module _ {K : Type 0} {order : KeyOrder K} {lawful : IsLawful order} {V : Type 0
         others = λ k key h b. rw list (same_binds order lawful same equal items whole k all
             right.known key (λ W alike. right.spliced.outside (Beside k At) W alike
             (unheld_lies_outside order lawful same equal r k known key h)) b);
-        frame = widened_frame items new _ place count front left.extra rest body beyond right.extra
+        frame = widened_frame items new _ place reach.window.count front left.extra rest body beyond right.extra
             tail left.split right.split changed (record {
               concerned = every_append _ (left.extra ++ met) right.extra
                   (every_append _ left.extra met (every_weaker _ _ left.extra (λ i h. inr (inl (

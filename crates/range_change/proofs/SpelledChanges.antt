@@ -1,5 +1,5 @@
 -- That what a change puts in the place of a range is spelled as what it replaces.
-use Rattle.range_change.proofs.Common.{◌≡◌, sym, ap, subst, ◌∙◌, ℕ, ◌+◌, ◌-◌, ◌<◌, ◌≤◌, arith, Option, Some, None, Bool, List, ◌∷◌, ◌++◌, inl, inr, length, get_or, take, drop, IsEquivalence, Every, Bound, KeyOrder, IsLawful, AnyRange, same_itself, lower, upper, lt_le, eq_le, eq_ge, lt_not_le, lt_trans, PLt, IsKnownRange, every_weaker, every_append, every_left, every_right, list_is_take_and_drop, reaching_is_before_past, Item, IsInserted, IsRemoved, IsLeftShape, IsRightShape, joined_count, seam_border, flipped_bound, IsStartOf, IsEndOf, IsNewItem, IsPart, ReachesBefore, ReachesAfter, IsReach, IsSurrounded, with_first_start, with_last_end, IsStartAsIn, IsEndAsIn, IsSpelledAsIn, KeepsSpelling, IsStored, item_lower, option_items, Window}
+use Rattle.range_change.proofs.Common.{common_steps, ◌≡◌, BorderSide, IsBorderShape, left_side, right_side, with_start, with_end, sym, ap, subst, ◌∙◌, ℕ, ◌+◌, ◌-◌, ◌<◌, arith, Option, Some, Bool, List, ◌∷◌, ◌++◌, inl, inr, length, get_or, take, drop, IsEquivalence, Every, Bound, KeyOrder, IsLawful, AnyRange, same_itself, lower, upper, lt_le, eq_le, eq_ge, lt_not_le, lt_trans, PLt, IsKnownRange, every_weaker, every_append, every_left, every_right, list_is_take_and_drop, reaching_is_before_past, Item, IsInserted, IsRemoved, seam_border, flipped_bound, IsStartOf, IsEndOf, IsNewItem, IsPart, IsReach, IsSurrounded, with_first_start, with_last_end, IsStartAsIn, IsEndAsIn, IsSpelledAsIn, KeepsSpelling, IsStored, item_lower, option_items, Window}
 use Rattle.std.proofs.lemmas.Option.{same_Some}
 use Rattle.range_change.specs.declared.reach.Reach.{Reach}
 use Rattle.range_change.proofs.RangePieces.{any_use, item_at}
@@ -9,7 +9,6 @@ use Rattle.range_change.proofs.Forms.{Known, Chained, stored_chain, nonempty_goo
 use Rattle.range_change.proofs.Spelling.{StartSide, EndSide, own_spelling, within_is_kept, cut_end_is_kept, cut_start_is_kept}
 use Rattle.range_change.proofs.OuterBounds.{every_started, every_ended}
 use Rattle.range_change.proofs.Replaced.{IsReplacement}
-use Rattle.range_change.proofs.Surrounded.{reach_is_met}
 
 module _ {K : Type 0} {order : KeyOrder K} (lawful : IsLawful order) {V : Type 0}
     {same : V → V → Bool} (equal : IsEquivalence same) {items : List (Item (AnyRange K) V)}
@@ -32,88 +31,51 @@ module _ {K : Type 0} {order : KeyOrder K} (lawful : IsLawful order) {V : Type 0
 
   -- what the borders leave of the items beside a range, and the bounds that they give away
   module _ {P : Type 0} {is_good : P → Type 0} {rank : P → ℕ} {r : AnyRange K} {reach : Reach P}
-      {place : ℕ} (found : IsReach order same is_good rank items r reach place) where
-    left_is_spelled : (joined first : Option P) (at begin : ℕ)
-        (rest : Option (Item (AnyRange K) V)) (start : Option (Bound K))
-        → IsLeftShape is_good rank items (seam_border joined first (flipped_bound r.start)) at begin
-        rest start → begin + joined_count (seam_border joined first (flipped_bound r.start))
-        ≡ place + length (option_items first) → length (option_items first) ≤ reach.window.count
-        → ReachesBefore order is_good rank items r place reach.window.count first
-        → KeepsSpelling order items (option_items rest)
-        × ((b : Bound K) → start ≡ Some b → IsStartAsIn order items b)
-    left_is_spelled None None at begin rest start (begins, none, free) size few before =
-        (rw none tt, λ b e. absurd (cc))
-    left_is_spelled None (Some p) at begin rest start (good, here, next, free, (x, read, is)) size
-        few before =
-        let at_is : at ≡ place = sym here ∙ before.1 in
+      {place : ℕ} (found : IsReach order same is_good rank items r reach place)
+      (in_range : (p : P) → is_good p → rank p < length items) where
+    border_spelled : (side : BorderSide K V) (As : Bound K → Type 0)
+        → ((x : Item (AnyRange K) V) → IsSpelled x → As (side.outer x)) → (joined reaching : Option P)
+        (b : Bound K) (low high : ℕ) (rest : Option (Item (AnyRange K) V)) (given : Option (Bound K))
+        → IsBorderShape side is_good rank items (seam_border joined reaching b) low high rest given
+        → ((p : P) → reaching ≡ Some p → (x : Item (AnyRange K) V) → x ≡ get_or items (rank p) x
+        → IsSpelled (side.shortened x b)) → KeepsSpelling order items (option_items rest)
+        × ((c : Bound K) → given ≡ Some c → As c)
+    border_spelled side As outer joined reaching b low high rest given shape cut = grind (arith, common_steps, same_Some, one_is_spelled)
+
+    cut_before : (p : P) → reach.first ≡ Some p → (x : Item (AnyRange K) V)
+        → x ≡ get_or items (rank p) x → IsSpelled (with_end x (flipped_bound r.start))
+    cut_before p is x read =
+        let before = rw is at found.first in
+        let here : x ≡ get_or items place x = read ∙ ap (λ n. get_or items n x) before.1 in
         let within : place < length items = omega (arith, found.window.in_range, before.2) in
-        let x_is : x ≡ get_or items place x = read ∙ ap (λ n. get_or items n x) at_is in
-        let above = rw (from_item items place x within x_is) at found.window.above in
-        let spelled = one_is_spelled place x within x_is in (
-          rw is (
-            (
-              spelled.0,
-              cut_end_is_kept lawful equal items known chain (take place items)
-                  (drop (place + 1) items) x (listed_at items place x within x_is) r
-                  found.window.known (before.3 x x_is) above.0 (flipped_bound r.start)
-                  (same_itself order lawful (flipped_bound r.start)),
-            ),
-            tt,
-          ),
-          λ b e. absurd (cc),
-        )
-    left_is_spelled (Some q) first at begin rest start (good, here, next, none, (x, read, is)) size
-        few before =
-        let one : begin + 1 ≡ place + length (option_items first) = size in
-        let within : rank q < length items =
-        omega (arith, found.window.in_range, one, few, next, here) in
-        let spelled = one_is_spelled (rank q) x within read in (
-          rw none tt,
-          λ b e. subst (IsStartAsIn order items) (same_Some x.key.start b (sym is ∙ e)) spelled.0,
+        let above = rw (from_item items place x within here) at found.window.above in (
+          (one_is_spelled place x within here).0,
+          cut_end_is_kept lawful equal items known chain (take place items)
+              (drop (place + 1) items) x (listed_at items place x within here) r
+              found.window.known (before.3 x here) above.0 (flipped_bound r.start)
+              (same_itself order lawful (flipped_bound r.start)),
         )
 
-    right_is_spelled : (joined last : Option P) (upto end : ℕ)
-        (rest : Option (Item (AnyRange K) V)) (finish : Option (Bound K))
-        → IsRightShape is_good rank items (seam_border joined last (flipped_bound r.end)) upto end
-        rest finish → end ≤ length items
-        → ReachesAfter order is_good rank items r place reach.window.count last
-        → KeepsSpelling order items (option_items rest)
-        × ((b : Bound K) → finish ≡ Some b → IsEndAsIn order items b)
-    right_is_spelled None None upto end rest finish (ends, none, free) in_range after =
-        (rw none tt, λ b e. absurd (cc))
-    right_is_spelled None (Some p) upto end rest finish (good, here, next, free, (x, read, is))
-        in_range after =
-        let count = reach.window.count in
-        let at_is : upto ≡ place + count - 1 = omega (arith, here, after.1, after.2) in
-        let within : upto < length items = omega (arith, in_range, next) in
-        let x_is : x ≡ get_or items (place + count - 1) x =
-        read ∙ ap (λ n. get_or items n x) at_is in
-        let starts = subst (λ y. PLt lawful (item_lower order y) (upper order r)) (sym x_is)
-        (found.window.meets x after.2) in
-        let spelled = one_is_spelled upto x within read in (
-          rw is (
-            (
-              cut_start_is_kept lawful equal items known chain (take upto items)
-                  (drop (upto + 1) items) x (listed_at items upto x within read) r
-                  found.window.known starts (after.3 x x_is) (flipped_bound r.end)
-                  (same_itself order lawful (flipped_bound r.end)),
-              spelled.1,
-            ),
-            tt,
-          ),
-          λ b e. absurd (cc),
-        )
-    right_is_spelled (Some q) last upto end rest finish (good, here, next, none, (x, read, is))
-        in_range after =
-        let within : rank q < length items = omega (arith, in_range, here, next) in
-        let spelled = one_is_spelled (rank q) x within read in (
-          rw none tt,
-          λ b e. subst (IsEndAsIn order items) (same_Some x.key.end b (sym is ∙ e)) spelled.1,
+    cut_after : (p : P) → reach.last ≡ Some p → (x : Item (AnyRange K) V)
+        → x ≡ get_or items (rank p) x → IsSpelled (with_start x (flipped_bound r.end))
+    cut_after p is x read =
+        let after = rw is at found.last in
+        let index : rank p ≡ place + reach.window.count - 1 = omega (arith, after.1, after.2) in
+        let here : x ≡ get_or items (place + reach.window.count - 1) x =
+        read ∙ ap (λ n. get_or items n x) index in
+        let within = in_range p after.0 in
+        let starts = subst (λ y. PLt lawful (item_lower order y) (upper order r)) (sym here)
+        (found.window.meets x after.2) in (
+          cut_start_is_kept lawful equal items known chain (take (rank p) items)
+              (drop (rank p + 1) items) x (listed_at items (rank p) x within read) r
+              found.window.known starts (after.3 x here) (flipped_bound r.end)
+              (same_itself order lawful (flipped_bound r.end)),
+          (one_is_spelled (rank p) x within read).1,
         )
 
     pub replaced_keeps_spelling : {middle : List (Item (AnyRange K) V)}
-        {joined other from : Option P} (plan : IsReplacement order lawful same equal is_good rank items r place reach.window.count
-        middle reach.first reach.last joined other from) (new : List (Item (AnyRange K) V))
+        {joined other from : Option P} (plan : IsReplacement order lawful same equal is_good rank items r reach middle
+        joined other from) (new : List (Item (AnyRange K) V))
         → new ≡ take plan.left.at items ++ option_items plan.left.rest
         ++ with_last_end plan.right.finish (with_first_start plan.left.start middle)
         ++ option_items plan.right.rest ++ drop plan.right.end items
@@ -125,12 +87,11 @@ module _ {K : Type 0} {order : KeyOrder K} (lawful : IsLawful order) {V : Type 0
         let start = plan.left.start in
         let beyond = plan.right.rest in
         let finish = plan.right.finish in
-        let left = left_is_spelled joined reach.first at plan.left.begin rest start plan.left.shape
-        plan.left.begins (reach_is_met found).0 found.first in
-        let right = right_is_spelled other reach.last plan.right.upto end beyond finish
-        plan.right.shape plan.right.in_range found.last in
+        let left = border_spelled left_side (IsStartAsIn order items) (λ x s. s.0) joined reach.first
+        (flipped_bound r.start) at plan.left.begin rest start plan.left.shape cut_before in
+        let right = border_spelled right_side (IsEndAsIn order items) (λ x s. s.1) other reach.last
+        (flipped_bound r.end) plan.right.upto end beyond finish plan.right.shape cut_after in
         let front = take at items in
-        let body = with_last_end finish (with_first_start start middle) in
         let tail = drop end items in
         let before = every_left IsSpelled front (drop at items) (subst (KeepsSpelling order items)
         (list_is_take_and_drop items at) list_keeps_spelling) in
@@ -139,10 +100,7 @@ module _ {K : Type 0} {order : KeyOrder K} (lawful : IsLawful order) {V : Type 0
         let inside =
         every_ended IsSpelled finish (with_first_start start middle)
         (λ i b is h. (h.0, right.1 b is)) (every_started IsSpelled start middle (λ i b is h. (left.1 b is, h.1)) kept) in
-        rw changed (every_append IsSpelled (front ++ option_items rest ++ body ++ option_items
-        beyond) tail (every_append IsSpelled (front ++ option_items rest ++ body)
-        (option_items beyond) (every_append IsSpelled (front ++ option_items rest) body
-        (every_append IsSpelled front (option_items rest) before left.0) inside) right.0) behind)
+        rw changed (grind (arith, common_steps))
 
   -- a range that one item surrounds
   module _ {P : Type 0} {is_good : P → Type 0} {rank : P → ℕ} {r : AnyRange K} {w : Window P}
@@ -177,23 +135,14 @@ module _ {K : Type 0} {order : KeyOrder K} (lawful : IsLawful order) {V : Type 0
 
     start_within : IsStartAsIn order items r.start
     start_within =
-        let known_r = within.window.known in
         within_is_kept lawful equal items known chain (take place items) (drop (place + 1) items) x
-        list StartSide r.start r.start (same_itself order lawful r.start) (
-          lt_le lawful _ _ starts,
-          (reaching_is_before_past order lawful r.start x.key.end known_r.0 known_x.1).1
-              ends_after_start,
-        ) (λ e. absurd (lt_not_le lawful _ _ starts (eq_ge lawful _ _ e)))
+        list StartSide r.start r.start (same_itself order lawful r.start) (grind (arith, common_steps, lt_le, starts, reaching_is_before_past, known_x, ends_after_start)) (λ e. absurd (lt_not_le lawful _ _ starts (eq_ge lawful _ _ e)))
 
     end_within : IsEndAsIn order items r.end
     end_within =
         let known_r = within.window.known in
         within_is_kept lawful equal items known chain (take place items)
-        (drop (place + 1) items) x list EndSide r.end r.end (same_itself order lawful r.end) (
-          (reaching_is_before_past order lawful x.key.start r.end known_x.0 known_r.1).1
-              starts_before_end,
-          end_le order lawful r.end x.key.end known_r.1 known_x.1 (lt_le lawful _ _ ends),
-        ) (λ e. absurd (lt_not_le lawful _ _ ends
+        (drop (place + 1) items) x list EndSide r.end r.end (same_itself order lawful r.end) (grind (arith, common_steps, reaching_is_before_past, known_x, starts_before_end, end_le, lt_le, ends)) (λ e. absurd (lt_not_le lawful _ _ ends
         (past_le order lawful x.key.end r.end known_x.1 known_r.1 (eq_le lawful _ _ e))))
 
     module _ (run : List (Item (AnyRange K) V)) (all : KeepsSpelling order items run)

@@ -1,5 +1,5 @@
 -- Which bounds are written as those of a list that lie at the same places.
-use Rattle.range_change.proofs.Common.{◌≡◌, refl, sym, subst, ◌∙◌, ℕ, zero, suc, ◌-◌, arith, Option, Some, None, Bool, List, [], ◌∷◌, ◌++◌, ◌⊎◌, inl, inr, length, get_or, append_assoc, if◌then◌else◌, Every, slice_set, Bound, Ordering, Less, Equal, Greater, is_lt, is_gt, IsEquivalence, tied_back, KeyOrder, IsLawful, start_position, end_position, position_total, Position, AnyRange, IsBoundClone, SameBound, same_start, same_end, same_itself, common, lower, upper, le_refl, lt_le, eq_le, eq_ge, lt_not_le, lt_le_trans, le_lt_trans, PLe, PLt, IsKnownRange, gt_le, every_weaker, every_append, every_left, every_right, every_at, reaching_is_before_past, Item, IsPut, line_of, flipped_bound, with_end, IsStartAsIn, IsEndAsIn, IsSpelledAsIn, KeepsSpelling, position_cmp}
+use Rattle.range_change.proofs.Common.{common_steps, ◌≡◌, refl, sym, subst, ◌∙◌, ℕ, zero, suc, ◌-◌, arith, Option, Some, None, Bool, List, [], ◌∷◌, ◌++◌, ◌⊎◌, inl, inr, length, get_or, append_assoc, if◌then◌else◌, Every, slice_set, Bound, Ordering, Less, Equal, Greater, is_lt, is_gt, IsEquivalence, KeyOrder, IsLawful, start_position, end_position, position_total, Position, AnyRange, IsBoundClone, SameBound, same_start, same_end, same_itself, common, lower, upper, le_refl, lt_le, eq_le, eq_ge, lt_not_le, lt_le_trans, le_lt_trans, PLe, PLt, IsKnownRange, gt_le, every_weaker, every_append, every_left, every_right, every_at, reaching_is_before_past, Item, IsPut, line_of, flipped_bound, with_end, IsStartAsIn, IsEndAsIn, IsSpelledAsIn, KeepsSpelling, position_cmp}
 use Rattle.range_change.proofs.Chains.{chain_before, chain_right, follows_above}
 use Rattle.range_change.proofs.CutParts.{cut_end, cut_start, known_turned, same_turned}
 use Rattle.range_change.proofs.RangePieces.{every_with}
@@ -51,23 +51,17 @@ module _ {K : Type 0} {order : KeyOrder K} (lawful : IsLawful order) where
 
   spans_own : (side : RangeSide) (s : AnyRange K) → IsOpen s
       → Spans s (place_on order side (bound_on side s))
-  spans_own StartSide s h =
-      (le_refl lawful _, (reaching_is_before_past order lawful s.start s.end h.0.0 h.0.1).1 h.1)
-  spans_own EndSide s h =
-      ((reaching_is_before_past order lawful s.start s.end h.0.0 h.0.1).1 h.1, le_refl lawful _)
+  spans_own side s h = grind (arith, common_steps, le_refl, reaching_is_before_past)
 
   same_place : (side : RangeSide) (a b : Bound K) → SameBound order a b
       → places order lawful (place_on order side a) (place_on order side b) ≡ Equal
-  same_place StartSide a b clone = same_start order lawful a b clone
-  same_place EndSide a b clone = same_end order lawful a b clone
+  same_place side a b clone = grind (arith, common_steps, same_start, same_end)
 
   -- one that has the place of a bound has that of its clone
   back : (side : RangeSide) (p : Position K) (a b : Bound K) → SameBound order a b
       → places order lawful p (place_on order side b) ≡ Equal
       → places order lawful p (place_on order side a) ≡ Equal
-  back side p a b clone e = let total = position_total order.cmp lawful.total in
-      total.congr p (place_on order side b) (place_on order side a) e
-      ∙ tied_back total (place_on order side a) (place_on order side b) (same_place side a b clone)
+  back side p a b clone e = grind (arith, common_steps)
 
   -- the range has not the place on the side
   abbrev IsOff : RangeSide → Position K → AnyRange K → Type 0
@@ -149,10 +143,7 @@ module _ {K : Type 0} {order : KeyOrder K} (lawful : IsLawful order) where
               (start_position order r.start) ≡ o
               → SameBound order (if is_lt o then r.start else x.key.start) b
               → IsStartAsIn order items b
-          common_start_by b Less e h = within_is_kept StartSide r.start b h (
-            lt_le lawful _ _ e,
-            (reaching_is_before_past order lawful r.start x.key.end known_r.0 own.0.1).1 ends,
-          ) (λ eq. absurd (cc))
+          common_start_by b Less e h = within_is_kept StartSide r.start b h (grind (arith, common_steps, lt_le, reaching_is_before_past, own)) (λ eq. absurd (cc))
           common_start_by b Equal e h = own_is_kept StartSide b h
           common_start_by b Greater e h = own_is_kept StartSide b h
 
@@ -161,10 +152,7 @@ module _ {K : Type 0} {order : KeyOrder K} (lawful : IsLawful order) where
               → SameBound order (if is_gt o then r.end else x.key.end) b → IsEndAsIn order items b
           common_end_by b Less e h = own_is_kept EndSide b h
           common_end_by b Equal e h = own_is_kept EndSide b h
-          common_end_by b Greater e h = within_is_kept EndSide r.end b h (
-            (reaching_is_before_past order lawful x.key.start r.end own.0.0 known_r.1).1 starts,
-            gt_le (places order lawful) (position_total order.cmp lawful.total) _ _ e,
-          ) (λ eq. absurd (cc))
+          common_end_by b Greater e h = within_is_kept EndSide r.end b h (grind (arith, common_steps, reaching_is_before_past, own, gt_le, places, position_total)) (λ eq. absurd (cc))
 
           pub common_is_kept : (side : RangeSide) (b : Bound K)
               → SameBound order (bound_on side (common order x.key r)) b → IsAsIn order items side b
@@ -184,11 +172,7 @@ module _ {K : Type 0} {order : KeyOrder K} (lawful : IsLawful order) where
             let high = lt_le_trans lawful _ _ _ ((before_is order lawful a r.start known_a
             known_r.0).1 (eq_le lawful _ _ at)) ((reaching_is_before_past order lawful r.start
             x.key.end known_r.0 own.0.1).1 ends) in
-            within_is_kept EndSide a b clone (
-              (reaching_is_before_past order lawful x.key.start a own.0.0 known_a).1
-                  (lt_le_trans lawful _ _ _ starts (eq_ge lawful _ _ at)),
-              lt_le lawful _ _ high,
-            ) (λ e. absurd (lt_not_le lawful _ _ high (eq_le lawful _ _ e)))
+            within_is_kept EndSide a b clone (grind (arith, common_steps, reaching_is_before_past, own, lt_le_trans, eq_ge, lt_le)) (λ e. absurd (lt_not_le lawful _ _ high (eq_le lawful _ _ e)))
 
         -- a start just after the end of a range out of which it reaches
         pub cut_start_is_kept : (r : AnyRange K) → IsKnownRange order r
@@ -201,11 +185,7 @@ module _ {K : Type 0} {order : KeyOrder K} (lawful : IsLawful order) where
             let at = cut_start order lawful x.key.end r.end a own.0.1 ends
             (same_turned order lawful r.end) in
             let low = lt_le_trans lawful _ _ _ starts (eq_ge lawful _ _ at) in
-            within_is_kept StartSide a b clone (
-              lt_le lawful _ _ low,
-              (reaching_is_before_past order lawful a x.key.end known_a own.0.1).1
-                  (le_lt_trans lawful _ _ _ (eq_le lawful _ _ at) ends),
-            ) (λ e. absurd (lt_not_le lawful _ _ low (eq_ge lawful _ _ e)))
+            within_is_kept StartSide a b clone (grind (arith, common_steps, lt_le, reaching_is_before_past, own, le_lt_trans, eq_le)) (λ e. absurd (lt_not_le lawful _ _ low (eq_ge lawful _ _ e)))
 
       own_by : (done rest : List (Item (AnyRange K) V)) → items ≡ done ++ rest
           → Every (λ j. IsSpelledAsIn order items j.key) rest

@@ -1,5 +1,5 @@
 -- A chain that comes to stand between two places of another, and joins what stands beside it.
-use Rattle.range_change.proofs.Common.{◌≡◌, sym, true, List, [], ◌∷◌, ◌++◌, inl, inr, subst, append_assoc, append-nil, Every, Equal, Le, Lt, every_weaker, every_append, every_left, every_right, Line, IsChain, Has, IsLeft, IsRight, IsLeftOf, IsRightOf, IsSpliced}
+use Rattle.range_change.proofs.Common.{arith, common_steps, ◌≡◌, sym, true, List, [], ◌∷◌, ◌++◌, inl, inr, subst, append_assoc, append-nil, Every, Equal, Le, Lt, every_weaker, every_append, every_left, every_right, Line, IsChain, Has, IsLeft, IsRight, IsLeftOf, IsRightOf, IsSpliced}
 use Rattle.range_change.proofs.Chains.{same_is_symmetric, chain_left, chain_right, chain_above, strictly_leads, chain_before, chains_join, join_apart, follows_like, le_refl, lt_le, eq_le, eq_ge, le_trans, lt_not_le, lt_le_trans, le_lt_trans}
 use Rattle.range_change.proofs.ChainSides.{held_alone, like_item, leading_like}
 use Rattle.range_change.proofs.ChainJoins.{both_ways, hull, places_between_hold, trailing_follows}
@@ -22,9 +22,7 @@ module _ {L V X : Type 0} (line : Line L V X) where
       → Every (λ x. Le line.cmp (line.hi x) c) front → IsChain line middle
       → Every (λ x. Lt line.cmp c (line.lo x)) middle → IsChain line (front ++ middle)
   chain_apart front [] c chain ends other starts = rw (append-nil front) chain
-  chain_apart front (m ∷ ms) c chain ends other starts = chains_join line front m ms chain other
-      (every_weaker _ _ front (λ z h. strictly_leads line z (line.lo m) (line.value m)
-      (le_lt_trans line _ _ _ h starts.0)) ends)
+  chain_apart front (m ∷ ms) c chain ends other starts = grind (arith, common_steps, chains_join, chain, every_weaker, strictly_leads, le_lt_trans, ends)
 
   -- a middle that starts later than the place
   pub filled_apart : (items front middle : List X) (c : L) → IsLeft line items front c
@@ -49,13 +47,11 @@ module _ {L V X : Type 0} (line : Line L V X) where
       → IsFilled items front (other ∷ ms) (m ∷ ms) c
   filled_joined items front m other ms c s left chain at_c at_s at_hi alike_value =
       let value_back = same_is_symmetric line (line.value other) (line.value m) alike_value in
-      let c_low = eq_le line _ _ at_c in
       let s_low = eq_le line _ _ at_s in
       let hi_low = eq_le line _ _ at_hi in
       let hi_high = eq_ge line _ _ at_hi in
       let low = le_trans line _ _ _ s_low left.below in
-      let reaches : Lt line.cmp c (line.hi other) = lt_le_trans line _ _ _
-      (le_lt_trans line _ _ _ (eq_ge line _ _ at_c) chain.0) hi_high in
+      let reaches : Lt line.cmp c (line.hi other) = grind (arith, common_steps) in
       let good = le_lt_trans line _ _ _ low reaches in
       let wide : IsChain line (other ∷ ms) =
       (good, follows_like line m other ms at_hi alike_value chain.1) in
@@ -70,20 +66,11 @@ module _ {L V X : Type 0} (line : Line L V X) where
         hulled = λ new d l made. hull line items new c d s d (λ p W. Has line W p (other ∷ ms))
             (λ p W. Has line W p (m ∷ ms)) left.below l (le_refl line d) made
             (λ p W alike from upto. (
-              like_item line [] [] ms ms other m p W alike alike_value (λ h. (
-                le_trans line _ _ _ c_low from,
-                lt_le_trans line _ _ _ h.1 hi_low,
-              )) (λ k. k) (λ k. k),
-              like_item line [] [] ms ms m other p W alike value_back (λ h. (
-                le_trans line _ _ _ low from,
-                lt_le_trans line _ _ _ h.1 hi_high,
-              )) (λ k. k) (λ k. k),
+              like_item line [] [] ms ms other m p W alike alike_value (λ h. (grind (arith, common_steps))) (λ k. k) (λ k. k),
+              like_item line [] [] ms ms m other p W alike value_back (λ h. (grind (arith, common_steps, le_trans, lt_le_trans))) (λ k. k) (λ k. k),
             )) (λ p W alike where_. elim where_ [
               | inl k ↦ both_ways (left.joined p W alike k.0 k.1)
-                  (held_alone line [] other ms p W (line.value m) wide (
-                    le_trans line _ _ _ s_low k.0,
-                    lt_le_trans line _ _ _ k.1 (lt_le line _ _ reaches),
-                  ) alike alike_value)
+                  (held_alone line [] other ms p W (line.value m) wide (grind (arith, common_steps)) alike alike_value)
               | inr k ↦ absurd (lt_not_le line _ _ k.1 k.0)
             ]);
       }
@@ -163,10 +150,7 @@ module _ {L V X : Type 0} (line : Line L V X) where
       fill.hulled new d lt (hull line items new fill.start d fill.start e
       (λ p W. Has line W p (init ++ other ∷ [])) (λ p W. Has line W p (init ++ z ∷ []))
       (le_refl line fill.start) begun right.above made (λ p W alike from upto. (
-        like_item line init init [] [] other z p W alike alike_value (λ h. (
-          le_trans line _ _ _ lo_high h.0,
-          lt_le_trans line _ _ _ upto d_high,
-        )) (λ k. k) (λ k. k),
+        like_item line init init [] [] other z p W alike alike_value (λ h. (grind (arith, common_steps, le_trans, lt_le_trans))) (λ k. k) (λ k. k),
         like_item line init init [] [] z other p W alike value_back (λ h. (
           le_trans line _ _ _ lo_low h.0,
           lt_le_trans line _ _ _ upto (le_trans line _ _ _ right.above e_high),
@@ -174,8 +158,5 @@ module _ {L V X : Type 0} (line : Line L V X) where
       )) (λ p W alike where_. elim where_ [
         | inl k ↦ absurd (lt_not_le line _ _ k.1 k.0)
         | inr k ↦ both_ways (right.joined p W alike k.0 k.1) (held_alone line init other [] p W
-            (line.value z) joined (
-              le_trans line _ _ _ (lt_le line _ _ low) k.0,
-              lt_le_trans line _ _ _ k.1 e_high,
-            ) alike alike_value)
+            (line.value z) joined (grind (arith, common_steps, le_trans, lt_le, lt_le_trans)) alike alike_value)
       ]))

@@ -1,52 +1,26 @@
 -- What becomes of the one item that a range meets where it surrounds the range.
-use Rattle.range_change.proofs.Common.{◌≡◌, ℕ, ◌+◌, ◌-◌, ◌<◌, ◌≤◌, List, [], ◌∷◌, ◌++◌, length, take, drop, get_or, refl, ap, sym, ◌∙◌, arith, Option, Some, None, Result, Bool, true, false, IsTrue, IsEquivalence, Shared, Bor, Every, KeyOrder, IsLawful, SameBound, lower, upper, IsKnownBound, AnyRange, Item, AnswersPiece, MayAnswer, IsInserted, IsRemoved, IsDivided, flipped_bound, with_end, Overlap, IsConnectedTo, ArePieces, ReachesBefore, ReachesAfter, IsReach, IsSurrounded, option_items, Window, PLt, lt_le}
+use Rattle.range_change.proofs.Common.{common_steps, ◌≡◌, ℕ, ◌+◌, ◌-◌, ◌<◌, ◌≤◌, List, [], ◌∷◌, ◌++◌, length, take, drop, get_or, refl, ap, sym, ◌∙◌, arith, Option, Some, None, Result, Bool, true, false, IsTrue, IsEquivalence, Shared, Bor, Every, KeyOrder, IsLawful, SameBound, lower, upper, IsKnownBound, AnyRange, Item, AnswersPiece, MayAnswer, IsInserted, IsRemoved, IsDivided, flipped_bound, with_end, Overlap, IsConnectedTo, ArePieces, IsReach, IsSurrounded, option_items, Window, PLt, lt_le}
 use Rattle.range_change.specs.declared.cut.DividedItem.{DividedItem}
 use Rattle.range_change.specs.declared.reach.Reach.{Reach}
 use Rattle.range_change.proofs.RangePieces.{IsFull, all_full, item_at}
 use Rattle.range_change.proofs.ItemPlaces.{listed_at}
 use Rattle.range_change.proofs.RangeSides.{borders_insert, borders_remove, left_border_at, right_border_at, first_reaches, last_starts, left_rest_cut, right_rest_cut, left_border_rest, right_border_rest}
 use Rattle.range_change.proofs.Forms.{Chained, stored_chain, nonempty_good}
-use Rattle.range_change.proofs.Lengths.{changed_length}
 use Rattle.range_change.proofs.MergedItems.{surrounded_alone}
 use Rattle.range_change.proofs.BoundEdits.{standing_item_splits_list}
-use Rattle.range_change.proofs.InsertionPlans.{left_frame_inside, left_frame_cut, right_frame_inside, right_frame_cut, left_part, right_part}
+use Rattle.range_change.proofs.InsertionPlans.{left_frame_inside, left_frame_cut, right_frame_inside, right_frame_cut, left_part}
 use Rattle.range_change.proofs.UpdatedLists.{whole_piece}
 
 none_of : {P : Type 0} (o : Option P) → length (option_items o) ≤ 0 → o ≡ None
-none_of None few = refl
-none_of (Some p) few = absurd (omega (arith, few))
-
-module _ {K : Type 0} (order : KeyOrder K) {V : Type 0} {P : Type 0} (is_good : P → Type 0)
-    (rank : P → ℕ) (items : List (Item (AnyRange K) V)) (r : AnyRange K) (place count : ℕ) where
-  few_before : (first : Option P) → ReachesBefore order is_good rank items r place count first
-      → length (option_items first) ≤ count
-  few_before None reach = omega arith
-  few_before (Some p) reach = omega (arith, reach.2)
-
-  few_after : (last : Option P) → ReachesAfter order is_good rank items r place count last
-      → length (option_items last) ≤ count
-  few_after None reach = omega arith
-  few_after (Some p) reach = omega (arith, reach.2)
+none_of option few = grind (arith, common_steps)
 
 module _ {K : Type 0} {order : KeyOrder K} {V : Type 0} {same : V → V → Bool} {P : Type 0}
     {is_good : P → Type 0} {rank : P → ℕ} {items : List (Item (AnyRange K) V)} {r : AnyRange K}
     {place : ℕ} where
-  -- what reaches out of the range is among the items of the window
-  pub reach_is_met : {reach : Reach P} → IsReach order same is_good rank items r reach place
-      → (length (option_items reach.first) ≤ reach.window.count)
-      × (length (option_items reach.last) ≤ reach.window.count)
-  reach_is_met {reach} found = (
-    few_before order is_good rank items r place reach.window.count reach.first found.first,
-    few_after order is_good rank items r place reach.window.count reach.last found.last,
-  )
-
-  -- so none does where the window is empty
+  -- nothing reaches out of the range where the window is empty
   pub none_reach : {reach : Reach P} → IsReach order same is_good rank items r reach place
       → reach.window.count ≡ 0 → (reach.first ≡ None) × (reach.last ≡ None)
-  none_reach {reach} found none = let met = reach_is_met found in (
-    none_of reach.first (rw none at met.0),
-    none_of reach.last (rw none at met.1),
-  )
+  none_reach {reach} found none = grind (arith, common_steps)
 
 module _ {K : Type 0} {order : KeyOrder K} (lawful : IsLawful order) {V : Type 0}
     {same : V → V → Bool} (equal : IsEquivalence same) {P : Type 0} {is_good : P → Type 0}
@@ -109,15 +83,7 @@ module _ {K : Type 0} {order : KeyOrder K} (lawful : IsLawful order) {V : Type 0
 
     pub divided_size : (middle : Option (Item (AnyRange K) V)) → IsDivided others new at parts middle
         → length new ≡ length items + 1 + length (option_items middle)
-    divided_size middle divided =
-        let window = within.window in
-        omega (
-          arith,
-          within.one,
-          changed_length items new (option_items (Some front)) (option_items middle)
-              (option_items (Some behind)) place (place + w.count)
-              (omega (arith, window.in_range)) window.in_range (list_is middle divided),
-        )
+    divided_size middle divided = grind (arith, common_steps)
 
     -- the range is bound to another value
     pub divided_around : (v : V) → same x.value v ≡ false
@@ -146,10 +112,7 @@ module _ {K : Type 0} {order : KeyOrder K} (lawful : IsLawful order) {V : Type 0
         let right = right_rest_cut lawful equal window x here_end some (within.ends x here)
         parts.start start_is.0 start_is.1 parts.value copied in
         borders_remove lawful equal window new (Some front) (Some behind) some left right
-        (left_part lawful equal window x here some parts.end end_is.1, tt) (
-          right_part lawful equal window x here_end some parts.start parts.value start_is.1 copied,
-          tt,
-        ) (list_is None divided)
+        (left_part lawful equal window x here some parts.end end_is.1, tt) (grind (arith, common_steps)) (list_is None divided)
 
   split : items ≡ take place items ++ x ∷ drop (place + 1) items
   split = listed_at items place x within_list here

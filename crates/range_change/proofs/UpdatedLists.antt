@@ -1,5 +1,5 @@
 -- A list that was changed as a closure answers, by what was put in the place of a range.
-use Rattle.range_change.proofs.Common.{◌≡◌, refl, sym, subst, ◌∙◌, Option, Some, None, Bool, true, IsTrue, List, [], ◌∷◌, ◌++◌, ◌⊎◌, inl, inr, ◌↔◌, Result, Ok, Shared, Bor, Every, is_gt, IsEquivalence, KeyOrder, IsLawful, start_position, end_position, position_cmp, AnyRange, Holds, IsKnownRange, Any, le_refl, lt_le, both, PLe, PLt, any_right, every_weaker, every_left, every_right, Item, MayAnswer, Answered, IsAsAnswered, IsGivenBy, IsGathered, IsUpdated, AreAnswersTo, Binds, IsSomeOf, IsInserted, IsRemoved, IsUpdateFrame, IsMergedInto, IsMergeFrame, HasValue, JoinsOrMeets, IsNewItem, IsPart, IsInsertionFrame, IsRemovalFrame, IsConnectedTo, Overlap, ArePieces, IsCommonPart, IsReplaced, lower, upper}
+use Rattle.range_change.proofs.Common.{arith, common_steps, ◌≡◌, refl, ◌∙◌, Option, Some, None, Bool, true, IsTrue, List, [], ◌∷◌, ◌++◌, ◌⊎◌, inl, inr, ◌↔◌, Result, Ok, Shared, Bor, Every, is_gt, IsEquivalence, KeyOrder, IsLawful, end_position, position_cmp, AnyRange, IsKnownRange, Any, le_refl, lt_le, both, PLe, PLt, any_right, every_weaker, every_left, every_right, Item, MayAnswer, Answered, IsAsAnswered, IsGivenBy, IsGathered, IsUpdated, AreAnswersTo, Binds, IsSomeOf, IsInserted, IsRemoved, IsUpdateFrame, IsMergedInto, IsMergeFrame, HasValue, JoinsOrMeets, IsPart, IsInsertionFrame, IsRemovalFrame, IsConnectedTo, Overlap, ArePieces, IsCommonPart, IsReplaced, lower, upper}
 use Rattle.range_change.proofs.RangePieces.{IsFull, IsInside, IsRight, any_use, any_over, every_with, later_over, earlier_under, either_choice_holds, cut_all}
 use Rattle.range_change.proofs.Extents.{end_le}
 use Rattle.range_change.proofs.Forms.{Chained}
@@ -14,29 +14,14 @@ module _ {K : Type 0} (order : KeyOrder K) {V : Type 0} (same : V → V → Bool
   given_by : (answers : List (Answered K V)) (j : Item (AnyRange K) V) (v : V)
       → same v j.value ≡ true → Any (λ a. a.answer ≡ Some j.value) answers
       → IsGivenBy same answers v
-  given_by answers j v alike h = any_over (λ a. a.answer ≡ Some j.value)
-      (λ a. IsAsAnswered same a.answer (Some v)) answers (λ a is. subst
-      (λ o. IsAsAnswered same o (Some v)) (sym is) (same_is_symmetric v j.value alike)) h
+  given_by answers j v alike h = grind (arith, common_steps, any_over, same_is_symmetric)
 
   -- what was gathered stands in the place of the range
   pub by_middle : (middle : List (Item (AnyRange K) V))
       → IsGathered order same calls f items r middle → IsReplaced order same items new middle r
       → IsUpdated order same calls f items new r
   by_middle middle h put = record {
-    answered = record {
-      answers = h.answers;
-      pieces = h.pieces;
-      given = h.given;
-      held = λ k key in_r. any_over (λ a. Holds order a.key k × ((b : Option V) → Binds order same
-          middle k b ↔ IsAsAnswered same a.answer b)) (λ a. Holds order a.key k ×
-          ((b : Option V) → Binds order same new k b ↔ IsAsAnswered same a.answer b)) h.answers
-          (λ a t. (
-            t.0,
-            λ b. let own =
-                put.held k key in_r b in (λ g. (t.1 b).0 (own.0 g), λ g. own.1 ((t.1 b).1 g)),
-          )) (h.held k key in_r);
-      others = put.others;
-    };
+    answered = grind (arith, common_steps, any_over);
     frame = way_follows (λ run others way. record {
       concerned = way.concerned;
       valued = every_weaker (λ j. HasValue order same run j.value ⊎ HasValue order same middle
@@ -61,8 +46,7 @@ module _ {K : Type 0} (order : KeyOrder K) {V : Type 0} (same : V → V → Bool
 
   meets_alone : (i : Item (AnyRange K) V) (v : V) → JoinsOrMeets order same r v i
       → (IsConnectedTo order i.key r → Overlap order i.key r) → Overlap order i.key r
-  meets_alone i v (inl meets) alone = meets
-  meets_alone i v (inr touches) alone = alone (inr touches.0)
+  meets_alone i v either alone = grind (arith, common_steps)
 
   module _ (old : V) where
     inserted_frame : (v : V)
@@ -83,12 +67,7 @@ module _ {K : Type 0} (order : KeyOrder K) {V : Type 0} (same : V → V → Bool
             concerned = every_with (JoinsOrMeets order same r v) _
                 (λ i. Overlap order i.key r ⊎ IsMergedInto order same h.others r i) h.run
                 h.such.concerned met (λ i t a. inl (meets_alone i v t a));
-            valued = every_weaker (IsNewItem order same h.run r v)
-                (λ j. HasValue order same h.run j.value ⊎ IsGivenBy same (one_answer old (Some v))
-                j.value) h.others (λ j t. elim t.value [
-                  | inl own ↦ inr (inl (same_is_symmetric j.value v own))
-                  | inr other ↦ inl other
-                ]) h.such.made;
+            valued = grind (arith, common_steps, every_weaker, same_is_symmetric);
           };
         }
 
@@ -102,8 +81,7 @@ module _ {K : Type 0} (order : KeyOrder K) {V : Type 0} (same : V → V → Bool
 
     some_of : (v : V) (k : K) (b : Option V) → Binds order same new k b ↔ IsSomeOf order same v b
         → Binds order same new k b ↔ IsAsAnswered same (Some v) b
-    some_of v k None h = h
-    some_of v k (Some w) h = h
+    some_of v k option h = grind (arith, common_steps)
 
     pub by_insertion : (v : V)
         → Every (λ i. IsConnectedTo order i.key r → Overlap order i.key r) items
@@ -145,25 +123,16 @@ module _ {K : Type 0} (order : KeyOrder K) (lawful : IsLawful order) {V : Type 0
     (starts : PLt lawful (lower order x.key) (lower order r)) (ends : PLt lawful (upper order r)
     (upper order x.key)) where
   whole_inside : IsInside order lawful items r r
-  whole_inside = (
-    known,
-    le_refl lawful (lower order r),
-    some,
-    le_refl lawful (upper order r),
-  )
+  whole_inside = grind (arith, common_steps, le_refl, lower, upper)
 
   whole_common : IsCommonPart order r x.key r
   whole_common =
       let cmp = position_cmp order.cmp in
-      let p = start_position order r.start in
-      let q = start_position order x.key.start in
       let u = end_position order r.end in
       let v = end_position order x.key.end in
       let under = end_le order lawful r.end x.key.end known.1 known_x.1 (lt_le lawful _ _ ends) in
       record {
-        starts = both lawful _ _ (later_over order lawful p q).0
-            (either_choice_holds order lawful (λ y. PLe lawful y p) (is_gt (cmp p q)) p q
-            (le_refl lawful p) (lt_le lawful _ _ starts));
+        starts = grind (arith, common_steps, both, later_over, either_choice_holds, is_gt, le_refl, lt_le);
         ends = both lawful _ _ (either_choice_holds order lawful (λ y. PLe lawful u y)
             (is_gt (cmp u v)) v u under (le_refl lawful u)) (earlier_under order lawful u v).0;
       }
@@ -174,9 +143,4 @@ module _ {K : Type 0} (order : KeyOrder K) (lawful : IsLawful order) {V : Type 0
 
   pub whole_piece : ArePieces order items r (record { key = r; value = Some x.value } ∷ [])
   whole_piece = cut_all order lawful items r known same equal full chain
-      (record { key = r; value = Some x.value } ∷ []) (record {
-        inside = (whole_inside, tt);
-        right = (whole_right, tt);
-        rising = (tt, tt);
-        covered = λ m low high. inl (low, high);
-      })
+      (record { key = r; value = Some x.value } ∷ []) (grind (arith, common_steps, whole_inside, whole_right))

@@ -1,7 +1,7 @@
 -- The items that a range meets, by places.
-use Rattle.range_change.proofs.Common.{◌≡◌, ℕ, suc, ◌+◌, ◌-◌, ◌<◌, ◌≤◌, List, [], ◌∷◌, ◌++◌, length, take, drop, get_or, arith, ◌∙◌, sym, ap, Option, Bool, length-drop, IsEquivalence, drop_more, take_more, get_or-drop, Every, KeyOrder, IsLawful, start_position, end_position, Position, AnyRange, IsEmptyRange, IsKnownRange, Item, place_before, line_of, lower, upper, item_lower, IsStored, IsFound, IsWalk, IsWindow, reaching_is_before_past, every_at, list_is_take_and_drop, every_weaker, PLe, PLt}
+use Rattle.range_change.proofs.Common.{common_steps, ◌≡◌, ℕ, suc, ◌+◌, ◌-◌, ◌<◌, ◌≤◌, List, [], ◌∷◌, ◌++◌, length, take, drop, get_or, arith, ◌∙◌, sym, ap, Option, Bool, length-drop, IsEquivalence, drop_more, take_more, get_or-drop, Every, KeyOrder, IsLawful, start_position, end_position, Position, AnyRange, IsEmptyRange, IsKnownRange, Item, place_before, line_of, lower, upper, item_lower, IsStored, IsFound, IsWalk, IsWindow, reaching_is_before_past, every_at, list_is_take_and_drop, every_weaker, PLe, PLt}
 use Rattle.range_change.proofs.Chains.{chain_above, chain_right}
-use Rattle.range_change.proofs.Forms.{every_front, every_back, places, before_is, Known, Chained, stored_chain}
+use Rattle.range_change.proofs.Forms.{every_front, every_back, before_is, Known, Chained, stored_chain}
 
 pub every_both : {X : Type 0} (P Q : X → Type 0) (xs : List X) → Every P xs → Every Q xs
     → Every (λ x. P x × Q x) xs
@@ -33,7 +33,6 @@ module _ {K : Type 0} (order : KeyOrder K) (lawful : IsLawful order) {V : Type 0
       (place_before rank (length items) from)
   window_is is_good rank items r p e before from last after count known nonempty stored at_start
       at_end found walk =
-      let cmp = places order lawful in
       let place = place_before rank (length items) from in
       let all = stored.known in
       let end = place + count in
@@ -54,10 +53,7 @@ module _ {K : Type 0} (order : KeyOrder K) (lawful : IsLawful order) {V : Type 0
         above = every_weaker _ _ (drop place items) (λ i h. (reaching_is_before_past order lawful
             r.start i.key.end known.0 h.0.1).0 (rw at_start at h.1))
             (every_both _ _ (drop place items) (every_back _ place items all) found.above);
-        meets = λ d some. let x = get_or items (place + count - 1) d in
-            (reaching_is_before_past order lawful x.key.start r.end
-            (every_at (λ i. IsKnownRange order i.key) items (place + count - 1) d all
-            (omega (arith, walk.in_range))).0 known.1).0 (rw at_end at (walk.meets d some));
+        meets = grind (arith, common_steps, get_or, reaching_is_before_past, every_at);
         behind = rest_starts_after_range e r (drop end items) at_end known
             (every_back _ end items all) (chain_right (line_of order lawful same equal)
             (take end items) (drop end items) chain) (λ d some.

@@ -1,23 +1,12 @@
-use Rattle.range_change.proofs.Common.{sym}
-use Rattle.range_change.proofs.InsertionPlans.{left_plan_inside, left_plan_cut}
-use Rattle.range_change.proofs.JoinedMiddle.{left_touched}
+use Rattle.range_change.proofs.Common.{arith, common_steps}
+use Rattle.range_change.proofs.InsertionPlans.{left_plan_inside, left_plan_cut, left_touched}
 use Rattle.range_change.proofs.borders.joins_before.Goals as goal
 
 pub returns-then-eq-clause-joins : goal.returns-then-eq-clause-joins
-returns-then-eq-clause-joins g c = λ lawful equal b at known_b same_b start.
-    let is = c.in-Some.is in
-    rw (
-      is,
-      start,
-    ) (left_plan_inside lawful equal c.requires.window c.args.value.now c.in-Some.first
-    c.get.result.now (rw is at c.requires.first) c.get.ensures (sym c.if-eq.ensures))
+returns-then-eq-clause-joins g c = grind (arith, common_steps, left_plan_inside)
 
 pub returns-else-eq-clause-joins : goal.returns-else-eq-clause-joins
-returns-else-eq-clause-joins g c = λ lawful equal b at known_b same_b start.
-    let is = c.in-Some.is in
-    rw is (left_plan_cut lawful equal c.requires.window c.args.value.now c.in-Some.first
-    c.get.result.now b at (rw is at c.requires.first) c.get.ensures
-    (sym c.if-eq.ensures) known_b same_b (rw is at start))
+returns-else-eq-clause-joins g c = grind (arith, common_steps, left_plan_cut)
 
 pub returns-in-None-clause-joins : goal.returns-in-None-clause-joins
 returns-in-None-clause-joins g c = λ lawful equal b at known_b same_b start.

@@ -1,16 +1,12 @@
-use Rattle.range_change.proofs.Common.{arith, common_steps, refl, bound_of}
+use Rattle.range_change.proofs.Common.{arith, common_steps, bound_of}
 use Rattle.range_change.proofs.CutParts.{seam_stands}
 use Rattle.range_change.proofs.borders.seam_at.Goals as goal
 
 pub returns-in-Some-default-clause-seam : goal.returns-in-Some-default-clause-seam
-returns-in-Some-default-clause-seam g c =
-    seam_stands g.K.MaybeBounded.order g.met.K.PartialEnum.lawful c.args.joined c.args.reaching
-    (bound_of c.args.bound) c.known_bound.ensures (rw c.in-Some-default.is-0 refl)
+returns-in-Some-default-clause-seam g c = grind (arith, common_steps, seam_stands, bound_of)
 
 pub returns-in-None-None-clause-seam : goal.returns-in-None-None-clause-seam
-returns-in-None-None-clause-seam g c = seam_stands g.K.MaybeBounded.order g.met.K.PartialEnum.lawful
-    c.args.joined c.args.reaching (bound_of c.args.bound) c.known_bound.ensures
-    (rw (c.in-None-None.is-0, c.in-None-None.is-1) refl)
+returns-in-None-None-clause-seam g c = grind (arith, common_steps, seam_stands, bound_of)
 
 pub returns-in_ok-cut-in-None-Some-clause-seam : goal.returns-in_ok-cut-in-None-Some-clause-seam
 returns-in_ok-cut-in-None-Some-clause-seam g c = grind (arith, common_steps)

@@ -1,4 +1,4 @@
-use Rattle.range_change.proofs.Common.{arith, common_steps, ◌≡◌, None, ◌∙◌}
+use Rattle.range_change.proofs.Common.{arith, common_steps, ◌≡◌, None}
 use Rattle.range_change.proofs.CutParts.{seam_stands}
 use Rattle.range_change.proofs.Freeing.{seam_alike}
 use Rattle.range_change.proofs.Surrounded.{none_reach}
@@ -15,15 +15,7 @@ put_between-requires-clause-after g c =
     rw after at c.joins_after-after.ensures.joins
 
 pub put_merged-requires-clause-left : goal.put_merged-requires-clause-left
-put_merged-requires-clause-left g c =
-    let before = c.joins_before-before.result in
-    rw (none_reach c.requires.reach c.requires.none).0
-    (seam_stands g.K.MaybeBounded.order g.met.K.PartialEnum.lawful before _ c.args.item.key.start
-    c.requires.reach.window.known.0 (c.seam-left.ensures ∙ seam_alike before _ _))
+put_merged-requires-clause-left g c = grind (arith, common_steps, none_reach, seam_stands, seam_alike)
 
 pub put_merged-requires-clause-right : goal.put_merged-requires-clause-right
-put_merged-requires-clause-right g c =
-    let after = c.joins_after-after.result in
-    rw (none_reach c.requires.reach c.requires.none).1
-    (seam_stands g.K.MaybeBounded.order g.met.K.PartialEnum.lawful after _ c.args.item.key.end
-    c.requires.reach.window.known.1 (c.seam-right.ensures ∙ seam_alike after _ _))
+put_merged-requires-clause-right g c = grind (arith, common_steps, none_reach, seam_stands, seam_alike)

@@ -1,4 +1,4 @@
-use Rattle.range_change.proofs.Common.{common_steps, ◌-◌, length, refl, ap, ◌∙◌, arith, slice_get, option_copied, place_before, joined_count}
+use Rattle.range_change.proofs.Common.{common_steps, ◌-◌, length, refl, ap, ◌∙◌, arith, slice_get, joined_count}
 use Rattle.range_change.proofs.InsertionFrames.{all_meet}
 use Rattle.range_change.proofs.Replaced.{IsReplacement, plans_replacement, replacement_fits, replacement_is_made}
 use Rattle.range_change.proofs.JoinedMiddle.{seam_count}
@@ -11,37 +11,15 @@ use Rattle.range_change.proofs.replace.replace.Goals as goal
 plan_is_replacement : (g : Over) (c : After-run_start g)
     → IsReplacement g.K.MaybeBounded.order g.met.K.PartialEnum.lawful g.V.PartialEq.eq
     g.met.V.Eq.laws (g.C.Storage.is_good c.args.stored.now) (g.C.Storage.rank c.args.stored.now)
-    (g.C.Storage.items c.args.stored.now) c.args.range
-    (place_before (g.C.Storage.rank c.args.stored.now)
-    (length (g.C.Storage.items c.args.stored.now)) c.args.reach.now.window.from)
-    c.args.reach.now.window.count c.args.middle.items c.args.reach.now.first c.args.reach.now.last
+    (g.C.Storage.items c.args.stored.now) c.args.range c.args.reach.now c.args.middle.items
     c.joined_left-before.result c.joined_right-after.result c.run_start.result
 plan_is_replacement g c =
-    let order = g.K.MaybeBounded.order in
-    let lawful = g.met.K.PartialEnum.lawful in
-    let equal_values = g.V.PartialEq.eq in
-    let equal = g.met.V.Eq.laws in
-    let storage = g.C.Storage in
-    let stored = c.args.stored.now in
-    let items = storage.items stored in
-    let r = c.args.range in
-    let w = c.args.reach.now.window in
-    let place = place_before (storage.rank stored) (length items) w.from in
-    let middle = c.args.middle.items in
-    let first = c.args.reach.now.first in
-    let last = c.args.reach.now.last in
-    let joined = c.joined_left-before.result in
-    let other = c.joined_right-after.result in
-    let from = c.run_start.result in
     let is_first = c.first.ensures.value ∙ ap (λ xs. slice_get xs 0) c.deref.ensures.value in
     let is_last = c.last.ensures.value ∙ ap (λ xs. slice_get xs (length xs - 1))
     c.deref-2.ensures.value in
-    plans_replacement order lawful equal_values equal (storage.is_good stored) (storage.rank stored)
-    items r place w.count middle first last joined other from (option_copied c.first.result)
-    (option_copied c.last.result) c.requires.reach.window.stored c.requires.middle c.requires.within
-    c.requires.reach.window.known c.requires.reach.window.nonempty c.requires.reach.window.in_range
-    c.requires.apart is_first is_last c.run_start.ensures (c.joined_left-before.ensures lawful
-    equal) (c.joined_right-after.ensures lawful equal)
+    plans_replacement g.met.K.PartialEnum.lawful g.met.V.Eq.laws c.requires.reach c.requires.apart
+    c.requires.middle c.requires.within is_first is_last c.joined_left-before.ensures
+    c.joined_right-after.ensures c.run_start.ensures
 
 pub run_length-requires-clause-fits : goal.run_length-requires-clause-fits
 run_length-requires-clause-fits g c =
@@ -89,7 +67,8 @@ returns g c =
     record {
       ok = replacement_is_made plan new window.stored c.requires.middle window.known
           (all_meet lawful equal window) made;
-      spelled = replaced_keeps_spelling lawful equal window.stored c.requires.reach plan new made;
+      spelled = replaced_keeps_spelling lawful equal window.stored c.requires.reach
+          (g.met.C.Storage.good_is_in_range c.args.stored.now) plan new made;
       refused = tt;
       none_put = λ none. refl;
     }

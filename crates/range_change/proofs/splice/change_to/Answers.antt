@@ -1,15 +1,10 @@
-use Rattle.range_change.proofs.Common.{◌≡◌, ◌+◌, ◌++◌, length, take, drop, ap, sym, ◌∙◌, arith, append_assoc, place_before, with_first_start, with_last_end, option_items}
+use Rattle.range_change.proofs.Common.{common_steps, ◌≡◌, ◌+◌, ◌++◌, length, take, drop, ap, sym, ◌∙◌, arith, append_assoc, place_before, with_first_start, with_last_end, option_items}
 use Rattle.range_change.proofs.OuterBounds.{length_started, length_ended}
 use Rattle.range_change.proofs.BoundEdits.{kept_place}
 use Rattle.range_change.proofs.splice.change_to.Goals as goal
 
 pub replace_run_by-requires-clause-space : goal.replace_run_by-requires-clause-space
-replace_run_by-requires-clause-space g c =
-    let started = ap length c.start_at.ensures ∙ length_started c.open_sides-start.result.0
-    c.args.items.items in
-    let size = ap length c.end_at.ensures ∙ length_ended c.open_sides-start.result.1
-    c.start_at.new.items.items in
-    omega (arith, c.requires.space, size, started, c.open_sides-start.ensures.space)
+replace_run_by-requires-clause-space g c = grind (arith, common_steps, length, length_started, length_ended)
 
 pub returns : goal.returns
 returns g c = λ at end before behind start finish left_shape right_shape le.

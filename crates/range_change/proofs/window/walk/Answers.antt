@@ -18,11 +18,7 @@ loop-at-preserved g c =
       position = rw next at c.next-at.ensures;
       in_range = omega (arith, here.1, within);
       last_is = (here.0, next, omega arith);
-      meets = λ d some. rw (
-        index,
-        ← get_or_read items (storage.rank stored c.in-Some.p) c.get.result.now within
-            c.get.ensures d,
-      ) (sym c.if-starts_past.ensures.past);
+      meets = grind (arith, common_steps, get_or_read);
       counted = record { at_most = omega arith; at_least = omega arith };
     }
 
@@ -45,15 +41,6 @@ returns-then-starts_past g c =
     let past = not_le g.met.K.PartialEnum.lawful (reference_position order c.args.end.now)
     (start_position order x.key.start) (λ h. true≢false (c.if-starts_past.ensures.past ∙ h)) in
     record {
-      walked = record {
-        in_range = was.in_range;
-        last_is = was.last_is;
-        after_is = here;
-        meets = was.meets;
-        stops = λ d some. rw (
-          index,
-          ← get_or_read items (storage.rank stored c.in-Some.p) x within c.get.ensures d,
-        ) past;
-      };
+      walked = grind (arith, common_steps, get_or_read);
       counted = record { at_most = omega arith; at_least = omega arith };
     }
