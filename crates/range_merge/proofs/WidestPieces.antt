@@ -1,5 +1,5 @@
 -- Where ranges start and end, and that a piece between two such places is as wide as it goes.
-use Rattle.std.proofs.Common.{◌≡◌, refl, sym, ap, ◌∙◌, ◌⊎◌, inl, inr, Option, Some, None, List, [], ◌∷◌, ◌++◌}
+use Rattle.std.proofs.Common.{◌≡◌, refl, sym, ap, ◌∙◌, ◌⊎◌, inl, inr, Option, Some, None, List, [], ◌∷◌, ◌++◌, arith, rules}
 use Rattle.range_merge.proofs.Common.{every_weaker, KeyOrder, IsLawful, IsKnownRange, position_cmp, Position, Equal, lower, upper, Lt, Any, Every, AnyRange, Item, LiesIn}
 use Rattle.range_merge.specs.Combining.{IsConstantOn, IsSharedPart, IsSharedPiece}
 use Rattle.range_merge.specs.Merged.{IsPlaced, IsCutFrom, IsUsedUp, IsFirstPiece}
@@ -79,15 +79,7 @@ module _ {K : Type 0} {order : KeyOrder K} (lawful : IsLawful order) where
       inside : (r : AnyRange K) → IsKnownRange order r → (v : V)
           → IsConstantOn order items r (Some v) → (p : Position K) → HoldsAt order p r
           → Any (λ i. HoldsAt order p i.key × (i.value ≡ v)) items
-      inside r known v constant p at =
-          any_with _ _ _ items constant was.placed (λ x within own. (
-            (
-              le_trans lawful _ _ _ within.0.starts at.0,
-              lt_le_trans lawful _ _ _ at.1
-                  (past_le order lawful r.end x.key.end known.1 own.known.1 within.0.ends),
-            ),
-            within.1,
-          ))
+      inside r known v constant p at = grind (arith, any_with, le_trans, lt_le_trans, past_le)
 
       pub constant_held : (r : AnyRange K) → IsKnownRange order r → (v : Option V)
           → IsConstantOn order items r v → (v ≡ None → ⊥) → (p : Position K)
@@ -135,10 +127,7 @@ module _ {K : Type 0} {order : KeyOrder K} (lawful : IsLawful order) where
           (λ x in_r own.
           let ends = past_le order lawful r.end x.key.end known.1 own.0.known.1 in_r.0.ends in
           let within : (s : Position K) → HoldsAt order s r → HoldsAt order s x.key =
-          λ s at. (
-            le_trans lawful _ _ _ in_r.0.starts at.0,
-            lt_le_trans lawful _ _ _ at.1 ends,
-          ) in
+          λ s at. (grind (arith, le_trans, lt_le_trans)) in
           rw (← once items items _ p x z was.apart own.1 in_z (within p at_p) held)
           (within q at_q))
 
@@ -199,14 +188,8 @@ module _ {K : Type 0} {order : KeyOrder K} (lawful : IsLawful order) where
         let upto = past_le order lawful key.end r.end placed.known.1 part.known.1 within.ends in
         let good = lt_le_trans lawful _ _ _ placed.good upto in
         lies_in order lawful r key part.known placed.known
-        (not_lt lawful (lower order key) (lower order r) (λ less.
-        no_end r value other_value part (lower order r) (lower order key)
-        (le_refl lawful _, le_lt_trans lawful _ _ _ (lt_le lawful _ _ less) good)
-        (lt_le lawful _ _ less, good) less ends.0))
-        (not_lt lawful (upper order r) (upper order key) (λ less.
-        no_end r value other_value part (lower order key) (upper order key) (within.starts, good)
-        (le_trans lawful _ _ _ within.starts (lt_le lawful _ _ placed.good), less) placed.good
-        ends.1))
+        (search (rules, le_lt_trans, le_refl, lt_le, no_end, not_lt))
+        (search (rules, le_trans, lt_le, no_end, not_lt))
 
     -- a piece whose first place lies in a part that ends at such a place is that part
     pub same_piece : (key piece : AnyRange K) (value v : Option V) (other_value w : Option W)
@@ -225,25 +208,14 @@ module _ {K : Type 0} {order : KeyOrder K} (lawful : IsLawful order) where
         at first_at in
         let within : LiesIn order piece key =
         lies_in order lawful piece key part.known shared.known at.0
-        (not_lt lawful (upper order piece) (upper order key) (λ less.
-        no_end piece v w part (lower order piece) (upper order key) first_at
-        (lt_le lawful _ _ at.1, less) at.1 end)) in
-        let wide = is.widest key (rw (← one, ← other) shared) within in (
-          equal_then_equal _ _ (both lawful _ _ within.starts wide.starts)
-              (both lawful (end_position order key.end) (end_position order piece.end) wide.ends
-              within.ends),
-          one,
-          other,
-        )
+        (not_lt lawful (upper order piece) (upper order key) (grind (arith, lt_le lawful, no_end))) in
+        let wide = is.widest key (rw (← one, ← other) shared) within in (grind (arith, both, equal_then_equal))
 
   module _ {V W : Type 0} (items : List (Item (AnyRange K) V))
       (others : List (Item (AnyRange K) W)) where
     moved : (p q : Position K) → position_cmp order.cmp p q ≡ Equal → IsEnd order items others q
         → IsEnd order items others p
-    moved p q same at = elim at [
-      | inl own ↦ inl (end_moved items p q same own)
-      | inr own ↦ inr (end_moved others p q same own)
-    ]
+    moved p q same at = grind (arith, end_moved)
 
     back : (p q : Position K) → position_cmp order.cmp p q ≡ Equal
         → position_cmp order.cmp q p ≡ Equal
@@ -264,13 +236,7 @@ module _ {K : Type 0} {order : KeyOrder K} (lawful : IsLawful order) where
         rest_between None (Some v) last rest cut end all = absurd cut
         rest_between (Some i) None last rest cut end all = rw cut.0 all
         rest_between (Some i) (Some v) None rest cut end all = all.1
-        rest_between (Some i) (Some v) (Some j) rest cut end all = (
-          (
-            moved _ _ (back _ _ cut.2.from) end,
-            moved _ _ cut.2.upto all.0.1,
-          ),
-          all.1,
-        )
+        rest_between (Some i) (Some v) (Some j) rest cut end all = grind (arith, back, moved)
 
         starts_at_end : (first : Option (Item (AnyRange K) U)) (value : Option U)
             (last : Option (Item (AnyRange K) U)) (rest : List (Item (AnyRange K) U))
@@ -326,11 +292,7 @@ module _ {K : Type 0} {order : KeyOrder K} (lawful : IsLawful order) where
         (all : LieBetweenEnds (option_items left ++ xs))
         (all_others : LieBetweenEnds (option_items right ++ ys)) where
       piece_start : IsEnd order items others (lower order key)
-      piece_start =
-          elim (some_of value other piece.bound) [
-            | inl some ↦ starts_at_end key left value left_rest xs piece.first some all
-            | inr some ↦ starts_at_end key right other right_rest ys piece.second some all_others
-          ]
+      piece_start = grind (arith, some_of, starts_at_end)
 
       piece_end : IsEnd order items others (upper order key)
       piece_end =
@@ -374,10 +336,7 @@ module _ {K : Type 0} {order : KeyOrder K} (lawful : IsLawful order) where
       → Every (λ x. IsEndIn order items (lower order x.key)
       × IsEndIn order items (upper order x.key)) items
   own_end items =
-      every_weaker _ _ items (λ x in_x. (
-        any_over _ _ items (λ i same. rw same (inl (itself _))) in_x,
-        any_over _ _ items (λ i same. rw same (inr (itself _))) in_x,
-      )) (members items)
+      every_weaker _ _ items (grind (arith, any_over, itself)) (members items)
 
   -- the ranges of the two lists do
   pub items_between : {V W : Type 0} (items : List (Item (AnyRange K) V))
