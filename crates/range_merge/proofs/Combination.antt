@@ -1,5 +1,5 @@
 -- A merged pass over two lists: what the answers so far make of both.
-use Rattle.std.proofs.Common.{◌≡◌, refl, sym, ◌∙◌, ◌↔◌, ◌⊎◌, inl, inr, arith, Bool, true, Option, Some, None, Result, Ok, List, [], ◌∷◌, ◌++◌, rules}
+use Rattle.std.proofs.Common.{◌≡◌, refl, sym, ◌∙◌, ◌↔◌, ◌⊎◌, inl, inr, arith, Bool, true, Option, Some, None, Result, Ok, List, [], ◌∷◌, ◌++◌}
 use Rattle.range_merge.proofs.Common.{IsEquivalence, Bound, Equal, KeyOrder, IsLawful, Position, position_cmp, Beside, At, IsBoundClone, SameBound, lower, upper, Lt, Any, Every, Holds, LiesBefore, AnyRange, any_left, any_none, any_split, every_append, every_weaker, Item, Answered, IsAsAnswered, IsBound, Binds, BindsTo, LiesIn, IsStored}
 use Rattle.range_merge.specs.Combining.{Combined, IsConstantOn, IsSharedPiece, AreCombined, IsCombination, MayAnswerOnBoth}
 use Rattle.range_change.proofs.PlaceOrder.{le_refl, lt_le, le_trans, lt_le_trans, lt_not_le, lt_trans}
@@ -250,7 +250,10 @@ module _ {K : Type 0} {order : KeyOrder K} (lawful : IsLawful order) {V W X : Ty
                 (before_is order lawful c.key.end key.start part.part.known.1
                 piece.placed.known.0).1
                 (le_trans lawful _ _ _ below starts_after)));
-            below = search (rules, every_append, every_weaker, le_refl, le_trans);
+            below =
+                every_append _ was.answers _
+                (every_weaker _ _ was.answers (λ c le. le_trans lawful _ _ _ le m_upto) was.below)
+                (le_refl lawful _, tt);
             given = every_append _ was.answers _ was.given (says, tt);
             answered = _;
             filled = filled_more;
@@ -305,7 +308,10 @@ module _ {K : Type 0} {order : KeyOrder K} (lawful : IsLawful order) {V W X : Ty
             | inl b ↦ side_all lawful was.first no_left k key b
             | inr b ↦ side_all lawful was.second no_right k key b
           ] in
-          any_with _ _ _ was.answers (was.held (Beside k At) done) was.each (grind (arith, as_answered, held_between order lawful));
+          any_with _ _ _ was.answers (was.held (Beside k At) done) was.each (λ c at part. (
+            (held_between order lawful c.key k part.part.known key).1 at.0,
+            λ b. as_answered new k was.filled.known key c.answer b at.1,
+          ));
       free = λ k key unbound unbound_other bound.
           any_use _ _ was.answers (was.free (Beside k At)
           ((bound_hold order lawful same equal new k was.filled.known key).0 bound)) was.each

@@ -1,5 +1,5 @@
 -- One side of a merged pass: what is left of a list, and what a piece takes of that.
-use Rattle.std.proofs.Common.{◌≡◌, refl, sym, ◌∙◌, ◌⊎◌, inl, inr, ◌+◌, ◌<◌, ◌≤◌, length, arith, Bool, true, Option, Some, None, List, [], ◌∷◌, ◌++◌}
+use Rattle.std.proofs.Common.{◌≡◌, refl, ◌⊎◌, inl, inr, ◌+◌, ◌<◌, ◌≤◌, length, arith, Bool, true, Option, Some, None, List, [], ◌∷◌, ◌++◌}
 use Rattle.std.specs.declared.ops.Bound.TheVariants.{Unbounded}
 use Rattle.range_merge.proofs.Common.{option_map, IsEquivalence, KeyOrder, IsLawful, IsKnownRange, position_cmp, Position, Beside, At, lower, upper, Le, Lt, Any, Every, AnyRange, every_weaker, Item, IsBound, IsStored, line_of}
 use Rattle.range_merge.specs.Combining.{IsConstantOn}

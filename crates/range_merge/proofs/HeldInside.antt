@@ -1,7 +1,6 @@
 -- A key of a range that lies in another is a key of that.
 use Rattle.std.proofs.Common.{inl, inr, List, [], ◌∷◌, rules}
-use Rattle.range_merge.proofs.Common.{KeyOrder, IsLawful, Beside, At, Any, Holds, AnyRange, Item, IsBound, LiesIn}
-use Rattle.range_keys.specs.Position.{end_position}
+use Rattle.range_merge.proofs.Common.{KeyOrder, IsLawful, Any, Holds, AnyRange, Item, IsBound, LiesIn}
 use Rattle.range_algebra.proofs.Holding.{holds_by_position}
 use Rattle.range_change.proofs.PlaceOrder.{le_trans}
 

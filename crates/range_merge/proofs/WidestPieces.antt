@@ -8,7 +8,6 @@ use Rattle.range_change.proofs.CoveredPlaces.{shared_place_is_overlap}
 use Rattle.range_change.proofs.Extents.{past_le}
 use Rattle.range_change.proofs.RangePieces.{any_over, any_use, any_with, lies_in}
 use Rattle.range_change.proofs.Windows.{every_both}
-use Rattle.range_keys.specs.Position.{end_position}
 use Rattle.range_keys.proofs.Orderings.{equal_then_equal}
 use Rattle.range_algebra.specs.RangeOrder.{range_cmp}
 use Rattle.range_merge.proofs.Combining.{PLe, HoldsAt, SomeHoldsAt, IsLeftFrom, IsSideUpTo, not_left, some_of}

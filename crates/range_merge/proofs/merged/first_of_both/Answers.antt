@@ -1,4 +1,4 @@
-use Rattle.std.proofs.Common.{◌∙◌, sym, Some, None, arith}
+use Rattle.std.proofs.Common.{◌∙◌, sym, Some, arith}
 use Rattle.range_merge.specs.Merged.{part_item}
 use Rattle.range_merge.proofs.FirstPieces.{first_ends, past_same, second_ends}
 use Rattle.range_merge.proofs.merged.first_of_both.Goals as goal
