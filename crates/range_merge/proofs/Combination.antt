@@ -202,7 +202,9 @@ module _ {K : Type 0} {order : KeyOrder K} (lawful : IsLawful order) {V W X : Ty
       filled_more : IsFilledUpTo order lawful same equal full_range (upper order key)
           (was.answered ++ record { key = key; value = None; answer = answer } ∷ []) new
       filled_more =
-          fill_more order lawful same equal full_range was.upto (upper order key) _ key (grind (arith, unbounded_end, unbounded_start)) starts_after (le_refl lawful _) is_clone clones None answer middle new was.filled put
+          fill_more order lawful same equal full_range was.upto (upper order key) _ key
+          (grind (arith, unbounded_end, unbounded_start)) starts_after (le_refl lawful _) is_clone
+          clones None answer middle new was.filled put
 
       -- the piece is put after what the list holds already
       hold_more : (p : Position K) (U : X → Bool) → Alike order lawful same equal full_range U
@@ -217,7 +219,9 @@ module _ {K : Type 0} {order : KeyOrder K} (lawful : IsLawful order) {V W X : Ty
           → Any (λ c. HoldsAt order p c.key × IsHeldAs p new c.answer) (more answer)
       held_more p done =
           (any_last _ was.answers _).1 (elim ((any_last _ was.answers _).0 done) [
-            | inl before ↦ inl (any_over _ _ was.answers (grind (arith, hold_more, not_done, stays)) (was.held p before))
+            | inl before ↦
+                inl (any_over _ _ was.answers (grind (arith, hold_more, not_done, stays))
+                (was.held p before))
             | inr at ↦ inr (
               at,
               λ U same_as. comes (hold_more p U same_as) (λ old. not_done p at (was.free p

@@ -117,7 +117,7 @@ module _ {K : Type 0} {order : KeyOrder K} (lawful : IsLawful order) {V : Type 0
         record {
           starts = λ some. le_trans lawful _ _ _ was.0 starts;
           inside = grind (arith, any_over, le_trans);
-          from = (grind (arith, any_over, le_trans, left_lower));
+          from = grind (arith, any_over, le_trans, left_lower);
           places = λ p h. elim h [
             | inl at ↦ elim (cases lawful p (upper order key)) [
               | inl less ↦

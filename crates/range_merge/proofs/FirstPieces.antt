@@ -89,7 +89,7 @@ module _ {K : Type 0} {order : KeyOrder K} (lawful : IsLawful order) where
           record {
             placed = grind (arith, eq_ge, flipped_known, lt_le_trans);
             bound = λ e. cc;
-            first = (grind (arith, itself, left_from, reaching_is_before_past));
+            first = grind (arith, itself, left_from, reaching_is_before_past);
             second = (refl, eq_le lawful _ _ at);
             progress = inr (inr (λ e. cc, (_, j, refl, refl, itself _)));
           }

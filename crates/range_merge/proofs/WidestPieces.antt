@@ -126,7 +126,7 @@ module _ {K : Type 0} {order : KeyOrder K} (lawful : IsLawful order) where
           (λ x in_r own.
           let ends = past_le order lawful r.end x.key.end known.1 own.0.known.1 in_r.0.ends in
           let within : (s : Position K) → HoldsAt order s r → HoldsAt order s x.key =
-          λ s at. (grind (arith, le_trans, lt_le_trans)) in
+          λ s at. grind (arith, le_trans, lt_le_trans) in
           rw (← once items items _ p x z was.apart own.1 in_z (within p at_p) held)
           (within q at_q))
 
@@ -207,8 +207,10 @@ module _ {K : Type 0} {order : KeyOrder K} (lawful : IsLawful order) where
         at first_at in
         let within : LiesIn order piece key =
         lies_in order lawful piece key part.known shared.known at.0
-        (not_lt lawful (upper order piece) (upper order key) (grind (arith, lt_le lawful, no_end))) in
-        let wide = is.widest key (rw (← one, ← other) shared) within in (grind (arith, both, equal_then_equal))
+        (not_lt lawful (upper order piece) (upper order key)
+        (grind (arith, lt_le lawful, no_end))) in
+        let wide = is.widest key (rw (← one, ← other) shared) within in
+        grind (arith, both, equal_then_equal)
 
   module _ {V W : Type 0} (items : List (Item (AnyRange K) V))
       (others : List (Item (AnyRange K) W)) where

@@ -1,5 +1,5 @@
 -- No stored set is empty after a nonempty one was put in.
-use Rattle.std.proofs.Common.{◌≡◌, inl, inr, subst, sym, Bool, IsTrue, List, ◌++◌, Result, Ok, Err, OnOk, OnErr}
+use Rattle.std.proofs.Common.{◌≡◌, inl, inr, subst, sym, Bool, IsTrue, List, ◌++◌, Result, Ok, Err, OnOk, OnErr, arith}
 use Rattle.std.specs.List.{AllByRecursion as Every}
 use Rattle.range_keys.specs.Order.{KeyOrder}
 use Rattle.range_keys.specs.Position.{start_position, end_position, position_cmp}
@@ -18,12 +18,7 @@ module _ {K : Type 0} (order : KeyOrder K) {S : Type 0} (same : S → S → Bool
 
   new_full : (run : List (Item (AnyRange K) S)) (r : AnyRange K) (s : S) → ¬ is_void s
       → Every IsFull run → (j : Item (AnyRange K) S) → IsNewItem order same run r s j → IsFull j
-  new_full run r s full all j new void = elim new.value [
-    | inl given ↦ full (void_equal j.value s given void)
-    | inr was ↦
-        any_none (λ i. IsTrue (same j.value i.value)) IsFull run all
-        (λ i has e. has (void_equal j.value i.value e void)) was
-  ]
+  new_full run r s full all j new void = grind (arith, any_none)
 
   -- what gave way to a nonempty set has no empty one
   given_way_full : (items next : List (Item (AnyRange K) S)) (r : AnyRange K) (s : S) → ¬ is_void s
@@ -53,8 +48,4 @@ module _ {K : Type 0} (order : KeyOrder K) {S : Type 0} (same : S → S → Bool
   inserted_full items next r s (Err e) full before way refused empty =
       subst (HasNoEmptySet is_void) (sym refused) before
   inserted_full items next r s (Ok a) full before way refused empty =
-      elim (greater_or_not (position_cmp order.cmp (start_position order r.start)
-      (end_position order r.end))) [
-        | inl none ↦ subst (HasNoEmptySet is_void) (sym (empty none)) before
-        | inr some ↦ given_way_full items next r s full before (way some)
-      ]
+      grind (arith, given_way_full, greater_or_not)

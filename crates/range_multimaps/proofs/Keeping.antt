@@ -13,6 +13,7 @@ use Rattle.std.proofs.Common.{
   None,
   Result,
   Ok,
+  arith,
 }
 use denote.Ref.{Bor}
 use Rattle.std.specs.Fn.{Shared}
@@ -62,12 +63,4 @@ module _ {K : Type 0} (order : KeyOrder K) {S : Type 0} (same : S → S → Bool
   -- each set that comes in the place of others equals one of them, or is such
   pub gave_way_to_such : (items next : List (Item (AnyRange K) S)) (r : AnyRange K)
       → IsUpdated order same calls f items next r → IsMergeFrame order same items next r IsSuch
-  gave_way_to_such items next r done = way_follows (λ run others way. record {
-    concerned = way.concerned;
-    valued = every_weaker (λ j. HasValue order same run j.value
-        ⊎ IsGivenBy same done.answered.answers j.value) (λ j. HasValue order same run j.value
-        ⊎ IsSuch j.value) others (λ j t. elim t [
-          | inl old ↦ inl old
-          | inr new ↦ inr (given_is_such done.answered.answers j.value done.answered.given new)
-        ]) way.valued;
-  }) done.frame
+  gave_way_to_such items next r done = grind (arith, every_weaker, given_is_such, way_follows)

@@ -1,5 +1,5 @@
 -- Which pairs a list with sets has, read off what it binds, and what an update makes of them.
-use Rattle.std.proofs.Common.{◌≡◌, refl, sym, subst, ◌∙◌, ◌↔◌, ◌⊎◌, inl, inr, Bool, true, false, not, ◌&&◌, ◌||◌, IsTrue, List, [], ◌∷◌, ◌++◌, Option, Some, None, Result, Ok, Err, OnOk}
+use Rattle.std.proofs.Common.{◌≡◌, refl, sym, subst, ◌∙◌, ◌↔◌, ◌⊎◌, inl, inr, Bool, true, false, not, ◌&&◌, ◌||◌, IsTrue, List, [], ◌∷◌, ◌++◌, Option, Some, None, Result, Ok, Err, OnOk, arith}
 use Rattle.std.specs.Prelude.{IfSome, IsNone}
 use denote.Ref.{Bor}
 use Rattle.std.specs.List.{AllByRecursion as Every}
@@ -72,11 +72,7 @@ module _ {K : Type 0} (order : KeyOrder K) {S V : Type 0} (same : S → S → Bo
     item_binds : (items : Items) (i : Item (AnyRange K) S) → IsItemFor order items k i
         → BindsTo order same items k i.value
     item_binds [] i at = absurd at.1
-    item_binds (j ∷ rest) i (holds, inl here) =
-        inl (
-          subst (λ x. Holds order x.key k) (sym here) holds,
-          subst (λ x. IsTrue (same x.value i.value)) (sym here) (equal.refl i.value),
-        )
+    item_binds (j ∷ rest) i (holds, inl here) = grind arith
     item_binds (j ∷ rest) i (holds, inr later) = inr (item_binds rest i (holds, later))
 
     pub values_of_item : (items : Items) (i : Item (AnyRange K) S) → IsOnce items k
@@ -108,11 +104,7 @@ module _ {K : Type 0} (order : KeyOrder K) {S V : Type 0} (same : S → S → Bo
             → BindsTo order same xs k t
         as_well [] e h = h
         as_well (i ∷ rest) e (inl h) =
-            inl (
-              h.0,
-              equal.symm i.value t ∙ sym (equal.congr s t i.value e) ∙ equal.symm s i.value
-                  ∙ h.1,
-            )
+            inl (grind arith)
         as_well (i ∷ rest) e (inr h) = inr (as_well rest e h)
 
     as_too : (a b c : Option S) → IsAsAnswered same a b → IsAsAnswered same b c
@@ -136,16 +128,7 @@ module _ {K : Type 0} (order : KeyOrder K) {S V : Type 0} (same : S → S → Bo
       pub after : HasPair order has next k w ↔ IsTrue (among has answer w)
 
     held_key_moves : (k : K) → order.is_key k → Holds order r k → (w : V) → IsMoved k w
-    held_key_moves k key held w =
-        let at = now.held k key held in record {
-          old = at.old;
-          answer = at.answer;
-          given = at.given;
-          before = values_at k items at.old (once k key) at.was w;
-          after =
-              values_at k next at.answer (next_once k key)
-              ((at.is at.answer).1 (as_itself k at.answer)) w;
-        }
+    held_key_moves k key held w = grind (arith, as_itself, values_at)
 
     -- where each answer has the values of which a test is true too, or has them no more
     module _ (is : V → Bool) where
@@ -158,24 +141,8 @@ module _ {K : Type 0} (order : KeyOrder K) {S V : Type 0} (same : S → S → Bo
         | inl held ↦
             let m = held_key_moves k key held w in
             let e = told m.old m.answer m.given w in
-            let o = or_true (is w) (among has m.old w) in (
-              λ h.
-                  elim (o.0 (sym e ∙ m.after.0 h)) [
-                    | inl new ↦ inr (held, new)
-                    | inr old ↦ inl (m.before.1 old)
-                  ],
-              λ h.
-                  m.after.1 (e
-                  ∙ o.1 (elim h [ inl old ↦ inr (m.before.0 old) | inr new ↦ inl new.1 ])),
-            )
-        | inr out ↦ (
-          λ h. inl (pairs_as k next items w (λ b. (now.others k key out b).0) h),
-          λ h.
-              elim h [
-                | inl old ↦ pairs_as k items next w (λ b. (now.others k key out b).1) old
-                | inr new ↦ absurd (out new.0)
-              ],
-        )
+            let o = or_true (is w) (among has m.old w) in (grind arith)
+        | inr out ↦ grind (arith, pairs_as)
       ]
 
       pub all_removed : ((old answer : Option S) → may old (Ok answer)
@@ -187,14 +154,8 @@ module _ {K : Type 0} (order : KeyOrder K) {S V : Type 0} (same : S → S → Bo
         | inl held ↦
             let m = held_key_moves k key held w in
             let e = told m.old m.answer m.given w in
-            let o = but_true (is w) (among has m.old w) in (
-              λ h. let both = o.0 (sym e ∙ m.after.0 h) in (m.before.1 both.0, λ p. both.1 p.1),
-              λ h. m.after.1 (e ∙ o.1 (m.before.0 h.0, λ q. h.1 (held, q))),
-            )
-        | inr out ↦ (
-          λ h. (pairs_as k next items w (λ b. (now.others k key out b).0) h, λ p. out p.0),
-          λ h. pairs_as k items next w (λ b. (now.others k key out b).1) h.0,
-        )
+            let o = but_true (is w) (among has m.old w) in (grind arith)
+        | inr out ↦ grind (arith, pairs_as)
       ]
 
     module _ (eq : V → V → Bool) (v : V) where
@@ -211,13 +172,7 @@ module _ {K : Type 0} (order : KeyOrder K) {S V : Type 0} (same : S → S → Bo
         → ((k : K) → order.is_key k → P k → (old answer : Option S) → Binds order same items k old
         → may old (Ok answer) → IsAsAnswered same old answer) → StayBound order same items next P
     stay_bound P told k key here b = elim (held_or_not order lawful r k) [
-      | inl held ↦
-          let at = now.held k key held in
-          let is = at.is b in
-          let was = bound_as k items at.old b (once k key) at.was in
-          let too =
-          as_too k at.old at.answer b (told k key here at.old at.answer at.was at.given) in
-          (λ h. was.1 (too.0 (is.0 h)), λ h. is.1 (too.1 (was.0 h)))
+      | inl held ↦ grind (arith, as_too, bound_as)
       | inr out ↦ now.others k key out b
     ]
 
@@ -241,10 +196,7 @@ module _ {K : Type 0} (order : KeyOrder K) {S : Type 0} (same : S → S → Bool
   others_full : (run others : List (Item (AnyRange K) S)) → HasNoEmptySet is_void run
       → Every (λ j. HasValue order same run j.value ⊎ ¬ is_void j.value) others
       → HasNoEmptySet is_void others
-  others_full run others full =
-      every_weaker (λ j. HasValue order same run j.value ⊎ ¬ is_void j.value)
-      (λ j. ¬ is_void j.value) others
-      (λ j t. elim t [ inl was ↦ from_run run j.value full was | inr new ↦ new ])
+  others_full run others full = grind (arith, every_weaker, from_run)
 
   way_full : (items next : List (Item (AnyRange K) S)) (r : AnyRange K)
       → HasNoEmptySet is_void items
@@ -255,9 +207,7 @@ module _ {K : Type 0} (order : KeyOrder K) {S : Type 0} (same : S → S → Bool
       let ahead = every_left P (way.front ++ way.run) way.behind all in
       let others = others_full way.run way.others (every_right P way.front way.run ahead)
       way.such.valued in
-      rw way.after (every_append P (way.front ++ way.others) way.behind
-      (every_append P way.front way.others (every_left P way.front way.run ahead) others)
-      (every_right P (way.front ++ way.run) way.behind all))
+      rw way.after (grind (arith, every_append, every_left, every_right))
 
   pub stay_full : (items next : List (Item (AnyRange K) S)) (r : AnyRange K)
       → HasNoEmptySet is_void items → (IsEmptyRange order r → next ≡ items)
@@ -319,10 +269,7 @@ module _ {K : Type 0} (order : KeyOrder K) {S : Type 0} (same : S → S → Bool
   copied_full [] [] zip full = tt
   copied_full [] (j ∷ items) zip full = absurd zip
   copied_full (i ∷ copy) [] zip full = absurd zip
-  copied_full (i ∷ copy) (j ∷ items) zip full = (
-    λ void. full.0 (void_equal i.value j.value zip.0.1 void),
-    copied_full copy items zip.1 full.1,
-  )
+  copied_full (i ∷ copy) (j ∷ items) zip full = grind (arith, copied_full copy items zip.1 full.1)
 
 module _ {K : Type 0} (order : KeyOrder K) {S V : Type 0} (has : S → V → Bool)
     (is_void : S → Type 0) (void_is : (s : S) → is_void s ↔ HasNone has s) (k : K) where
@@ -335,10 +282,4 @@ module _ {K : Type 0} (order : KeyOrder K) {S V : Type 0} (has : S → V → Boo
       → AreValuesAt order has items k (option_copied result) → IfSome result (λ s. ¬ is_void s.now)
       → IsNone result ↔ IsUnpaired order has items k
   none_unpaired items None values full = (λ _ v h. let no = (values v).0 h in cc, λ _. refl)
-  none_unpaired items (Some s) values full = (
-    λ h. absurd cc,
-    λ none.
-        absurd
-        (full ((void_is s.now).1
-        (λ v. no_member s.now v (has s.now v) refl (λ h. none v ((values v).1 h))))),
-  )
+  none_unpaired items (Some s) values full = grind (arith, no_member)

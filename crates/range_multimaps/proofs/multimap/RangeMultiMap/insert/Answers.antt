@@ -1,4 +1,4 @@
-use Rattle.std.proofs.Common.{rules, refl, subst, IsTrue}
+use Rattle.std.proofs.Common.{rules, refl, subst, IsTrue, arith}
 use Rattle.range_change.specs.Answers.{IsAsAnswered}
 use Rattle.range_multimaps.specs.Members.{HasAlso, among}
 use Rattle.range_multimaps.specs.Pairs.{HasPair}
@@ -32,11 +32,7 @@ returns g c =
           rw (← c.self.view_is) (stay_bound order same equal has respects _ items next
           (g.R.AsRange.range c.args.range) now g.met.K.PartialEnum.lawful once next_once
           (λ k. HasPair order has items k c.args.value)
-          (λ k key here old answer was m.
-          subst (λ o. IsTrue (among has o c.args.value) → IsAsAnswered same o answer) m.shows
-          m.says.1.1.1
-          ((values_at order same equal has respects k items old (once k key) was c.args.value).0
-          here)));
+          (grind (arith, values_at)));
       others =
           rw (← c.self.view_is) now.others;
       frame =
@@ -52,7 +48,8 @@ returns g c =
           (not_refused c.update.result c.update.ensures.spelled c.in_default.not-Err);
       nonempty =
           let done = c.update.ensures in
-          stays_full g.K.MaybeBounded.order g.S.PartialEq.eq g.met.S.Eq.laws g.S.MaybeEmpty.is_void
+          stays_full g.K.MaybeBounded.order g.S.PartialEq.eq g.met.S.Eq.laws
+          g.S.MaybeEmpty.is_void
           g.met.S.MaybeEmpty.void_equal _ _
           (g.C.Storage.items c.self.inside.map) (g.C.Storage.items c.update.new.self)
           (g.R.AsRange.range c.args.range)
@@ -94,33 +91,7 @@ update-requires-clause-bound g c =
     every_one _ (g.C.Storage.items c.self.inside.map) (λ i shown shows. c.requires.values)
 
 pub returns-in-Err : goal.returns-in-Err
-returns-in-Err g c =
-    record {
-      added =
-          tt;
-      kept =
-          rw (← c.self.view_is, c.in-Err.ensures.refused) (λ k key here b. (λ h. h, λ h. h));
-      others =
-          rw (← c.self.view_is, c.in-Err.ensures.refused) (λ k key out b. (λ h. h, λ h. h));
-      frame =
-          tt;
-      spelled =
-          tt;
-      form =
-          c.update.ensures.form;
-      nonempty =
-          rw c.in-Err.ensures.refused c.self.invariant;
-      coarse =
-          c.update.ensures.coarse;
-      only =
-          c.update.ensures.only;
-      refused =
-          rw (← c.self.view_is) c.in-Err.ensures.refused;
-      empty =
-          c.in-Err.ensures.empty;
-      empty_unchanged =
-          rw (← c.self.view_is) c.update.ensures.empty_unchanged;
-    }
+returns-in-Err g c = grind (arith, added)
 
 pub invariant_of-self : goal.invariant_of-self
 invariant_of-self g c = rw c.in-Err.ensures.refused c.self.invariant

@@ -1,4 +1,4 @@
-use Rattle.std.proofs.Common.{rules, refl, subst, IsTrue}
+use Rattle.std.proofs.Common.{rules, refl, subst, IsTrue, arith}
 use Rattle.std.specs.Prelude.{IfSome}
 use Rattle.range_change.specs.Answers.{IsAsAnswered}
 use Rattle.range_multimaps.specs.Members.{HasAllBut, among}
@@ -27,9 +27,7 @@ returns g c =
           rw (← c.self.view_is) (removed order same equal has respects _ items next
           (g.R.AsRange.range c.args.range) now g.met.K.PartialEnum.lawful once next_once
           g.V.PartialEq.eq c.args.value.now
-          (λ old answer m.
-          subst (λ o. HasAllBut has g.V.PartialEq.eq o answer c.args.value.now) m.shows
-          m.says.1.0));
+          (grind arith));
       kept =
           rw (← c.self.view_is) (stay_bound order same equal has respects _ items next
           (g.R.AsRange.range c.args.range) now g.met.K.PartialEnum.lawful once next_once
@@ -42,7 +40,8 @@ returns g c =
           c.self.invariant old was)
           (λ h.
           here
-          ((values_at order same equal has respects k items old (once k key) was c.args.value.now).1
+          ((values_at order same equal has respects k items old (once k key) was
+          c.args.value.now).1
           h))));
       others =
           rw (← c.self.view_is) now.others;
@@ -51,7 +50,8 @@ returns g c =
           let done = not_refused c.update.result c.update.ensures.updated c.in_default.not-Err in
           rw (← c.self.view_is) (λ nonempty. gave_way_to_such g.K.MaybeBounded.order same _ _
           (λ s. ¬ IsTrue (has s value))
-          (λ old answer m s. removed_is_not_had same has g.met.S.SetMut.equal_same g.V.PartialEq.eq
+          (λ old answer m s. removed_is_not_had same has g.met.S.SetMut.equal_same
+          g.V.PartialEq.eq
           g.met.V.Eq.laws value _ answer s m.says.1.0)
           items next (g.R.AsRange.range c.args.range) (done nonempty));
       spelled =
@@ -59,7 +59,8 @@ returns g c =
           (not_refused c.update.result c.update.ensures.spelled c.in_default.not-Err);
       nonempty =
           let done = c.update.ensures in
-          stays_full g.K.MaybeBounded.order g.S.PartialEq.eq g.met.S.Eq.laws g.S.MaybeEmpty.is_void
+          stays_full g.K.MaybeBounded.order g.S.PartialEq.eq g.met.S.Eq.laws
+          g.S.MaybeEmpty.is_void
           g.met.S.MaybeEmpty.void_equal _ _
           (g.C.Storage.items c.self.inside.map) (g.C.Storage.items c.update.new.self)
           (g.R.AsRange.range c.args.range)
@@ -101,33 +102,7 @@ update-requires-clause-bound g c =
     every_one _ (g.C.Storage.items c.self.inside.map) (λ i shown shows. c.requires.values)
 
 pub returns-in-Err : goal.returns-in-Err
-returns-in-Err g c =
-    record {
-      removed =
-          tt;
-      kept =
-          rw (← c.self.view_is, c.in-Err.ensures.refused) (λ k key here b. (λ h. h, λ h. h));
-      others =
-          rw (← c.self.view_is, c.in-Err.ensures.refused) (λ k key out b. (λ h. h, λ h. h));
-      frame =
-          tt;
-      spelled =
-          tt;
-      form =
-          c.update.ensures.form;
-      nonempty =
-          rw c.in-Err.ensures.refused c.self.invariant;
-      coarse =
-          c.update.ensures.coarse;
-      only =
-          c.update.ensures.only;
-      refused =
-          rw (← c.self.view_is) c.in-Err.ensures.refused;
-      empty =
-          c.in-Err.ensures.empty;
-      empty_unchanged =
-          rw (← c.self.view_is) c.update.ensures.empty_unchanged;
-    }
+returns-in-Err g c = grind (arith, removed)
 
 pub invariant_of-self : goal.invariant_of-self
 invariant_of-self g c = rw c.in-Err.ensures.refused c.self.invariant
