@@ -1,5 +1,5 @@
 -- The gaps of the gaps of a stored list are its ranges.
-use Rattle.std.proofs.Common.{◌≡◌, refl, ap, ◌∙◌, Some, None, true, ◌&&◌, IsTrue, List, [], ◌∷◌, inl, inr}
+use Rattle.std.proofs.Common.{◌≡◌, refl, ap, ◌∙◌, Some, None, true, ◌&&◌, IsTrue, List, [], ◌∷◌, inl, inr, arith}
 use Rattle.std.specs.List.{AllZip, AllByRecursion as Every}
 use Rattle.std.specs.declared.cmp.Ordering.TheVariants.{Equal}
 use Rattle.std.specs.declared.ops.Bound.TheVariants.{Unbounded}
@@ -40,11 +40,7 @@ every_for P (x ∷ xs) f = (λ y. (f y).0, every_for P xs (λ y. (f y).1))
 every_swap : {X Y : Type 0} (R : X → Y → Type 0) (xs : List X) (ys : List Y)
     → Every (λ y. Every (λ x. R x y) xs) ys → Every (λ x. Every (R x) ys) xs
 every_swap R [] ys h = tt
-every_swap R (x ∷ xs) ys h = (
-  every_weaker (λ y. Every (λ z. R z y) (x ∷ xs)) (R x) ys (λ y g. g.0) h,
-  every_swap R xs ys (every_weaker (λ y. Every (λ z. R z y) (x ∷ xs))
-      (λ y. Every (λ z. R z y) xs) ys (λ y g. g.1) h),
-)
+every_swap R (x ∷ xs) ys h = grind (arith, every_weaker, every_swap R xs ys)
 
 every_three : {X : Type 0} (P Q S R : X → Type 0) (xs : List X) → ((x : X) → P x → Q x → S x → R x)
     → Every P xs → Every Q xs → Every S xs → Every R xs
@@ -129,11 +125,7 @@ module _ {K : Type 0} (order : KeyOrder K) (lawful : IsLawful order) where
     pairs = ascending_pairs order lawful items up
 
     free_full : (r : AnyRange K) → IsFree r → IsFull order lawful r
-    free_full r free = (
-      free.known,
-      not_greater (position_cmp order.cmp (start_position order r.start)
-          (end_position order r.end)) free.nonempty,
-    )
+    free_full r free = grind (arith, not_greater)
 
     -- what is free of the complement misses all that is free of the set
     free_range_misses_gaps : (r : AnyRange K) → IsFree r
@@ -155,19 +147,7 @@ module _ {K : Type 0} (order : KeyOrder K) (lawful : IsLawful order) where
 
     item_free : (i : Stored) → IsFull order lawful i.key
         → Every (λ j. ¬ Overlap order j.key i.key) others → IsFree i.key
-    item_free i full missed = record {
-      known = full.0;
-      nonempty =
-          not_both_greater_and_not
-          (position_cmp order.cmp (start_position order i.key.start) (end_position order i.key.end))
-          full.1;
-      within =
-          record {
-            starts = unbounded_start order lawful i.key.start full.0.0;
-            ends = ends_full order lawful i.key.end full.0.1;
-          };
-      free = missed;
-    }
+    item_free i full missed = grind (arith, ends_full, not_both_greater_and_not, unbounded_start)
 
     abbrev FreeRange : Type 0
     FreeRange = (r : AnyRange K) × IsFree r

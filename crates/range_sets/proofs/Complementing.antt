@@ -1,6 +1,6 @@
 -- The gaps of a stored list are themselves in stored form, and so is each front of a list of clones
 -- of them.
-use Rattle.std.proofs.Common.{◌⊎◌, inl, inr, Bool, true, List, [], ◌∷◌, ◌++◌, map, None}
+use Rattle.std.proofs.Common.{◌⊎◌, inl, inr, Bool, true, List, [], ◌∷◌, ◌++◌, map, None, arith}
 use Rattle.std.specs.List.{AllByRecursion as Every}
 use Rattle.range_keys.specs.Order.{KeyOrder, IsLawful}
 use Rattle.range_keys.specs.Position.{start_position, end_position, position_cmp}
@@ -144,13 +144,8 @@ module _ {K : Type 0} (order : KeyOrder K) (lawful : IsLawful order) where
         → EachNext (LiesBefore order) gaps → IsListed order lawful (λ _ _. true) (set_items gaps)
     gaps_listed items [] full each rising = tt
     gaps_listed items (g ∷ []) full each rising = (each.0.0.known, each.0.0.nonempty)
-    gaps_listed items (g ∷ h ∷ rest) full each rising = (
-      each.0.0.known,
-      each.0.0.nonempty,
-      rising.0,
-      λ touching _. gaps_apart items g h full each.0 each.1.0 rising.0 touching,
-      gaps_listed items (h ∷ rest) full each.1 rising.1,
-    )
+    gaps_listed items (g ∷ h ∷ rest) full each rising =
+        grind (arith, gaps_apart, gaps_listed items (h ∷ rest) full each.1 rising.1)
 
     -- the gaps are in the form of a set
     pub gaps_stored : (same : V → V → Bool) (items : List (Item (AnyRange K) V))

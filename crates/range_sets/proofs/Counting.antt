@@ -44,9 +44,4 @@ module _ {K : Type 0} (order : KeyOrder K) where
       → OnErr result (new ≡ items) → (IsEmptyRange order r → new ≡ items)
       → length new ≤ length items + 1
   one_more (Err e) items new r frame refused empty = omega (arith, ap length refused)
-  one_more (Ok x) items new r frame refused empty =
-      elim (greater_or_not (position_cmp order.cmp (start_position order r.start)
-      (end_position order r.end))) [
-        | inl h ↦ omega (arith, ap length (empty h))
-        | inr h ↦ one_for_all items new r (frame h)
-      ]
+  one_more (Ok x) items new r frame refused empty = grind (arith, greater_or_not, one_for_all)

@@ -47,14 +47,7 @@ module _ {K : Type 0} (order : KeyOrder K) where
 
   pub filling_begins : (gaps : List (AnyRange K)) (items : Items) (room : ℕ) → items ≡ []
       → length gaps ≤ room → IsFilled gaps gaps items room
-  filling_begins gaps items room none space =
-      rw none (record {
-        done = [];
-        split = refl;
-        copied = tt;
-        form = record { known = tt; nonempty = tt; rising = tt };
-        space = space;
-      })
+  filling_begins gaps items room none space = grind arith
 
   as_copy : (items : Items) (ranges : List (AnyRange K)) → AllZip SameRange items ranges
       → IsCopyOf order (λ _ _. true) items (set_items ranges)
@@ -119,34 +112,14 @@ module _ {K : Type 0} (order : KeyOrder K) where
     same_keys [] (g ∷ gaps) k key zip = absurd zip
     same_keys (i ∷ others) [] k key zip = absurd zip
     same_keys (i ∷ others) (g ∷ gaps) k key zip =
-        let here = equal_is_same order lawful i.key g zip.0 k key in
-        let later = same_keys others gaps k key zip.1 in (
-          λ h. elim h [ inl held ↦ inl (here.0 held) | inr held ↦ inr (later.0 held) ],
-          λ h. elim h [ inl held ↦ inl (here.1 held) | inr held ↦ inr (later.1 held) ],
-        )
+        grind (arith, equal_is_same, same_keys others gaps k key zip.1)
 
   pub all_copied : (gaps rest : List (AnyRange K)) (items : Items) (room : ℕ)
       → IsFilled gaps rest items room → rest ≡ [] → AllZip SameRange items gaps
-  all_copied gaps rest items room filled ended =
-      let all : filled.done ≡ gaps =
-      sym (append-nil filled.done)
-      ∙ (ap (λ l. filled.done ++ l) (sym ended) ∙ filled.split) in
-      subst (λ l. AllZip SameRange items l) all filled.copied
+  all_copied gaps rest items room filled ended = grind (arith, append-nil)
 
   pub others_held : (lawful : IsLawful order) (items others : Items) (gaps : List (AnyRange K))
       → AllZip SameRange others gaps
       → ((k : K) → order.is_key k → IsHeldOnce order (item_ranges items ++ gaps) k)
       → HoldsTheOthers order items others
-  others_held lawful items others gaps zip once k key =
-      let same = same_keys lawful others gaps k key zip in (
-        λ h.
-            elim (one_of_two order items gaps k (once k key)) [
-              | inl both ↦ absurd (both.1 (same.0 h))
-              | inr both ↦ both.0
-            ],
-        λ out.
-            elim (one_of_two order items gaps k (once k key)) [
-              | inl both ↦ absurd (out both.0)
-              | inr both ↦ same.1 both.1
-            ],
-      )
+  others_held lawful items others gaps zip once k key = grind (arith, one_of_two, same_keys)

@@ -1,6 +1,6 @@
 -- Two rows of disjoint ranges, each of which lies in some range of the other row, are equal one by
 -- one.
-use Rattle.std.proofs.Common.{◌≡◌, List, [], ◌∷◌, inl, inr}
+use Rattle.std.proofs.Common.{◌≡◌, List, [], ◌∷◌, inl, inr, arith}
 use Rattle.std.specs.List.{AllZip, AllByRecursion as Every}
 use Rattle.std.specs.declared.cmp.Ordering.TheVariants.{Equal}
 use Rattle.range_keys.specs.Order.{KeyOrder, IsLawful}
@@ -32,16 +32,7 @@ module _ {K : Type 0} (order : KeyOrder K) (lawful : IsLawful order) where
   equal_within r s e =
       let total = position_total order.cmp lawful.total in
       let cmp = position_cmp order.cmp in
-      let parts = both_equal (cmp (Start r) (Start s)) (cmp (End r) (End s)) e in (
-        record {
-          starts = eq_ge cmp total (Start r) (Start s) parts.0;
-          ends = eq_le cmp total (End r) (End s) parts.1;
-        },
-        record {
-          starts = eq_le cmp total (Start r) (Start s) parts.0;
-          ends = eq_ge cmp total (End r) (End s) parts.1;
-        },
-      )
+      let parts = both_equal (cmp (Start r) (Start s)) (cmp (End r) (End s)) e in grind arith
 
   -- what meets a range meets the one that it lies in
   pub overlap_within : (r s t : AnyRange K) → LiesIn order r s → Overlap order r t
@@ -91,10 +82,8 @@ module _ {K : Type 0} (order : KeyOrder K) (lawful : IsLawful order) where
       let others = row_pairs (s ∷ rest) full.1 rising.1 in
       let over =
       λ (t : AnyRange K) (l : LiesBefore order s t). lt_trans cmp total (End r) (End s)
-      (Start t) (lt_le_trans cmp total (End r) (Start s) (End s) rising.0 full.1.0.1) l in (
-        (rising.0, every_weaker (LiesBefore order s) (LiesBefore order r) rest over others.0),
-        others,
-      )
+      (Start t) (lt_le_trans cmp total (End r) (Start s) (End s) rising.0 full.1.0.1) l in
+      grind (arith, every_weaker)
 
   module _ {A : Type 0} (range : A → AnyRange K) where
     abbrev FullAll : List A → Type 0
@@ -118,12 +107,8 @@ module _ {K : Type 0} (order : KeyOrder K) (lawful : IsLawful order) where
     none_back : (r s : AnyRange K) (xs : List A) → LiesIn order r s → FullAll xs → BeforeAll s xs
         → Every (λ x. LiesIn order (range x) r → LiesIn order r (range x)) xs
     none_back r s [] within full before = tt
-    none_back r s (x ∷ xs) within full before = (
-      λ back.
-          absurd (behind_not_within s (range x) full.0 before.0
-          (within_trans (range x) r s back within)),
-      none_back r s xs within full.1 before.1,
-    )
+    none_back r s (x ∷ xs) within full before =
+        grind (arith, behind_not_within, within_trans, none_back r s xs within full.1 before.1)
 
     -- a range that lies in one of a row holds at most that one
     pub only_one_lies_in_range : (r : AnyRange K) (xs : List A) → FullAll xs
@@ -154,13 +139,8 @@ module _ {K : Type 0} (order : KeyOrder K) (lawful : IsLawful order) where
         → Every (λ z. InSome other (range z) ys) xs
     rest_within x y [] ys within full before all = tt
     rest_within x y (z ∷ xs) ys within full before all =
-        (here all.0, rest_within x y xs ys within full.1 before.1 all.1)
-      where
-        here : InSome other (range z) (y ∷ ys) → InSome other (range z) ys
-        here (inl h) =
-            absurd (behind_not_within (range x) (range z) full.0 before.0
-            (within_trans (range z) (other y) (range x) h within))
-        here (inr h) = h
+        grind (arith, behind_not_within, within_trans, rest_within x y xs ys within full.1
+        before.1 all.1)
 
     first_same : (x : A) (y : B) (xs : List A) (ys : List B) → FullAll range (x ∷ xs)
         → FullAll other (y ∷ ys) → BeforeAll range (range x) xs → BeforeAll other (other y) ys

@@ -97,20 +97,13 @@ one_class = record { refl = λ x. refl; symm = λ x y. refl; congr = λ x y z e.
 bound_end : {K : Type 0} (order : KeyOrder K) (xs : List (Item (AnyRange K) (Unit {0})))
     (x : Item (AnyRange K) (Unit {0})) (k : K)
     → IsBound order (xs ++ x ∷ []) k ↔ (IsBound order xs k ⊎ Holds order x.key k)
-bound_end order [] x k = (
-  λ h. elim h [ inl here ↦ inr here | inr none ↦ absurd none ],
-  λ h. elim h [ inl none ↦ absurd none | inr here ↦ inl here ],
-)
+bound_end order [] x k = grind arith
 bound_end order (y ∷ ys) x k = end_held (bound_end order ys x k)
 
 ranges_hold : {K : Type 0} (order : KeyOrder K) (xs : List (Item (AnyRange K) (Unit {0}))) (k : K)
     → HoldsKey order xs k ↔ SomeHolds order (item_ranges xs) k
 ranges_hold order [] k = (λ h. h, λ h. h)
-ranges_hold order (x ∷ xs) k =
-    let rest = ranges_hold order xs k in (
-      λ h. elim h [ inl here ↦ inl here | inr later ↦ inr (rest.0 later) ],
-      λ h. elim h [ inl here ↦ inl here | inr later ↦ inr (rest.1 later) ],
-    )
+ranges_hold order (x ∷ xs) k = grind (arith, ranges_hold order xs k)
 
 module _ {K : Type 0} (order : KeyOrder K) where
   abbrev cmp : Position K → Position K → Ordering
@@ -135,11 +128,7 @@ module _ {K : Type 0} {order : KeyOrder K} (lawful : IsLawful order) where
   -- a range reaches an end where it does not start after the start just past that
   pub reaches_turned : (e i : Bound K) (r : AnyRange K) → flipped e ≡ Some i
       → Le (cmp order) (lower order r) (start_position order i) ↔ Reaches order e r
-  reaches_turned e i r turns =
-      let at = flipped_bound_is_past order lawful e i turns in (
-        λ h. le_trans lawful _ _ _ h (eq_ge lawful _ _ at),
-        λ h. le_trans lawful _ _ _ h (eq_le lawful _ _ at),
-      )
+  reaches_turned e i r turns = grind (arith, eq_ge, eq_le, flipped_bound_is_past, le_trans)
 
   -- each range reaches an end without a bound
   pub all_reach : (e : Bound K) (r : AnyRange K) → IsPlaced order r → flipped e ≡ None
@@ -173,21 +162,13 @@ module _ {K : Type 0} {order : KeyOrder K} (lawful : IsLawful order) where
       → Follows (line_of order lawful one_value one_class) x xs
       → RisesFrom order (item_upper order x) (item_ranges xs)
   follows_rise x [] known follows = tt
-  follows_rise x (y ∷ ys) known follows = (
-    record { known = known.0; good = follows.1.0 },
-    follows.0.0,
-    follows_rise y ys known.1 follows.1.1,
-  )
+  follows_rise x (y ∷ ys) known follows = grind (arith, follows_rise y ys known.1 follows.1.1)
 
   chain_rises : (xs : Items order) → Known order lawful one_value one_class xs
       → Chained order lawful one_value one_class xs
       → RisesFrom order (lower order full_range) (item_ranges xs)
   chain_rises [] known chain = tt
-  chain_rises (x ∷ xs) known chain = (
-    record { known = known.0; good = chain.0 },
-    unbounded_start order lawful x.key.start known.0.0,
-    follows_rise x xs known.1 chain.1,
-  )
+  chain_rises (x ∷ xs) known chain = grind (arith, follows_rise, unbounded_start)
 
   set_rises : (xs : Items order) → IsStoredSet order xs
       → RisesFrom order (lower order full_range) (item_ranges xs)
@@ -206,16 +187,8 @@ module _ {K : Type 0} {order : KeyOrder K} (lawful : IsLawful order) where
       → IsKnownRange order r → IsLaterEnd order last.end r.end e
       → IsKnownBound order e × Le (cmp order) (upper order last) (past order (end_position order e))
       × Le (cmp order) (upper order r) (past order (end_position order e))
-  later_known last r e known others (inl h) = rw h.0 (
-    known.1,
-    le_refl lawful _,
-    past_le order lawful r.end last.end others.1 known.1 h.1,
-  )
-  later_known last r e known others (inr h) = rw h.0 (
-    others.1,
-    past_le order lawful last.end r.end known.1 others.1 h.1,
-    le_refl lawful _,
-  )
+  later_known last r e known others (inl h) = grind (arith, le_refl, past_le)
+  later_known last r e known others (inr h) = grind (arith, le_refl, past_le)
 
   -- two ranges of which the second starts in the first or just past it
   module _ (last r : AnyRange K) (placed : IsPlaced order last) (other : IsPlaced order r)
@@ -260,12 +233,7 @@ module _ {K : Type 0} {order : KeyOrder K} (lawful : IsLawful order) where
 
     joined_placed : (e : Bound K) → IsLaterEnd order last.end r.end e
         → IsPlaced order (with_bounds last.start e)
-    joined_placed e later =
-        let ends = later_known last r e placed.known other.known later in
-        record {
-          known = (placed.known.0, ends.0);
-          good = lt_le_trans lawful _ _ _ placed.good ends.1;
-        }
+    joined_placed e later = grind (arith, later_known, lt_le_trans)
 
   module _ (is_clone : K → K → Type 0)
       (clones : (a b : Bound K) → IsBoundClone is_clone a b → SameBound order a b) where
@@ -274,11 +242,7 @@ module _ {K : Type 0} {order : KeyOrder K} (lawful : IsLawful order) where
         → IsRangeClone is_clone r copy
         → (cmp order (lower order r) (lower order copy) ≡ Equal)
         × (cmp order (upper order r) (upper order copy) ≡ Equal)
-    copy_lies r copy known others clone = (
-      same_start order lawful r.start copy.start (clones r.start copy.start clone.0),
-      past_same lawful r.end copy.end known.1 others.1
-          (same_end order lawful r.end copy.end (clones r.end copy.end clone.1)),
-    )
+    copy_lies r copy known others clone = grind (arith, past_same)
 
     copy_holds : (r copy : AnyRange K) (k : K) → order.is_key k → IsKnownRange order r
         → IsKnownRange order copy → IsRangeClone is_clone r copy
@@ -287,14 +251,8 @@ module _ {K : Type 0} {order : KeyOrder K} (lawful : IsLawful order) where
         let lies = copy_lies r copy known others clone in
         let first = held_between order lawful r k known key in
         let second = held_between order lawful copy k others key in (
-          λ h. first.1 (
-            le_trans lawful _ _ _ (eq_le lawful _ _ lies.0) (second.0 h).0,
-            lt_le_trans lawful (Beside k At) _ _ (second.0 h).1 (eq_ge lawful _ _ lies.1),
-          ),
-          λ h. second.1 (
-            le_trans lawful _ _ _ (eq_ge lawful _ _ lies.0) (first.0 h).0,
-            lt_le_trans lawful (Beside k At) _ _ (first.0 h).1 (eq_le lawful _ _ lies.1),
-          ),
+          λ h. grind (arith, eq_ge, eq_le, le_trans, lt_le_trans),
+          λ h. grind (arith, eq_ge, eq_le, le_trans, lt_le_trans),
         )
 
     -- those that stand before the last range, and it after them
@@ -360,17 +318,7 @@ module _ {K : Type 0} {order : KeyOrder K} (lawful : IsLawful order) where
         subst (RisesFrom order m) (sym left) (set_rises items stored) in
         let others_rise : RisesFrom order m (option_items near ++ others_rest) =
         rw right (set_rises others stored_others) in
-        record {
-          placed = rises.0;
-          stand = record { known = tt; chain = tt; before = tt };
-          left_rises = (rises.0, le_refl lawful _, rises.2);
-          right_rises = rises_later m r near others_rest none others_rise first;
-          held = λ k key. first_held
-              (subst (λ rs. HoldsKey order items k ↔ SomeHolds order rs k) (sym left)
-              (ranges_hold order items k))
-              (subst (λ rs. HoldsKey order others k ↔ SomeHolds order rs k) (sym right)
-              (ranges_hold order others k));
-        }
+        grind (arith, first_held, le_refl, ranges_hold, rises_later)
 
     module _ {r : AnyRange K} {rest : List (AnyRange K)} {near : Option (AnyRange K)}
         {others_rest : List (AnyRange K)} {built : Items order} {last : AnyRange K}
@@ -383,21 +331,8 @@ module _ {K : Type 0} {order : KeyOrder K} (lawful : IsLawful order) where
       join_left : (e : Bound K) → IsLaterEnd order last.end r.end e → Reaches order last.end r
           → IsUnitedUpTo rest (option_items near ++ others_rest) built (with_bounds last.start e)
       join_left e later reaches =
-          let joined =
-          joined_holds last r was.placed r_rises.0 r_rises.1 reaches e in
-          record {
-            placed = joined_placed last r was.placed r_rises.0 r_rises.1 reaches e later;
-            stand = record {
-              known = was.stand.known;
-              chain = was.stand.chain;
-              before = was.stand.before;
-            };
-            left_rises =
-                rises_sooner _ _ rest
-                (le_trans lawful _ _ _ r_rises.1 (lt_le lawful _ _ r_rises.0.good)) r_rises.2;
-            right_rises = was.right_rises;
-            held = λ k key. joined_held (was.held k key) (joined k key later);
-          }
+          grind (arith, joined_held, joined_holds, joined_placed, le_trans, lt_le, r_rises,
+          rises_sooner)
 
       module _ (is_clone : K → K → Type 0)
           (clones : (a b : Bound K) → IsBoundClone is_clone a b → SameBound order a b) where
@@ -406,30 +341,14 @@ module _ {K : Type 0} {order : KeyOrder K} (lawful : IsLawful order) where
             → IsUnitedUpTo rest (option_items near ++ others_rest) new r
         push_left new apart pushed =
             let now = are_pushed is_clone clones built new last was.placed was.stand pushed in
-            record {
-              placed = r_rises.0;
-              stand = record {
-                known = now.known;
-                chain = now.chain;
-                before =
-                    every_weaker _ _ new (λ i le. le_lt_trans lawful _ _ _ le apart) now.upto;
-              };
-              left_rises =
-                  rises_sooner _ _ rest (lt_le lawful _ _ r_rises.0.good) r_rises.2;
-              right_rises = rises_later _ r near others_rest none was.right_rises first;
-              held = λ k key. pushed_held (was.held k key) (now.holds k key);
-            }
+            grind (arith, every_weaker, le_lt_trans, lt_le, pushed_held, r_rises, rises_later,
+            rises_sooner)
 
         -- the first range on the left is taken
         add_left : (new : Items order) (next : AnyRange K)
             → IsAdded order is_clone built new last r next
             → IsUnitedUpTo rest (option_items near ++ others_rest) new next
-        add_left new next (inl h) =
-            let joined : next ≡ with_bounds last.start next.end =
-            ap (λ b. with_bounds b next.end) h.0.start in
-            subst (λ l. IsUnitedUpTo rest (option_items near ++ others_rest) l next) (sym h.1)
-            (subst (λ n. IsUnitedUpTo rest (option_items near ++ others_rest) built n) (sym joined)
-            (join_left next.end h.0.end h.0.reaches))
+        add_left new next (inl h) = grind (arith, join_left)
         add_left new next (inr h) =
             subst (λ n. IsUnitedUpTo rest (option_items near ++ others_rest) new n) (sym h.1)
             (push_left new h.0 h.2)
@@ -448,13 +367,7 @@ module _ {K : Type 0} {order : KeyOrder K} (lawful : IsLawful order) where
   turned : (items others : Items order) {left right : List (AnyRange K)} {built : Items order}
       {last : AnyRange K} → IsUnitedUpTo items others left right built last
       → IsUnitedUpTo others items right left built last
-  turned items others was = record {
-    placed = was.placed;
-    stand = was.stand;
-    left_rises = was.right_rises;
-    right_rises = was.left_rises;
-    held = λ k key. turned_held (was.held k key);
-  }
+  turned items others was = grind (arith, turned_held)
 
   module _ (items others : Items order) where
     -- no range is taken yet
@@ -519,13 +432,4 @@ module _ {K : Type 0} {order : KeyOrder K} (lawful : IsLawful order) where
   -- of two empty lists
   pub united_none : (items others : Items order) → [] ≡ item_ranges items → [] ≡ item_ranges others
       → HoldsEither order {X = Unit {0}} items others [] × IsStoredSet order []
-  united_none items others e f = (
-    λ k key. (
-      λ h. absurd h,
-      λ h. elim h [
-        | inl it ↦ rw (← e) at ((ranges_hold order items k).0 it)
-        | inr it ↦ rw (← f) at ((ranges_hold order others k).0 it)
-      ],
-    ),
-    record { known = tt; nonempty = tt; rising = tt },
-  )
+  united_none items others e f = grind (arith, ranges_hold)
