@@ -1,5 +1,5 @@
 -- Which pairs a multimap has while those of another are added to it, or taken from it.
-use Rattle.std.proofs.Common.{◌≡◌, sym, ap, subst, ◌∙◌, ◌↔◌, ◌⊎◌, inl, inr, Bool, IsTrue, List, [], ◌∷◌, ◌++◌, arith}
+use Rattle.std.proofs.Common.{◌≡◌, ◌↔◌, ◌⊎◌, Bool, IsTrue, List, [], ◌∷◌, ◌++◌, arith}
 use Rattle.range_keys.specs.Order.{KeyOrder, IsLawful}
 use Rattle.range_algebra.specs.Range.{Holds}
 use Rattle.range_algebra.specs.declared.any.AnyRange.{AnyRange}
@@ -52,9 +52,7 @@ module _ {K : Type 0} (order : KeyOrder K) {S V : Type 0} (has : S → V → Boo
 
     pub none_parted : (copy items : Items) → IsCopyOf order same copy items
         → HasPairsOfFirstAlone order has items [] copy
-    none_parted copy items zip k key v =
-        let alike = pairs_of_copy copy items zip k key v in
-        (λ p. (alike.0 p, λ none. none), λ p. alike.1 p.0)
+    none_parted copy items zip k key v = grind (arith, pairs_of_copy)
 
 -- the set of the next range is not empty
 pub next_is_full : {K S : Type 0} (is_void : S → Type 0)
@@ -63,4 +61,4 @@ pub next_is_full : {K S : Type 0} (is_void : S → Type 0)
     → IsPartWay P all rest → ¬ is_void i.value
 next_is_full is_void P all rest others i full came way =
     (every_right (λ j. ¬ is_void j.value) way.done (i ∷ others)
-    (subst (HasNoEmptySet is_void) (sym way.split ∙ ap (λ l. way.done ++ l) came) full)).0
+    (rw (← way.split, came) at full)).0

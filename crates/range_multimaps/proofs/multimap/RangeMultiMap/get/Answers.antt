@@ -1,5 +1,4 @@
 use Rattle.std.proofs.Common.{arith}
-use Rattle.std.specs.Option.{option_copied}
 use Rattle.range_multimaps.proofs.Pairing.{values_at, full_at, none_unpaired}
 use Rattle.range_multimaps.proofs.multimap.RangeMultiMap.get.Goals as goal
 
@@ -8,12 +7,11 @@ returns-clause-values g c = grind (arith, values_at)
 
 pub returns-clause-nonempty : goal.returns-clause-nonempty
 returns-clause-nonempty g c =
-    full_at g.K.MaybeBounded.order g.S.PartialEq.eq g.met.S.Eq.laws g.S.MaybeEmpty.is_void
-    g.met.S.MaybeEmpty.void_equal c.args.key
+    full_at g.K.MaybeBounded.order g.met.S.Eq.laws g.met.S.MaybeEmpty.void_equal c.args.key
     (g.C.Storage.items c.self.inside.map) c.self.invariant c.get.result c.get.ensures.value
 
 pub returns-clause-none : goal.returns-clause-none
 returns-clause-none g c =
-    none_unpaired g.K.MaybeBounded.order g.S.SetMut.has g.S.MaybeEmpty.is_void
-    g.met.S.SetMut.void_is c.args.key (g.C.Storage.items c.args.self.now) c.get.result
+    none_unpaired g.K.MaybeBounded.order g.met.S.SetMut.void_is c.args.key
+    (g.C.Storage.items c.args.self.now) c.get.result
     (returns-clause-values g c) (returns-clause-nonempty g c)

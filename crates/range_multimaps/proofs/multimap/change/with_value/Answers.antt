@@ -1,6 +1,6 @@
-use Rattle.std.proofs.Common.{◌≡◌, true, false, rules, arith}
+use Rattle.std.proofs.Common.{arith}
 use Rattle.std.specs.Option.{option_copied}
-use Rattle.range_multimaps.proofs.Altered.{added_to_copy, had_already, not_void, answered_by_copy, had_in_copy, never_both}
+use Rattle.range_multimaps.proofs.Altered.{added_to_copy, had_already, not_void, answered_by_copy, had_in_copy}
 use Rattle.range_multimaps.proofs.multimap.change.with_value.Goals.{then-not-contains+in_ok-clone+in_ok-insert, else-not-contains}
 use Rattle.range_multimaps.proofs.multimap.change.with_value.Goals as goal
 
@@ -8,7 +8,7 @@ pub returns-clause-added : goal.returns-clause-added
 returns-clause-added g c = grind (arith, added_to_copy, had_already)
 
 pub returns-clause-kept : goal.returns-clause-kept
-returns-clause-kept g c = λ had. grind (arith, answered_by_copy, had_in_copy, never_both)
+returns-clause-kept g c = λ had. grind (arith, answered_by_copy, had_in_copy)
 
 pub returns-clause-nonempty : goal.returns-clause-nonempty
 returns-clause-nonempty g c = λ void.
