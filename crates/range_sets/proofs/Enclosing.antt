@@ -12,7 +12,7 @@ use Rattle.range_algebra.proofs.Lists.{every_left, every_right}
 use Rattle.range_algebra.specs.Compared.{flipped}
 use Rattle.range_algebra.specs.Cuts.{past}
 use Rattle.range_algebra.specs.Intervals.{Le, Lt, Any}
-use Rattle.range_algebra.specs.Orders.{eq_ge, le_trans, lt_not_le, not_le, not_lt, cases, lt_le_trans, le_lt_trans}
+use Rattle.range_change.proofs.PlaceOrder.{eq_ge, le_trans, lt_not_le, not_le, not_lt, cases, lt_le_trans, le_lt_trans}
 use Rattle.range_algebra.specs.Range.{IsKnownBound, IsKnownRange, IsEmptyRange}
 use Rattle.range_algebra.proofs.Places.{reaching_is_before_past, flipped_bound_is_past, flipped_back, flipped_known, unbounded_start}
 use Rattle.range_store.specs.declared.storage.Item.{Item}
@@ -55,7 +55,7 @@ module _ {K : Type 0} (order : KeyOrder K) (lawful : IsLawful order) where
   start_is_flipped (Included a) p known l = (Excluded a, refl)
   start_is_flipped (Excluded a) p known l = (Included a, refl)
   start_is_flipped Unbounded p known l =
-      absurd (lt_not_le (position_cmp order.cmp) (position_total order.cmp lawful.total) (Start p)
+      absurd (lt_not_le lawful (Start p)
       (Start Unbounded) l (unbounded_start order lawful p known))
 
   end_is_flipped : (e q : Bound K) → IsKnownBound order q → PLt (End e) (End q)
@@ -63,37 +63,33 @@ module _ {K : Type 0} (order : KeyOrder K) (lawful : IsLawful order) where
   end_is_flipped (Included a) q known l = (Excluded a, refl)
   end_is_flipped (Excluded a) q known l = (Included a, refl)
   end_is_flipped Unbounded q known l =
-      absurd (lt_not_le (position_cmp order.cmp) (position_total order.cmp lawful.total)
+      absurd (lt_not_le lawful
       (End Unbounded) (End q) l (ends_full order lawful q known))
 
   -- what starts before a start is at most at the end just before it
   reach_before : (p x b : Bound K) → IsKnownBound order p → IsKnownBound order x
       → flipped x ≡ Some b → PLt (Start p) (Start x) → PLe (Start p) (End b)
   reach_before p x b known known_x turns l =
-      let total = position_total order.cmp lawful.total in
-      let cmp = position_cmp order.cmp in
       let at = flipped_bound_is_past order lawful b x (flipped_back order lawful x b turns) in
       (reaching_is_before_past order lawful p b known
       (flipped_known order lawful x b turns known_x)).1
-      (lt_le_trans cmp total (Start p) (Start x) (past order (End b)) l
-      (eq_ge cmp total (past order (End b)) (Start x) at))
+      (lt_le_trans lawful (Start p) (Start x) (past order (End b)) l
+      (eq_ge lawful (past order (End b)) (Start x) at))
 
   -- what starts past the end just before a start is at least there
   start_after : (p x b : Bound K) → IsKnownBound order p → IsKnownBound order x
       → flipped x ≡ Some b → PLt (End b) (Start p) → PLe (Start x) (Start p)
   start_after p x b known known_x turns l =
-      let total = position_total order.cmp lawful.total in
-      let cmp = position_cmp order.cmp in
       let at = flipped_bound_is_past order lawful b x (flipped_back order lawful x b turns) in
-      le_trans cmp total (Start x) (past order (End b)) (Start p)
-      (eq_ge cmp total (past order (End b)) (Start x) at)
+      le_trans lawful (Start x) (past order (End b)) (Start p)
+      (eq_ge lawful (past order (End b)) (Start x) at)
       ((before_is order lawful b p (flipped_known order lawful x b turns known_x) known).0 l)
 
   -- what ends after an end reaches the start just past it
   end_reaches : (e a q : Bound K) → IsKnownBound order e → IsKnownBound order q
       → flipped e ≡ Some a → PLt (End e) (End q) → PLt (End q) (Start a) → ⊥
   end_reaches e a q known_e known turns l under =
-      lt_not_le (position_cmp order.cmp) (position_total order.cmp lawful.total) (End e) (End q) l
+      lt_not_le lawful (End e) (End q) l
       (ends_before order lawful q a e known known_e (flipped_back order lawful e a turns) under)
 
   -- a range after a bound that misses the gap up to a start does not start before it
@@ -103,15 +99,13 @@ module _ {K : Type 0} (order : KeyOrder K) (lawful : IsLawful order) where
       → PLt (Start r.start) (Start x) → ⊥
   start_is_not_before_item None x r known full from all l = absurd from
   start_is_not_before_item (Some a) x r known full from all l =
-      let total = position_total order.cmp lawful.total in
-      let cmp = position_cmp order.cmp in
       let turn = start_is_flipped x r.start full.0.0 l in
       let reach = reach_before r.start x turn.0 full.0.0 known turn.1 l in
       gap_would_overlap r (Some a) (flipped x) a turn.0 refl turn.1
-      (le_trans cmp total (Start a) (Start r.start) (End turn.0) from reach) all (
-        λ before. lt_not_le cmp total (End turn.0) (Start r.start) before reach,
-        λ before. lt_not_le cmp total (End r.end) (Start a) before
-            (le_trans cmp total (Start a) (Start r.start) (End r.end) from full.1),
+      (le_trans lawful (Start a) (Start r.start) (End turn.0) from reach) all (
+        λ before. lt_not_le lawful (End turn.0) (Start r.start) before reach,
+        λ before. lt_not_le lawful (End r.end) (Start a) before
+            (le_trans lawful (Start a) (Start r.start) (End r.end) from full.1),
       )
 
   -- a range that misses the gap after an end, the last one, does not reach over it
@@ -119,17 +113,15 @@ module _ {K : Type 0} (order : KeyOrder K) (lawful : IsLawful order) where
       → Every (λ g. ¬ Overlap order g r) (between order (flipped e) (Some Unbounded))
       → PLt (End e) (End r.end) → ⊥
   over_last e r known full all l =
-      let total = position_total order.cmp lawful.total in
-      let cmp = position_cmp order.cmp in
       let turn = end_is_flipped e r.end full.0.1 l in
       let under = end_reaches e turn.0 r.end known full.0.1 turn.1 l in
       let last = ends_full order lawful r.end full.0.1 in
       let reach =
-      le_trans cmp total (Start turn.0) (End r.end) (End Unbounded)
-      (not_lt cmp total (Start turn.0) (End r.end) under) last in
+      le_trans lawful (Start turn.0) (End r.end) (End Unbounded)
+      (not_lt lawful (Start turn.0) (End r.end) under) last in
       gap_would_overlap r (flipped e) (Some Unbounded) turn.0 Unbounded turn.1 refl reach all (
-        λ before. lt_not_le cmp total (End Unbounded) (Start r.start) before
-            (le_trans cmp total (Start r.start) (End r.end) (End Unbounded) full.1 last),
+        λ before. lt_not_le lawful (End Unbounded) (Start r.start) before
+            (le_trans lawful (Start r.start) (End r.end) (End Unbounded) full.1 last),
         under,
       )
 
@@ -140,22 +132,20 @@ module _ {K : Type 0} (order : KeyOrder K) (lawful : IsLawful order) where
       → Every (λ g. ¬ Overlap order g r) (between order (flipped e) (flipped next.start))
       → PLe (Start r.start) (End e) → PLt (End e) (End r.end) → ⊥
   over_next e next r known full known_next some before apart all starts l =
-      let total = position_total order.cmp lawful.total in
-      let cmp = position_cmp order.cmp in
       let first = end_is_flipped e r.end full.0.1 l in
       let a = first.0 in
       let known_a = flipped_known order lawful e a first.1 known in
-      let ahead = le_lt_trans cmp total (Start r.start) (End e) (Start next.start) starts before in
+      let ahead = le_lt_trans lawful (Start r.start) (End e) (Start next.start) starts before in
       let second = start_is_flipped next.start r.start full.0.0 ahead in
       let b = second.0 in
       let up =
-      le_lt_trans cmp total (Start a) (past order (End e)) (Start next.start)
-      (eq_ge cmp total (past order (End e)) (Start a)
+      le_lt_trans lawful (Start a) (past order (End e)) (Start next.start)
+      (eq_ge lawful (past order (End e)) (Start a)
       (flipped_bound_is_past order lawful e a first.1))
-      (not_le cmp total (past order (End e)) (Start next.start) apart) in
+      (not_le lawful (past order (End e)) (Start next.start) apart) in
       gap_would_overlap r (flipped e) (flipped next.start) a b first.1 second.1
       (reach_before a next.start b known_a known_next.0 second.1 up) all (
-        λ behind. lt_not_le cmp total (Start r.start) (Start next.start) ahead
+        λ behind. lt_not_le lawful (Start r.start) (Start next.start) ahead
             (start_after r.start next.start b full.0.0 known_next.0 second.1 behind),
         end_reaches e a r.end known full.0.1 first.1 l,
       )
@@ -168,10 +158,8 @@ module _ {K : Type 0} (order : KeyOrder K) (lawful : IsLawful order) where
   from_next (Excluded a) r known full l =
       start_after r.start (Included a) (Excluded a) full.0.0 known refl l
   from_next Unbounded r known full l =
-      let total = position_total order.cmp lawful.total in
-      let cmp = position_cmp order.cmp in
-      lt_not_le cmp total (End Unbounded) (Start r.start) l
-      (le_trans cmp total (Start r.start) (End r.end) (End Unbounded) full.1
+      lt_not_le lawful (End Unbounded) (Start r.start) l
+      (le_trans lawful (Start r.start) (End r.end) (End Unbounded) full.1
       (ends_full order lawful r.end full.0.1))
 
   module _ {V : Type 0} where
@@ -217,35 +205,31 @@ module _ {K : Type 0} (order : KeyOrder K) (lawful : IsLawful order) where
         → Any (λ i. LiesIn order r i.key) items
     missing_gaps_is_within_item None [] r h full from all = absurd from
     missing_gaps_is_within_item (Some a) [] r h full from all =
-        let total = position_total order.cmp lawful.total in
-        let cmp = position_cmp order.cmp in
         let reach =
-        le_trans cmp total (Start r.start) (End r.end) (End Unbounded) full.1
+        le_trans lawful (Start r.start) (End r.end) (End Unbounded) full.1
         (ends_full order lawful r.end full.0.1) in
         absurd (gap_would_overlap r (Some a) (Some Unbounded) a Unbounded refl refl
-        (le_trans cmp total (Start a) (Start r.start) (End Unbounded) from reach) all (
-          λ before. lt_not_le cmp total (End Unbounded) (Start r.start) before reach,
-          λ before. lt_not_le cmp total (End r.end) (Start a) before
-              (le_trans cmp total (Start a) (Start r.start) (End r.end) from full.1),
+        (le_trans lawful (Start a) (Start r.start) (End Unbounded) from reach) all (
+          λ before. lt_not_le lawful (End Unbounded) (Start r.start) before reach,
+          λ before. lt_not_le lawful (End r.end) (Start a) before
+              (le_trans lawful (Start a) (Start r.start) (End r.end) from full.1),
         ))
     missing_gaps_is_within_item s (i ∷ rest) r h full from all =
-        let total = position_total order.cmp lawful.total in
-        let cmp = position_cmp order.cmp in
         let gaps = free_from order (flipped i.key.end) rest in
         let known = first_known i rest h in
         let behind =
         every_right (λ g. ¬ Overlap order g r)
         (between order s (flipped i.key.start)) gaps all in
-        elim (cases cmp total (Start r.start) (Start i.key.start)) [
+        elim (cases lawful (Start r.start) (Start i.key.start)) [
           | inl l ↦
               absurd (start_is_not_before_item s i.key.start r known.0 full
               from (every_left (λ g. ¬ Overlap order g r)
               (between order s (flipped i.key.start)) gaps all) l)
-          | inr starts ↦ elim (cases cmp total (End i.key.end) (Start r.start)) [
+          | inr starts ↦ elim (cases lawful (End i.key.end) (Start r.start)) [
             | inl l ↦
                 inr (missing_gaps_is_within_item (flipped i.key.end) rest r
                 (rest_listed i rest h) full (from_next i.key.end r known.1 full l) behind)
-            | inr within ↦ elim (cases cmp total (End i.key.end) (End r.end)) [
+            | inr within ↦ elim (cases lawful (End i.key.end) (End r.end)) [
               | inl l ↦ absurd (end_is_not_past_item i rest r h full behind within l)
               | inr ends ↦ inl (record { starts = starts; ends = ends })
             ]

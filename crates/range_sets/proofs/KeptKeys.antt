@@ -17,41 +17,25 @@ use Rattle.range_sets.specs.TwoSets.{HoldsBoth, HoldsFirstAlone, HoldsJustOne, A
 
 -- two tests that are true in one case are one
 same_test : {P : Type 0} (a b : Bool) → (IsTrue a ↔ P) → (IsTrue b ↔ P) → a ≡ b
-same_test true true f g = refl
-same_test true false f g = sym (g.1 (f.0 refl))
-same_test false true f g = f.1 (g.0 refl)
-same_test false false f g = refl
+same_test a b f g = grind arith
 
 -- a test of whether it is so, or not
 pub decided : {P : Type 0} → P ⊎ (¬ P) → (b : Bool) × (IsTrue b ↔ P)
 decided (inl is) = (true, (λ e. is, λ h. refl))
 decided (inr other) = (false, (λ e. absurd (cc), λ h. absurd (other h)))
 
--- by truth values: of an or, an and, an and with not, and a difference of two facts
+-- by truth values: of an and, an and with not, and a difference of two facts
 module _ {A B N : Type 0} where
-  pub either_is : (a b : Bool) → (IsTrue a ↔ A) → (IsTrue b ↔ B) → (IsTrue (a || b) ↔ N)
-      → N ↔ (A ⊎ B)
-  either_is true b f g n = (λ h. inl (f.0 refl), λ h. n.0 refl)
-  either_is false true f g n = (λ h. inr (g.0 refl), λ h. n.0 refl)
-  either_is false false f g n = grind arith
+  both_are : (a b : Bool) → (IsTrue a ↔ A) → (IsTrue b ↔ B) → (IsTrue (a && b) ↔ N) → N ↔ (A × B)
+  both_are a b f g n = grind arith
 
-  pub both_are : (a b : Bool) → (IsTrue a ↔ A) → (IsTrue b ↔ B) → (IsTrue (a && b) ↔ N)
-      → N ↔ (A × B)
-  both_are true b f g n = (λ h. (f.0 refl, g.0 (n.1 h)), λ h. n.0 (g.1 h.1))
-  both_are false b f g n = grind arith
-
-  pub first_alone_is : (a b : Bool) → (IsTrue a ↔ A) → (IsTrue b ↔ B) → (IsTrue (a && not b) ↔ N)
+  first_alone_is : (a b : Bool) → (IsTrue a ↔ A) → (IsTrue b ↔ B) → (IsTrue (a && not b) ↔ N)
       → N ↔ (A × (¬ B))
-  first_alone_is true true f g n = grind arith
-  first_alone_is true false f g n = grind arith
-  first_alone_is false b f g n = grind arith
+  first_alone_is a b f g n = grind arith
 
-  pub just_one_is : (a b : Bool) → (IsTrue a ↔ A) → (IsTrue b ↔ B) → (IsTrue (not (beq a b)) ↔ N)
+  just_one_is : (a b : Bool) → (IsTrue a ↔ A) → (IsTrue b ↔ B) → (IsTrue (not (beq a b)) ↔ N)
       → N ↔ ((A × (¬ B)) ⊎ ((¬ A) × B))
-  just_one_is true true f g n = grind arith
-  just_one_is true false f g n = grind arith
-  just_one_is false true f g n = grind arith
-  just_one_is false false f g n = grind arith
+  just_one_is a b f g n = grind arith
 
 -- a value is shown where there is one
 pub shown_is : {V : Type 0} (shown : Option (Bor V)) (v : Option V) → option_copied shown ≡ v
@@ -66,9 +50,8 @@ module _ {K : Type 0} (order : KeyOrder K) where
   -- what a key is bound to tells whether it is held
   bound_is : (same : Unit {0} → Unit {0} → Bool) (items : Items) (k : K) (b : Option (Unit {0}))
       → Binds order same items k b → IsTrue (is_some b) ↔ HoldsKey order items k
-  bound_is same items k None h =
-      (λ e. absurd (cc), λ is. absurd (h is))
-  bound_is same items k (Some v) h = (λ e. binds_bound order same items k v h, λ is. refl)
+  bound_is same items k None h = grind arith
+  bound_is same items k (Some v) h = grind (arith, binds_bound order same items k v)
 
   answered_is : (same : Unit {0} → Unit {0} → Bool)
       → ((v : Unit {0}) → IsTrue (same v v)) → (new : Items) (k : K) (answer : Option (Unit {0}))
@@ -118,9 +101,7 @@ module _ {K : Type 0} (order : KeyOrder K) where
 
       kept_as : (k : K) → order.is_key k → (a b : Bool) → (IsTrue a ↔ HoldsKey order items k)
           → (IsTrue b ↔ HoldsKey order others k) → IsTrue (op a b) ↔ HoldsKey order new k
-      kept_as k key true b f g = kept_at k key true b f g (inl (f.0 refl))
-      kept_as k key false true f g = kept_at k key false true f g (inr (g.0 refl))
-      kept_as k key false false f g = grind arith
+      kept_as k key a b f g = grind (arith, kept_at k key a b)
 
       -- what follows for a key, whichever of the lists hold it
       pub by_test : {P : Type 0} (k : K) → order.is_key k

@@ -11,7 +11,7 @@ use Rattle.range_keys.proofs.Orderings.{both_equal}
 use Rattle.range_algebra.specs.declared.any.AnyRange.{AnyRange}
 use Rattle.range_algebra.proofs.Lists.{every_weaker}
 use Rattle.range_algebra.specs.Intervals.{Any}
-use Rattle.range_algebra.specs.Orders.{eq_le, eq_ge, lt_le, le_trans, lt_not_le, lt_le_trans, le_lt_trans, lt_trans}
+use Rattle.range_change.proofs.PlaceOrder.{eq_le, eq_ge, lt_le, le_trans, lt_not_le, lt_le_trans, le_lt_trans, lt_trans}
 use Rattle.range_algebra.specs.RangeOrder.{range_cmp}
 use Rattle.range_algebra.specs.Relations.{LiesBefore}
 use Rattle.range_change.specs.Neighbours.{EachNext}
@@ -29,47 +29,25 @@ module _ {K : Type 0} (order : KeyOrder K) (lawful : IsLawful order) where
 
   pub equal_within : (r s : AnyRange K) → range_cmp order r s ≡ Equal
       → LiesIn order r s × LiesIn order s r
-  equal_within r s e =
-      let total = position_total order.cmp lawful.total in
-      let cmp = position_cmp order.cmp in
-      let parts = both_equal (cmp (Start r) (Start s)) (cmp (End r) (End s)) e in grind arith
+  equal_within r s e = grind (arith, both_equal, eq_le, eq_ge)
 
   -- what meets a range meets the one that it lies in
   pub overlap_within : (r s t : AnyRange K) → LiesIn order r s → Overlap order r t
       → Overlap order s t
-  overlap_within r s t within meets =
-      let total = position_total order.cmp lawful.total in
-      let cmp = position_cmp order.cmp in (
-        λ l. meets.0 (le_lt_trans cmp total (End r) (End s) (Start t) within.ends l),
-        λ l. meets.1 (lt_le_trans cmp total (End t) (Start s) (Start r) l within.starts),
-      )
+  overlap_within r s t within meets = grind (arith, le_lt_trans, lt_le_trans)
 
   pub within_trans : (r s t : AnyRange K) → LiesIn order r s → LiesIn order s t → LiesIn order r t
-  within_trans r s t h k =
-      let total = position_total order.cmp lawful.total in
-      let cmp = position_cmp order.cmp in record {
-        starts = le_trans cmp total (Start t) (Start s) (Start r) k.starts h.starts;
-        ends = le_trans cmp total (End r) (End s) (End t) h.ends k.ends;
-      }
+  within_trans r s t h k = grind (arith, le_trans)
 
   -- no nonempty range lies in one that it is after
   behind_not_within : (r s : AnyRange K) → IsFull order lawful s → LiesBefore order r s
       → LiesIn order s r → ⊥
-  behind_not_within r s full before within =
-      let total = position_total order.cmp lawful.total in
-      let cmp = position_cmp order.cmp in
-      lt_not_le cmp total (End r) (Start s) before
-      (le_trans cmp total (Start s) (End s) (End r) full.1 within.ends)
+  behind_not_within r s full before within = grind (arith, lt_not_le, le_trans)
 
   not_before_each_other : (r s : AnyRange K) → IsFull order lawful r → IsFull order lawful s
       → LiesBefore order r s → LiesBefore order s r → ⊥
   not_before_each_other r s full full_s before after =
-      let total = position_total order.cmp lawful.total in
-      let cmp = position_cmp order.cmp in
-      lt_not_le cmp total (End r) (Start s) before
-      (le_trans cmp total (Start s) (End s) (End r) full_s.1
-      (lt_le cmp total (End s) (End r)
-      (lt_le_trans cmp total (End s) (Start r) (End r) after full.1)))
+      grind (arith, lt_not_le, lt_le, le_trans, lt_le_trans)
 
   -- the ranges of a row, where each stands before the next, are each before all after it
   pub row_pairs : (ranges : List (AnyRange K)) → Every (IsFull order lawful) ranges
@@ -77,12 +55,10 @@ module _ {K : Type 0} (order : KeyOrder K) (lawful : IsLawful order) where
   row_pairs [] full rising = tt
   row_pairs (r ∷ []) full rising = (tt, tt)
   row_pairs (r ∷ s ∷ rest) full rising =
-      let total = position_total order.cmp lawful.total in
-      let cmp = position_cmp order.cmp in
       let others = row_pairs (s ∷ rest) full.1 rising.1 in
       let over =
-      λ (t : AnyRange K) (l : LiesBefore order s t). lt_trans cmp total (End r) (End s)
-      (Start t) (lt_le_trans cmp total (End r) (Start s) (End s) rising.0 full.1.0.1) l in
+      λ (t : AnyRange K) (l : LiesBefore order s t). lt_trans lawful (End r) (End s)
+      (Start t) (lt_le_trans lawful (End r) (Start s) (End s) rising.0 full.1.0.1) l in
       grind (arith, every_weaker)
 
   module _ {A : Type 0} (range : A → AnyRange K) where
@@ -100,7 +76,7 @@ module _ {K : Type 0} (order : KeyOrder K) (lawful : IsLawful order) where
         → LiesBefore order r s
     behind_first r s [] before within = absurd within
     behind_first r s (x ∷ xs) before (inl h) =
-        lt_le_trans (position_cmp order.cmp) (position_total order.cmp lawful.total) (End r)
+        lt_le_trans lawful (End r)
         (Start (range x)) (Start s) before.0 h.starts
     behind_first r s (x ∷ xs) before (inr h) = behind_first r s xs before.1 h
 
@@ -117,19 +93,10 @@ module _ {K : Type 0} (order : KeyOrder K) (lawful : IsLawful order) where
     only_one_lies_in_range r [] full pairs within = tt
     only_one_lies_in_range r (x ∷ xs) full pairs (inl h) =
         (λ _. h, none_back r (range x) xs h full.1 pairs.0)
-    only_one_lies_in_range r (x ∷ xs) full pairs (inr h) = (
-      λ back.
-          absurd (lies_in_none r (range x) full.0 (behind_first (range x) r xs pairs.0 h) back),
-      only_one_lies_in_range r xs full.1 pairs.1 h,
-    )
-      where
-        lies_in_none : (r s : AnyRange K) → IsFull order lawful s → LiesBefore order s r
-            → LiesIn order s r → ⊥
-        lies_in_none r s full before within =
-            let total = position_total order.cmp lawful.total in
-            let cmp = position_cmp order.cmp in
-            lt_not_le cmp total (End s) (Start r) before
-            (le_trans cmp total (Start r) (Start s) (End s) within.starts full.1)
+    only_one_lies_in_range r (x ∷ xs) full pairs (inr h) =
+        let apart = behind_first (range x) r xs pairs.0 h in
+        let later = only_one_lies_in_range r xs full.1 pairs.1 h in
+        grind (arith, lt_not_le, le_trans)
 
   module _ {A B : Type 0} (range : A → AnyRange K) (other : B → AnyRange K) where
     -- what is after the first of one row lies in the rest of the other
@@ -148,19 +115,11 @@ module _ {K : Type 0} (order : KeyOrder K) (lawful : IsLawful order) where
         → LiesIn order (range x) (other y) × LiesIn order (other y) (range x)
     first_same x y xs ys full full' before before' (inl h) (inl k) = (h, k)
     first_same x y xs ys full full' before before' (inl h) (inr k) =
-        let total = position_total order.cmp lawful.total in
-        let cmp = position_cmp order.cmp in
         let l = behind_first range (range x) (other y) xs before k in
-        absurd (lt_not_le cmp total (End (range x)) (Start (other y)) l
-        (le_trans cmp total (Start (other y)) (Start (range x))
-        (End (range x)) h.starts full.0.1))
+        grind (arith, lt_not_le, le_trans)
     first_same x y xs ys full full' before before' (inr h) (inl k) =
-        let total = position_total order.cmp lawful.total in
-        let cmp = position_cmp order.cmp in
         let l = behind_first other (other y) (range x) ys before' h in
-        absurd (lt_not_le cmp total (End (other y)) (Start (range x)) l
-        (le_trans cmp total (Start (range x)) (Start (other y))
-        (End (other y)) k.starts full'.0.1))
+        grind (arith, lt_not_le, le_trans)
     first_same x y xs ys full full' before before' (inr h) (inr k) =
         absurd (not_before_each_other (range x) (other y) full.0 full'.0
         (behind_first range (range x) (other y) xs before k)

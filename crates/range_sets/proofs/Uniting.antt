@@ -63,31 +63,6 @@ pub nothing_ahead : {K : Type 0} (next : Option (Bor (AnyRange K))) (rest : List
 nothing_ahead None rest e none = none refl
 nothing_ahead (Some r) rest e none = absurd (cc)
 
--- what holds a key, where a part of it is told otherwise
-first_held : {L S T I J : Type 0} → I ↔ (L ⊎ S) → J ↔ T → (⊥ ⊎ (L ⊎ ((L ⊎ S) ⊎ T))) ↔ (I ⊎ J)
-first_held one other = grind arith
-
-joined_held : {B L R S T H N : Type 0} → (B ⊎ (L ⊎ ((R ⊎ S) ⊎ T))) ↔ H → N ↔ (L ⊎ R)
-    → (B ⊎ (N ⊎ (S ⊎ T))) ↔ H
-joined_held old joined = grind arith
-
-pushed_held : {B L R S T H N : Type 0} → (B ⊎ (L ⊎ ((R ⊎ S) ⊎ T))) ↔ H → N ↔ (B ⊎ L)
-    → (N ⊎ (R ⊎ (S ⊎ T))) ↔ H
-pushed_held old pushed = grind arith
-
-turned_held : {B L S T I J : Type 0} → (B ⊎ (L ⊎ (S ⊎ T))) ↔ (I ⊎ J)
-    → (B ⊎ (L ⊎ (T ⊎ S))) ↔ (J ⊎ I)
-turned_held old = grind arith
-
-all_held : {B L H N : Type 0} → (B ⊎ (L ⊎ (⊥ ⊎ ⊥))) ↔ H → N ↔ (B ⊎ L) → N ↔ H
-all_held old pushed = grind arith
-
-copy_held : {B C L N : Type 0} → N ↔ (B ⊎ C) → C ↔ L → N ↔ (B ⊎ L)
-copy_held end copy = grind arith
-
-end_held : {X B C R : Type 0} → R ↔ (B ⊎ C) → (X ⊎ R) ↔ ((X ⊎ B) ⊎ C)
-end_held rest = grind arith
-
 abbrev pub one_value : Unit {0} → Unit {0} → Bool
 one_value _ _ = true
 
@@ -98,7 +73,7 @@ bound_end : {K : Type 0} (order : KeyOrder K) (xs : List (Item (AnyRange K) (Uni
     (x : Item (AnyRange K) (Unit {0})) (k : K)
     → IsBound order (xs ++ x ∷ []) k ↔ (IsBound order xs k ⊎ Holds order x.key k)
 bound_end order [] x k = grind arith
-bound_end order (y ∷ ys) x k = end_held (bound_end order ys x k)
+bound_end order (y ∷ ys) x k = grind (arith, bound_end order ys x k)
 
 ranges_hold : {K : Type 0} (order : KeyOrder K) (xs : List (Item (AnyRange K) (Unit {0}))) (k : K)
     → HoldsKey order xs k ↔ SomeHolds order (item_ranges xs) k
@@ -135,9 +110,7 @@ module _ {K : Type 0} {order : KeyOrder K} (lawful : IsLawful order) where
       → Reaches order e r
   all_reach (Included a) r placed none = absurd (cc)
   all_reach (Excluded a) r placed none = absurd (cc)
-  all_reach Unbounded r placed none =
-      le_trans lawful _ _ _ (lt_le lawful _ _ placed.good)
-      (unbounded_end order lawful r.end placed.known.1)
+  all_reach Unbounded r placed none = grind (arith, le_trans, lt_le, unbounded_end)
 
   -- where a range does not reach the last one
   pub apart_from : (last r : AnyRange K) → (¬ Reaches order last.end r)
@@ -217,18 +190,14 @@ module _ {K : Type 0} {order : KeyOrder K} (lawful : IsLawful order) where
                 inl (first.1 ((joined.0 h).0, lt_le_trans lawful (Beside k At) _ _ before reaches))
             | inr start ↦ below_end e k key later (joined.0 h).0 (joined.0 h).1 start
           ],
-          λ h. elim h [
+          λ h. joined.1 (elim h [
             | inl it ↦
-                joined.1 (
-                  (first.0 it).0,
-                  lt_le_trans lawful (Beside k At) _ _ (first.0 it).1 ends.1,
-                )
-            | inr it ↦
-                joined.1 (
-                  le_trans lawful _ _ _ from (second.0 it).0,
-                  lt_le_trans lawful (Beside k At) _ _ (second.0 it).1 ends.2,
-                )
-          ],
+                ((first.0 it).0, lt_le_trans lawful (Beside k At) _ _ (first.0 it).1 ends.1)
+            | inr it ↦ (
+              le_trans lawful _ _ _ from (second.0 it).0,
+              lt_le_trans lawful (Beside k At) _ _ (second.0 it).1 ends.2,
+            )
+          ]),
         )
 
     joined_placed : (e : Bound K) → IsLaterEnd order last.end r.end e
@@ -283,15 +252,14 @@ module _ {K : Type 0} {order : KeyOrder K} (lawful : IsLawful order) where
               every_append _ built (i ∷ [])
               (every_weaker _ _ built (λ x lt. le_trans lawful _ _ _ (lt_le lawful _ _ lt)
               (lt_le lawful _ _ placed.good)) stand.before) (eq_ge lawful _ _ lies.1, tt);
-          holds = λ k key. copy_held (bound_end order built i k)
-              (copy_holds last copy k key placed.known copied clone);
+          holds = λ k key. grind (arith, bound_end order built i k, copy_holds last copy k key);
         }
 
     are_pushed : (built new : Items order) (last : AnyRange K) → IsPlaced order last
         → StandBefore built last → IsPushed order is_clone built new last
         → ArePushed built new last
     are_pushed built new last placed stand pushed =
-        subst (λ l. ArePushed built l last) (sym pushed.list)
+        rw pushed.list
         (push_copy built last pushed.copy placed stand pushed.known pushed.clone)
 
   module _ (items others : Items order) where
@@ -318,21 +286,16 @@ module _ {K : Type 0} {order : KeyOrder K} (lawful : IsLawful order) where
         subst (RisesFrom order m) (sym left) (set_rises items stored) in
         let others_rise : RisesFrom order m (option_items near ++ others_rest) =
         rw right (set_rises others stored_others) in
-        grind (arith, first_held, le_refl, ranges_hold, rises_later)
+        grind (arith, le_refl, ranges_hold, rises_later)
 
     module _ {r : AnyRange K} {rest : List (AnyRange K)} {near : Option (AnyRange K)}
         {others_rest : List (AnyRange K)} {built : Items order} {last : AnyRange K}
         (was : IsUnitedUpTo (r ∷ rest) (option_items near ++ others_rest) built last)
         (none : near ≡ None → others_rest ≡ []) (first : StartsFirst order r near) where
-      r_rises : IsPlaced order r × Le (cmp order) (lower order last) (lower order r)
-          × RisesFrom order (upper order r) rest
-      r_rises = was.left_rises
-
       join_left : (e : Bound K) → IsLaterEnd order last.end r.end e → Reaches order last.end r
           → IsUnitedUpTo rest (option_items near ++ others_rest) built (with_bounds last.start e)
       join_left e later reaches =
-          grind (arith, joined_held, joined_holds, joined_placed, le_trans, lt_le, r_rises,
-          rises_sooner)
+          grind (arith, joined_holds, joined_placed, le_trans, lt_le, rises_sooner)
 
       module _ (is_clone : K → K → Type 0)
           (clones : (a b : Bound K) → IsBoundClone is_clone a b → SameBound order a b) where
@@ -341,33 +304,28 @@ module _ {K : Type 0} {order : KeyOrder K} (lawful : IsLawful order) where
             → IsUnitedUpTo rest (option_items near ++ others_rest) new r
         push_left new apart pushed =
             let now = are_pushed is_clone clones built new last was.placed was.stand pushed in
-            grind (arith, every_weaker, le_lt_trans, lt_le, pushed_held, r_rises, rises_later,
-            rises_sooner)
+            grind (arith, every_weaker, le_lt_trans, lt_le, rises_later, rises_sooner)
 
         -- the first range on the left is taken
         add_left : (new : Items order) (next : AnyRange K)
             → IsAdded order is_clone built new last r next
             → IsUnitedUpTo rest (option_items near ++ others_rest) new next
         add_left new next (inl h) = grind (arith, join_left)
-        add_left new next (inr h) =
-            subst (λ n. IsUnitedUpTo rest (option_items near ++ others_rest) new n) (sym h.1)
-            (push_left new h.0 h.2)
+        add_left new next (inr h) = rw h.1 (push_left new h.0 h.2)
 
     -- the first of what is left is a nonempty range of keys
     pub first_placed : (left right : Option (AnyRange K)) (rest others_rest : List (AnyRange K))
         (r : AnyRange K) (is_left : Bool) (built : Items order) (last : AnyRange K)
         → IsUnitedUpTo (option_items left ++ rest) (option_items right ++ others_rest) built last
         → IsFirstOf order left right r is_left → IsPlaced order r
-    first_placed left right rest others_rest r true built last was first =
-        (rw first.0 at was.left_rises).0
-    first_placed left right rest others_rest r false built last was first =
-        (rw first.0 at was.right_rises).0
+    first_placed left right rest others_rest r true built last was first = grind arith
+    first_placed left right rest others_rest r false built last was first = grind arith
 
   -- the same with the two lists exchanged
   turned : (items others : Items order) {left right : List (AnyRange K)} {built : Items order}
       {last : AnyRange K} → IsUnitedUpTo items others left right built last
       → IsUnitedUpTo others items right left built last
-  turned items others was = grind (arith, turned_held)
+  turned items others was = grind arith
 
   module _ (items others : Items order) where
     -- no range is taken yet
@@ -416,7 +374,7 @@ module _ {K : Type 0} {order : KeyOrder K} (lawful : IsLawful order) where
           → HoldsEither order items others new × IsStoredSet order new
       end_all built new last was pushed =
           let now = are_pushed is_clone clones built new last was.placed was.stand pushed in (
-            λ k key. all_held (was.held k key) (now.holds k key),
+            λ k key. grind (arith, was.held k key, now.holds k key),
             chain_stored order lawful one_value one_class new now.known now.chain,
           )
 
