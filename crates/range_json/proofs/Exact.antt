@@ -1,5 +1,5 @@
 -- A map that is read has no fault, where a JSON value is read as equal keys.
-use Rattle.std.proofs.Common.{◌≡◌, refl, sym, ap, subst, ◌∙◌, inl, inr, List, [], ◌∷◌, ◌++◌, Bool, Option, Some, None}
+use Rattle.std.proofs.Common.{◌≡◌, refl, sym, ap, subst, ◌∙◌, inl, inr, List, [], ◌∷◌, ◌++◌, Bool, Option, Some, None, arith}
 use Rattle.std.specs.Cmp.{alike_right}
 use Rattle.std.specs.List.{AllZip}
 use Rattle.std.specs.declared.cmp.Ordering.TheVariants.{Equal}
@@ -59,41 +59,16 @@ module _ {K : Type 0} (order : KeyOrder K) (lawful : IsLawful order) where
 
   starts_same : (r s : AnyRange K) → range_cmp order r s ≡ Equal
       → position_cmp order.cmp (start_position order r.start) (start_position order s.start) ≡ Equal
-  starts_same r s e =
-      (both_equal (position_cmp order.cmp (start_position order r.start)
-      (start_position order s.start))
-      (position_cmp order.cmp (end_position order r.end) (end_position order s.end)) e).0
+  starts_same r s e = grind (arith, both_equal)
 
   ends_same : (r s : AnyRange K) → range_cmp order r s ≡ Equal
       → position_cmp order.cmp (end_position order r.end) (end_position order s.end) ≡ Equal
-  ends_same r s e =
-      (both_equal (position_cmp order.cmp (start_position order r.start)
-      (start_position order s.start))
-      (position_cmp order.cmp (end_position order r.end) (end_position order s.end)) e).1
+  ends_same r s e = grind (arith, both_equal)
 
   -- equal ranges meet equal ranges
   pub meet_too : (r s q t : AnyRange K) → range_cmp order r q ≡ Equal → range_cmp order s t ≡ Equal
       → MeetNonempty order r s → MeetNonempty order q t
-  meet_too r s q t e f h = (
-    λ empty.
-        h.0 (equal_positions_compare_alike (start_position order r.start)
-        (start_position order q.start) (end_position order r.end) (end_position order q.end)
-        (starts_same r q e) (ends_same r q e) ∙ empty),
-    λ empty.
-        h.1 (equal_positions_compare_alike (start_position order s.start)
-        (start_position order t.start) (end_position order s.end) (end_position order t.end)
-        (starts_same s t f) (ends_same s t f) ∙ empty),
-    (
-      λ before.
-          h.2.0 (equal_positions_compare_alike (end_position order r.end) (end_position order q.end)
-          (start_position order s.start) (start_position order t.start) (ends_same r q e)
-          (starts_same s t f) ∙ before),
-      λ before.
-          h.2.1 (equal_positions_compare_alike (end_position order s.end) (end_position order t.end)
-          (start_position order r.start) (start_position order q.start) (ends_same s t f)
-          (starts_same r q e) ∙ before),
-    ),
-  )
+  meet_too r s q t e f h = grind (arith, ends_same, equal_positions_compare_alike, starts_same)
 
   module _ (is_read : Data → K → Type 0) (one : HasOneReading order is_read) where
     abbrev Alike : K → K → Type 0
@@ -123,12 +98,7 @@ module _ {K : Type 0} (order : KeyOrder K) (lawful : IsLawful order) where
         → range_cmp order r s ≡ Equal
     range_one d r s (ds, e, starts, ends) (es, f, other_starts, other_ends) =
         let same : es ≡ ds = same_Some es ds (sym f ∙ e) in
-        range_clone order lawful Alike (λ a b h. h) r s (
-          parts_one (bound_of ds.0) r.start s.start starts
-              (subst (λ p. ArePartsRead is_read (bound_of p.0) s.start) same other_starts),
-          parts_one (bound_of ds.1) r.end s.end ends
-              (subst (λ p. ArePartsRead is_read (bound_of p.1) s.end) same other_ends),
-        )
+        range_clone order lawful Alike (λ a b h. h) r s (grind (arith, parts_one))
 
     module _ {V : Type 0} (value_is_read : Data → V → Type 0) where
       element_one : (d : Data) (x y : Item (AnyRange K) V) → IsElementRead is_read value_is_read d x
@@ -188,8 +158,4 @@ module _ {K : Type 0} (order : KeyOrder K) (lawful : IsLawful order) where
             (f : JsonError)
             → IsMapRead order key_reads value_reads is_read value_is_read same d items
             → IsMapFault order key_reads value_reads is_read value_is_read d f → ⊥
-        no_fault same d items f read fault =
-            no_first read.ds read.elements f read.read
-            (subst (λ w.
-            IsFaultOf order key_reads value_reads is_read value_is_read w f)
-            read.whole fault)
+        no_fault same d items f read fault = grind (arith, no_first)

@@ -52,10 +52,7 @@ module _ (key_reads : Data → Bool) where
   bounds_none : (i j : ℕ) (p : Option (Data × Data)) → bounds_fault key_reads i p ≡ None
       → bounds_fault key_reads j p ≡ None
   bounds_none i j None h = absurd (none-some _ (sym h))
-  bounds_none i j (Some p) h =
-      let parts = before_none (bound_fault key_reads i p.0) (bound_fault key_reads i p.1) h in
-      ap (λ f. before f (bound_fault key_reads j p.1)) (parts_none i j (bound_of p.0) parts.0)
-      ∙ parts_none i j (bound_of p.1) parts.1
+  bounds_none i j (Some p) h = grind (arith, before_none, parts_none)
 
   parts_other : (j : ℕ) (p : Option (Bound Data)) → IsOther (parts_fault key_reads j p)
   parts_other j None = λ i is. cc
@@ -143,27 +140,7 @@ module _ {K V : Type 0} (order : KeyOrder K) (key_is_read : Data → K → Type 
     met_among whole i (Err e) is fault =
         absurd (whole_other whole i (is ∙ ap (λ f. Err f) (sym fault)))
     met_among whole i (Ok ds) is fault =
-        let other = pair_other key_reads value_reads (length fault.front) (pair_of fault.d) i in
-        elim fault.fault [
-          | inl own ↦ absurd (other own)
-          | inr met ↦
-              let x = met.0.1.0 in
-              let read = met.0.1.1 in
-              record {
-                front = fault.front;
-                d = fault.d;
-                rest = fault.rest;
-                elements = is ∙ ap (λ es. Ok es) fault.split;
-                place = same_index i (length fault.front) met.1;
-                sound = sound_ranges key_reads value_reads 0 fault.front fault.fine.sound;
-                own =
-                    sound_range key_reads value_reads (length fault.front) (pair_of fault.d)
-                    met.0.0;
-                meet =
-                    one_met fault.front fault.earlier fault.d x.key fault.fine.read
-                    (read.0, read.1, read.2) met.0.1.3;
-              }
-        ]
+        grind (arith, one_met, pair_other, same_index, sound_range, sound_ranges)
 
     -- where the fault is that an element meets an earlier one, it may meet one
     pub meets_earlier : (whole : Data) (i : ℕ)

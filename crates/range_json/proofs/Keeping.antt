@@ -1,5 +1,5 @@
 -- A list in a map's form is stored as it was read.
-use Rattle.std.proofs.Common.{◌≡◌, refl, sym, ap, subst, ◌∙◌, inl, inr, List, [], ◌∷◌, ◌++◌, Bool, IsTrue}
+use Rattle.std.proofs.Common.{◌≡◌, refl, sym, ap, subst, ◌∙◌, inl, inr, List, [], ◌∷◌, ◌++◌, Bool, IsTrue, arith}
 use Rattle.std.proofs.lemmas.List.{append-nil}
 use Rattle.std.specs.Cmp.{IsEquivalence}
 use Rattle.std.specs.List.{AllByRecursion as Every}
@@ -47,16 +47,7 @@ module _ {K V : Type 0} (order : KeyOrder K) (lawful : IsLawful order) (same : V
   -- a range that touches another ends where that starts
   touching_at : (e : Bound K) (s : AnyRange K) → IsTrue (starts_at_end order e (lower order s))
       → Le (places order lawful) (past order (end_position order e)) (lower order s)
-  touching_at (Included a) s h =
-      let total = position_total order.cmp lawful.total in
-      le_trans (places order lawful) total (past order (end_position order (Included a)))
-      (start_position order (Excluded a)) (lower order s)
-      (eq_le (places order lawful) total (past order (end_position order (Included a)))
-      (start_position order (Excluded a))
-      (flipped_bound_is_past order lawful (Included a) (Excluded a) refl))
-      (eq_le (places order lawful) total (start_position order (Excluded a)) (lower order s)
-      ((eq_is_equal (places order lawful (start_position order (Excluded a)) (lower order s))).0
-      h))
+  touching_at (Included a) s h = grind (arith, eq_is_equal, flipped_bound_is_past, places)
   touching_at (Excluded a) s h =
       let total = position_total order.cmp lawful.total in
       le_trans (places order lawful) total (past order (end_position order (Excluded a)))
@@ -64,9 +55,7 @@ module _ {K V : Type 0} (order : KeyOrder K) (lawful : IsLawful order) (same : V
       (eq_le (places order lawful) total (past order (end_position order (Excluded a)))
       (start_position order (Included a))
       (flipped_bound_is_past order lawful (Excluded a) (Included a) refl))
-      (eq_le (places order lawful) total (start_position order (Included a)) (lower order s)
-      ((eq_is_equal (places order lawful (start_position order (Included a)) (lower order s))).0
-      h))
+      (grind (arith, eq_is_equal, places))
   touching_at Unbounded s h = absurd (cc)
 
   abbrev LeadsTo : Item (AnyRange K) V → Item (AnyRange K) V → Type 0
@@ -105,11 +94,8 @@ module _ {K V : Type 0} (order : KeyOrder K) (lawful : IsLawful order) (same : V
   chained_items_have_places : (xs : List (Item (AnyRange K) V)) → Known order lawful same equal xs
       → Chained order lawful same equal xs → Goods xs
   chained_items_have_places [] known chain = tt
-  chained_items_have_places (x ∷ xs) known chain = (
-    (known.0, chain.0),
-    chained_items_have_places xs known.1
-        (chain_right (line_of order lawful same equal) (x ∷ []) xs chain),
-  )
+  chained_items_have_places (x ∷ xs) known chain =
+      grind (arith, chain_right, chained_items_have_places xs known.1)
 
   none_joined : (xs : List (Item (AnyRange K) V)) (x : Item (AnyRange K) V) → Goods xs
       → IsKnownRange order x.key
@@ -183,9 +169,7 @@ module _ {K V : Type 0} (order : KeyOrder K) (lawful : IsLawful order) (same : V
       ∙ one_between frame.front x frame.behind in
       let behind : frame.behind ≡ [] =
       none_behind frame.front frame.behind x
-      (every_right (λ i. IsKnownRange order i.key
-      × Lt cmp (item_lower order i) (item_upper order i)) frame.front frame.behind
-      (subst Goods split good)) last.0
+      (grind (arith, every_right)) last.0
       (every_right (λ i. LeadsTo i x) frame.front frame.behind
       (subst (λ is. Every (λ i. LeadsTo i x) is) split leads))
       (subst (Chained order lawful same equal) after

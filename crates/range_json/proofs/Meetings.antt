@@ -1,5 +1,5 @@
 -- The first earlier element that is met, as the ranges are read again.
-use Rattle.std.proofs.Common.{◌≡◌, refl, sym, ap, subst, ◌∙◌, ◌↔◌, false, Option, Some, None}
+use Rattle.std.proofs.Common.{◌≡◌, refl, sym, ap, subst, ◌∙◌, ◌↔◌, false, Option, Some, None, arith}
 use Rattle.std.specs.Prelude.{IfSome}
 use Rattle.std.specs.Ordering.{is_gt, ordering_reverse}
 use Rattle.std.specs.declared.cmp.Ordering.{Ordering}
@@ -40,10 +40,7 @@ module _ {K : Type 0} (order : KeyOrder K) (lawful : IsLawful order) where
   -- ranges meet where neither starts past the end of the other
   pub overlap_by : (r s : AnyRange K) → ((starts_past_end order r.start s.end ≡ false)
       × (starts_past_end order s.start r.end ≡ false)) ↔ Overlap order r s
-  overlap_by r s =
-      let one = reaches (start_position order r.start) (end_position order s.end) in
-      let other = reaches (start_position order s.start) (end_position order r.end) in
-      (λ h. (other.0 h.1, one.0 h.0), λ h. (one.1 h.1, other.1 h.0))
+  overlap_by r s = grind (arith, reaches)
 
 module _ {K : Type 0} (order : KeyOrder K) (is_read : Data → K → Type 0) where
   module _ (lawful : IsLawful order) (one : HasOneReading order is_read) where

@@ -1,5 +1,5 @@
 -- What is written is read back as an equal range or map.
-use Rattle.std.proofs.Common.{◌≡◌, refl, sym, ap, subst, ◌∙◌, ◌&&◌, ◌++◌, inl, inr, length, ℕ, List, [], ◌∷◌, map, Bool, true, IsTrue, None, Ok, Result}
+use Rattle.std.proofs.Common.{◌≡◌, refl, sym, ap, subst, ◌∙◌, ◌&&◌, ◌++◌, inl, inr, length, ℕ, List, [], ◌∷◌, map, Bool, true, IsTrue, None, Ok, Result, arith}
 use Rattle.std.proofs.lemmas.List.Elements.{All-from_recursion}
 use Rattle.std.specs.Cmp.{IsEquivalence}
 use Rattle.std.specs.List.{AllZip}
@@ -75,14 +75,7 @@ module _ {K : Type 0} (order : KeyOrder K) (shape : K → Data) (reads : Data �
     pub bounds_back : (r s : AnyRange K) → IsRangeValue is_value r
         → IsRangeRead is_read (range_shape shape r) s
         → IsBoundClone Alike r.start s.start × IsBoundClone Alike r.end s.end
-    bounds_back r s v (ds, e, starts, ends) =
-        let same : (bound_shape shape r.start, bound_shape shape r.end) ≡ ds =
-        same_Some (bound_shape shape r.start, bound_shape shape r.end) ds e in (
-          bound_back r.start s.start v.0
-              (subst (λ d. IsBoundRead is_read d s.start) (ap (λ p. p.0) (sym same)) starts),
-          bound_back r.end s.end v.1
-              (subst (λ d. IsBoundRead is_read d s.end) (ap (λ p. p.1) (sym same)) ends),
-        )
+    bounds_back r s v (ds, e, starts, ends) = grind (arith, bound_back, same_Some)
 
     module _ (lawful : IsLawful order) {V : Type 0} (same : V → V → Bool)
         (equal : IsEquivalence same) where
@@ -113,13 +106,7 @@ module _ {K : Type 0} (order : KeyOrder K) (shape : K → Data) (reads : Data �
         element_back : (x y : Item (AnyRange K) V)
             → IsRangeValue is_value x.key × value_is_value x.value
             → IsElementRead is_read value_is_read (pair x) y → Copied x y
-        element_back x y v (ds, e, range, value) =
-            let same : (range_shape shape x.key, value_shape x.value) ≡ ds =
-            same_Some (range_shape shape x.key, value_shape x.value) ds e in
-            item_back x y v.0 (subst (λ d. IsRangeRead is_read d y.key)
-            (ap (λ p. p.0) (sym same)) range)
-            (value_back x.value y.value v.1
-            (subst (λ d. value_is_read d y.value) (ap (λ p. p.1) (sym same)) value))
+        element_back x y v (ds, e, range, value) = grind (arith, item_back, same_Some)
 
         elements_back : (items elements : List (Item (AnyRange K) V))
             → AreItemValues is_value value_is_value items

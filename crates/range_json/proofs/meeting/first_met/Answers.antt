@@ -94,6 +94,4 @@ returns-in_err-range_again-clause-found g c in_place one sound own met =
     ∙ take-append-drop (n + 1) vs in
     let split : map view vs ≡ map view (take n vs) ++ view v ∷ map view rest =
     sym (ap (map view) all) ∙ map-append view (take n vs) (v ∷ rest) in
-    absurd (false≢true (c.in_err-range_again.ensures.found in_place (all_midst
-    (HasSoundRange g.K.Json.reads) (map view (take n vs)) (view v) (map view rest)
-    (subst (AllByRecursion (HasSoundRange g.K.Json.reads)) split sound))))
+    absurd (grind (arith, all_midst, false≢true))
