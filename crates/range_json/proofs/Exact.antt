@@ -35,10 +35,8 @@ pub record IsReadAt {X : Type 0} (R : Data → X → Type 0) (front : List Data)
 
 pub read_at : {X : Type 0} (R : Data → X → Type 0) (front : List Data) (d : Data) (rest : List Data)
     (elements : List X) → AllZip R (front ++ d ∷ rest) elements → IsReadAt R front d elements
-read_at R [] d rest [] h = absurd h
 read_at R [] d rest (y ∷ ys) h =
     record { xs = []; x = y; ys = ys; split = refl; before = tt; at = h.0 }
-read_at R (c ∷ front) d rest [] h = absurd h
 read_at R (c ∷ front) d rest (y ∷ ys) h =
     let later = read_at R front d rest ys h.1 in
     record {
@@ -49,6 +47,7 @@ read_at R (c ∷ front) d rest (y ∷ ys) h =
       before = (h.0, later.before);
       at = later.at;
     }
+read_at R front d rest elements h = grind arith
 
 module _ {K : Type 0} (order : KeyOrder K) (lawful : IsLawful order) where
   equal_positions_compare_alike : (p q r s : Position K) → position_cmp order.cmp p q ≡ Equal
@@ -76,22 +75,10 @@ module _ {K : Type 0} (order : KeyOrder K) (lawful : IsLawful order) where
 
     parts_one : (p : Option (Bound Data)) (b c : Bound K) → ArePartsRead is_read p b
         → ArePartsRead is_read p c → IsBoundClone Alike b c
-    parts_one None b c h g = absurd h
     parts_one (Some (Included d)) (Included k) (Included l) h g = one d k l h g
-    parts_one (Some (Included d)) (Included k) (Excluded l) h g = absurd g
-    parts_one (Some (Included d)) (Included k) Unbounded h g = absurd g
-    parts_one (Some (Included d)) (Excluded k) c h g = absurd h
-    parts_one (Some (Included d)) Unbounded c h g = absurd h
     parts_one (Some (Excluded d)) (Excluded k) (Excluded l) h g = one d k l h g
-    parts_one (Some (Excluded d)) (Excluded k) (Included l) h g = absurd g
-    parts_one (Some (Excluded d)) (Excluded k) Unbounded h g = absurd g
-    parts_one (Some (Excluded d)) (Included k) c h g = absurd h
-    parts_one (Some (Excluded d)) Unbounded c h g = absurd h
-    parts_one (Some Unbounded) (Included k) c h g = absurd h
-    parts_one (Some Unbounded) (Excluded k) c h g = absurd h
-    parts_one (Some Unbounded) Unbounded (Included l) h g = absurd g
-    parts_one (Some Unbounded) Unbounded (Excluded l) h g = absurd g
     parts_one (Some Unbounded) Unbounded Unbounded h g = tt
+    parts_one p b c h g = grind arith
 
     pub range_one : (d : Data) (r s : AnyRange K) → IsRangeRead is_read d r
         → IsRangeRead is_read d s
@@ -112,13 +99,11 @@ module _ {K : Type 0} (order : KeyOrder K) (lawful : IsLawful order) where
           → AllZip (IsElementRead is_read value_is_read) front ys → range_cmp order r s ≡ Equal
           → MeetsOne order r xs → MeetsOne order s ys
       one_too [] [] ys r s h g e meets = absurd meets
-      one_too [] (x ∷ xs) ys r s h g e meets = absurd h
-      one_too (d ∷ front) [] ys r s h g e meets = absurd h
-      one_too (d ∷ front) (x ∷ xs) [] r s h g e meets = absurd g
       one_too (d ∷ front) (x ∷ xs) (y ∷ ys) r s h g e meets = elim meets [
         | inl here ↦ inl (meet_too x.key r y.key s (element_one d x y h.0 g.0) e here)
         | inr later ↦ inr (one_too front xs ys r s h.1 g.1 e later)
       ]
+      one_too front xs ys r s h g e meets = grind arith
 
       apart_at : (xs ys : List (Item (AnyRange K) V)) (y : Item (AnyRange K) V)
           → AreApart order (xs ++ y ∷ ys) → ¬ MeetsOne order y.key xs

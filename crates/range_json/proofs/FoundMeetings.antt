@@ -17,6 +17,7 @@ use Rattle.range_json.specs.Faults.{before, bound_fault, bounds_fault, first_fau
 use Rattle.range_json.specs.MapFaults.{IsElementRead, IsFaultOf, IsMapFault, MeetsOne, element_fault, is_version_2, map_elements, or_no_array, pair_fault, value_fault}
 use Rattle.range_json.specs.Meetings.{HasSoundRange, IsRangeOf, MayMeet, MayMeetEarlier, NeverMeet}
 use Rattle.range_json.specs.Shapes.{bound_of, elements_of, pair_of}
+use Rattle.range_json.proofs.Reading.{before_none}
 
 -- no fault of meeting an earlier element
 abbrev IsOther : Option JsonError → Type 0
@@ -25,10 +26,6 @@ IsOther f = (i : ℕ) → f ≡ Some (Meets i) → ⊥
 before_other : (f g : Option JsonError) → IsOther f → IsOther g → IsOther (before f g)
 before_other None g h k = k
 before_other (Some e) g h k = h
-
-before_none : (f g : Option JsonError) → before f g ≡ None → (f ≡ None) × (g ≡ None)
-before_none None g h = (refl, h)
-before_none (Some e) g h = absurd (none-some e (sym h))
 
 if_other : (b : Bool) (e : JsonError) → ((i : ℕ) → e ≡ Meets i → ⊥)
     → IsOther (if b then None else Some e)
@@ -55,10 +52,9 @@ module _ (key_reads : Data → Bool) where
   bounds_none i j (Some p) h = grind (arith, before_none, parts_none)
 
   parts_other : (j : ℕ) (p : Option (Bound Data)) → IsOther (parts_fault key_reads j p)
-  parts_other j None = λ i is. cc
   parts_other j (Some (Included d)) = if_other (key_reads d) (Key j) (λ i is. cc)
   parts_other j (Some (Excluded d)) = if_other (key_reads d) (Key j) (λ i is. cc)
-  parts_other j (Some Unbounded) = λ i is. cc
+  parts_other j p = λ i is. cc
 
   bounds_other : (j : ℕ) (p : Option (Data × Data)) → IsOther (bounds_fault key_reads j p)
   bounds_other j None = λ i is. cc
@@ -100,14 +96,10 @@ object_other false ds i is = cc
 
 -- the fault of a whole map is no meeting
 whole_other : (d : Data) (i : ℕ) → map_elements d ≡ Err (Meets i) → ⊥
-whole_other null i is = cc
-whole_other (boolean b) i is = cc
-whole_other (number n) i is = cc
-whole_other (string s) i is = cc
-whole_other (array ds) i is = cc
 whole_other (object ms) i is =
     object_other (is_version_2 ms) (option_and_then elements_of (get_member (codes "items") ms)) i
     is
+whole_other d i is = cc
 
 same_index : (i j : ℕ) → Meets i ≡ Meets j → j ≡ i
 same_index i j e = cc
@@ -119,18 +111,9 @@ module _ {K V : Type 0} (order : KeyOrder K) (key_is_read : Data → K → Type 
       → IsRangeOf key_is_read d r → MeetsOne order r earlier
       → Any (λ e. MayMeet order key_is_read e d) front
   one_met [] [] d r read own meets = meets
-  one_met [] (x ∷ xs) d r read own meets = absurd read
-  one_met (e ∷ front) [] d r read own meets = absurd read
-  one_met (e ∷ front) (x ∷ xs) d r read own (inl here) =
-      inl (record {
-        r = x.key;
-        s = r;
-        first = (read.0.0, read.0.1, read.0.2);
-        second = own;
-        meet = here;
-      })
-  one_met (e ∷ front) (x ∷ xs) d r read own (inr later) =
-      inr (one_met front xs d r read.1 own later)
+  one_met (e ∷ front) (x ∷ xs) d r read own meets =
+      grind (arith, one_met front xs d r read.1 own)
+  one_met front earlier d r read own meets = absurd read
 
   module _ (key_reads value_reads : Data → Bool) where
     met_among : (whole : Data) (i : ℕ) (elements : Result (List Data) JsonError)
@@ -153,10 +136,8 @@ pub none_met : {K : Type 0} (order : KeyOrder K) (key_is_read : Data → K → T
     (xs : List Data) (d : Data) → AllByRecursion (λ c. NeverMeet order key_is_read c d) xs
     → Any (λ e. MayMeet order key_is_read e d) xs → ⊥
 none_met order key_is_read [] d never met = met
-none_met order key_is_read (x ∷ xs) d never (inl here) =
-    never.0 here.r here.s here.first here.second here.meet
-none_met order key_is_read (x ∷ xs) d never (inr later) =
-    none_met order key_is_read xs d never.1 later
+none_met order key_is_read (x ∷ xs) d never met =
+    grind (arith, none_met order key_is_read xs d never.1)
 
 -- what holds of all elements holds of one in their midst
 pub all_midst : {X : Type 0} (P : X → Type 0) (xs : List X) (x : X) (ys : List X)
@@ -168,22 +149,17 @@ all_midst P (y ∷ xs) x ys h = all_midst P xs x ys h.1
 pub same_parts : {X : Type 0} (xs ys : List X) (x y : X) (more rest : List X)
     → xs ++ x ∷ more ≡ ys ++ y ∷ rest → length xs ≡ length ys → (xs ≡ ys) × (x ≡ y)
 same_parts [] [] x y more rest e n = (refl, cc)
-same_parts [] (b ∷ ys) x y more rest e n = absurd cc
-same_parts (a ∷ xs) [] x y more rest e n = absurd cc
 same_parts (a ∷ xs) (b ∷ ys) x y more rest e n =
     let tail : xs ++ x ∷ more ≡ ys ++ y ∷ rest = cc in
     let heads : a ≡ b = cc in
     let same = same_parts xs ys x y more rest tail (omega (arith, n)) in
     (ap (λ l. a ∷ l) same.0 ∙ ap (λ c. c ∷ ys) heads, same.1)
+same_parts xs ys x y more rest e n = absurd cc
 
 -- what is no array is no array of two
 pub no_pair : (d : Data) (ds : Data × Data) → None ≡ as_array d → pair_of d ≡ Some ds → ⊥
-no_pair null ds none is = none-some ds is
-no_pair (boolean b) ds none is = none-some ds is
-no_pair (number n) ds none is = none-some ds is
-no_pair (string s) ds none is = none-some ds is
 no_pair (array xs) ds none is = none-some xs none
-no_pair (object ms) ds none is = none-some ds is
+no_pair d ds none is = none-some ds is
 
 pub same_elements : (found : Result (List Data) JsonError) (ds es : List Data) → found ≡ Ok ds
     → found ≡ Ok es → ds ≡ es

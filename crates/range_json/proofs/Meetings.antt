@@ -27,8 +27,7 @@ some_too P Q (Some x) to h = to x h
 
 past_or_not : (a b : Ordering) → a ≡ ordering_reverse b → (is_gt a ≡ false) ↔ ¬ (b ≡ Less)
 past_or_not a Less e = (λ h. absurd cc, λ h. absurd (h refl))
-past_or_not a Equal e = (λ h k. absurd cc, λ h. ap is_gt e)
-past_or_not a Greater e = (λ h k. absurd cc, λ h. ap is_gt e)
+past_or_not a b e = (λ h k. absurd cc, λ h. ap is_gt e)
 
 module _ {K : Type 0} (order : KeyOrder K) (lawful : IsLawful order) where
   reaches : (p q : Position K) → (is_gt (position_cmp order.cmp p q) ≡ false)

@@ -20,14 +20,7 @@ use Rattle.range_merge.proofs.HeldInside.{inside_holds, lies_in_holds}
 
 any_last : {X : Type 0} (P : X → Type 0) (xs : List X) (x : X)
     → Any P (xs ++ x ∷ []) ↔ (Any P xs ⊎ P x)
-any_last P xs x = (
-  λ h. elim (any_split P xs (x ∷ []) h) [
-    | inl before ↦ inl before
-    | inr (inl here) ↦ inr here
-    | inr (inr nowhere) ↦ absurd nowhere
-  ],
-  λ h. elim h [ inl before ↦ any_left P xs (x ∷ []) before | inr here ↦ any_end P xs x here ],
-)
+any_last P xs x = grind (arith, any_split P xs (x ∷ []), any_left P xs (x ∷ []), any_end P xs x)
 
 -- of what a list holds, where a part is told otherwise
 told : {N A B M P : Type 0} → N ↔ A → A ↔ (B ⊎ P) → M ↔ B → N ↔ (M ⊎ P)
@@ -269,19 +262,17 @@ module _ {K : Type 0} {order : KeyOrder K} (lawful : IsLawful order) {V W X : Ty
       → order.is_key k → (answer b : Option X) → IsHeldAs (Beside k At) new answer
       → Binds order same new k b ↔ IsAsAnswered same answer b
   as_answered new k known key None None held =
-      let bound = bound_hold order lawful same equal new k known key in
-      (λ _. refl, λ _ is. (held (λ u. true) (λ a b s t. t)).0 (bound.0 is))
+      let own = held (λ u. true) (λ a b s t. t) in
+      grind (arith, bound_hold order lawful same equal new k known key)
   as_answered new k known key (Some v) None held =
-      let bound = bound_hold order lawful same equal new k known key in
-      (λ unbound. unbound (bound.1 ((held (λ u. true) (λ a b s t. t)).1 refl)), λ e. absurd e)
+      let own = held (λ u. true) (λ a b s t. t) in
+      grind (arith, bound_hold order lawful same equal new k known key)
   as_answered new k known key None (Some w) held =
       let own = held (λ u. same u w) (λ a b s t. sym (equal.congr a b w s) ∙ t) in
-      let here = binds_hold order lawful same equal new k w known key in
-      (λ bound. absurd (own.0 (here.0 bound)), λ e. absurd (cc))
+      grind (arith, binds_hold order lawful same equal new k w known key)
   as_answered new k known key (Some v) (Some w) held =
       let own = held (λ u. same u w) (λ a b s t. sym (equal.congr a b w s) ∙ t) in
-      let here = binds_hold order lawful same equal new k w known key in
-      (λ bound. own.0 (here.0 bound), λ e. here.1 (own.1 e))
+      grind (arith, binds_hold order lawful same equal new k w known key)
 
   constant_bound : {U : Type 0} (xs : List (Item (AnyRange K) U)) (r : AnyRange K) (v : Option U)
       (k : K) → order.is_key k → Holds order r k → IsConstantOn order xs r v

@@ -20,7 +20,7 @@ module _ {K : Type 0} {order : KeyOrder K} (lawful : IsLawful order) where
   abbrev Past : Bound K → Position K
   Past e = past order (end_position order e)
 
-  itself : (p : Position K) → cmp p p ≡ Equal
+  pub itself : (p : Position K) → cmp p p ≡ Equal
   itself p = tied_itself (position_total order.cmp lawful.total) p
 
   -- the places past two ends at one place are one place
@@ -35,8 +35,7 @@ module _ {K : Type 0} {order : KeyOrder K} (lawful : IsLawful order) where
       → Lt cmp (lower order r) (start_position order s) → flipped s ≡ None → ⊥
   later_has_end r Unbounded placed later e =
       lt_not_le lawful _ _ later (unbounded_start order lawful r.start placed.known.0)
-  later_has_end r (Included a) placed later e = cc
-  later_has_end r (Excluded a) placed later e = cc
+  later_has_end r s placed later e = cc
 
   -- an end that lies before another is not unbounded
   pub earlier_has_start : (r : AnyRange K) (e : Bound K) → IsPlaced order r
@@ -44,8 +43,7 @@ module _ {K : Type 0} {order : KeyOrder K} (lawful : IsLawful order) where
   earlier_has_start r Unbounded placed less is =
       lt_not_le lawful _ _ less (end_le order lawful r.end Unbounded placed.known.1 tt
       (unbounded_end order lawful r.end placed.known.1))
-  earlier_has_start r (Included a) placed less is = cc
-  earlier_has_start r (Excluded a) placed less is = cc
+  earlier_has_start r e placed less is = cc
 
   module _ {V : Type 0} (i : Item (AnyRange K) V) (placed : IsPlaced order i.key) where
     left_from : (p : Position K) (s : Bound K) → IsKnownBound order s

@@ -10,6 +10,7 @@ use Rattle.range_change.proofs.RangePieces.{any_over, any_use, any_with, lies_in
 use Rattle.range_change.proofs.Windows.{every_both}
 use Rattle.range_keys.proofs.Orderings.{equal_then_equal}
 use Rattle.range_algebra.specs.RangeOrder.{range_cmp}
+use Rattle.range_merge.proofs.FirstPieces.{itself}
 use Rattle.range_merge.proofs.Combining.{PLe, HoldsAt, SomeHoldsAt, IsLeftFrom, IsSideUpTo, not_left, some_of}
 use Rattle.range_change.proofs.PlaceOrder.{le_refl, lt_le, eq_le, eq_ge, le_trans, le_lt_trans, lt_le_trans, lt_not_le, not_lt, cases, both}
 
@@ -57,20 +58,18 @@ module _ {K : Type 0} {order : KeyOrder K} (lawful : IsLawful order) where
           | inr end ↦ inr (same_place p q _ same end)
         ]) at
 
+    held_in : (xs : List (Item (AnyRange K) V)) (p : Position K) (a : Item (AnyRange K) V)
+        → Any (λ i. i ≡ a) xs → HoldsAt order p a.key → SomeHoldsAt order p xs
+    held_in xs p a in_a at = any_over _ _ xs (λ i e. rw e at) in_a
+
     -- two items that hold one place are one
     once : (items xs : List (Item (AnyRange K) V)) (m p : Position K) (a b : Item (AnyRange K) V)
         → IsLeftFrom order items m xs → Any (λ i. i ≡ a) xs → Any (λ i. i ≡ b) xs
         → HoldsAt order p a.key → HoldsAt order p b.key → a ≡ b
     once items [] m p a b was in_a in_b at_a at_b = absurd in_a
-    once items (x ∷ xs) m p a b was (inl e) (inl f) at_a at_b = sym e ∙ f
-    once items (x ∷ xs) m p a b was (inl e) (inr later) at_a at_b =
-        absurd (not_left lawful items xs (upper order x.key) p was.3 (rw e at_a.1)
-        (any_over _ _ xs (λ i f. rw f at_b) later))
-    once items (x ∷ xs) m p a b was (inr later) (inl f) at_a at_b =
-        absurd (not_left lawful items xs (upper order x.key) p was.3 (rw f at_b.1)
-        (any_over _ _ xs (λ i e. rw e at_a) later))
-    once items (x ∷ xs) m p a b was (inr later) (inr too) at_a at_b =
-        once items xs (upper order x.key) p a b was.3 later too at_a at_b
+    once items (x ∷ xs) m p a b was in_a in_b at_a at_b =
+        grind (arith, not_left lawful items xs (upper order x.key) p was.3, held_in xs p,
+        once items xs (upper order x.key) p a b was.3)
 
     module _ {items left : List (Item (AnyRange K) V)} {m : Position K}
         {Done : Position K → Type 0} (was : IsSideUpTo order items m left Done) where
@@ -119,8 +118,7 @@ module _ {K : Type 0} {order : KeyOrder K} (lawful : IsLawful order) where
           → IsPlaced order z.key → Any (λ i. i ≡ z) items → HoldsAt order p z.key
           → HoldsAt order q z.key
       held_alike None constant p q at_p at_q z placed in_z held =
-          absurd (not_inside was r known constant p at_p
-          (any_over _ _ items (λ i same. rw same held) in_z))
+          absurd (not_inside was r known constant p at_p (held_in items p z in_z held))
       held_alike (Some v) constant p q at_p at_q z placed in_z held =
           any_use _ _ items constant (every_both _ _ items was.placed (members items))
           (λ x in_r own.
@@ -244,22 +242,18 @@ module _ {K : Type 0} {order : KeyOrder K} (lawful : IsLawful order) where
             → IsCutFrom order first key value last → (value ≡ None → ⊥)
             → LieBetweenEnds (option_items first ++ rest)
             → IsEnd order items others (lower order key)
-        starts_at_end None None last rest cut some all = absurd (some refl)
-        starts_at_end None (Some v) last rest cut some all = absurd cut
-        starts_at_end (Some i) None last rest cut some all = absurd (some refl)
         starts_at_end (Some i) (Some v) last rest cut some all = moved _ _ cut.1 all.0.0
+        starts_at_end None (Some v) last rest cut some all = absurd cut
+        starts_at_end first value last rest cut some all = absurd (some refl)
 
         ends_at_end : (first : Option (Item (AnyRange K) U)) (value : Option U)
             (last : Option (Item (AnyRange K) U)) (rest : List (Item (AnyRange K) U))
             → IsCutFrom order first key value last → IsUsedUp first last
             → LieBetweenEnds (option_items first ++ rest)
             → IsEnd order items others (upper order key)
-        ends_at_end None value last rest cut used all = absurd (used.0 refl)
-        ends_at_end (Some i) None last rest cut used all =
-            let whole : Some i ≡ None = sym cut.0 ∙ used.1 in absurd (cc)
         ends_at_end (Some i) (Some v) None rest cut used all = moved _ _ cut.2 all.0.1
-        ends_at_end (Some i) (Some v) (Some j) rest cut used all =
-            let none = used.1 in absurd (cc)
+        ends_at_end (Some i) None last rest cut used all = grind arith
+        ends_at_end first value last rest cut used all = grind arith
 
         -- a side that goes on, as it was or from the end of the piece
         goes_on : (first : Option (Item (AnyRange K) U)) (value : Option U)
@@ -269,20 +263,18 @@ module _ {K : Type 0} {order : KeyOrder K} (lawful : IsLawful order) where
             ⊎ ((position_cmp order.cmp (upper order key) (lower order j.key) ≡ Equal)
             × ((i : Item (AnyRange K) U) × (first ≡ Some i)
             × (position_cmp order.cmp (lower order key) (lower order i.key) ≡ Equal)))
-        goes_on None None last j cut is =
-            let none : None ≡ Some j = sym cut ∙ is in absurd (cc)
-        goes_on None (Some v) last j cut is = absurd cut
+        goes_on None None last j cut is = grind arith
         goes_on (Some i) None last j cut is = inl (refl, sym cut.0 ∙ is)
-        goes_on (Some i) (Some v) None j cut is = absurd (cc)
         goes_on (Some i) (Some v) (Some k) j cut is =
             let same : k ≡ j = cc in inr (rw (← same) cut.2.from, (i, refl, cut.1))
+        goes_on first value last j cut is = grind arith
 
       first_start : (first : Option (Item (AnyRange K) U)) (i : Item (AnyRange K) U)
           (rest : List (Item (AnyRange K) U)) → first ≡ Some i
           → LieBetweenEnds (option_items first ++ rest)
           → IsEnd order items others (lower order i.key)
       first_start None i rest is all = absurd (cc)
-      first_start (Some j) i rest is all = let same : j ≡ i = cc in rw (← same) all.0.0
+      first_start (Some j) i rest is all = grind arith
 
     -- the first piece of two lists whose ranges lie between such places
     module _ {left left_rest : Option (Item (AnyRange K) V)}
@@ -330,14 +322,11 @@ module _ {K : Type 0} {order : KeyOrder K} (lawful : IsLawful order) where
       pub piece_between : LiesBetweenEnds order items others key
       piece_between = (piece_start, piece_end)
 
-  itself : (p : Position K) → position_cmp order.cmp p p ≡ Equal
-  itself p = both lawful p p (le_refl lawful p) (le_refl lawful p)
-
   own_end : {V : Type 0} (items : List (Item (AnyRange K) V))
       → Every (λ x. IsEndIn order items (lower order x.key)
       × IsEndIn order items (upper order x.key)) items
   own_end items =
-      every_weaker _ _ items (grind (arith, any_over, itself)) (members items)
+      every_weaker _ _ items (grind (arith, any_over, itself lawful)) (members items)
 
   -- the ranges of the two lists do
   pub items_between : {V W : Type 0} (items : List (Item (AnyRange K) V))

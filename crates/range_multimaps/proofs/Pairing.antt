@@ -228,9 +228,8 @@ module _ {K : Type 0} (order : KeyOrder K) {S : Type 0} (same : S → S → Bool
   pub copied_full : (copy items : List (Item (AnyRange K) S)) → IsCopyOf order same copy items
       → HasNoEmptySet is_void items → HasNoEmptySet is_void copy
   copied_full [] [] zip full = tt
-  copied_full [] (j ∷ items) zip full = absurd zip
-  copied_full (i ∷ copy) [] zip full = absurd zip
   copied_full (i ∷ copy) (j ∷ items) zip full = grind (arith, copied_full copy items zip.1 full.1)
+  copied_full copy items zip full = absurd zip
 
 module _ {K : Type 0} (order : KeyOrder K) {S V : Type 0} {has : S → V → Bool}
     {is_void : S → Type 0} (void_is : (s : S) → is_void s ↔ HasNone has s) (k : K) where

@@ -40,10 +40,9 @@ module _ {K : Type 0} (order : KeyOrder K) {S V : Type 0} (has : S → V → Boo
     pairs_of_copy : (copy items : Items) → IsCopyOf order same copy items → (k : K)
         → order.is_key k → (v : V) → HasPair order has copy k v ↔ HasPair order has items k v
     pairs_of_copy [] [] zip k key v = (λ h. h, λ h. h)
-    pairs_of_copy [] (j ∷ items) zip k key v = absurd zip
-    pairs_of_copy (i ∷ copy) [] zip k key v = absurd zip
     pairs_of_copy (i ∷ copy) (j ∷ items) zip k key v =
         grind (arith, equal_is_same, pairs_of_copy copy items zip.1 k key v)
+    pairs_of_copy copy items zip k key v = absurd zip
 
     -- a copy to which nothing was added yet, or from which nothing was taken
     pub none_united : (copy items : Items) → IsCopyOf order same copy items

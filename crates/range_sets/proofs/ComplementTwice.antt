@@ -10,6 +10,8 @@ use Rattle.range_keys.specs.Position.{start_position, end_position, position_cmp
 use Rattle.range_keys.proofs.Orderings.{not_both_greater_and_not, not_greater}
 use Rattle.range_algebra.specs.declared.any.AnyRange.{AnyRange}
 use Rattle.range_algebra.proofs.Lists.{every_weaker}
+use Rattle.range_change.proofs.RangePieces.{any_over, every_with}
+use Rattle.range_change.proofs.Windows.{every_both}
 use Rattle.range_algebra.specs.Intervals.{Any}
 use Rattle.range_algebra.specs.RangeOrder.{range_cmp, range_total}
 use Rattle.range_algebra.specs.Relations.{LiesBefore}
@@ -42,17 +44,6 @@ every_swap : {X Y : Type 0} (R : X → Y → Type 0) (xs : List X) (ys : List Y)
 every_swap R [] ys h = tt
 every_swap R (x ∷ xs) ys h = grind (arith, every_weaker, every_swap R xs ys)
 
-every_three : {X : Type 0} (P Q S R : X → Type 0) (xs : List X) → ((x : X) → P x → Q x → S x → R x)
-    → Every P xs → Every Q xs → Every S xs → Every R xs
-every_three P Q S R [] f h k l = tt
-every_three P Q S R (x ∷ xs) f h k l = (f x h.0 k.0 l.0, every_three P Q S R xs f h.1 k.1 l.1)
-
-any_more : {X : Type 0} (P Q : X → Type 0) (xs : List X) → ((x : X) → P x → Q x) → Any P xs
-    → Any Q xs
-any_more P Q [] f h = h
-any_more P Q (x ∷ xs) f (inl h) = inl (f x h)
-any_more P Q (x ∷ xs) f (inr h) = inr (any_more P Q xs f h)
-
 module _ {K : Type 0} (order : KeyOrder K) (lawful : IsLawful order) where
   abbrev Stored : Type 0
   Stored = Item (AnyRange K) (Unit {0})
@@ -73,9 +64,6 @@ module _ {K : Type 0} (order : KeyOrder K) (lawful : IsLawful order) where
   missed_equal (j ∷ others) (g ∷ gaps) f r zip missed (inr found) meets =
       missed_equal others gaps f r zip.1 missed.1 found meets
 
-  overlap_turned : (r s : AnyRange K) → Overlap order r s → Overlap order s r
-  overlap_turned r s meets = (meets.1, meets.0)
-
   -- what all gaps miss, all that equal them miss
   all_missed : (items others : List Stored) (gaps : List (AnyRange K)) → Equals others gaps
       → Every (λ g. Every (λ i. ¬ Overlap order i.key g) items) gaps
@@ -84,11 +72,9 @@ module _ {K : Type 0} (order : KeyOrder K) (lawful : IsLawful order) where
   all_missed items [] (g ∷ gaps) zip missed = tt
   all_missed items (j ∷ others) [] zip missed = absurd zip
   all_missed items (j ∷ others) (g ∷ gaps) zip missed = (
-    every_weaker (λ i. ¬ Overlap order i.key g) (λ i. ¬ Overlap order j.key i.key) items
-        (λ i apart meets.
-        apart (overlap_turned g i.key
-        (overlap_within order lawful j.key g i.key
-        (equal_within order lawful j.key g zip.0).0 meets))) missed.0,
+    every_weaker _ _ items (λ i apart meets.
+        let turned = overlap_within order lawful j.key g i.key
+        (equal_within order lawful j.key g zip.0).0 meets in apart (turned.1, turned.0)) missed.0,
     all_missed items others gaps zip.1 missed.1,
   )
 
@@ -96,10 +82,8 @@ module _ {K : Type 0} (order : KeyOrder K) (lawful : IsLawful order) where
       → Equals thirds gaps → AllZip (λ g i. range_cmp order g i.key ≡ Equal) gaps items
       → IsTrue (same_list order (λ _ _. true) thirds items)
   equal_gaps_are_same_list [] [] [] h k = refl
-  equal_gaps_are_same_list [] [] (i ∷ items) h k = absurd k
   equal_gaps_are_same_list [] (g ∷ gaps) items h k = absurd h
   equal_gaps_are_same_list (t ∷ thirds) [] items h k = absurd h
-  equal_gaps_are_same_list (t ∷ thirds) (g ∷ gaps) [] h k = absurd k
   equal_gaps_are_same_list (t ∷ thirds) (g ∷ gaps) (i ∷ items) h k =
       let total = range_total order lawful in
       let same = ap is_eq (total.congr t.key g i.key h.0 ∙ k.0) in
@@ -107,6 +91,7 @@ module _ {K : Type 0} (order : KeyOrder K) (lawful : IsLawful order) where
       (same_list order (λ _ _. true) thirds items)
       (and_from (eq_by_cmp (range_cmp order) t.key i.key) true same refl)
       (equal_gaps_are_same_list thirds gaps items h.1 k.1)
+  equal_gaps_are_same_list thirds gaps items h k = absurd k
 
   module _ (items others : List Stored) (form : IsStoredSet order items) (gaps : List (AnyRange K))
       (are : AreGaps order items gaps) (zip : Equals others gaps) where
@@ -131,9 +116,8 @@ module _ {K : Type 0} (order : KeyOrder K) (lawful : IsLawful order) where
     free_range_misses_gaps : (r : AnyRange K) → IsFree r
         → Every (λ f. ¬ Overlap order f r) (free_from order (Some Unbounded) items)
     free_range_misses_gaps r free =
-        let walk = free_from order (Some Unbounded) items in
-        every_weaker (λ f. IsPiece order items full_range f None) (λ f. ¬ Overlap order f r) walk
-        (λ f piece. missed_equal others gaps f r zip free.free (are.all f piece.0.known piece))
+        every_weaker _ _ _ (λ f piece.
+        missed_equal others gaps f r zip free.free (are.all f piece.0.known piece))
         (gaps_are lawful all_equal items form).each
 
     -- and so it lies in a range of the set
@@ -163,39 +147,26 @@ module _ {K : Type 0} (order : KeyOrder K) (lawful : IsLawful order) where
     items_missed =
         every_swap (λ i j. ¬ Overlap order j.key i.key) items others
         (all_missed items others gaps zip
-        (every_weaker (λ g. IsPiece order items full_range g None)
-        (λ g. Every (λ i. ¬ Overlap order i.key g) items) gaps (λ g piece. piece.0.free) are.each))
+        (every_weaker _ _ gaps (λ g piece. piece.0.free) are.each))
 
     -- each range of the set is a gap of the complement
     items_pieces : Every (λ i. IsPiece order others full_range i.key None) items
     items_pieces =
-        every_three (λ i. IsFull order lawful i.key)
-        (λ i. Every (λ j. ¬ Overlap order j.key i.key) others)
-        (λ i. (other : FreeRange) → LiesIn order i.key other.0 → LiesIn order other.0 i.key)
-        (λ i. IsPiece order others full_range i.key None) items
-        (λ i full missed wide. (item_free i full missed, λ other free. wide (other, free)))
-        full_items
-        items_missed items_wide
+        every_with _ _ _ items full_items (every_both _ _ items items_missed items_wide)
+        (λ i full also. (item_free i full also.0, λ other free. also.1 (other, free)))
 
     -- the gaps of the complement are the ranges of the set
     gaps_of_gaps_are_equal : (again : List (AnyRange K)) → AreGaps order others again
         → AllZip (λ g i. range_cmp order g i.key ≡ Equal) again items
     gaps_of_gaps_are_equal again were =
-        let full =
-        every_weaker (λ g. IsPiece order others full_range g None)
-        (IsFull order lawful) again (λ g piece. free_full g piece.0) were.each in
-        let here =
-        every_weaker (λ g. IsPiece order others full_range g None)
-        (λ g. InSome order lawful (λ i. i.key) g items) again
-        (λ g piece. free_range_is_within_item g piece.0) were.each in
-        let there =
-        every_weaker (λ i. IsPiece order others full_range i.key None)
-        (λ i. InSome order lawful (λ g. g) i.key again) items
-        (λ i piece. any_more (λ g. range_cmp order g i.key ≡ Equal)
-        (λ g. LiesIn order i.key g) again (λ g e. (equal_within order lawful g i.key e).1)
-        (were.all i.key piece.0.known piece)) items_pieces in
+        let full : Every (λ g. IsFull order lawful g) again =
+        every_weaker _ _ again (λ g piece. free_full g piece.0) were.each in
         mutual_cover_matches order lawful (λ g. g) (λ i. i.key) again items full full_items
-        (row_pairs order lawful again full were.rising) pairs here there
+        (row_pairs order lawful again full were.rising) pairs
+        (every_weaker _ _ again (λ g piece. free_range_is_within_item g piece.0) were.each)
+        (every_weaker _ _ items (λ i piece.
+        any_over _ _ again (λ g e. (equal_within order lawful g i.key e).1)
+        (were.all i.key piece.0.known piece)) items_pieces)
 
   -- the complement of the complement of a set equals it
   pub complement_twice : (items others thirds : List Stored) → IsStoredSet order items

@@ -26,9 +26,8 @@ all_equal = record { refl = λ x. refl; symm = λ x y. refl; congr = λ x y z e.
 zip_more : {A B : Type 0} (R : A → B → Type 0) (xs : List A) (ys : List B) (x : A) (y : B)
     → AllZip R xs ys → R x y → AllZip R (xs ++ x ∷ []) (ys ++ y ∷ [])
 zip_more R [] [] x y zip r = (r, tt)
-zip_more R [] (b ∷ ys) x y zip r = absurd zip
-zip_more R (a ∷ xs) [] x y zip r = absurd zip
 zip_more R (a ∷ xs) (b ∷ ys) x y zip r = (zip.0, zip_more R xs ys x y zip.1 r)
+zip_more R xs ys x y zip r = absurd zip
 
 module _ {K : Type 0} (order : KeyOrder K) where
   abbrev Items : Type 0
@@ -52,9 +51,8 @@ module _ {K : Type 0} (order : KeyOrder K) where
   as_copy : (items : Items) (ranges : List (AnyRange K)) → AllZip SameRange items ranges
       → IsCopyOf order (λ _ _. true) items (set_items ranges)
   as_copy [] [] zip = tt
-  as_copy [] (g ∷ ranges) zip = absurd zip
-  as_copy (i ∷ items) [] zip = absurd zip
   as_copy (i ∷ items) (g ∷ ranges) zip = ((zip.0, refl), as_copy items ranges zip.1)
+  as_copy items ranges zip = absurd zip
 
   module _ (lawful : IsLawful order) where
     -- a clone of a range equals it
@@ -73,8 +71,7 @@ module _ {K : Type 0} (order : KeyOrder K) where
         let more = items ++ record { key = r; value = tt } ∷ [] in
         let front = filled.done ++ g ∷ [] in
         let all : front ++ others ≡ gaps =
-        append_assoc filled.done (g ∷ []) others
-        ∙ (ap (λ l. filled.done ++ l) (sym next) ∙ filled.split) in
+        rw (append_assoc filled.done (g ∷ []) others, ← next) filled.split in
         let zip =
         zip_more SameRange items filled.done
         (record { key = r; value = tt }) g filled.copied same in
@@ -84,7 +81,7 @@ module _ {K : Type 0} (order : KeyOrder K) where
         (every_more (λ i. IsKnownRange order i.key) items
         (record { key = r; value = tt }) filled.form.known known))
         (front_stored order lawful front others
-        (subst (λ l. IsStoredSet order (set_items l)) (sym all) form))
+        (rw all form))
 
     pub filled_more : (gaps rest others : List (AnyRange K)) (items next : Items) (room left : ℕ)
         (g r : AnyRange K) → IsStoredSet order (set_items gaps) → IsFilled gaps rest items room
@@ -96,9 +93,7 @@ module _ {K : Type 0} (order : KeyOrder K) where
         let shorter = ap length came in
         rw put (record {
           done = filled.done ++ g ∷ [];
-          split =
-              append_assoc filled.done (g ∷ []) others
-              ∙ (ap (λ l. filled.done ++ l) (sym came) ∙ filled.split);
+          split = rw (append_assoc filled.done (g ∷ []) others, ← came) filled.split;
           copied =
               zip_more SameRange items filled.done
               (record { key = r; value = tt }) g filled.copied same;
@@ -109,10 +104,9 @@ module _ {K : Type 0} (order : KeyOrder K) where
     same_keys : (others : Items) (gaps : List (AnyRange K)) (k : K) → order.is_key k
         → AllZip SameRange others gaps → HoldsKey order others k ↔ SomeHolds order gaps k
     same_keys [] [] k key zip = (λ h. h, λ h. h)
-    same_keys [] (g ∷ gaps) k key zip = absurd zip
-    same_keys (i ∷ others) [] k key zip = absurd zip
     same_keys (i ∷ others) (g ∷ gaps) k key zip =
         grind (arith, equal_is_same, same_keys others gaps k key zip.1)
+    same_keys others gaps k key zip = absurd zip
 
   pub all_copied : (gaps rest : List (AnyRange K)) (items : Items) (room : ℕ)
       → IsFilled gaps rest items room → rest ≡ [] → AllZip SameRange items gaps

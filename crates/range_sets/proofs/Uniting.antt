@@ -108,9 +108,8 @@ module _ {K : Type 0} {order : KeyOrder K} (lawful : IsLawful order) where
   -- each range reaches an end without a bound
   pub all_reach : (e : Bound K) (r : AnyRange K) → IsPlaced order r → flipped e ≡ None
       → Reaches order e r
-  all_reach (Included a) r placed none = absurd (cc)
-  all_reach (Excluded a) r placed none = absurd (cc)
   all_reach Unbounded r placed none = grind (arith, le_trans, lt_le, unbounded_end)
+  all_reach e r placed none = absurd (cc)
 
   -- where a range does not reach the last one
   pub apart_from : (last r : AnyRange K) → (¬ Reaches order last.end r)
