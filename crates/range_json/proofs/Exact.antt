@@ -18,9 +18,8 @@ use Rattle.range_algebra.specs.Clones.{IsBoundClone, range_clone}
 use Rattle.range_algebra.specs.RangeOrder.{range_cmp}
 use Rattle.range_store.specs.declared.storage.Item.{Item}
 use Rattle.range_json.specs.declared.error.JsonError.{JsonError}
-use Rattle.range_json.specs.Shapes.{bound_of}
 use Rattle.range_json.specs.Faults.{first_fault, ArePartsRead, IsRangeRead}
-use Rattle.range_json.specs.MapFaults.{element_fault, HasOneReading, IsElementRead, MeetNonempty, MeetsOne, AreApart, AreRead, IsFirstFault, IsFaultOf, IsMapRead, IsMapFault}
+use Rattle.range_json.specs.MapFaults.{element_fault, HasOneReading, IsElementRead, MeetNonempty, MeetsOne, AreApart, AreRead, IsFirstFault, IsMapRead, IsMapFault}
 use Rattle.range_json.proofs.Reading.{fault_first}
 
 -- the place of an element among those that are read

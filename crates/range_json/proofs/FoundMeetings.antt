@@ -5,7 +5,7 @@ use Rattle.std.specs.List.{AllByRecursion, AllZip}
 use Rattle.std.specs.declared.ops.Bound.{Bound}
 use Rattle.std.specs.declared.ops.Bound.TheVariants.{Included, Excluded, Unbounded}
 use Rattle.std.proofs.lemmas.Option.{same_Some, none-some}
-use Rattle.serde_json.specs.Data.{Data, null, boolean, number, string, array, object}
+use Rattle.serde_json.specs.Data.{Data, array, object}
 use Rattle.serde_json.specs.Find.{as_array, get_member}
 use Rattle.range_keys.specs.Order.{KeyOrder}
 use Rattle.range_algebra.specs.Intervals.{Any}
@@ -111,8 +111,16 @@ module _ {K V : Type 0} (order : KeyOrder K) (key_is_read : Data → K → Type 
       → IsRangeOf key_is_read d r → MeetsOne order r earlier
       → Any (λ e. MayMeet order key_is_read e d) front
   one_met [] [] d r read own meets = meets
-  one_met (e ∷ front) (x ∷ xs) d r read own meets =
-      grind (arith, one_met front xs d r read.1 own)
+  one_met (e ∷ front) (x ∷ xs) d r read own (inl here) =
+      inl (record {
+        r = x.key;
+        s = r;
+        first = (read.0.0, read.0.1, read.0.2);
+        second = own;
+        meet = here;
+      })
+  one_met (e ∷ front) (x ∷ xs) d r read own (inr later) =
+      inr (one_met front xs d r read.1 own later)
   one_met front earlier d r read own meets = absurd read
 
   module _ (key_reads value_reads : Data → Bool) where
@@ -136,8 +144,10 @@ pub none_met : {K : Type 0} (order : KeyOrder K) (key_is_read : Data → K → T
     (xs : List Data) (d : Data) → AllByRecursion (λ c. NeverMeet order key_is_read c d) xs
     → Any (λ e. MayMeet order key_is_read e d) xs → ⊥
 none_met order key_is_read [] d never met = met
-none_met order key_is_read (x ∷ xs) d never met =
-    grind (arith, none_met order key_is_read xs d never.1)
+none_met order key_is_read (x ∷ xs) d never (inl here) =
+    never.0 here.r here.s here.first here.second here.meet
+none_met order key_is_read (x ∷ xs) d never (inr later) =
+    none_met order key_is_read xs d never.1 later
 
 -- what holds of all elements holds of one in their midst
 pub all_midst : {X : Type 0} (P : X → Type 0) (xs : List X) (x : X) (ys : List X)

@@ -1,5 +1,5 @@
 -- What is written is read back as an equal range or map.
-use Rattle.std.proofs.Common.{append_assoc, ◌≡◌, refl, sym, ap, subst, ◌∙◌, ◌&&◌, ◌++◌, inl, inr, length, ℕ, List, [], ◌∷◌, map, Bool, true, IsTrue, None, Ok, Result, arith}
+use Rattle.std.proofs.Common.{append_assoc, ◌≡◌, refl, sym, ap, ◌∙◌, ◌&&◌, ◌++◌, inl, inr, length, ℕ, List, [], ◌∷◌, map, Bool, true, IsTrue, None, Ok, arith}
 use Rattle.std.proofs.lemmas.List.Elements.{All-from_recursion}
 use Rattle.std.specs.Cmp.{IsEquivalence}
 use Rattle.std.specs.List.{AllZip}
@@ -137,7 +137,8 @@ record IsCutAt {X : Type 0} (f : X → Data) (items : List X) (front : List Data
 
 cut_at : {X : Type 0} (f : X → Data) (items : List X) (front : List Data) (d : Data)
     (rest : List Data) → map f items ≡ front ++ d ∷ rest → IsCutAt f items front d
-cut_at f [] front d rest e = grind arith
+cut_at f [] [] d rest e = absurd (cc)
+cut_at f [] (c ∷ front) d rest e = absurd (cc)
 cut_at f (x ∷ items) [] d rest e =
     record { xs = []; x = x; ys = items; split = refl; before = refl; at = cc }
 cut_at f (x ∷ items) (c ∷ front) d rest e =
@@ -203,7 +204,7 @@ module _ {K V : Type 0} (order : KeyOrder K) (shape : K → Data) (reads : Data 
               let last =
               element_back order shape reads is_value is_read back lawful same equal
               value_shape value_is_value value_is_read value_back cut.x y values.1
-              (rw cut.at met.0.1.1) in
+              (rw (← cut.at) at met.0.1.1) in
               let copies =
               zip_last (Copied order shape reads is_value is_read back lawful same equal)
               cut.xs first.earlier cut.x y front last in

@@ -1,10 +1,10 @@
 -- What a loop has read of an array of values.
-use Rattle.std.proofs.Common.{◌≡◌, refl, sym, ap, ◌∙◌, ◌&&◌, ◌||◌, Bool, true, false, IsTrue, List, [], ◌∷◌, ◌++◌, map, cond, arith}
+use Rattle.std.proofs.Common.{◌≡◌, refl, ◌||◌, Bool, true, false, IsTrue, List, [], ◌∷◌, ◌++◌, map, cond, arith}
 use Rattle.std.proofs.lemmas.List.{map-append}
 use Rattle.std.proofs.lemmas.List.Folds.{list_all-append, list_any-append}
-use Rattle.std.specs.BTreeSet.{BTreeSet, IsOrdered, IsFromIterResult, Updates, contains}
+use Rattle.std.specs.BTreeSet.{BTreeSet, IsOrdered, IsFromIterResult, Updates}
 use Rattle.std.specs.Cmp.{IsTotalOrder, eq_by_cmp_equiv}
-use Rattle.std.specs.List.{AllZip, list_all, list_any}
+use Rattle.std.specs.List.{AllZip, list_all}
 use Rattle.std.specs.Ordering.{eq_by_cmp}
 use Rattle.std.specs.declared.cmp.Ordering.{Ordering}
 use Rattle.std.proofs.lemmas.Bool.{and_from}
@@ -36,7 +36,7 @@ module _ {V : Type 0} (cmp : V → V → Ordering) (reads : Data → Bool)
         let more = map-append view vs (v ∷ []) in
         let member = λ (q : V). eq_by_cmp cmp q in
         let laws = eq_by_cmp_equiv total in
-            grind (arith, and_from, either_is, list_all-append, list_any-append, read_more)
+        grind (arith, and_from, either_is, list_all-append, list_any-append, read_more)
 
   pub values_fail : (vs more : List Value) (v : Value) → reads (view v) ≡ false
       → list_all reads (map view (vs ++ v ∷ more)) ≡ false

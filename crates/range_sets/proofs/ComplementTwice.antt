@@ -6,7 +6,6 @@ use Rattle.std.specs.declared.ops.Bound.TheVariants.{Unbounded}
 use Rattle.std.specs.Ordering.{is_eq, eq_by_cmp}
 use Rattle.std.proofs.lemmas.Bool.{and_from}
 use Rattle.range_keys.specs.Order.{KeyOrder, IsLawful}
-use Rattle.range_keys.specs.Position.{start_position, end_position, position_cmp}
 use Rattle.range_keys.proofs.Orderings.{not_both_greater_and_not, not_greater}
 use Rattle.range_algebra.specs.declared.any.AnyRange.{AnyRange}
 use Rattle.range_algebra.proofs.Lists.{every_weaker}

@@ -1,10 +1,9 @@
 -- The gaps of a stored list are themselves in stored form, and so is each front of a list of clones
 -- of them.
-use Rattle.std.proofs.Common.{◌⊎◌, inl, inr, Bool, true, List, [], ◌∷◌, ◌++◌, map, None, arith}
+use Rattle.std.proofs.Common.{◌⊎◌, Bool, true, List, [], ◌∷◌, ◌++◌, map, None, arith}
 use Rattle.std.specs.List.{AllByRecursion as Every}
 use Rattle.range_keys.specs.Order.{KeyOrder, IsLawful}
 use Rattle.range_keys.specs.Position.{start_position, end_position, position_cmp}
-use Rattle.range_keys.specs.PositionOrder.{position_total}
 use Rattle.range_keys.specs.declared.inner.position.Position.{Position}
 use Rattle.range_keys.proofs.Orderings.{less_or_not, not_both_greater_and_not, not_greater}
 use Rattle.range_algebra.specs.Cuts.{upper}

@@ -1,8 +1,7 @@
 -- How many ranges a list has, and a set after an insertion.
-use Rattle.std.proofs.Common.{◌≡◌, ◌≤◌, ◌+◌, refl, ap, arith, true, IsTrue, inl, inr, List, [], ◌∷◌, ◌++◌, length, length-append, Result, Ok, Err, OnOk, OnErr}
+use Rattle.std.proofs.Common.{◌≡◌, ◌≤◌, ◌+◌, refl, ap, arith, true, IsTrue, List, [], ◌∷◌, ◌++◌, length, length-append, Result, Ok, Err, OnOk, OnErr}
 use Rattle.std.specs.List.{AllByRecursion as Every}
 use Rattle.range_keys.specs.Order.{KeyOrder}
-use Rattle.range_keys.specs.Position.{start_position, end_position, position_cmp}
 use Rattle.range_keys.proofs.Orderings.{greater_or_not}
 use Rattle.range_algebra.specs.Range.{IsEmptyRange}
 use Rattle.range_algebra.specs.declared.any.AnyRange.{AnyRange}

@@ -4,8 +4,7 @@ use Rattle.std.proofs.Common.{◌≡◌, List, [], ◌∷◌, inl, inr, arith}
 use Rattle.std.specs.List.{AllZip, AllByRecursion as Every}
 use Rattle.std.specs.declared.cmp.Ordering.TheVariants.{Equal}
 use Rattle.range_keys.specs.Order.{KeyOrder, IsLawful}
-use Rattle.range_keys.specs.Position.{start_position, end_position, position_cmp}
-use Rattle.range_keys.specs.PositionOrder.{position_total}
+use Rattle.range_keys.specs.Position.{start_position, end_position}
 use Rattle.range_keys.specs.declared.inner.position.Position.{Position}
 use Rattle.range_keys.proofs.Orderings.{both_equal}
 use Rattle.range_algebra.specs.declared.any.AnyRange.{AnyRange}
@@ -106,8 +105,13 @@ module _ {K : Type 0} (order : KeyOrder K) (lawful : IsLawful order) where
         → Every (λ z. InSome other (range z) ys) xs
     rest_within x y [] ys within full before all = tt
     rest_within x y (z ∷ xs) ys within full before all =
-        grind (arith, behind_not_within, within_trans, rest_within x y xs ys within full.1
-        before.1 all.1)
+        grind (
+          arith,
+          behind_not_within,
+          within_trans,
+          rest_within x y xs ys within full.1
+              before.1 all.1,
+        )
 
     first_same : (x : A) (y : B) (xs : List A) (ys : List B) → FullAll range (x ∷ xs)
         → FullAll other (y ∷ ys) → BeforeAll range (range x) xs → BeforeAll other (other y) ys

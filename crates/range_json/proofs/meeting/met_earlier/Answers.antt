@@ -1,4 +1,4 @@
-use Rattle.std.proofs.Common.{◌≡◌, Ok, sym, ap, subst, ◌∙◌, ◌+◌, ◌<◌, ◌++◌, ◌∷◌, [], take, drop, length, map, arith}
+use Rattle.std.proofs.Common.{◌≡◌, sym, ap, subst, ◌∙◌, ◌+◌, ◌<◌, ◌++◌, ◌∷◌, [], take, drop, length, map, arith}
 use Rattle.std.proofs.lemmas.List.{map-append, take_more, length-take-le, take-append-drop}
 use Rattle.serde_json.specs.View.{view}
 use Rattle.range_json.specs.MapFaults.{HasOneReading}

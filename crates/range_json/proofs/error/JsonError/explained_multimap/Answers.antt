@@ -1,6 +1,4 @@
 use Rattle.std.proofs.Common.{arith}
-use Rattle.serde_json.specs.View.{view}
-use Rattle.range_json.specs.ValueSets.{AreValuesRead, reads_some_values}
 use Rattle.range_json.proofs.FoundMeetings.{meets_earlier}
 use Rattle.range_json.proofs.error.JsonError.explained_multimap.Goals as goal
 

@@ -1,6 +1,4 @@
-use Rattle.std.proofs.Common.{refl, ap, ◌∙◌, arith}
-use Rattle.serde_json.specs.Data.{array}
-use Rattle.serde_json.specs.View.{items_of}
+use Rattle.std.proofs.Common.{arith}
 use Rattle.serde_json.proofs.Views.{view-Array}
 use Rattle.range_json.proofs.Writing.{written_more, values_more, all_written, all_values}
 use Rattle.range_json.proofs.value_set.BTreeSetJson.to_json.Goals as goal

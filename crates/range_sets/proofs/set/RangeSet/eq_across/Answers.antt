@@ -1,4 +1,4 @@
-use Rattle.std.proofs.Common.{◌∙◌, arith}
+use Rattle.std.proofs.Common.{arith}
 use Rattle.range_sets.proofs.Likeness.{held_bound, same_sets}
 use Rattle.range_sets.proofs.set.RangeSet.eq_across.Goals as goal
 

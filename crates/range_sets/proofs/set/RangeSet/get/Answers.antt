@@ -1,4 +1,4 @@
-use Rattle.std.proofs.Common.{ap, arith}
+use Rattle.std.proofs.Common.{arith}
 use Rattle.range_change.proofs.RangePieces.{any_over}
 use Rattle.range_sets.proofs.set.RangeSet.get.Goals as goal
 

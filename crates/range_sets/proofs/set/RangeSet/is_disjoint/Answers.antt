@@ -1,4 +1,4 @@
-use Rattle.std.proofs.Common.{true, arith}
+use Rattle.std.proofs.Common.{arith}
 use Rattle.range_map.proofs.KeysTogether.{apart_share_none, share_none_apart}
 use Rattle.range_sets.proofs.set.RangeSet.is_disjoint.Goals as goal
 

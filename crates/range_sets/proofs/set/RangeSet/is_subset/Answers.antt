@@ -1,4 +1,4 @@
-use Rattle.std.proofs.Common.{true, arith}
+use Rattle.std.proofs.Common.{arith}
 use Rattle.range_map.proofs.KeysTogether.{inside_binds, binds_inside}
 use Rattle.range_sets.proofs.set.RangeSet.is_subset.Goals as goal
 

@@ -1,4 +1,4 @@
-use Rattle.std.proofs.Common.{refl, true, rules, arith}
+use Rattle.std.proofs.Common.{arith}
 use Rattle.range_sets.proofs.KeptKeys.{shown_is, combined_kept}
 use Rattle.range_sets.proofs.set.RangeSet.kept.Goals as goal
 

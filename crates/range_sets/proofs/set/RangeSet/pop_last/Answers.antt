@@ -1,6 +1,4 @@
-use Rattle.std.proofs.Common.{[], ◌∷◌, ap, ◌∙◌, arith}
-use Rattle.range_reads.specs.FreeRanges.{item_ranges}
-use Rattle.range_reads.specs.Iteration.{pair_item}
+use Rattle.std.proofs.Common.{arith}
 use Rattle.range_sets.proofs.EndRanges.{item_ranges_append}
 use Rattle.range_sets.proofs.set.RangeSet.pop_last.Goals as goal
 use Rattle.range_sets.proofs.set.RangeSet.pop_last.Goals.{in-Some, in-None}

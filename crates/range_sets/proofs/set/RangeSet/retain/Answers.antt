@@ -1,4 +1,4 @@
-use Rattle.std.proofs.Common.{refl, true, ap, rules, of_calls, arith}
+use Rattle.std.proofs.Common.{refl, true, rules, of_calls, arith}
 use Rattle.std.specs.Fn.{Called, CalledAt, always_mut}
 use Rattle.range_set_extend.proofs.Membership.{still_held}
 use Rattle.range_sets.proofs.Retained.{ranges_filtered}

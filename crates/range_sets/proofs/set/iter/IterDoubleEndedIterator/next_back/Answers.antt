@@ -1,6 +1,4 @@
-use Rattle.std.proofs.Common.{◌∷◌, [], ap, sym, ◌∙◌, arith}
-use Rattle.range_reads.specs.FreeRanges.{item_ranges}
-use Rattle.range_reads.specs.Iteration.{shown_item}
+use Rattle.std.proofs.Common.{arith}
 use Rattle.range_change.proofs.PieceSteps.{last_is_less}
 use Rattle.range_sets.proofs.EndRanges.{item_ranges_append}
 use Rattle.range_sets.proofs.set.iter.IterDoubleEndedIterator.next_back.Goals as goal
