@@ -101,9 +101,7 @@ module _ {K : Type 0} (order : KeyOrder K) (lawful : IsLawful order) where
     up = stored_ascends lawful form
 
     full_items : Every (λ i. IsFull order lawful i.key) items
-    full_items =
-        all_full order lawful items (stored_known order lawful (λ _ _. true) all_equal items form)
-        up
+    full_items = grind (arith, all_equal, all_full, stored_known, up)
 
     pairs : Pairs (λ i j. LiesBefore order i.key j.key) items
     pairs = ascending_pairs order lawful items up
@@ -115,8 +113,7 @@ module _ {K : Type 0} (order : KeyOrder K) (lawful : IsLawful order) where
     free_range_misses_gaps : (r : AnyRange K) → IsFree r
         → Every (λ f. ¬ Overlap order f r) (free_from order (Some Unbounded) items)
     free_range_misses_gaps r free =
-        every_weaker _ _ _ (λ f piece.
-        missed_equal others gaps f r zip free.free (are.all f piece.0.known piece))
+        every_weaker _ _ _ (grind (arith, missed_equal))
         (gaps_are lawful all_equal items form).each
 
     -- and so it lies in a range of the set
@@ -163,14 +160,11 @@ module _ {K : Type 0} (order : KeyOrder K) (lawful : IsLawful order) where
         mutual_cover_matches order lawful (λ g. g) (λ i. i.key) again items full full_items
         (row_pairs order lawful again full were.rising) pairs
         (every_weaker _ _ again (λ g piece. free_range_is_within_item g piece.0) were.each)
-        (every_weaker _ _ items (λ i piece.
-        any_over _ _ again (λ g e. (equal_within order lawful g i.key e).1)
-        (were.all i.key piece.0.known piece)) items_pieces)
+        (grind (arith, any_over, equal_within, every_weaker, items_pieces))
 
   -- the complement of the complement of a set equals it
   pub complement_twice : (items others thirds : List Stored) → IsStoredSet order items
       → EqualGapsOf order items others → EqualGapsOf order others thirds
       → IsTrue (same_list order (λ _ _. true) thirds items)
   complement_twice items others thirds form first second =
-      equal_gaps_are_same_list thirds second.0 items second.2
-      (gaps_of_gaps_are_equal items others form first.0 first.1 first.2 second.0 second.1)
+      grind (arith, equal_gaps_are_same_list, gaps_of_gaps_are_equal)

@@ -100,16 +100,10 @@ module _ {K : Type 0} (order : KeyOrder K) (lawful : IsLawful order) where
     gaps_apart items g h full piece other before touching =
         let within_g : PLe (Start g) (End g) = not_greater _ piece.0.nonempty in
         let within_h : PLe (Start h) (End h) = not_greater _ other.0.nonempty in
-        let ends : PLe (End g) (End h) = le_trans lawful _ (Start h) _ (lt_le lawful _ _ before) within_h in
-        let wide : IsFreePart order items full_range (joint g h) = record {
-          known = (piece.0.known.0, other.0.known.1);
-          nonempty =
-              not_both_greater_and_not _ (le_trans lawful (Start g) (End g) (End h) within_g ends);
-          within = record { starts = piece.0.within.starts; ends = other.0.within.ends };
-          free =
-              all_missed items g h full piece.0.known other.0.known other.0.nonempty before touching
-              piece.0.free other.0.free;
-        } in
+        let ends : PLe (End g) (End h) = le_trans lawful _ (Start h) _ (lt_le lawful _ _ before)
+        within_h in
+        let wide : IsFreePart order items full_range (joint g h) =
+        grind (arith, all_missed, le_trans, not_both_greater_and_not) in
         let back =
         piece.1 (joint g h) wide
         (record { starts = le_refl lawful (Start g); ends = ends }) in

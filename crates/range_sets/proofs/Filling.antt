@@ -78,10 +78,8 @@ module _ {K : Type 0} (order : KeyOrder K) where
         copy_stored lawful all_equal more (set_items front)
         (as_copy more front zip)
         (All-from_recursion (λ i. IsKnownRange order i.key) more
-        (every_more (λ i. IsKnownRange order i.key) items
-        (record { key = r; value = tt }) filled.form.known known))
-        (front_stored order lawful front others
-        (rw all form))
+        (grind (arith, every_more)))
+        (grind (arith, front_stored))
 
     pub filled_more : (gaps rest others : List (AnyRange K)) (items next : Items) (room left : ℕ)
         (g r : AnyRange K) → IsStoredSet order (set_items gaps) → IsFilled gaps rest items room
@@ -94,9 +92,7 @@ module _ {K : Type 0} (order : KeyOrder K) where
         rw put (record {
           done = filled.done ++ g ∷ [];
           split = rw (append_assoc filled.done (g ∷ []) others, ← came) filled.split;
-          copied =
-              zip_more SameRange items filled.done
-              (record { key = r; value = tt }) g filled.copied same;
+          copied = grind (arith, zip_more);
           form = more;
           space = omega (arith, shorter, filled.space, room_is);
         })

@@ -54,11 +54,7 @@ module _ {K : Type 0} (order : KeyOrder K) (lawful : IsLawful order) where
   row_pairs [] full rising = tt
   row_pairs (r ∷ []) full rising = (tt, tt)
   row_pairs (r ∷ s ∷ rest) full rising =
-      let others = row_pairs (s ∷ rest) full.1 rising.1 in
-      let over =
-      λ (t : AnyRange K) (l : LiesBefore order s t). lt_trans lawful (End r) (End s)
-      (Start t) (lt_le_trans lawful (End r) (Start s) (End s) rising.0 full.1.0.1) l in
-      grind (arith, every_weaker)
+      grind (arith, every_weaker, lt_le_trans, lt_trans, row_pairs (s ∷ rest) full.1 rising.1)
 
   module _ {A : Type 0} (range : A → AnyRange K) where
     abbrev FullAll : List A → Type 0
@@ -74,9 +70,7 @@ module _ {K : Type 0} (order : KeyOrder K) (lawful : IsLawful order) where
     behind_first : (r s : AnyRange K) (xs : List A) → BeforeAll r xs → InSome s xs
         → LiesBefore order r s
     behind_first r s [] before within = absurd within
-    behind_first r s (x ∷ xs) before (inl h) =
-        lt_le_trans lawful (End r)
-        (Start (range x)) (Start s) before.0 h.starts
+    behind_first r s (x ∷ xs) before (inl h) = grind (arith, lt_le_trans)
     behind_first r s (x ∷ xs) before (inr h) = behind_first r s xs before.1 h
 
     none_back : (r s : AnyRange K) (xs : List A) → LiesIn order r s → FullAll xs → BeforeAll s xs
@@ -105,13 +99,7 @@ module _ {K : Type 0} (order : KeyOrder K) (lawful : IsLawful order) where
         → Every (λ z. InSome other (range z) ys) xs
     rest_within x y [] ys within full before all = tt
     rest_within x y (z ∷ xs) ys within full before all =
-        grind (
-          arith,
-          behind_not_within,
-          within_trans,
-          rest_within x y xs ys within full.1
-              before.1 all.1,
-        )
+        grind (arith, behind_not_within, within_trans, rest_within x y xs ys within full.1)
 
     first_same : (x : A) (y : B) (xs : List A) (ys : List B) → FullAll range (x ∷ xs)
         → FullAll other (y ∷ ys) → BeforeAll range (range x) xs → BeforeAll other (other y) ys
@@ -119,11 +107,9 @@ module _ {K : Type 0} (order : KeyOrder K) (lawful : IsLawful order) where
         → LiesIn order (range x) (other y) × LiesIn order (other y) (range x)
     first_same x y xs ys full full' before before' (inl h) (inl k) = (h, k)
     first_same x y xs ys full full' before before' (inl h) (inr k) =
-        let l = behind_first range (range x) (other y) xs before k in
-        grind (arith, lt_not_le, le_trans)
+        grind (arith, behind_first, le_trans, lt_not_le)
     first_same x y xs ys full full' before before' (inr h) (inl k) =
-        let l = behind_first other (other y) (range x) ys before' h in
-        grind (arith, lt_not_le, le_trans)
+        grind (arith, behind_first, le_trans, lt_not_le)
     first_same x y xs ys full full' before before' (inr h) (inr k) =
         absurd (not_before_each_other (range x) (other y) full.0 full'.0
         (behind_first range (range x) (other y) xs before k)
