@@ -1,7 +1,7 @@
 -- The first piece of two ranges, by the places where they start and end.
 use Rattle.std.proofs.Common.{◌≡◌, refl, inl, inr, true, false, Option, Some, None, arith, rules}
 use Rattle.std.specs.Cmp.{tied_back, tied_itself}
-use Rattle.std.specs.declared.ops.Bound.TheVariants.{Included, Excluded, Unbounded}
+use Rattle.std.specs.declared.ops.Bound.TheVariants.{Unbounded}
 use Rattle.range_merge.proofs.Common.{Bound, Ordering, Equal, KeyOrder, IsLawful, Position, position_cmp, lower, upper, Lt, AnyRange, Item}
 use Rattle.range_keys.specs.Position.{start_position, end_position}
 use Rattle.range_keys.specs.PositionOrder.{position_total}

@@ -68,8 +68,12 @@ module _ {K : Type 0} {order : KeyOrder K} (lawful : IsLawful order) where
         → HoldsAt order p a.key → HoldsAt order p b.key → a ≡ b
     once items [] m p a b was in_a in_b at_a at_b = absurd in_a
     once items (x ∷ xs) m p a b was in_a in_b at_a at_b =
-        grind (arith, not_left lawful items xs (upper order x.key) p was.3, held_in xs p,
-        once items xs (upper order x.key) p a b was.3)
+        grind (
+          arith,
+          not_left lawful items xs (upper order x.key) p was.3,
+          held_in xs p,
+          once items xs (upper order x.key) p a b was.3,
+        )
 
     module _ {items left : List (Item (AnyRange K) V)} {m : Position K}
         {Done : Position K → Type 0} (was : IsSideUpTo order items m left Done) where
