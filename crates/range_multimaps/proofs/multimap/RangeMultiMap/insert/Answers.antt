@@ -20,17 +20,18 @@ returns g c =
     record {
       refused = search rules;
       added =
-          rw (← c.self.view_is) (added order equal respects now g.met.K.PartialEnum.lawful once next_once
-          g.V.PartialEq.eq c.args.value (λ old answer m. rw m.shows at m.says.1.0));
+          rw (← c.self.view_is) (added order equal respects now g.met.K.PartialEnum.lawful once
+          next_once g.V.PartialEq.eq c.args.value (λ old answer m. rw m.shows at m.says.1.0));
       kept =
-          rw (← c.self.view_is) (stay_bound order equal respects now g.met.K.PartialEnum.lawful once next_once
-          (λ k. HasPair order has items k c.args.value)
+          rw (← c.self.view_is) (stay_bound order equal respects now g.met.K.PartialEnum.lawful
+          once next_once (λ k. HasPair order has items k c.args.value)
           (grind (arith, values_at)));
       others =
           rw (← c.self.view_is) now.others;
       frame =
           rw (← c.self.view_is) (λ nonempty. gave_way_to_such order
-          (λ old answer m s. added_is_had respects g.met.V.Eq.laws c.args.value _ answer s m.says.1.0)
+          (λ old answer m s.
+          added_is_had respects g.met.V.Eq.laws c.args.value _ answer s m.says.1.0)
           (not_refused c.update.result c.update.ensures.updated c.in_default.not-Err nonempty));
       spelled =
           rw (← c.self.view_is)

@@ -10,8 +10,8 @@ returns g c =
     let once = c.stored_lists_bind_once.ensures items form in
     let next_once = c.stored_lists_bind_once.ensures next c.update.ensures.form in
     let now = not_refused c.update.result c.update.ensures.rebound c.in_default.not-Err in
-    rw (← c.self.view_is) (all_added g.K.MaybeBounded.order g.met.S.Eq.laws g.met.S.SetMut.equal_same now
-    g.met.K.PartialEnum.lawful once next_once (g.S.SetMut.has c.args.values.now)
+    rw (← c.self.view_is) (all_added g.K.MaybeBounded.order g.met.S.Eq.laws
+    g.met.S.SetMut.equal_same now g.met.K.PartialEnum.lawful once next_once (g.S.SetMut.has c.args.values.now)
     (λ old answer m. rw m.shows at m.says.1.0))
 
 pub returns-in-Err : goal.returns-in-Err
@@ -21,7 +21,8 @@ pub invariant_of-self-2 : goal.invariant_of-self-2
 invariant_of-self-2 g c =
     stays_full g.K.MaybeBounded.order g.met.S.Eq.laws g.met.S.MaybeEmpty.void_equal
     (not_refused c.update.result c.update.ensures.updated c.in_default.not-Err)
-    (λ old answer m. m.says.1.1 c.requires.nonempty) c.self.invariant c.update.ensures.empty_unchanged
+    (λ old answer m. m.says.1.1 c.requires.nonempty) c.self.invariant
+    c.update.ensures.empty_unchanged
 
 pub invariant_of-self : goal.invariant_of-self
 invariant_of-self g c = rw c.in-Err.ensures.refused c.self.invariant

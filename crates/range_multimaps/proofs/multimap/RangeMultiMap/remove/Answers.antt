@@ -20,15 +20,16 @@ returns g c =
     record {
       refused = search rules;
       removed =
-          rw (← c.self.view_is) (removed order equal respects now g.met.K.PartialEnum.lawful once next_once
-          g.V.PartialEq.eq c.args.value.now (λ old answer m. rw m.shows at m.says.1.0));
+          rw (← c.self.view_is) (removed order equal respects now g.met.K.PartialEnum.lawful once
+          next_once g.V.PartialEq.eq c.args.value.now (λ old answer m. rw m.shows at m.says.1.0));
       kept =
           rw (← c.self.view_is) (stay_bound order equal respects now g.met.K.PartialEnum.lawful once
           next_once (λ k. ¬ HasPair order has items k c.args.value.now)
           (λ k key here old answer was m.
           (rw m.shows at m.says.1.1.1)
           (full_some order equal g.met.S.MaybeEmpty.void_equal k items c.self.invariant old was)
-          (λ h. here ((values_at order equal respects k items old (once k key) was c.args.value.now).1 h))));
+          (λ h. here
+          ((values_at order equal respects k items old (once k key) was c.args.value.now).1 h))));
       others =
           rw (← c.self.view_is) now.others;
       frame =
