@@ -1,5 +1,5 @@
 -- A map that is read has no fault, where a JSON value is read as equal keys.
-use Rattle.std.proofs.Common.{◌≡◌, refl, sym, ap, subst, ◌∙◌, inl, inr, List, [], ◌∷◌, ◌++◌, Bool, Option, Some, None}
+use Rattle.std.proofs.Common.{◌≡◌, refl, sym, ap, subst, ◌∙◌, inl, inr, List, [], ◌∷◌, ◌++◌, Bool, Option, Some, None, arith}
 use Rattle.std.specs.Cmp.{alike_right}
 use Rattle.std.specs.List.{AllZip}
 use Rattle.std.specs.declared.cmp.Ordering.TheVariants.{Equal}
@@ -18,9 +18,8 @@ use Rattle.range_algebra.specs.Clones.{IsBoundClone, range_clone}
 use Rattle.range_algebra.specs.RangeOrder.{range_cmp}
 use Rattle.range_store.specs.declared.storage.Item.{Item}
 use Rattle.range_json.specs.declared.error.JsonError.{JsonError}
-use Rattle.range_json.specs.Shapes.{bound_of}
 use Rattle.range_json.specs.Faults.{first_fault, ArePartsRead, IsRangeRead}
-use Rattle.range_json.specs.MapFaults.{element_fault, HasOneReading, IsElementRead, MeetNonempty, MeetsOne, AreApart, AreRead, IsFirstFault, IsFaultOf, IsMapRead, IsMapFault}
+use Rattle.range_json.specs.MapFaults.{element_fault, HasOneReading, IsElementRead, MeetNonempty, MeetsOne, AreApart, AreRead, IsFirstFault, IsMapRead, IsMapFault}
 use Rattle.range_json.proofs.Reading.{fault_first}
 
 -- the place of an element among those that are read
@@ -35,10 +34,8 @@ pub record IsReadAt {X : Type 0} (R : Data → X → Type 0) (front : List Data)
 
 pub read_at : {X : Type 0} (R : Data → X → Type 0) (front : List Data) (d : Data) (rest : List Data)
     (elements : List X) → AllZip R (front ++ d ∷ rest) elements → IsReadAt R front d elements
-read_at R [] d rest [] h = absurd h
 read_at R [] d rest (y ∷ ys) h =
     record { xs = []; x = y; ys = ys; split = refl; before = tt; at = h.0 }
-read_at R (c ∷ front) d rest [] h = absurd h
 read_at R (c ∷ front) d rest (y ∷ ys) h =
     let later = read_at R front d rest ys h.1 in
     record {
@@ -49,6 +46,7 @@ read_at R (c ∷ front) d rest (y ∷ ys) h =
       before = (h.0, later.before);
       at = later.at;
     }
+read_at R front d rest elements h = grind arith
 
 module _ {K : Type 0} (order : KeyOrder K) (lawful : IsLawful order) where
   equal_positions_compare_alike : (p q r s : Position K) → position_cmp order.cmp p q ≡ Equal
@@ -59,41 +57,16 @@ module _ {K : Type 0} (order : KeyOrder K) (lawful : IsLawful order) where
 
   starts_same : (r s : AnyRange K) → range_cmp order r s ≡ Equal
       → position_cmp order.cmp (start_position order r.start) (start_position order s.start) ≡ Equal
-  starts_same r s e =
-      (both_equal (position_cmp order.cmp (start_position order r.start)
-      (start_position order s.start))
-      (position_cmp order.cmp (end_position order r.end) (end_position order s.end)) e).0
+  starts_same r s e = grind (arith, both_equal)
 
   ends_same : (r s : AnyRange K) → range_cmp order r s ≡ Equal
       → position_cmp order.cmp (end_position order r.end) (end_position order s.end) ≡ Equal
-  ends_same r s e =
-      (both_equal (position_cmp order.cmp (start_position order r.start)
-      (start_position order s.start))
-      (position_cmp order.cmp (end_position order r.end) (end_position order s.end)) e).1
+  ends_same r s e = grind (arith, both_equal)
 
   -- equal ranges meet equal ranges
   pub meet_too : (r s q t : AnyRange K) → range_cmp order r q ≡ Equal → range_cmp order s t ≡ Equal
       → MeetNonempty order r s → MeetNonempty order q t
-  meet_too r s q t e f h = (
-    λ empty.
-        h.0 (equal_positions_compare_alike (start_position order r.start)
-        (start_position order q.start) (end_position order r.end) (end_position order q.end)
-        (starts_same r q e) (ends_same r q e) ∙ empty),
-    λ empty.
-        h.1 (equal_positions_compare_alike (start_position order s.start)
-        (start_position order t.start) (end_position order s.end) (end_position order t.end)
-        (starts_same s t f) (ends_same s t f) ∙ empty),
-    (
-      λ before.
-          h.2.0 (equal_positions_compare_alike (end_position order r.end) (end_position order q.end)
-          (start_position order s.start) (start_position order t.start) (ends_same r q e)
-          (starts_same s t f) ∙ before),
-      λ before.
-          h.2.1 (equal_positions_compare_alike (end_position order s.end) (end_position order t.end)
-          (start_position order r.start) (start_position order q.start) (ends_same s t f)
-          (starts_same r q e) ∙ before),
-    ),
-  )
+  meet_too r s q t e f h = grind (arith, ends_same, equal_positions_compare_alike, starts_same)
 
   module _ (is_read : Data → K → Type 0) (one : HasOneReading order is_read) where
     abbrev Alike : K → K → Type 0
@@ -101,34 +74,17 @@ module _ {K : Type 0} (order : KeyOrder K) (lawful : IsLawful order) where
 
     parts_one : (p : Option (Bound Data)) (b c : Bound K) → ArePartsRead is_read p b
         → ArePartsRead is_read p c → IsBoundClone Alike b c
-    parts_one None b c h g = absurd h
     parts_one (Some (Included d)) (Included k) (Included l) h g = one d k l h g
-    parts_one (Some (Included d)) (Included k) (Excluded l) h g = absurd g
-    parts_one (Some (Included d)) (Included k) Unbounded h g = absurd g
-    parts_one (Some (Included d)) (Excluded k) c h g = absurd h
-    parts_one (Some (Included d)) Unbounded c h g = absurd h
     parts_one (Some (Excluded d)) (Excluded k) (Excluded l) h g = one d k l h g
-    parts_one (Some (Excluded d)) (Excluded k) (Included l) h g = absurd g
-    parts_one (Some (Excluded d)) (Excluded k) Unbounded h g = absurd g
-    parts_one (Some (Excluded d)) (Included k) c h g = absurd h
-    parts_one (Some (Excluded d)) Unbounded c h g = absurd h
-    parts_one (Some Unbounded) (Included k) c h g = absurd h
-    parts_one (Some Unbounded) (Excluded k) c h g = absurd h
-    parts_one (Some Unbounded) Unbounded (Included l) h g = absurd g
-    parts_one (Some Unbounded) Unbounded (Excluded l) h g = absurd g
     parts_one (Some Unbounded) Unbounded Unbounded h g = tt
+    parts_one p b c h g = grind arith
 
     pub range_one : (d : Data) (r s : AnyRange K) → IsRangeRead is_read d r
         → IsRangeRead is_read d s
         → range_cmp order r s ≡ Equal
     range_one d r s (ds, e, starts, ends) (es, f, other_starts, other_ends) =
         let same : es ≡ ds = same_Some es ds (sym f ∙ e) in
-        range_clone order lawful Alike (λ a b h. h) r s (
-          parts_one (bound_of ds.0) r.start s.start starts
-              (subst (λ p. ArePartsRead is_read (bound_of p.0) s.start) same other_starts),
-          parts_one (bound_of ds.1) r.end s.end ends
-              (subst (λ p. ArePartsRead is_read (bound_of p.1) s.end) same other_ends),
-        )
+        range_clone order lawful Alike (λ a b h. h) r s (grind (arith, parts_one))
 
     module _ {V : Type 0} (value_is_read : Data → V → Type 0) where
       element_one : (d : Data) (x y : Item (AnyRange K) V) → IsElementRead is_read value_is_read d x
@@ -142,13 +98,11 @@ module _ {K : Type 0} (order : KeyOrder K) (lawful : IsLawful order) where
           → AllZip (IsElementRead is_read value_is_read) front ys → range_cmp order r s ≡ Equal
           → MeetsOne order r xs → MeetsOne order s ys
       one_too [] [] ys r s h g e meets = absurd meets
-      one_too [] (x ∷ xs) ys r s h g e meets = absurd h
-      one_too (d ∷ front) [] ys r s h g e meets = absurd h
-      one_too (d ∷ front) (x ∷ xs) [] r s h g e meets = absurd g
       one_too (d ∷ front) (x ∷ xs) (y ∷ ys) r s h g e meets = elim meets [
         | inl here ↦ inl (meet_too x.key r y.key s (element_one d x y h.0 g.0) e here)
         | inr later ↦ inr (one_too front xs ys r s h.1 g.1 e later)
       ]
+      one_too front xs ys r s h g e meets = grind arith
 
       apart_at : (xs ys : List (Item (AnyRange K) V)) (y : Item (AnyRange K) V)
           → AreApart order (xs ++ y ∷ ys) → ¬ MeetsOne order y.key xs
@@ -188,8 +142,4 @@ module _ {K : Type 0} (order : KeyOrder K) (lawful : IsLawful order) where
             (f : JsonError)
             → IsMapRead order key_reads value_reads is_read value_is_read same d items
             → IsMapFault order key_reads value_reads is_read value_is_read d f → ⊥
-        no_fault same d items f read fault =
-            no_first read.ds read.elements f read.read
-            (subst (λ w.
-            IsFaultOf order key_reads value_reads is_read value_is_read w f)
-            read.whole fault)
+        no_fault same d items f read fault = grind (arith, no_first)

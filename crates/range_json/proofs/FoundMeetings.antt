@@ -5,7 +5,7 @@ use Rattle.std.specs.List.{AllByRecursion, AllZip}
 use Rattle.std.specs.declared.ops.Bound.{Bound}
 use Rattle.std.specs.declared.ops.Bound.TheVariants.{Included, Excluded, Unbounded}
 use Rattle.std.proofs.lemmas.Option.{same_Some, none-some}
-use Rattle.serde_json.specs.Data.{Data, null, boolean, number, string, array, object}
+use Rattle.serde_json.specs.Data.{Data, array, object}
 use Rattle.serde_json.specs.Find.{as_array, get_member}
 use Rattle.range_keys.specs.Order.{KeyOrder}
 use Rattle.range_algebra.specs.Intervals.{Any}
@@ -17,6 +17,7 @@ use Rattle.range_json.specs.Faults.{before, bound_fault, bounds_fault, first_fau
 use Rattle.range_json.specs.MapFaults.{IsElementRead, IsFaultOf, IsMapFault, MeetsOne, element_fault, is_version_2, map_elements, or_no_array, pair_fault, value_fault}
 use Rattle.range_json.specs.Meetings.{HasSoundRange, IsRangeOf, MayMeet, MayMeetEarlier, NeverMeet}
 use Rattle.range_json.specs.Shapes.{bound_of, elements_of, pair_of}
+use Rattle.range_json.proofs.Reading.{before_none}
 
 -- no fault of meeting an earlier element
 abbrev IsOther : Option JsonError → Type 0
@@ -25,10 +26,6 @@ IsOther f = (i : ℕ) → f ≡ Some (Meets i) → ⊥
 before_other : (f g : Option JsonError) → IsOther f → IsOther g → IsOther (before f g)
 before_other None g h k = k
 before_other (Some e) g h k = h
-
-before_none : (f g : Option JsonError) → before f g ≡ None → (f ≡ None) × (g ≡ None)
-before_none None g h = (refl, h)
-before_none (Some e) g h = absurd (none-some e (sym h))
 
 if_other : (b : Bool) (e : JsonError) → ((i : ℕ) → e ≡ Meets i → ⊥)
     → IsOther (if b then None else Some e)
@@ -52,16 +49,12 @@ module _ (key_reads : Data → Bool) where
   bounds_none : (i j : ℕ) (p : Option (Data × Data)) → bounds_fault key_reads i p ≡ None
       → bounds_fault key_reads j p ≡ None
   bounds_none i j None h = absurd (none-some _ (sym h))
-  bounds_none i j (Some p) h =
-      let parts = before_none (bound_fault key_reads i p.0) (bound_fault key_reads i p.1) h in
-      ap (λ f. before f (bound_fault key_reads j p.1)) (parts_none i j (bound_of p.0) parts.0)
-      ∙ parts_none i j (bound_of p.1) parts.1
+  bounds_none i j (Some p) h = grind (arith, before_none, parts_none)
 
   parts_other : (j : ℕ) (p : Option (Bound Data)) → IsOther (parts_fault key_reads j p)
-  parts_other j None = λ i is. cc
   parts_other j (Some (Included d)) = if_other (key_reads d) (Key j) (λ i is. cc)
   parts_other j (Some (Excluded d)) = if_other (key_reads d) (Key j) (λ i is. cc)
-  parts_other j (Some Unbounded) = λ i is. cc
+  parts_other j p = λ i is. cc
 
   bounds_other : (j : ℕ) (p : Option (Data × Data)) → IsOther (bounds_fault key_reads j p)
   bounds_other j None = λ i is. cc
@@ -103,14 +96,10 @@ object_other false ds i is = cc
 
 -- the fault of a whole map is no meeting
 whole_other : (d : Data) (i : ℕ) → map_elements d ≡ Err (Meets i) → ⊥
-whole_other null i is = cc
-whole_other (boolean b) i is = cc
-whole_other (number n) i is = cc
-whole_other (string s) i is = cc
-whole_other (array ds) i is = cc
 whole_other (object ms) i is =
     object_other (is_version_2 ms) (option_and_then elements_of (get_member (codes "items") ms)) i
     is
+whole_other d i is = cc
 
 same_index : (i j : ℕ) → Meets i ≡ Meets j → j ≡ i
 same_index i j e = cc
@@ -122,8 +111,6 @@ module _ {K V : Type 0} (order : KeyOrder K) (key_is_read : Data → K → Type 
       → IsRangeOf key_is_read d r → MeetsOne order r earlier
       → Any (λ e. MayMeet order key_is_read e d) front
   one_met [] [] d r read own meets = meets
-  one_met [] (x ∷ xs) d r read own meets = absurd read
-  one_met (e ∷ front) [] d r read own meets = absurd read
   one_met (e ∷ front) (x ∷ xs) d r read own (inl here) =
       inl (record {
         r = x.key;
@@ -134,6 +121,7 @@ module _ {K V : Type 0} (order : KeyOrder K) (key_is_read : Data → K → Type 
       })
   one_met (e ∷ front) (x ∷ xs) d r read own (inr later) =
       inr (one_met front xs d r read.1 own later)
+  one_met front earlier d r read own meets = absurd read
 
   module _ (key_reads value_reads : Data → Bool) where
     met_among : (whole : Data) (i : ℕ) (elements : Result (List Data) JsonError)
@@ -143,27 +131,7 @@ module _ {K V : Type 0} (order : KeyOrder K) (key_is_read : Data → K → Type 
     met_among whole i (Err e) is fault =
         absurd (whole_other whole i (is ∙ ap (λ f. Err f) (sym fault)))
     met_among whole i (Ok ds) is fault =
-        let other = pair_other key_reads value_reads (length fault.front) (pair_of fault.d) i in
-        elim fault.fault [
-          | inl own ↦ absurd (other own)
-          | inr met ↦
-              let x = met.0.1.0 in
-              let read = met.0.1.1 in
-              record {
-                front = fault.front;
-                d = fault.d;
-                rest = fault.rest;
-                elements = is ∙ ap (λ es. Ok es) fault.split;
-                place = same_index i (length fault.front) met.1;
-                sound = sound_ranges key_reads value_reads 0 fault.front fault.fine.sound;
-                own =
-                    sound_range key_reads value_reads (length fault.front) (pair_of fault.d)
-                    met.0.0;
-                meet =
-                    one_met fault.front fault.earlier fault.d x.key fault.fine.read
-                    (read.0, read.1, read.2) met.0.1.3;
-              }
-        ]
+        grind (arith, one_met, pair_other, same_index, sound_range, sound_ranges)
 
     -- where the fault is that an element meets an earlier one, it may meet one
     pub meets_earlier : (whole : Data) (i : ℕ)
@@ -191,22 +159,17 @@ all_midst P (y ∷ xs) x ys h = all_midst P xs x ys h.1
 pub same_parts : {X : Type 0} (xs ys : List X) (x y : X) (more rest : List X)
     → xs ++ x ∷ more ≡ ys ++ y ∷ rest → length xs ≡ length ys → (xs ≡ ys) × (x ≡ y)
 same_parts [] [] x y more rest e n = (refl, cc)
-same_parts [] (b ∷ ys) x y more rest e n = absurd cc
-same_parts (a ∷ xs) [] x y more rest e n = absurd cc
 same_parts (a ∷ xs) (b ∷ ys) x y more rest e n =
     let tail : xs ++ x ∷ more ≡ ys ++ y ∷ rest = cc in
     let heads : a ≡ b = cc in
     let same = same_parts xs ys x y more rest tail (omega (arith, n)) in
     (ap (λ l. a ∷ l) same.0 ∙ ap (λ c. c ∷ ys) heads, same.1)
+same_parts xs ys x y more rest e n = absurd cc
 
 -- what is no array is no array of two
 pub no_pair : (d : Data) (ds : Data × Data) → None ≡ as_array d → pair_of d ≡ Some ds → ⊥
-no_pair null ds none is = none-some ds is
-no_pair (boolean b) ds none is = none-some ds is
-no_pair (number n) ds none is = none-some ds is
-no_pair (string s) ds none is = none-some ds is
 no_pair (array xs) ds none is = none-some xs none
-no_pair (object ms) ds none is = none-some ds is
+no_pair d ds none is = none-some ds is
 
 pub same_elements : (found : Result (List Data) JsonError) (ds es : List Data) → found ≡ Ok ds
     → found ≡ Ok es → ds ≡ es

@@ -1,5 +1,5 @@
 -- A list in a map's form is stored as it was read.
-use Rattle.std.proofs.Common.{◌≡◌, refl, sym, ap, subst, ◌∙◌, inl, inr, List, [], ◌∷◌, ◌++◌, Bool, IsTrue}
+use Rattle.std.proofs.Common.{append_assoc, ◌≡◌, refl, ◌∙◌, inl, inr, List, [], ◌∷◌, ◌++◌, Bool, IsTrue, arith}
 use Rattle.std.proofs.lemmas.List.{append-nil}
 use Rattle.std.specs.Cmp.{IsEquivalence}
 use Rattle.std.specs.List.{AllByRecursion as Every}
@@ -7,7 +7,6 @@ use Rattle.std.specs.declared.ops.Bound.{Bound}
 use Rattle.std.specs.declared.ops.Bound.TheVariants.{Included, Excluded, Unbounded}
 use Rattle.range_keys.specs.Order.{KeyOrder, IsLawful}
 use Rattle.range_keys.specs.Position.{start_position, end_position}
-use Rattle.range_keys.specs.PositionOrder.{position_total}
 use Rattle.range_keys.proofs.Orderings.{eq_is_equal}
 use Rattle.range_algebra.specs.declared.any.AnyRange.{AnyRange}
 use Rattle.range_algebra.proofs.Lists.{every_left, every_right}
@@ -16,7 +15,7 @@ use Rattle.range_change.proofs.Chains.{chain_before, chain_left, chain_right}
 use Rattle.range_algebra.specs.Compared.{starts_at_end}
 use Rattle.range_algebra.specs.Cuts.{past, lower, upper}
 use Rattle.range_algebra.specs.Intervals.{Le, Lt}
-use Rattle.range_algebra.specs.Orders.{eq_le, le_trans, lt_le, lt_not_le}
+use Rattle.range_change.proofs.PlaceOrder.{eq_le, le_trans, lt_le, lt_not_le}
 use Rattle.range_algebra.specs.Range.{IsKnownRange}
 use Rattle.range_algebra.proofs.Places.{flipped_bound_is_past}
 use Rattle.range_store.specs.declared.storage.Item.{Item}
@@ -27,14 +26,8 @@ use Rattle.range_change.proofs.Forms.{places, before_is, touches_is, Chained, Kn
 no_item : {X : Type 0} (P : X → Type 0) (xs ys zs : List X) → Every (λ x. ¬ P x) (xs ++ ys ++ zs)
     → Every P ys → ys ≡ []
 no_item P xs [] zs none all = refl
-no_item P xs (y ∷ ys) zs none all = let tail =
-    every_right (λ x. ¬ P x) xs (y ∷ ys) (every_left (λ x. ¬ P x) (xs ++ y ∷ ys) zs none) in absurd
-    (tail.0 all.0)
-
-pub one_between : {X : Type 0} (xs : List X) (x : X) (ys : List X)
-    → xs ++ x ∷ [] ++ ys ≡ xs ++ x ∷ ys
-one_between [] x ys = refl
-one_between (y ∷ xs) x ys = ap (λ zs. y ∷ zs) (one_between xs x ys)
+no_item P xs (y ∷ ys) zs none all =
+    absurd ((every_right _ xs (y ∷ ys) (every_left _ (xs ++ y ∷ ys) zs none)).0 all.0)
 
 -- what holds of all holds of the last
 pub of_last : {X : Type 0} (P : X → Type 0) (xs : List X) (x : X) → Every P (xs ++ x ∷ [])
@@ -47,26 +40,11 @@ module _ {K V : Type 0} (order : KeyOrder K) (lawful : IsLawful order) (same : V
   -- a range that touches another ends where that starts
   touching_at : (e : Bound K) (s : AnyRange K) → IsTrue (starts_at_end order e (lower order s))
       → Le (places order lawful) (past order (end_position order e)) (lower order s)
-  touching_at (Included a) s h =
-      let total = position_total order.cmp lawful.total in
-      le_trans (places order lawful) total (past order (end_position order (Included a)))
-      (start_position order (Excluded a)) (lower order s)
-      (eq_le (places order lawful) total (past order (end_position order (Included a)))
-      (start_position order (Excluded a))
-      (flipped_bound_is_past order lawful (Included a) (Excluded a) refl))
-      (eq_le (places order lawful) total (start_position order (Excluded a)) (lower order s)
-      ((eq_is_equal (places order lawful (start_position order (Excluded a)) (lower order s))).0
-      h))
+  touching_at (Included a) s h = grind (arith, eq_is_equal, flipped_bound_is_past, places)
   touching_at (Excluded a) s h =
-      let total = position_total order.cmp lawful.total in
-      le_trans (places order lawful) total (past order (end_position order (Excluded a)))
-      (start_position order (Included a)) (lower order s)
-      (eq_le (places order lawful) total (past order (end_position order (Excluded a)))
-      (start_position order (Included a))
-      (flipped_bound_is_past order lawful (Excluded a) (Included a) refl))
-      (eq_le (places order lawful) total (start_position order (Included a)) (lower order s)
-      ((eq_is_equal (places order lawful (start_position order (Included a)) (lower order s))).0
-      h))
+      le_trans lawful _ (start_position order (Included a)) _
+      (eq_le lawful _ _ (flipped_bound_is_past order lawful (Excluded a) (Included a) refl))
+      (grind (arith, eq_is_equal, places))
   touching_at Unbounded s h = absurd (cc)
 
   abbrev LeadsTo : Item (AnyRange K) V → Item (AnyRange K) V → Type 0
@@ -77,25 +55,19 @@ module _ {K V : Type 0} (order : KeyOrder K) (lawful : IsLawful order) (same : V
       → Lt (places order lawful) (item_lower order i) (item_upper order i)
       → Lt (places order lawful) (item_lower order x) (item_upper order x) → LeadsTo i x
       → ¬ JoinsOrMeets order same x.key x.value i
-  not_joined i x known known_x good good_x leads h =
-      let cmp = places order lawful in
-      let total = position_total order.cmp lawful.total in
-      elim h [
-        | inl meets ↦
-            meets.0 ((before_is order lawful i.key.end x.key.start known.1 known_x.0).1 leads.0)
-        | inr joins ↦ elim joins.0 [
-          | inl touches ↦
-              leads.1 ((touches_is order lawful i.key.end x.key known_x good_x leads.0).0 touches)
-              joins.1
-          | inr touches ↦
-              let at : Le cmp (upper order x.key) (lower order i.key) =
-              touching_at x.key.end i.key touches in
-              lt_not_le cmp total (lower order x.key) (upper order x.key) good_x
-              (le_trans cmp total (upper order x.key) (lower order i.key) (lower order x.key) at
-              (le_trans cmp total (lower order i.key) (upper order i.key) (lower order x.key)
-              (lt_le cmp total (lower order i.key) (upper order i.key) good) leads.0))
-        ]
-      ]
+  not_joined i x known known_x good good_x leads h = elim h [
+    | inl meets ↦
+        meets.0 ((before_is order lawful i.key.end x.key.start known.1 known_x.0).1 leads.0)
+    | inr joins ↦ elim joins.0 [
+      | inl touches ↦
+          leads.1 ((touches_is order lawful i.key.end x.key known_x good_x leads.0).0 touches)
+          joins.1
+      | inr touches ↦
+          lt_not_le lawful (lower order x.key) (upper order x.key) good_x
+          (le_trans lawful _ (lower order i.key) _ (touching_at x.key.end i.key touches)
+          (le_trans lawful _ (upper order i.key) _ (lt_le lawful _ _ good) leads.0))
+    ]
+  ]
 
   abbrev Goods : List (Item (AnyRange K) V) → Type 0
   Goods =
@@ -105,11 +77,8 @@ module _ {K V : Type 0} (order : KeyOrder K) (lawful : IsLawful order) (same : V
   chained_items_have_places : (xs : List (Item (AnyRange K) V)) → Known order lawful same equal xs
       → Chained order lawful same equal xs → Goods xs
   chained_items_have_places [] known chain = tt
-  chained_items_have_places (x ∷ xs) known chain = (
-    (known.0, chain.0),
-    chained_items_have_places xs known.1
-        (chain_right (line_of order lawful same equal) (x ∷ []) xs chain),
-  )
+  chained_items_have_places (x ∷ xs) known chain =
+      grind (arith, chain_right, chained_items_have_places xs known.1)
 
   none_joined : (xs : List (Item (AnyRange K) V)) (x : Item (AnyRange K) V) → Goods xs
       → IsKnownRange order x.key
@@ -128,71 +97,51 @@ module _ {K V : Type 0} (order : KeyOrder K) (lawful : IsLawful order) (same : V
       → behind ≡ []
   none_behind front [] x good good_x leads chain = refl
   none_behind front (b ∷ behind) x good good_x leads chain =
-      let cmp = places order lawful in
-      let total = position_total order.cmp lawful.total in
       let own = chain_right (line_of order lawful same equal) front (x ∷ b ∷ behind) chain in
-      let after : Le cmp (item_upper order x) (item_lower order b) = own.1.0.0 in
-      absurd (lt_not_le cmp total (item_lower order x) (item_upper order x) good_x
-      (le_trans cmp total (item_upper order x) (item_lower order b) (item_lower order x) after
-      (le_trans cmp total (item_lower order b) (item_upper order b) (item_lower order x)
-      (lt_le cmp total (item_lower order b) (item_upper order b) good.0.1) leads.0.0)))
+      absurd (lt_not_le lawful _ _ good_x (le_trans lawful _ (item_lower order b) _ own.1.0.0
+      (le_trans lawful _ (item_upper order b) _ (lt_le lawful _ _ good.0.1) leads.0.0)))
+
+  -- the items of a list in the form before its last one lead to that, and all are nonempty
+  parts_of : (xs : List (Item (AnyRange K) V)) (x : Item (AnyRange K) V)
+      → IsStored order same (xs ++ x ∷ [])
+      → Goods xs × Every (λ i. LeadsTo i x) xs × IsKnownRange order x.key
+      × Lt (places order lawful) (item_lower order x) (item_upper order x)
+  parts_of xs x whole =
+      let line = line_of order lawful same equal in
+      let chain = stored_chain order lawful same equal (xs ++ x ∷ []) whole in
+      let known = stored_known order lawful same equal (xs ++ x ∷ []) whole in (
+        chained_items_have_places xs (every_left _ xs (x ∷ []) known)
+            (chain_left line xs (x ∷ []) chain),
+        chain_before line xs x [] chain,
+        (every_right _ xs (x ∷ []) known).0,
+        (chain_right line xs (x ∷ []) chain).0,
+      )
 
   -- in a list in the form no item joins or meets the last
   pub apart_from_last : (xs : List (Item (AnyRange K) V)) (x : Item (AnyRange K) V)
       → IsStored order same (xs ++ x ∷ [])
       → Every (λ i. ¬ JoinsOrMeets order same x.key x.value i) xs
   apart_from_last xs x whole =
-      let cmp = places order lawful in
-      let total = position_total order.cmp lawful.total in
-      let chain = stored_chain order lawful same equal (xs ++ x ∷ []) whole in
-      let known = stored_known order lawful same equal (xs ++ x ∷ []) whole in
-      let leads = chain_before (line_of order lawful same equal) xs x [] chain in
-      let last = chain_right (line_of order lawful same equal) xs (x ∷ []) chain in
-      let good =
-      chained_items_have_places xs
-      (every_left (λ i. IsKnownRange order i.key) xs (x ∷ []) known)
-      (chain_left (line_of order lawful same equal) xs (x ∷ []) chain) in
-      none_joined xs x good (every_right (λ i. IsKnownRange order i.key) xs (x ∷ []) known).0 last.0
-      leads
+      let (good, leads, known, own) = parts_of xs x whole in none_joined xs x good known own leads
 
   -- a list in the form stands as it is, where its last item is put to the others
   pub stands_last : (xs new : List (Item (AnyRange K) V)) (x : Item (AnyRange K) V)
       → IsStored order same (xs ++ x ∷ []) → IsStored order same new
       → IsInsertionFrame order same xs new x.key x.value → new ≡ xs ++ x ∷ []
   stands_last xs new x whole stored frame =
-      let cmp = places order lawful in
-      let total = position_total order.cmp lawful.total in
-      let chain = stored_chain order lawful same equal (xs ++ x ∷ []) whole in
-      let known = stored_known order lawful same equal (xs ++ x ∷ []) whole in
-      let leads = chain_before (line_of order lawful same equal) xs x [] chain in
-      let last = chain_right (line_of order lawful same equal) xs (x ∷ []) chain in
-      let good =
-      chained_items_have_places xs
-      (every_left (λ i. IsKnownRange order i.key) xs (x ∷ []) known)
-      (chain_left (line_of order lawful same equal) xs (x ∷ []) chain) in
-      let apart = apart_from_last xs x whole in
+      let (good, leads, known, own) = parts_of xs x whole in
       let empty : frame.run ≡ [] =
       no_item (JoinsOrMeets order same x.key x.value) frame.front frame.run frame.behind
-      (subst (λ is. Every (λ i. ¬ JoinsOrMeets order same x.key x.value i) is) frame.before
-      apart) frame.such.concerned in
-      let split : xs ≡ frame.front ++ frame.behind =
-      frame.before ∙ ap (λ is. frame.front ++ is ++ frame.behind) empty
-      ∙ ap (λ is. is ++ frame.behind) (append-nil frame.front) in
+      (rw frame.before at (apart_from_last xs x whole)) frame.such.concerned in
+      let split : xs ≡ frame.front ++ frame.behind = rw (empty, append-nil) at frame.before in
       let after : new ≡ frame.front ++ x ∷ frame.behind =
-      frame.after ∙ ap (λ is. frame.front ++ is ++ frame.behind) (frame.such.whole empty)
-      ∙ one_between frame.front x frame.behind in
+      rw (frame.such.whole empty, append_assoc frame.front (x ∷ []) frame.behind) at frame.after in
       let behind : frame.behind ≡ [] =
       none_behind frame.front frame.behind x
-      (every_right (λ i. IsKnownRange order i.key
-      × Lt cmp (item_lower order i) (item_upper order i)) frame.front frame.behind
-      (subst Goods split good)) last.0
-      (every_right (λ i. LeadsTo i x) frame.front frame.behind
-      (subst (λ is. Every (λ i. LeadsTo i x) is) split leads))
-      (subst (Chained order lawful same equal) after
-      (stored_chain order lawful same equal new stored)) in
-      after ∙ ap (λ is. frame.front ++ x ∷ is) behind
-      ∙ ap (λ is. is ++ x ∷ [])
-      (sym (split ∙ ap (λ is. frame.front ++ is) behind ∙ append-nil frame.front))
+      (every_right _ frame.front frame.behind (rw split at good)) own
+      (every_right (λ i. LeadsTo i x) frame.front frame.behind (rw split at leads))
+      (rw after at (stored_chain order lawful same equal new stored)) in
+      after ∙ rw (split, behind, append-nil frame.front) refl
 
   -- the front of a list in the form is in the form
   pub stored_front : (xs ys : List (Item (AnyRange K) V)) → IsStored order same (xs ++ ys)

@@ -1,13 +1,13 @@
 -- The first earlier element that is met, as the ranges are read again.
-use Rattle.std.proofs.Common.{◌≡◌, refl, sym, ap, subst, ◌∙◌, ◌↔◌, false, Option, Some, None}
+use Rattle.std.proofs.Common.{◌≡◌, refl, sym, ap, subst, ◌∙◌, ◌↔◌, false, Option, Some, None, arith}
 use Rattle.std.specs.Prelude.{IfSome}
 use Rattle.std.specs.Ordering.{is_gt, ordering_reverse}
 use Rattle.std.specs.declared.cmp.Ordering.{Ordering}
-use Rattle.std.specs.declared.cmp.Ordering.TheVariants.{Less, Equal, Greater}
+use Rattle.std.specs.declared.cmp.Ordering.TheVariants.{Less, Equal}
 use Rattle.std.proofs.lemmas.Option.{same_Some}
 use Rattle.serde_json.specs.Data.{Data}
 use Rattle.range_keys.specs.Order.{KeyOrder, IsLawful}
-use Rattle.range_keys.specs.Position.{start_position, end_position, position_cmp}
+use Rattle.range_keys.specs.Position.{position_cmp}
 use Rattle.range_keys.specs.PositionOrder.{position_total}
 use Rattle.range_keys.specs.declared.inner.position.Position.{Position}
 use Rattle.range_algebra.specs.Compared.{starts_past_end}
@@ -27,8 +27,7 @@ some_too P Q (Some x) to h = to x h
 
 past_or_not : (a b : Ordering) → a ≡ ordering_reverse b → (is_gt a ≡ false) ↔ ¬ (b ≡ Less)
 past_or_not a Less e = (λ h. absurd cc, λ h. absurd (h refl))
-past_or_not a Equal e = (λ h k. absurd cc, λ h. ap is_gt e)
-past_or_not a Greater e = (λ h k. absurd cc, λ h. ap is_gt e)
+past_or_not a b e = (λ h k. absurd cc, λ h. ap is_gt e)
 
 module _ {K : Type 0} (order : KeyOrder K) (lawful : IsLawful order) where
   reaches : (p q : Position K) → (is_gt (position_cmp order.cmp p q) ≡ false)
@@ -40,10 +39,7 @@ module _ {K : Type 0} (order : KeyOrder K) (lawful : IsLawful order) where
   -- ranges meet where neither starts past the end of the other
   pub overlap_by : (r s : AnyRange K) → ((starts_past_end order r.start s.end ≡ false)
       × (starts_past_end order s.start r.end ≡ false)) ↔ Overlap order r s
-  overlap_by r s =
-      let one = reaches (start_position order r.start) (end_position order s.end) in
-      let other = reaches (start_position order s.start) (end_position order r.end) in
-      (λ h. (other.0 h.1, one.0 h.0), λ h. (one.1 h.1, other.1 h.0))
+  overlap_by r s = grind (arith, reaches)
 
 module _ {K : Type 0} (order : KeyOrder K) (is_read : Data → K → Type 0) where
   module _ (lawful : IsLawful order) (one : HasOneReading order is_read) where

@@ -1,7 +1,8 @@
 -- What is read of a list while a loop goes over it.
-use Rattle.std.proofs.Common.{◌≡◌, refl, ap, ◌∙◌, ℕ, suc, ◌+◌, List, [], ◌∷◌, ◌++◌, map, length, Option, Some, None, arith, rules}
+use Rattle.std.proofs.Common.{◌≡◌, refl, sym, ap, ◌∙◌, ℕ, suc, ◌+◌, List, [], ◌∷◌, ◌++◌, map, length, Option, Some, None, append_assoc, arith, rules}
+use Rattle.std.proofs.lemmas.Option.{none-some}
 use Rattle.std.specs.List.{AllZip}
-use Rattle.serde_json.specs.Data.{Data, null, boolean, number, string, array, object}
+use Rattle.serde_json.specs.Data.{Data, array}
 use Rattle.serde_json.specs.Find.{as_array}
 use Rattle.serde_json.specs.View.{view, items_of, items_view}
 use Rattle.serde_json.specs.declared.value.Value.{Value}
@@ -13,25 +14,17 @@ use Rattle.range_json.specs.SetReadBack.{list_back}
 abbrev MaybeFault : Type 0
 MaybeFault = Option JsonError
 
+pub before_none : (f g : MaybeFault) → before f g ≡ None → (f ≡ None) × (g ≡ None)
+before_none None g h = (refl, h)
+before_none (Some e) g h = absurd (none-some e (sym h))
+
 module _ (fault : ℕ → Data → MaybeFault) where
-  behind_at : (f rest tail : MaybeFault) → before f rest ≡ None → (rest ≡ None → tail ≡ tail)
-      → f ≡ None
-  behind_at None rest tail e h = refl
-  behind_at (Some x) rest tail e h = e
-
-  rest_none : (f rest : MaybeFault) → before f rest ≡ None → rest ≡ None
-  rest_none None rest e = e
-  rest_none (Some x) rest e = search (rules, e)
-
   -- where the elements before have no fault, the first is one of those after
   pub fault_behind : (i : ℕ) (ds more : List Data) → first_fault fault i ds ≡ None
       → first_fault fault i (ds ++ more) ≡ first_fault fault (i + length ds) more
   fault_behind i [] more h = ap (λ n. first_fault fault n more) (omega arith)
   fault_behind i (d ∷ ds) more h =
-      let here : fault i d ≡ None =
-      behind_at (fault i d) (first_fault fault (suc i) ds) None h (λ _. refl) in
-      let later : first_fault fault (suc i) ds ≡ None =
-      rest_none (fault i d) (first_fault fault (suc i) ds) h in
+      let (here, later) = before_none (fault i d) (first_fault fault (suc i) ds) h in
       ap (λ f. before f (first_fault fault (suc i) (ds ++ more))) here
       ∙ fault_behind (suc i) ds more later ∙ ap (λ n. first_fault fault n more) (omega arith)
 
@@ -55,30 +48,21 @@ module _ (fault : ℕ → Data → MaybeFault) where
 pub read_more : {X : Type 0} (R : Data → X → Type 0) (ds : List Data) (xs : List X) (d : Data)
     (x : X) → AllZip R ds xs → R d x → AllZip R (ds ++ d ∷ []) (xs ++ x ∷ [])
 read_more R [] [] d x h k = (k, tt)
-read_more R [] (y ∷ xs) d x h k = absurd h
-read_more R (e ∷ ds) [] d x h k = absurd h
 read_more R (e ∷ ds) (y ∷ xs) d x h k = (h.0, read_more R ds xs d x h.1 k)
+read_more R ds xs d x h k = absurd h
 
 pub same_length : (vs : List Value) → length (map view vs) ≡ length vs
 same_length [] = refl
 same_length (v ∷ vs) = ap suc (same_length vs)
 
-no_such : {A : Type 0} (x : A) → None ≡ Some x → ⊥
-no_such x e = search (rules, e)
-
 -- an array's elements are its list
 pub array_has_elements : (d : Data) (vs : List Value) → as_array d ≡ Some (items_view vs)
     → elements_of d ≡ Some (map view vs)
-array_has_elements null vs e = absurd (no_such _ e)
-array_has_elements (boolean b) vs e = absurd (no_such _ e)
-array_has_elements (number n) vs e = absurd (no_such _ e)
-array_has_elements (string s) vs e = absurd (no_such _ e)
 array_has_elements (array ds) vs e =
     let same : ds ≡ items_of (map view vs) = search (rules, e) in
     ap (λ is. Some (list_of is)) same ∙ ap (λ l. Some l) (list_back (map view vs))
-array_has_elements (object ms) vs e = absurd (no_such _ e)
+array_has_elements d vs e = absurd (none-some _ e)
 
 pub append_one_more : (xs : List Value) (v : Value) (more : List Value)
     → (xs ++ v ∷ []) ++ more ≡ xs ++ v ∷ more
-append_one_more [] v more = refl
-append_one_more (x ∷ xs) v more = ap (λ l. x ∷ l) (append_one_more xs v more)
+append_one_more xs v more = append_assoc xs (v ∷ []) more

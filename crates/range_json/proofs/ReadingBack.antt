@@ -1,5 +1,5 @@
 -- What is written is read back as an equal range or map.
-use Rattle.std.proofs.Common.{◌≡◌, refl, sym, ap, subst, ◌∙◌, ◌&&◌, ◌++◌, inl, inr, length, ℕ, List, [], ◌∷◌, map, Bool, true, IsTrue, None, Ok, Result}
+use Rattle.std.proofs.Common.{append_assoc, ◌≡◌, refl, sym, ap, ◌∙◌, ◌&&◌, ◌++◌, inl, inr, length, ℕ, List, [], ◌∷◌, map, Bool, true, IsTrue, None, Ok, arith}
 use Rattle.std.proofs.lemmas.List.Elements.{All-from_recursion}
 use Rattle.std.specs.Cmp.{IsEquivalence}
 use Rattle.std.specs.List.{AllZip}
@@ -23,7 +23,7 @@ use Rattle.range_json.specs.Faults.{key_fault, bound_fault, range_fault, IsBound
 use Rattle.range_json.specs.declared.error.JsonError.{JsonError}
 use Rattle.range_json.specs.MapFaults.{element_fault, IsElementRead, IsMapRead, IsFirstFault, MeetNonempty}
 use Rattle.range_json.specs.Values.{IsBoundValue, IsRangeValue, AreItemValues}
-use Rattle.range_json.proofs.Keeping.{apart_from_last, stored_front, one_between}
+use Rattle.range_json.proofs.Keeping.{apart_from_last, stored_front}
 use Rattle.range_algebra.proofs.Lists.{any_none, every_more}
 use Rattle.range_change.specs.Frames.{JoinsOrMeets}
 use Rattle.range_json.specs.SetReadBack.{list_back}
@@ -31,12 +31,8 @@ use Rattle.range_json.specs.SetReadBack.{list_back}
 zip_last : {X : Type 0} (R : X → X → Type 0) (xs ys : List X) (x y : X) → AllZip R xs ys → R x y
     → AllZip R (xs ++ x ∷ []) (ys ++ y ∷ [])
 zip_last R [] [] x y h r = (r, tt)
-zip_last R [] (z ∷ ys) x y h r = absurd h
-zip_last R (z ∷ xs) [] x y h r = absurd h
 zip_last R (z ∷ xs) (w ∷ ys) x y h r = (h.0, zip_last R xs ys x y h.1 r)
-
-ok_is : (x y : List Data) → ◌≡◌ {A = Result (List Data) JsonError} (Ok x) (Ok y) → x ≡ y
-ok_is x y e = cc
+zip_last R xs ys x y h r = absurd h
 
 module _ {K : Type 0} (order : KeyOrder K) (shape : K → Data) (reads : Data → Bool)
     (is_value : K → Type 0) (is_read : Data → K → Type 0) where
@@ -62,27 +58,15 @@ module _ {K : Type 0} (order : KeyOrder K) (shape : K → Data) (reads : Data �
     bound_back : (b c : Bound K) → IsBoundValue is_value b
         → IsBoundRead is_read (bound_shape shape b) c → IsBoundClone Alike b c
     bound_back (Included k) (Included l) v h = back k l v h
-    bound_back (Included k) (Excluded l) v h = h
-    bound_back (Included k) Unbounded v h = h
-    bound_back (Excluded k) (Included l) v h = h
     bound_back (Excluded k) (Excluded l) v h = back k l v h
-    bound_back (Excluded k) Unbounded v h = h
-    bound_back Unbounded (Included l) v h = h
-    bound_back Unbounded (Excluded l) v h = h
     bound_back Unbounded Unbounded v h = tt
+    bound_back b c v h = h
 
     -- a written range is read with equal bounds
     pub bounds_back : (r s : AnyRange K) → IsRangeValue is_value r
         → IsRangeRead is_read (range_shape shape r) s
         → IsBoundClone Alike r.start s.start × IsBoundClone Alike r.end s.end
-    bounds_back r s v (ds, e, starts, ends) =
-        let same : (bound_shape shape r.start, bound_shape shape r.end) ≡ ds =
-        same_Some (bound_shape shape r.start, bound_shape shape r.end) ds e in (
-          bound_back r.start s.start v.0
-              (subst (λ d. IsBoundRead is_read d s.start) (ap (λ p. p.0) (sym same)) starts),
-          bound_back r.end s.end v.1
-              (subst (λ d. IsBoundRead is_read d s.end) (ap (λ p. p.1) (sym same)) ends),
-        )
+    bounds_back r s v (ds, e, starts, ends) = grind (arith, bound_back, same_Some)
 
     module _ (lawful : IsLawful order) {V : Type 0} (same : V → V → Bool)
         (equal : IsEquivalence same) where
@@ -99,9 +83,8 @@ module _ {K : Type 0} (order : KeyOrder K) (shape : K → Data) (reads : Data �
       pub same_copies : (items copy : List (Item (AnyRange K) V)) → AllZip Copied items copy
           → IsTrue (same_list order same copy items)
       same_copies [] [] h = refl
-      same_copies [] (y ∷ ys) h = absurd h
-      same_copies (x ∷ xs) [] h = absurd h
       same_copies (x ∷ xs) (y ∷ ys) h = rw h.0 (same_copies xs ys h.1)
+      same_copies items copy h = absurd h
 
       module _ (value_shape : V → Data) (value_is_value : V → Type 0)
           (value_is_read : Data → V → Type 0)
@@ -113,23 +96,16 @@ module _ {K : Type 0} (order : KeyOrder K) (shape : K → Data) (reads : Data �
         element_back : (x y : Item (AnyRange K) V)
             → IsRangeValue is_value x.key × value_is_value x.value
             → IsElementRead is_read value_is_read (pair x) y → Copied x y
-        element_back x y v (ds, e, range, value) =
-            let same : (range_shape shape x.key, value_shape x.value) ≡ ds =
-            same_Some (range_shape shape x.key, value_shape x.value) ds e in
-            item_back x y v.0 (subst (λ d. IsRangeRead is_read d y.key)
-            (ap (λ p. p.0) (sym same)) range)
-            (value_back x.value y.value v.1
-            (subst (λ d. value_is_read d y.value) (ap (λ p. p.1) (sym same)) value))
+        element_back x y v (ds, e, range, value) = grind (arith, item_back, same_Some)
 
         elements_back : (items elements : List (Item (AnyRange K) V))
             → AreItemValues is_value value_is_value items
             → AllZip (IsElementRead is_read value_is_read) (map pair items) elements
             → AllZip Copied items elements
         elements_back [] [] v h = tt
-        elements_back [] (y ∷ ys) v h = absurd h
-        elements_back (x ∷ xs) [] v h = absurd h
         elements_back (x ∷ xs) (y ∷ ys) v h =
             (element_back x y v.0 h.0, elements_back xs ys v.1 h.1)
+        elements_back items elements v h = absurd h
 
         -- a written map is read back as an equal one
         pub map_back : (value_reads : Data → Bool) (items others : List (Item (AnyRange K) V))
@@ -137,20 +113,17 @@ module _ {K : Type 0} (order : KeyOrder K) (shape : K → Data) (reads : Data �
             → IsMapRead order reads value_reads is_read value_is_read same
             (map_shape shape value_shape items) others → IsTrue (same_list order same others items)
         map_back value_reads items others v stored h =
-            let listed : map pair items ≡ h.ds =
-            ok_is (map pair items) h.ds
-            (ap Ok (sym (list_back (map pair items))) ∙ h.whole) in
+            let whole = ap Ok (sym (list_back (map pair items))) ∙ h.whole in
+            let listed : map pair items ≡ h.ds = cc in
             let copies =
             elements_back items h.elements v
-            (subst (λ ds. AllZip (IsElementRead is_read value_is_read) ds h.elements)
-            (sym listed) h.read.read) in
+            (rw listed h.read.read) in
             let form =
             copy_stored lawful equal h.elements items
             (equal_items_are_copy lawful equal items h.elements copies)
             (All-from_recursion (λ i. IsKnownRange order i.key) h.elements h.read.known)
             stored in
-            subst (λ is. IsTrue (same_list order same is items)) (sym (h.kept form))
-            (same_copies items h.elements copies)
+            rw (h.kept form) (same_copies items h.elements copies)
 
 -- a list of what is made of items, cut at a place, is what is made of the items cut there
 record IsCutAt {X : Type 0} (f : X → Data) (items : List X) (front : List Data)
@@ -216,7 +189,7 @@ module _ {K V : Type 0} (order : KeyOrder K) (shape : K → Data) (reads : Data 
         let cut = cut_at shown items first.front first.d first.rest first.split in
         let values =
         value_parts cut.xs cut.x cut.ys
-        (subst (AreItemValues is_value value_is_value) cut.split v) in
+        (rw cut.split at v) in
         elim first.fault [
           | inl own ↦
               none-some f (sym (element_sound (length first.front) cut.x values.1)
@@ -227,20 +200,17 @@ module _ {K V : Type 0} (order : KeyOrder K) (shape : K → Data) (reads : Data 
               elements_back order shape reads is_value is_read back lawful same equal
               value_shape value_is_value value_is_read value_back cut.xs first.earlier
               values.0
-              (subst (λ ds. AllZip (IsElementRead is_read value_is_read) ds first.earlier)
-              (sym cut.before) first.fine.read) in
+              (rw cut.before first.fine.read) in
               let last =
               element_back order shape reads is_value is_read back lawful same equal
               value_shape value_is_value value_is_read value_back cut.x y values.1
-              (subst (λ d. IsElementRead is_read value_is_read d y) (sym cut.at) met.0.1.1)
-              in
+              (rw (← cut.at) at met.0.1.1) in
               let copies =
               zip_last (Copied order shape reads is_value is_read back lawful same equal)
               cut.xs first.earlier cut.x y front last in
               let whole =
               stored_front order lawful same equal (cut.xs ++ cut.x ∷ []) cut.ys
-              (subst (IsStored order same)
-              (cut.split ∙ sym (one_between cut.xs cut.x cut.ys)) stored) in
+              (rw (append_assoc cut.xs (cut.x ∷ []) cut.ys, ← cut.split) stored) in
               let form =
               copy_stored lawful equal (first.earlier ++ y ∷ [])
               (cut.xs ++ cut.x ∷ []) (equal_items_are_copy lawful equal

@@ -1,10 +1,10 @@
 -- What a loop has read of an array of values.
-use Rattle.std.proofs.Common.{◌≡◌, refl, sym, ap, ◌∙◌, ◌&&◌, ◌||◌, Bool, true, false, IsTrue, List, [], ◌∷◌, ◌++◌, map, cond}
+use Rattle.std.proofs.Common.{◌≡◌, refl, ◌||◌, Bool, true, false, IsTrue, List, [], ◌∷◌, ◌++◌, map, cond, arith}
 use Rattle.std.proofs.lemmas.List.{map-append}
 use Rattle.std.proofs.lemmas.List.Folds.{list_all-append, list_any-append}
-use Rattle.std.specs.BTreeSet.{BTreeSet, IsOrdered, IsFromIterResult, Updates, contains}
+use Rattle.std.specs.BTreeSet.{BTreeSet, IsOrdered, IsFromIterResult, Updates}
 use Rattle.std.specs.Cmp.{IsTotalOrder, eq_by_cmp_equiv}
-use Rattle.std.specs.List.{AllZip, list_all, list_any}
+use Rattle.std.specs.List.{AllZip, list_all}
 use Rattle.std.specs.Ordering.{eq_by_cmp}
 use Rattle.std.specs.declared.cmp.Ordering.{Ordering}
 use Rattle.std.proofs.lemmas.Bool.{and_from}
@@ -35,30 +35,9 @@ module _ {V : Type 0} (cmp : V → V → Ordering) (reads : Data → Bool)
     values_more vs v old new x h read fine updates ordered =
         let more = map-append view vs (v ∷ []) in
         let member = λ (q : V). eq_by_cmp cmp q in
-        let laws = eq_by_cmp_equiv total in record {
-          sound =
-              rw more (list_all-append reads (map view vs) (view v ∷ [])
-              ∙ and_from (list_all reads (map view vs)) (reads (view v) && true) h.sound
-              (and_from (reads (view v)) true fine refl));
-          values = h.values ++ x ∷ [];
-          read = rw more (read_more is_read (map view vs) h.values (view v) x h.read read);
-          set = (
-            λ q. updates.0 q ∙ ap (λ b. cond b true (contains cmp old q)) (laws.symm x q)
-                ∙ ap (λ b. cond (member q x) true b) (h.set.0 q)
-                ∙ either_is (member q x) (list_any (member q) h.values)
-                ∙ sym (list_any-append (member q) h.values (x ∷ [])),
-            ordered,
-          );
-        }
+        let laws = eq_by_cmp_equiv total in
+        grind (arith, and_from, either_is, list_all-append, list_any-append, read_more)
 
   pub values_fail : (vs more : List Value) (v : Value) → reads (view v) ≡ false
       → list_all reads (map view (vs ++ v ∷ more)) ≡ false
-  values_fail vs more v e =
-      rw (map-append view vs (v ∷ more))
-      (list_all-append reads (map view vs) (view v ∷ map view more)
-      ∙ ap (λ b. list_all reads (map view vs) && (b && list_all reads (map view more))) e
-      ∙ ends_false (list_all reads (map view vs)))
-    where
-      ends_false : (b : Bool) → (b && false) ≡ false
-      ends_false true = refl
-      ends_false false = refl
+  values_fail vs more v e = grind (arith, list_all-append, map-append)

@@ -31,11 +31,7 @@ pub asked_within : {K V W F A : Type 0} {items xs : List (Item (AnyRange K) V)}
     → MayBeAskedOfBoth calls f items others → AreValuesIn items xs → AreValuesIn others ys
     → MayBeAskedOfBoth calls f xs ys
 asked_within {items} {xs} {others} {ys} calls f asked first second shown other_shown values =
-    asked shown other_shown (record {
-      first = value_within items xs first _ values.first;
-      second = value_within others ys second _ values.second;
-      some = values.some;
-    })
+    grind (arith, value_within)
 
 -- the first of what is left has a nonempty range, and a value of the list
 pub first_left : {K V : Type 0} {order : KeyOrder K} {items : List (Item (AnyRange K) V)}
@@ -81,12 +77,7 @@ module _ {K : Type 0} (order : KeyOrder K) where
     -- the closure may be asked of the piece
     pub asked_of_piece : MayBeAskedBoth calls f (option_copied piece.value)
         (option_copied piece.other_value)
-    asked_of_piece shown other_shown shows other_shows =
-        can.asked shown other_shown (rw (shows, other_shows) (record {
-          first = took.0;
-          second = took_other.0;
-          some = can.first.bound;
-        }))
+    asked_of_piece shown other_shown shows other_shows = grind (arith, took, took_other)
 
     -- a piece that leaves a part of both ranges
     module _ {part : Part K V} {other : Part K W} (is : piece.left ≡ Some part)
@@ -104,13 +95,7 @@ module _ {K : Type 0} (order : KeyOrder K) where
       pub parts_of_both : IsPlaced order (part_item part).key × IsPlaced order (part_item other).key
           × (position_cmp order.cmp (lower order (part_item part).key)
           (lower order (part_item other).key) ≡ Equal)
-      parts_of_both =
-          let alike : StartAlike order (Some (part_item part)) (Some (part_item other)) =
-          rw (is, is_other) at both_alike in (
-            rw is at took.1,
-            rw is_other at took_other.1,
-            cc,
-          )
+      parts_of_both = grind (arith, both_alike, took, took_other)
 
       module _ (next : Piece K V W)
           (after : IsFirstPieceOf order (Some (part_item part))
@@ -130,14 +115,7 @@ module _ {K : Type 0} (order : KeyOrder K) where
 
         -- and of which the closure may be asked
         pub next_askable : IsFirstAskable order calls f next
-        next_askable = record {
-          left = Some (part_item part);
-          right = Some (part_item other);
-          placed = parts_of_both.0;
-          placed_right = parts_of_both.1;
-          first = after;
-          asked = asked_within calls f can.asked (rw is at took.2) (rw is_other at took_other.2);
-        }
+        next_askable = grind (arith, asked_within, parts_of_both, took, took_other)
 
 -- where an answer that was put after the others leaves some, it is a value, or there were some
 -- before
@@ -171,14 +149,7 @@ module _ {K : Type 0} {order : KeyOrder K} {lawful : IsLawful order} {V W X : Ty
         + length (option_items (option_map part_item rests.right) ++ others_rest)
         < length (option_items left ++ rest) + length (option_items right ++ others_rest))
     combined_asked new rests (piece, first, (inl one, ends)) =
-        rw (one.1, one.2) (
-          combined_more lawful equal may items others was none none_other first one.0.0 _ clones
-              one.0.2 one.0.1,
-          fewer_ranges order rest others_rest first (λ no alike. elim ends [
-            | inl e ↦ (goes_on order alike).0 (rw (← one.1, e) refl)
-            | inr e ↦ (goes_on order alike).1 (rw (← one.2, e) refl)
-          ]),
-        )
+        grind (arith, combined_more, fewer_ranges, goes_on)
     combined_asked new rests (piece, first, (inr two, ends)) =
         let next = two.2 in
         let on = goes_on order next.alike in
@@ -187,12 +158,7 @@ module _ {K : Type 0} {order : KeyOrder K} {lawful : IsLawful order} {V W X : Ty
               (combined_more lawful equal may items others was none none_other first two.3.0 _
               clones two.3.2 two.3.1) (λ e. absurd (on.0 e)) (λ e. absurd (on.1 e)) next.first
               two.4.0.0 _ clones two.4.0.2 two.4.0.1,
-          omega (
-            arith,
-            no_longer order left _ _ _ rest first.first,
-            no_longer order right _ _ _ others_rest first.second,
-            fewer_ranges order rest others_rest next.first (λ no alike. no next.alike),
-          ),
+          grind (arith, fewer_ranges, no_longer),
         )
 
     -- what binds a part that is constant in both lists is answered so

@@ -20,14 +20,7 @@ use Rattle.range_merge.proofs.HeldInside.{inside_holds, lies_in_holds}
 
 any_last : {X : Type 0} (P : X → Type 0) (xs : List X) (x : X)
     → Any P (xs ++ x ∷ []) ↔ (Any P xs ⊎ P x)
-any_last P xs x = (
-  λ h. elim (any_split P xs (x ∷ []) h) [
-    | inl before ↦ inl before
-    | inr (inl here) ↦ inr here
-    | inr (inr nowhere) ↦ absurd nowhere
-  ],
-  λ h. elim h [ inl before ↦ any_left P xs (x ∷ []) before | inr here ↦ any_end P xs x here ],
-)
+any_last P xs x = grind (arith, any_split P xs (x ∷ []), any_left P xs (x ∷ []), any_end P xs x)
 
 -- of what a list holds, where a part is told otherwise
 told : {N A B M P : Type 0} → N ↔ A → A ↔ (B ⊎ P) → M ↔ B → N ↔ (M ⊎ P)
@@ -101,10 +94,7 @@ module _ {K : Type 0} {order : KeyOrder K} (lawful : IsLawful order) {V W X : Ty
   seen_done : {U : Type 0} {xs left : List (Item (AnyRange K) U)} {m p : Position K}
       {Done : Position K → Type 0} → IsSideUpTo order xs m left Done
       → (SomeHoldsAt order p left → ⊥) → SomeHoldsAt order p xs → Done p
-  seen_done side none at = elim (side.seen _ at) [
-    | inl later ↦ absurd (none later)
-    | inr done ↦ done
-  ]
+  seen_done side none at = grind arith
 
   -- a piece of which nothing is left was asked about
   was_asked : {left : List (Item (AnyRange K) V)} {right : List (Item (AnyRange K) W)}
@@ -149,17 +139,11 @@ module _ {K : Type 0} {order : KeyOrder K} (lawful : IsLawful order) {V W X : Ty
         taken lawful piece.placed second other last_other none_other piece.second was.second.from
 
     starts_after : PLe order was.upto (lower order key)
-    starts_after =
-        elim (some_of value other piece.bound) [
-          | inl some ↦ took.starts some
-          | inr some ↦ took_other.starts some
-        ]
+    starts_after = grind (arith, some_of, took, took_other)
 
     not_done : (p : Position K) → HoldsAt order p key → IsDone was.answers p → ⊥
     not_done p at done =
-        any_none _ _ was.answers was.below (λ c below held.
-        lt_not_le lawful _ _ held.1
-        (le_trans lawful _ _ _ below (le_trans lawful _ _ _ starts_after at.0))) done
+        any_none _ _ was.answers was.below (grind (arith, le_trans, lt_not_le, starts_after)) done
 
     ends : LiesBetweenEnds order items others key
     ends = piece_between lawful items others piece rest others_rest was.between was.others_between
@@ -181,17 +165,7 @@ module _ {K : Type 0} {order : KeyOrder K} (lawful : IsLawful order) {V W X : Ty
     none_earlier : (p : Position K) → Lt (position_cmp order.cmp) p (lower order key)
         → (SomeHoldsAt order p (option_items first ++ rest) → ⊥)
         × (SomeHoldsAt order p (option_items second ++ others_rest) → ⊥)
-    none_earlier p less =
-        let past = lt_trans lawful _ _ _ less piece.placed.good in (
-          λ at. elim (took.places p at) [
-            | inl here ↦ lt_not_le lawful _ _ less here.0.0
-            | inr later ↦ not_left lawful items _ _ p took.from past later
-          ],
-          λ at. elim (took_other.places p at) [
-            | inl here ↦ lt_not_le lawful _ _ less here.0.0
-            | inr later ↦ not_left lawful others _ _ p took_other.from past later
-          ],
-        )
+    none_earlier p less = grind (arith, lt_not_le, lt_trans, not_left, took, took_other)
 
     -- the closure may answer to a piece before it without an error
     earlier_succeeds : (r : AnyRange K) (v : Option V) (w : Option W)
@@ -209,14 +183,7 @@ module _ {K : Type 0} {order : KeyOrder K} (lawful : IsLawful order) {V W X : Ty
     -- what the closure may answer to it
     pub answered_piece : (answer : Result (Option X) E) → may value other answer
         → MayAnswerOnBoth order may items others answer
-    answered_piece answer says = record {
-      piece = key;
-      left = value;
-      right = other;
-      is_piece = is_shared;
-      says = says;
-      before = earlier_succeeds;
-    }
+    answered_piece answer says = grind (arith, earlier_succeeds, is_shared)
 
     abbrev more : Option X → List Answer
     more answer =
@@ -228,12 +195,9 @@ module _ {K : Type 0} {order : KeyOrder K} (lawful : IsLawful order) {V W X : Ty
       filled_more : IsFilledUpTo order lawful same equal full_range (upper order key)
           (was.answered ++ record { key = key; value = None; answer = answer } ∷ []) new
       filled_more =
-          fill_more order lawful same equal full_range was.upto (upper order key) _ key (
-            piece.placed.known,
-            unbounded_start order lawful key.start piece.placed.known.0,
-            piece.placed.good,
-            unbounded_end order lawful key.end piece.placed.known.1,
-          ) starts_after (le_refl lawful _) is_clone clones None answer middle new was.filled put
+          fill_more order lawful same equal full_range was.upto (upper order key) _ key
+          (grind (arith, unbounded_end, unbounded_start)) starts_after (le_refl lawful _) is_clone
+          clones None answer middle new was.filled put
 
       -- the piece is put after what the list holds already
       hold_more : (p : Position K) (U : X → Bool) → Alike order lawful same equal full_range U
@@ -248,11 +212,9 @@ module _ {K : Type 0} {order : KeyOrder K} (lawful : IsLawful order) {V W X : Ty
           → Any (λ c. HoldsAt order p c.key × IsHeldAs p new c.answer) (more answer)
       held_more p done =
           (any_last _ was.answers _).1 (elim ((any_last _ was.answers _).0 done) [
-            | inl before ↦ inl (any_over _ _ was.answers (λ c only. (
-              only.0,
-              λ U same_as. stays (hold_more p U same_as) (λ here. not_done p here.0 before)
-                  (only.1 U same_as),
-            )) (was.held p before))
+            | inl before ↦
+                inl (any_over _ _ was.answers (grind (arith, hold_more, not_done, stays))
+                (was.held p before))
             | inr at ↦ inr (
               at,
               λ U same_as. comes (hold_more p U same_as) (λ old. not_done p at (was.free p
@@ -293,30 +255,24 @@ module _ {K : Type 0} {order : KeyOrder K} (lawful : IsLawful order) {V W X : Ty
             answered = _;
             filled = filled_more;
             held = held_more;
-            free = λ p h. (any_last _ was.answers _).1 (elim ((hold_more p (λ u. true)
-                (respects_any order lawful same equal)).0 h) [
-                  | inl before ↦ inl (was.free p before)
-                  | inr here ↦ inr here.0
-                ]);
+            free = λ p h. (any_last _ was.answers _).1 (grind (arith, hold_more, respects_any));
           }
 
   as_answered : (new : List (Item (AnyRange K) X)) (k : K) → Known order lawful same equal new
       → order.is_key k → (answer b : Option X) → IsHeldAs (Beside k At) new answer
       → Binds order same new k b ↔ IsAsAnswered same answer b
   as_answered new k known key None None held =
-      let bound = bound_hold order lawful same equal new k known key in
-      (λ _. refl, λ _ is. (held (λ u. true) (λ a b s t. t)).0 (bound.0 is))
+      let own = held (λ u. true) (λ a b s t. t) in
+      grind (arith, bound_hold order lawful same equal new k known key)
   as_answered new k known key (Some v) None held =
-      let bound = bound_hold order lawful same equal new k known key in
-      (λ unbound. unbound (bound.1 ((held (λ u. true) (λ a b s t. t)).1 refl)), λ e. absurd e)
+      let own = held (λ u. true) (λ a b s t. t) in
+      grind (arith, bound_hold order lawful same equal new k known key)
   as_answered new k known key None (Some w) held =
       let own = held (λ u. same u w) (λ a b s t. sym (equal.congr a b w s) ∙ t) in
-      let here = binds_hold order lawful same equal new k w known key in
-      (λ bound. absurd (own.0 (here.0 bound)), λ e. absurd (cc))
+      grind (arith, binds_hold order lawful same equal new k w known key)
   as_answered new k known key (Some v) (Some w) held =
       let own = held (λ u. same u w) (λ a b s t. sym (equal.congr a b w s) ∙ t) in
-      let here = binds_hold order lawful same equal new k w known key in
-      (λ bound. own.0 (here.0 bound), λ e. here.1 (own.1 e))
+      grind (arith, binds_hold order lawful same equal new k w known key)
 
   constant_bound : {U : Type 0} (xs : List (Item (AnyRange K) U)) (r : AnyRange K) (v : Option U)
       (k : K) → order.is_key k → Holds order r k → IsConstantOn order xs r v
@@ -354,15 +310,7 @@ module _ {K : Type 0} {order : KeyOrder K} (lawful : IsLawful order) {V W X : Ty
       free = λ k key unbound unbound_other bound.
           any_use _ _ was.answers (was.free (Beside k At)
           ((bound_hold order lawful same equal new k was.filled.known key).0 bound)) was.each
-          (λ c at part.
-          let shared = part.part in
-          let held = (held_between order lawful c.key k shared.known key).1 at in
-          elim (some_of c.left c.right shared.bound) [
-            | inl some ↦
-                unbound (constant_bound items c.key c.left k key held shared.first some)
-            | inr some ↦
-                unbound_other (constant_bound others c.key c.right k key held shared.second some)
-          ]);
+          (grind (arith, constant_bound, held_between order lawful, some_of));
     },
   )
 
@@ -397,14 +345,6 @@ module _ {K : Type 0} {order : KeyOrder K} (lawful : IsLawful order) where
   pieces_combine equal_left equal_right {items} {others} made = record {
     held = λ k key bound.
         any_use _ _ made.answers (made.held k key bound)
-        (every_both _ _ made.answers made.each made.given) (λ c at part. record {
-          left = c.left;
-          right = c.right;
-          answer = c.answer;
-          first = constant_binds equal_left items c.key c.left k key at.0 part.0.part.first;
-          second = constant_binds equal_right others c.key c.right k key at.0 part.0.part.second;
-          given = part.1;
-          is = at.1;
-        });
+        (every_both _ _ made.answers made.each made.given) (grind (arith, constant_binds));
     free = made.free;
   }

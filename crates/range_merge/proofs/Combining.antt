@@ -1,5 +1,5 @@
 -- One side of a merged pass: what is left of a list, and what a piece takes of that.
-use Rattle.std.proofs.Common.{◌≡◌, refl, sym, ◌∙◌, ◌⊎◌, inl, inr, ◌+◌, ◌<◌, ◌≤◌, length, arith, Bool, true, Option, Some, None, List, [], ◌∷◌, ◌++◌}
+use Rattle.std.proofs.Common.{◌≡◌, refl, ◌⊎◌, inl, inr, ◌+◌, ◌<◌, ◌≤◌, length, arith, Bool, true, Option, Some, None, List, [], ◌∷◌, ◌++◌}
 use Rattle.std.specs.declared.ops.Bound.TheVariants.{Unbounded}
 use Rattle.range_merge.proofs.Common.{option_map, IsEquivalence, KeyOrder, IsLawful, IsKnownRange, position_cmp, Position, Beside, At, lower, upper, Le, Lt, Any, Every, AnyRange, every_weaker, Item, IsBound, IsStored, line_of}
 use Rattle.range_merge.specs.Combining.{IsConstantOn}
@@ -95,38 +95,16 @@ module _ {K : Type 0} {order : KeyOrder K} (lawful : IsLawful order) {V : Type 0
         → IsCutFrom order first key value last
         → IsLeftFrom order items m (option_items first ++ rest)
         → IsTaken order items (option_items first ++ rest) m key value (option_items last ++ rest)
-    taken None None last none cut was =
-        rw (cut, none refl) (record {
-          starts = λ some. absurd (some refl);
-          inside = tt;
-          from = tt;
-          places = λ p h. inr h;
-        })
+    taken None None last none cut was = grind arith
     taken None (Some v) last none cut was = absurd cut
-    taken (Some i) None last none cut was =
-        rw cut.0 (record {
-          starts = λ some. absurd (some refl);
-          inside = tt;
-          from = (cut.1, was.1, was.2, was.3);
-          places = λ p h. inr h;
-        })
+    taken (Some i) None last none cut was = grind arith
     taken (Some i) (Some v) None none cut was =
         record {
           starts = λ some. le_trans lawful _ _ _ was.0 (eq_ge lawful _ _ cut.1);
-          inside = any_over _ _ items (λ o part. (
-            part.0 ∙ cut.0,
-            le_trans lawful _ _ _ part.1 (eq_ge lawful _ _ cut.1),
-            le_trans lawful _ _ _ (eq_le lawful _ _ cut.2) part.2,
-          )) was.2;
+          inside = grind (arith, any_over, eq_ge, eq_le, le_trans);
           from = left_lower items rest _ _ (eq_le lawful _ _ cut.2) was.3;
           places = λ p h. elim h [
-            | inl at ↦ inl (
-              (
-                le_trans lawful _ _ _ (eq_le lawful _ _ cut.1) at.0,
-                lt_le_trans lawful _ _ _ at.1 (eq_ge lawful _ _ cut.2),
-              ),
-              λ e. cc,
-            )
+            | inl at ↦ grind (arith, eq_ge, eq_le, le_trans, lt_le_trans)
             | inr later ↦ inr later
           ];
         }
@@ -138,29 +116,13 @@ module _ {K : Type 0} {order : KeyOrder K} (lawful : IsLawful order) {V : Type 0
         let past = le_trans lawful _ _ _ (lt_le lawful _ _ cut.2.placed.good) upto in
         record {
           starts = λ some. le_trans lawful _ _ _ was.0 starts;
-          inside = any_over _ _ items (λ o part. (
-            part.0 ∙ cut.0,
-            le_trans lawful _ _ _ part.1 starts,
-            le_trans lawful _ _ _ (le_trans lawful _ _ _ from past) part.2,
-          )) was.2;
-          from = (
-            from,
-            cut.2.placed,
-            any_over _ _ items (λ o part. (
-              part.0 ∙ sym cut.2.value,
-              le_trans lawful _ _ _ part.1 (le_trans lawful _ _ _ starts good),
-              le_trans lawful _ _ _ upto part.2,
-            )) was.2,
-            left_lower items rest _ _ upto was.3,
-          );
+          inside = grind (arith, any_over, le_trans);
+          from = grind (arith, any_over, le_trans, left_lower);
           places = λ p h. elim h [
             | inl at ↦ elim (cases lawful p (upper order key)) [
               | inl less ↦
                   inl ((le_trans lawful _ _ _ (eq_le lawful _ _ cut.1) at.0, less), λ e. cc)
-              | inr le ↦ inr (inl (
-                le_trans lawful _ _ _ (eq_ge lawful _ _ cut.2.from) le,
-                lt_le_trans lawful _ _ _ at.1 (eq_ge lawful _ _ cut.2.upto),
-              ))
+              | inr le ↦ inr (inl (grind (arith, eq_ge, le_trans, lt_le_trans)))
             ]
             | inr later ↦ inr (inr later)
           ];
@@ -190,18 +152,7 @@ module _ {K : Type 0} {order : KeyOrder K} (lawful : IsLawful order) {V : Type 0
           → (Next : Position K → Type 0)
           → ((p : Position K) → Done p ⊎ HoldsAt order p key → Next p)
           → IsSideUpTo order items (upper order key) after Next
-      side_more taken Next next = record {
-        placed = was.placed;
-        apart = was.apart;
-        from = taken.from;
-        seen = λ p h. elim (was.seen p h) [
-          | inl later ↦ elim (taken.places p later) [
-            | inl here ↦ inr (next p (inr here.0))
-            | inr later ↦ inl later
-          ]
-          | inr done ↦ inr (next p (inl done))
-        ];
-      }
+      side_more taken Next next = grind (arith, taken)
 
       -- the list is constant on a piece of which no place is done with
       pub constant_on : (value : Option V) → IsPlaced order key
@@ -214,17 +165,10 @@ module _ {K : Type 0} {order : KeyOrder K} (lawful : IsLawful order) {V : Type 0
           met_range_is_covered order lawful alike one_class key items placed.known placed.good
           known (every_weaker _ _ items (λ i placed. placed.good) was.placed) met in
           elim (was.seen at.place (any_over _ _ items (λ i h. h.0) at.held)) [
-            | inl later ↦ elim (taken.places at.place later) [
-              | inl here ↦ here.1 refl
-              | inr later ↦ not_left items after _ at.place taken.from at.upto later
-            ]
+            | inl later ↦ grind (arith, not_left, taken)
             | inr done ↦ new at.place (at.from, at.upto) done
           ]
-      constant_on (Some v) placed taken new =
-          any_with _ _ _ items taken.inside was.placed (λ i part within. (
-            lies_in order lawful key i.key placed.known within.known part.1 part.2,
-            part.0,
-          ))
+      constant_on (Some v) placed taken new = grind (arith, any_with, lies_in, taken)
 
 module _ {K : Type 0} {order : KeyOrder K} (lawful : IsLawful order) {V : Type 0}
     {same : V → V → Bool} (equal : IsEquivalence same) (items : List (Item (AnyRange K) V)) where
@@ -292,13 +236,7 @@ module _ {K : Type 0} (order : KeyOrder K) where
       → length (option_items left_rest ++ xs) + length (option_items right_rest ++ ys)
       < length (option_items left ++ xs) + length (option_items right ++ ys)
   fewer_ranges {left} {left_rest} {right} {right_rest} xs ys piece apart =
-      let first = no_longer left _ _ left_rest xs piece.first in
-      let second = no_longer right _ _ right_rest ys piece.second in
-      elim piece.progress [
-        | inl used ↦ omega (arith, first, second, used_up left left_rest xs used)
-        | inr (inl used) ↦ omega (arith, first, second, used_up right right_rest ys used)
-        | inr (inr alike) ↦ absurd (apart alike.0 alike.1)
-      ]
+      grind (arith, no_longer)
 
 pub unmapped : {A B : Type 0} (f : A → B) (o : Option A) → option_map f o ≡ None → o ≡ None
 unmapped f None e = refl

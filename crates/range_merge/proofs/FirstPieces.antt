@@ -1,7 +1,7 @@
 -- The first piece of two ranges, by the places where they start and end.
-use Rattle.std.proofs.Common.{◌≡◌, refl, inl, inr, true, false, Option, Some, None}
+use Rattle.std.proofs.Common.{◌≡◌, refl, inl, inr, true, false, Option, Some, None, arith, rules}
 use Rattle.std.specs.Cmp.{tied_back, tied_itself}
-use Rattle.std.specs.declared.ops.Bound.TheVariants.{Included, Excluded, Unbounded}
+use Rattle.std.specs.declared.ops.Bound.TheVariants.{Unbounded}
 use Rattle.range_merge.proofs.Common.{Bound, Ordering, Equal, KeyOrder, IsLawful, Position, position_cmp, lower, upper, Lt, AnyRange, Item}
 use Rattle.range_keys.specs.Position.{start_position, end_position}
 use Rattle.range_keys.specs.PositionOrder.{position_total}
@@ -20,7 +20,7 @@ module _ {K : Type 0} {order : KeyOrder K} (lawful : IsLawful order) where
   abbrev Past : Bound K → Position K
   Past e = past order (end_position order e)
 
-  itself : (p : Position K) → cmp p p ≡ Equal
+  pub itself : (p : Position K) → cmp p p ≡ Equal
   itself p = tied_itself (position_total order.cmp lawful.total) p
 
   -- the places past two ends at one place are one place
@@ -35,8 +35,7 @@ module _ {K : Type 0} {order : KeyOrder K} (lawful : IsLawful order) where
       → Lt cmp (lower order r) (start_position order s) → flipped s ≡ None → ⊥
   later_has_end r Unbounded placed later e =
       lt_not_le lawful _ _ later (unbounded_start order lawful r.start placed.known.0)
-  later_has_end r (Included a) placed later e = cc
-  later_has_end r (Excluded a) placed later e = cc
+  later_has_end r s placed later e = cc
 
   -- an end that lies before another is not unbounded
   pub earlier_has_start : (r : AnyRange K) (e : Bound K) → IsPlaced order r
@@ -44,8 +43,7 @@ module _ {K : Type 0} {order : KeyOrder K} (lawful : IsLawful order) where
   earlier_has_start r Unbounded placed less is =
       lt_not_le lawful _ _ less (end_le order lawful r.end Unbounded placed.known.1 tt
       (unbounded_end order lawful r.end placed.known.1))
-  earlier_has_start r (Included a) placed less is = cc
-  earlier_has_start r (Excluded a) placed less is = cc
+  earlier_has_start r e placed less is = cc
 
   module _ {V : Type 0} (i : Item (AnyRange K) V) (placed : IsPlaced order i.key) where
     left_from : (p : Position K) (s : Bound K) → IsKnownBound order s
@@ -53,12 +51,7 @@ module _ {K : Type 0} {order : KeyOrder K} (lawful : IsLawful order) where
         → Lt cmp (start_position order s) (upper order i.key)
         → IsPartPast order i p
         (record { key = record { start = s; end = i.key.end }; value = i.value })
-    left_from p s known at good = record {
-      placed = record { known = (known, placed.known.1); good = good };
-      value = refl;
-      from = at;
-      upto = itself _;
-    }
+    left_from p s known at good = grind (arith, itself)
 
     -- what is left past an end
     pub is_part_past : (e s : Bound K) → IsKnownBound order e
@@ -68,9 +61,7 @@ module _ {K : Type 0} {order : KeyOrder K} (lawful : IsLawful order) where
     is_part_past e s known less turns =
         let at = flipped_bound_is_past order lawful e s turns in
         left_from (Past e) s (flipped_known order lawful e s turns known) at
-        (le_lt_trans lawful _ _ _ (eq_ge lawful _ _ at) (not_le lawful (Past e) (upper order i.key)
-        (λ le. lt_not_le lawful _ _ less
-        (end_le order lawful i.key.end e placed.known.1 known le))))
+        (le_lt_trans lawful _ _ _ (eq_ge lawful _ _ at) (search (rules, end_le, lt_not_le, not_le)))
 
   module _ {V W : Type 0} (i : Item (AnyRange K) V) (j : Item (AnyRange K) W)
       (placed : IsPlaced order i.key) (placed_j : IsPlaced order j.key) where
@@ -78,19 +69,7 @@ module _ {K : Type 0} {order : KeyOrder K} (lawful : IsLawful order) where
       -- the first ends before the second starts
       pub whole_first : starts_past_end order j.key.start i.key.end ≡ true
           → IsFirstPiece order (Some i) (Some j) i.key (Some i.value) None None (Some j)
-      whole_first over = record {
-        placed = placed;
-        bound = λ e. cc;
-        first = (refl, itself _, itself _);
-        second = (
-          refl,
-          not_lt lawful (upper order i.key) (lower order j.key) (λ l.
-              let within =
-              (reaching_is_before_past order lawful j.key.start i.key.end placed_j.known.0
-              placed.known.1).1 l in cc),
-        );
-        progress = inl (λ e. cc, refl);
-      }
+      whole_first over = grind (arith, itself, not_lt lawful, reaching_is_before_past)
 
       -- the second starts in the first
       pub cut_first : (e : Bound K) → flipped j.key.start ≡ Some e
@@ -106,18 +85,9 @@ module _ {K : Type 0} {order : KeyOrder K} (lawful : IsLawful order) where
           let known = placed_j.known.0 in
           let at = flipped_bound_is_past order lawful e s (flipped_back order lawful s e turns) in
           record {
-            placed = record {
-              known = (placed.known.0, flipped_known order lawful s e turns known);
-              good = lt_le_trans lawful _ _ _ less (eq_ge lawful _ _ at);
-            };
+            placed = grind (arith, eq_ge, flipped_known, lt_le_trans);
             bound = λ e. cc;
-            first = (
-              refl,
-              itself _,
-              left_from i placed (Past e) s known at
-                  ((reaching_is_before_past order lawful s i.key.end known placed.known.1).0
-                  within),
-            );
+            first = grind (arith, itself, left_from, reaching_is_before_past);
             second = (refl, eq_le lawful _ _ at);
             progress = inr (inr (λ e. cc, (_, j, refl, refl, itself _)));
           }
@@ -126,23 +96,14 @@ module _ {K : Type 0} {order : KeyOrder K} (lawful : IsLawful order) where
       -- the first ends first, or both at once
       pub first_ends : (rest : Option (Item (AnyRange K) W)) → IsRestOf order j i.key rest
           → IsFirstPiece order (Some i) (Some j) i.key (Some i.value) (Some j.value) None rest
-      first_ends rest is = record {
-        placed = placed;
-        bound = λ e. cc;
-        first = (refl, itself _, itself _);
-        second = (refl, alike, is);
-        progress = inl (λ e. cc, refl);
-      }
+      first_ends rest is = grind (arith, itself)
 
       -- the second ends first
       pub second_ends : (rest : Item (AnyRange K) V) → IsPartPast order i (upper order j.key) rest
           → IsFirstPiece order (Some i) (Some j) (record { start = i.key.start; end = j.key.end })
           (Some i.value) (Some j.value) (Some rest) None
       second_ends rest past = record {
-        placed = record {
-          known = (placed.known.0, placed_j.known.1);
-          good = le_lt_trans lawful _ _ _ (eq_le lawful _ _ alike) placed_j.good;
-        };
+        placed = search (rules, eq_le, le_lt_trans);
         bound = λ e. cc;
         first = (refl, itself _, past);
         second = (refl, alike, itself _);
@@ -177,10 +138,4 @@ module _ {K : Type 0} {order : KeyOrder K} (lawful : IsLawful order) where
   -- one is left alone
   pub left_alone : {V W : Type 0} (i : Item (AnyRange K) V) → IsPlaced order i.key
       → IsFirstPiece order {W = W} (Some i) None i.key (Some i.value) None None None
-  left_alone i placed = record {
-    placed = placed;
-    bound = λ e. cc;
-    first = (refl, itself _, itself _);
-    second = refl;
-    progress = inl (λ e. cc, refl);
-  }
+  left_alone i placed = grind (arith, itself)

@@ -1,7 +1,6 @@
 -- A key of a range that lies in another is a key of that.
-use Rattle.std.proofs.Common.{inl, inr, List, [], ◌∷◌}
-use Rattle.range_merge.proofs.Common.{KeyOrder, IsLawful, Beside, At, Any, Holds, AnyRange, Item, IsBound, LiesIn}
-use Rattle.range_keys.specs.Position.{end_position}
+use Rattle.std.proofs.Common.{inl, inr, List, [], ◌∷◌, rules}
+use Rattle.range_merge.proofs.Common.{KeyOrder, IsLawful, Any, Holds, AnyRange, Item, IsBound, LiesIn}
 use Rattle.range_algebra.proofs.Holding.{holds_by_position}
 use Rattle.range_change.proofs.PlaceOrder.{le_trans}
 
@@ -10,11 +9,7 @@ module _ {K : Type 0} {order : KeyOrder K} (lawful : IsLawful order) where
       → Holds order r k → Holds order s k
   lies_in_holds k key r s within held =
       let at = (holds_by_position order lawful r k key).0 held in
-      (holds_by_position order lawful s k key).1 (
-        le_trans lawful _ _ _ within.starts at.0,
-        le_trans lawful (Beside k At) (end_position order r.end)
-            (end_position order s.end) at.1 within.ends,
-      )
+      (holds_by_position order lawful s k key).1 (search (rules, le_trans))
 
   -- a key of a range that lies in one of the list is bound
   pub inside_holds : {W : Type 0} (i : AnyRange K) (others : List (Item (AnyRange K) W)) (k : K)

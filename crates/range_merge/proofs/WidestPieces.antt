@@ -1,5 +1,5 @@
 -- Where ranges start and end, and that a piece between two such places is as wide as it goes.
-use Rattle.std.proofs.Common.{◌≡◌, refl, sym, ap, ◌∙◌, ◌⊎◌, inl, inr, Option, Some, None, List, [], ◌∷◌, ◌++◌}
+use Rattle.std.proofs.Common.{◌≡◌, refl, sym, ap, ◌∙◌, ◌⊎◌, inl, inr, Option, Some, None, List, [], ◌∷◌, ◌++◌, arith, rules}
 use Rattle.range_merge.proofs.Common.{every_weaker, KeyOrder, IsLawful, IsKnownRange, position_cmp, Position, Equal, lower, upper, Lt, Any, Every, AnyRange, Item, LiesIn}
 use Rattle.range_merge.specs.Combining.{IsConstantOn, IsSharedPart, IsSharedPiece}
 use Rattle.range_merge.specs.Merged.{IsPlaced, IsCutFrom, IsUsedUp, IsFirstPiece}
@@ -8,9 +8,9 @@ use Rattle.range_change.proofs.CoveredPlaces.{shared_place_is_overlap}
 use Rattle.range_change.proofs.Extents.{past_le}
 use Rattle.range_change.proofs.RangePieces.{any_over, any_use, any_with, lies_in}
 use Rattle.range_change.proofs.Windows.{every_both}
-use Rattle.range_keys.specs.Position.{end_position}
 use Rattle.range_keys.proofs.Orderings.{equal_then_equal}
 use Rattle.range_algebra.specs.RangeOrder.{range_cmp}
+use Rattle.range_merge.proofs.FirstPieces.{itself}
 use Rattle.range_merge.proofs.Combining.{PLe, HoldsAt, SomeHoldsAt, IsLeftFrom, IsSideUpTo, not_left, some_of}
 use Rattle.range_change.proofs.PlaceOrder.{le_refl, lt_le, eq_le, eq_ge, le_trans, le_lt_trans, lt_le_trans, lt_not_le, not_lt, cases, both}
 
@@ -58,20 +58,22 @@ module _ {K : Type 0} {order : KeyOrder K} (lawful : IsLawful order) where
           | inr end ↦ inr (same_place p q _ same end)
         ]) at
 
+    held_in : (xs : List (Item (AnyRange K) V)) (p : Position K) (a : Item (AnyRange K) V)
+        → Any (λ i. i ≡ a) xs → HoldsAt order p a.key → SomeHoldsAt order p xs
+    held_in xs p a in_a at = any_over _ _ xs (λ i e. rw e at) in_a
+
     -- two items that hold one place are one
     once : (items xs : List (Item (AnyRange K) V)) (m p : Position K) (a b : Item (AnyRange K) V)
         → IsLeftFrom order items m xs → Any (λ i. i ≡ a) xs → Any (λ i. i ≡ b) xs
         → HoldsAt order p a.key → HoldsAt order p b.key → a ≡ b
     once items [] m p a b was in_a in_b at_a at_b = absurd in_a
-    once items (x ∷ xs) m p a b was (inl e) (inl f) at_a at_b = sym e ∙ f
-    once items (x ∷ xs) m p a b was (inl e) (inr later) at_a at_b =
-        absurd (not_left lawful items xs (upper order x.key) p was.3 (rw e at_a.1)
-        (any_over _ _ xs (λ i f. rw f at_b) later))
-    once items (x ∷ xs) m p a b was (inr later) (inl f) at_a at_b =
-        absurd (not_left lawful items xs (upper order x.key) p was.3 (rw f at_b.1)
-        (any_over _ _ xs (λ i e. rw e at_a) later))
-    once items (x ∷ xs) m p a b was (inr later) (inr too) at_a at_b =
-        once items xs (upper order x.key) p a b was.3 later too at_a at_b
+    once items (x ∷ xs) m p a b was in_a in_b at_a at_b =
+        grind (
+          arith,
+          not_left lawful items xs (upper order x.key) p was.3,
+          held_in xs p,
+          once items xs (upper order x.key) p a b was.3,
+        )
 
     module _ {items left : List (Item (AnyRange K) V)} {m : Position K}
         {Done : Position K → Type 0} (was : IsSideUpTo order items m left Done) where
@@ -79,15 +81,7 @@ module _ {K : Type 0} {order : KeyOrder K} (lawful : IsLawful order) where
       inside : (r : AnyRange K) → IsKnownRange order r → (v : V)
           → IsConstantOn order items r (Some v) → (p : Position K) → HoldsAt order p r
           → Any (λ i. HoldsAt order p i.key × (i.value ≡ v)) items
-      inside r known v constant p at =
-          any_with _ _ _ items constant was.placed (λ x within own. (
-            (
-              le_trans lawful _ _ _ within.0.starts at.0,
-              lt_le_trans lawful _ _ _ at.1
-                  (past_le order lawful r.end x.key.end known.1 own.known.1 within.0.ends),
-            ),
-            within.1,
-          ))
+      inside r known v constant p at = grind (arith, any_with, le_trans, lt_le_trans, past_le)
 
       pub constant_held : (r : AnyRange K) → IsKnownRange order r → (v : Option V)
           → IsConstantOn order items r v → (v ≡ None → ⊥) → (p : Position K)
@@ -128,17 +122,13 @@ module _ {K : Type 0} {order : KeyOrder K} (lawful : IsLawful order) where
           → IsPlaced order z.key → Any (λ i. i ≡ z) items → HoldsAt order p z.key
           → HoldsAt order q z.key
       held_alike None constant p q at_p at_q z placed in_z held =
-          absurd (not_inside was r known constant p at_p
-          (any_over _ _ items (λ i same. rw same held) in_z))
+          absurd (not_inside was r known constant p at_p (held_in items p z in_z held))
       held_alike (Some v) constant p q at_p at_q z placed in_z held =
           any_use _ _ items constant (every_both _ _ items was.placed (members items))
           (λ x in_r own.
           let ends = past_le order lawful r.end x.key.end known.1 own.0.known.1 in_r.0.ends in
           let within : (s : Position K) → HoldsAt order s r → HoldsAt order s x.key =
-          λ s at. (
-            le_trans lawful _ _ _ in_r.0.starts at.0,
-            lt_le_trans lawful _ _ _ at.1 ends,
-          ) in
+          λ s at. grind (arith, le_trans, lt_le_trans) in
           rw (← once items items _ p x z was.apart own.1 in_z (within p at_p) held)
           (within q at_q))
 
@@ -199,14 +189,8 @@ module _ {K : Type 0} {order : KeyOrder K} (lawful : IsLawful order) where
         let upto = past_le order lawful key.end r.end placed.known.1 part.known.1 within.ends in
         let good = lt_le_trans lawful _ _ _ placed.good upto in
         lies_in order lawful r key part.known placed.known
-        (not_lt lawful (lower order key) (lower order r) (λ less.
-        no_end r value other_value part (lower order r) (lower order key)
-        (le_refl lawful _, le_lt_trans lawful _ _ _ (lt_le lawful _ _ less) good)
-        (lt_le lawful _ _ less, good) less ends.0))
-        (not_lt lawful (upper order r) (upper order key) (λ less.
-        no_end r value other_value part (lower order key) (upper order key) (within.starts, good)
-        (le_trans lawful _ _ _ within.starts (lt_le lawful _ _ placed.good), less) placed.good
-        ends.1))
+        (search (rules, le_lt_trans, le_refl, lt_le, no_end, not_lt))
+        (search (rules, le_trans, lt_le, no_end, not_lt))
 
     -- a piece whose first place lies in a part that ends at such a place is that part
     pub same_piece : (key piece : AnyRange K) (value v : Option V) (other_value w : Option W)
@@ -225,25 +209,16 @@ module _ {K : Type 0} {order : KeyOrder K} (lawful : IsLawful order) where
         at first_at in
         let within : LiesIn order piece key =
         lies_in order lawful piece key part.known shared.known at.0
-        (not_lt lawful (upper order piece) (upper order key) (λ less.
-        no_end piece v w part (lower order piece) (upper order key) first_at
-        (lt_le lawful _ _ at.1, less) at.1 end)) in
-        let wide = is.widest key (rw (← one, ← other) shared) within in (
-          equal_then_equal _ _ (both lawful _ _ within.starts wide.starts)
-              (both lawful (end_position order key.end) (end_position order piece.end) wide.ends
-              within.ends),
-          one,
-          other,
-        )
+        (not_lt lawful (upper order piece) (upper order key)
+        (grind (arith, lt_le lawful, no_end))) in
+        let wide = is.widest key (rw (← one, ← other) shared) within in
+        grind (arith, both, equal_then_equal)
 
   module _ {V W : Type 0} (items : List (Item (AnyRange K) V))
       (others : List (Item (AnyRange K) W)) where
     moved : (p q : Position K) → position_cmp order.cmp p q ≡ Equal → IsEnd order items others q
         → IsEnd order items others p
-    moved p q same at = elim at [
-      | inl own ↦ inl (end_moved items p q same own)
-      | inr own ↦ inr (end_moved others p q same own)
-    ]
+    moved p q same at = grind (arith, end_moved)
 
     back : (p q : Position K) → position_cmp order.cmp p q ≡ Equal
         → position_cmp order.cmp q p ≡ Equal
@@ -264,35 +239,25 @@ module _ {K : Type 0} {order : KeyOrder K} (lawful : IsLawful order) where
         rest_between None (Some v) last rest cut end all = absurd cut
         rest_between (Some i) None last rest cut end all = rw cut.0 all
         rest_between (Some i) (Some v) None rest cut end all = all.1
-        rest_between (Some i) (Some v) (Some j) rest cut end all = (
-          (
-            moved _ _ (back _ _ cut.2.from) end,
-            moved _ _ cut.2.upto all.0.1,
-          ),
-          all.1,
-        )
+        rest_between (Some i) (Some v) (Some j) rest cut end all = grind (arith, back, moved)
 
         starts_at_end : (first : Option (Item (AnyRange K) U)) (value : Option U)
             (last : Option (Item (AnyRange K) U)) (rest : List (Item (AnyRange K) U))
             → IsCutFrom order first key value last → (value ≡ None → ⊥)
             → LieBetweenEnds (option_items first ++ rest)
             → IsEnd order items others (lower order key)
-        starts_at_end None None last rest cut some all = absurd (some refl)
-        starts_at_end None (Some v) last rest cut some all = absurd cut
-        starts_at_end (Some i) None last rest cut some all = absurd (some refl)
         starts_at_end (Some i) (Some v) last rest cut some all = moved _ _ cut.1 all.0.0
+        starts_at_end None (Some v) last rest cut some all = absurd cut
+        starts_at_end first value last rest cut some all = absurd (some refl)
 
         ends_at_end : (first : Option (Item (AnyRange K) U)) (value : Option U)
             (last : Option (Item (AnyRange K) U)) (rest : List (Item (AnyRange K) U))
             → IsCutFrom order first key value last → IsUsedUp first last
             → LieBetweenEnds (option_items first ++ rest)
             → IsEnd order items others (upper order key)
-        ends_at_end None value last rest cut used all = absurd (used.0 refl)
-        ends_at_end (Some i) None last rest cut used all =
-            let whole : Some i ≡ None = sym cut.0 ∙ used.1 in absurd (cc)
         ends_at_end (Some i) (Some v) None rest cut used all = moved _ _ cut.2 all.0.1
-        ends_at_end (Some i) (Some v) (Some j) rest cut used all =
-            let none = used.1 in absurd (cc)
+        ends_at_end (Some i) None last rest cut used all = grind arith
+        ends_at_end first value last rest cut used all = grind arith
 
         -- a side that goes on, as it was or from the end of the piece
         goes_on : (first : Option (Item (AnyRange K) U)) (value : Option U)
@@ -302,20 +267,18 @@ module _ {K : Type 0} {order : KeyOrder K} (lawful : IsLawful order) where
             ⊎ ((position_cmp order.cmp (upper order key) (lower order j.key) ≡ Equal)
             × ((i : Item (AnyRange K) U) × (first ≡ Some i)
             × (position_cmp order.cmp (lower order key) (lower order i.key) ≡ Equal)))
-        goes_on None None last j cut is =
-            let none : None ≡ Some j = sym cut ∙ is in absurd (cc)
-        goes_on None (Some v) last j cut is = absurd cut
+        goes_on None None last j cut is = grind arith
         goes_on (Some i) None last j cut is = inl (refl, sym cut.0 ∙ is)
-        goes_on (Some i) (Some v) None j cut is = absurd (cc)
         goes_on (Some i) (Some v) (Some k) j cut is =
             let same : k ≡ j = cc in inr (rw (← same) cut.2.from, (i, refl, cut.1))
+        goes_on first value last j cut is = grind arith
 
       first_start : (first : Option (Item (AnyRange K) U)) (i : Item (AnyRange K) U)
           (rest : List (Item (AnyRange K) U)) → first ≡ Some i
           → LieBetweenEnds (option_items first ++ rest)
           → IsEnd order items others (lower order i.key)
       first_start None i rest is all = absurd (cc)
-      first_start (Some j) i rest is all = let same : j ≡ i = cc in rw (← same) all.0.0
+      first_start (Some j) i rest is all = grind arith
 
     -- the first piece of two lists whose ranges lie between such places
     module _ {left left_rest : Option (Item (AnyRange K) V)}
@@ -326,11 +289,7 @@ module _ {K : Type 0} {order : KeyOrder K} (lawful : IsLawful order) where
         (all : LieBetweenEnds (option_items left ++ xs))
         (all_others : LieBetweenEnds (option_items right ++ ys)) where
       piece_start : IsEnd order items others (lower order key)
-      piece_start =
-          elim (some_of value other piece.bound) [
-            | inl some ↦ starts_at_end key left value left_rest xs piece.first some all
-            | inr some ↦ starts_at_end key right other right_rest ys piece.second some all_others
-          ]
+      piece_start = grind (arith, some_of, starts_at_end)
 
       piece_end : IsEnd order items others (upper order key)
       piece_end =
@@ -367,17 +326,11 @@ module _ {K : Type 0} {order : KeyOrder K} (lawful : IsLawful order) where
       pub piece_between : LiesBetweenEnds order items others key
       piece_between = (piece_start, piece_end)
 
-  itself : (p : Position K) → position_cmp order.cmp p p ≡ Equal
-  itself p = both lawful p p (le_refl lawful p) (le_refl lawful p)
-
   own_end : {V : Type 0} (items : List (Item (AnyRange K) V))
       → Every (λ x. IsEndIn order items (lower order x.key)
       × IsEndIn order items (upper order x.key)) items
   own_end items =
-      every_weaker _ _ items (λ x in_x. (
-        any_over _ _ items (λ i same. rw same (inl (itself _))) in_x,
-        any_over _ _ items (λ i same. rw same (inr (itself _))) in_x,
-      )) (members items)
+      every_weaker _ _ items (grind (arith, any_over, itself lawful)) (members items)
 
   -- the ranges of the two lists do
   pub items_between : {V W : Type 0} (items : List (Item (AnyRange K) V))

@@ -1,5 +1,5 @@
 -- Which pairs a list with sets has, read off what it binds, and what an update makes of them.
-use Rattle.std.proofs.Common.{◌≡◌, refl, sym, subst, ◌∙◌, ◌↔◌, ◌⊎◌, inl, inr, Bool, true, false, not, ◌&&◌, ◌||◌, IsTrue, List, [], ◌∷◌, ◌++◌, Option, Some, None, Result, Ok, Err, OnOk}
+use Rattle.std.proofs.Common.{◌≡◌, refl, ◌∙◌, ◌↔◌, ◌⊎◌, inl, inr, Bool, not, ◌&&◌, ◌||◌, IsTrue, List, [], ◌∷◌, Option, Some, None, Result, Ok, Err, OnOk, arith}
 use Rattle.std.specs.Prelude.{IfSome, IsNone}
 use denote.Ref.{Bor}
 use Rattle.std.specs.List.{AllByRecursion as Every}
@@ -15,19 +15,19 @@ use Rattle.range_store.specs.declared.storage.Item.{Item}
 use Rattle.range_change.specs.Answers.{IsAsAnswered, MayAnswer, IsUpdated}
 use Rattle.range_change.specs.Bindings.{IsBound, IsItemFor, BindsTo, Binds}
 use Rattle.range_reads.specs.ListOrder.{IsCopyOf}
-use Rattle.range_change.specs.Frames.{IsMergeFrame, HasValue}
+use Rattle.range_change.specs.Frames.{HasValue}
 use Rattle.range_map.specs.Rebinding.{AreRebound}
 use Rattle.range_multimaps.specs.Members.{HasNone, HaveSame, HasAlso, HasAllBut, among}
 use Rattle.range_multimaps.specs.Pairs.{HasNoEmptySet, HasPair, IsUnpaired, AreValuesAt, HasPairsAlso, HasPairsWithout, StayBound}
-use Rattle.range_multimaps.proofs.Altered.{or_true, but_true}
+use Rattle.range_multimaps.proofs.Filled.{each_after}
 use Rattle.range_multimaps.proofs.Keeping.{gave_way_to_such}
-use Rattle.range_algebra.proofs.Lists.{every_weaker, every_append, every_left, every_right}
+use Rattle.range_algebra.proofs.Lists.{every_weaker}
 use Rattle.range_algebra.proofs.Meeting.{held_or_not}
 use Rattle.range_change.proofs.RangePieces.{any_use}
 use Rattle.range_change.proofs.Overlaps.{binds_bound}
 
-module _ {K : Type 0} (order : KeyOrder K) {S V : Type 0} (same : S → S → Bool)
-    (equal : IsEquivalence same) (has : S → V → Bool)
+module _ {K : Type 0} (order : KeyOrder K) {S V : Type 0} {same : S → S → Bool}
+    (equal : IsEquivalence same) {has : S → V → Bool}
     (respects : (s t : S) → IsTrue (same s t) → HaveSame has s t) where
   abbrev Items : Type 0
   Items = List (Item (AnyRange K) S)
@@ -41,43 +41,29 @@ module _ {K : Type 0} (order : KeyOrder K) {S V : Type 0} (same : S → S → Bo
     bound_set_gives_pair : (items : Items) (s : S) (w : V) → BindsTo order same items k s
         → IsTrue (has s w) → HasPair order has items k w
     bound_set_gives_pair [] s w b h = absurd b
-    bound_set_gives_pair (i ∷ rest) s w (inl b) h = inl (b.0, respects i.value s b.1 w ∙ h)
-    bound_set_gives_pair (i ∷ rest) s w (inr b) h = inr (bound_set_gives_pair rest s w b h)
+    bound_set_gives_pair (i ∷ rest) s w b h =
+        grind (arith, respects i.value s, bound_set_gives_pair rest s w)
 
     pair_bound : (items : Items) (w : V) → HasPair order has items k w → IsBound order items k
     pair_bound [] w h = h
-    pair_bound (i ∷ rest) w (inl h) = inl h.0
-    pair_bound (i ∷ rest) w (inr h) = inr (pair_bound rest w h)
+    pair_bound (i ∷ rest) w h = grind (arith, pair_bound rest w)
 
     pair_is_in_bound_set : (items : Items) (w : V) → HasPair order has items k w
         → (s : S) × BindsTo order same items k s × IsTrue (has s w)
     pair_is_in_bound_set [] w p = absurd p
-    pair_is_in_bound_set (i ∷ rest) w (inl p) = (i.value, inl (p.0, equal.refl i.value), p.1)
-    pair_is_in_bound_set (i ∷ rest) w (inr p) = let (s, b, m) =
-        pair_is_in_bound_set rest w p in (s, inr b, m)
-
-    -- a value that is paired with the key is in the set that it is bound to
-    in_bound : (items : Items) (s : S) (w : V) → IsOnce items k → BindsTo order same items k s
-        → HasPair order has items k w → IsTrue (has s w)
-    in_bound items s w once b h = let (t, c, m) =
-        pair_is_in_bound_set items w h in sym (respects t s (once t s c b) w) ∙ m
+    pair_is_in_bound_set (i ∷ rest) w p = grind (arith, pair_is_in_bound_set rest w)
 
     pub values_at : (items : Items) (b : Option S) → IsOnce items k → Binds order same items k b
         → AreValuesAt order has items k b
-    values_at items None once bound = λ w. (λ h. absurd (bound (pair_bound items w h)), λ e. cc)
-    values_at items (Some s) once bound =
-        λ w. (λ h. in_bound items s w once bound h, λ h. bound_set_gives_pair items s w bound h)
+    values_at items None once bound w = grind (arith, pair_bound items w)
+    values_at items (Some s) once bound w =
+        grind (arith, respects, pair_is_in_bound_set items w, bound_set_gives_pair items s w)
 
     -- a stored range that holds the key binds it to its set
     item_binds : (items : Items) (i : Item (AnyRange K) S) → IsItemFor order items k i
         → BindsTo order same items k i.value
     item_binds [] i at = absurd at.1
-    item_binds (j ∷ rest) i (holds, inl here) =
-        inl (
-          subst (λ x. Holds order x.key k) (sym here) holds,
-          subst (λ x. IsTrue (same x.value i.value)) (sym here) (equal.refl i.value),
-        )
-    item_binds (j ∷ rest) i (holds, inr later) = inr (item_binds rest i (holds, later))
+    item_binds (j ∷ rest) i at = grind (arith, item_binds rest i)
 
     pub values_of_item : (items : Items) (i : Item (AnyRange K) S) → IsOnce items k
         → IsItemFor order items k i → AreValuesAt order has items k (Some i.value)
@@ -87,8 +73,9 @@ module _ {K : Type 0} (order : KeyOrder K) {S V : Type 0} (same : S → S → Bo
     pairs_as : (items others : Items) (w : V)
         → ((b : Option S) → Binds order same items k b → Binds order same others k b)
         → HasPair order has items k w → HasPair order has others k w
-    pairs_as items others w alike h = let (s, b, m) =
-        pair_is_in_bound_set items w h in bound_set_gives_pair others s w (alike (Some s) b) m
+    pairs_as items others w alike h =
+        let (s, b, m) = pair_is_in_bound_set items w h in
+        bound_set_gives_pair others s w (alike (Some s) b) m
 
     as_itself : (answer : Option S) → IsAsAnswered same answer answer
     as_itself None = refl
@@ -98,33 +85,24 @@ module _ {K : Type 0} (order : KeyOrder K) {S V : Type 0} (same : S → S → Bo
     bound_as : (items : Items) (old b : Option S) → IsOnce items k → Binds order same items k old
         → Binds order same items k b ↔ IsAsAnswered same old b
     bound_as items None None once was = (λ h. refl, λ h. was)
-    bound_as items None (Some t) once was =
-        (λ h. absurd (was (binds_bound order same items k t h)), λ h. cc)
-    bound_as items (Some s) None once was =
-        (λ h. h (binds_bound order same items k s was), λ h. absurd h)
+    bound_as items None (Some t) once was = grind (arith, binds_bound order same items k t)
+    bound_as items (Some s) None once was = grind (arith, binds_bound order same items k s)
     bound_as items (Some s) (Some t) once was = (λ h. once s t was h, λ e. as_well items e was)
       where
         as_well : (xs : Items) → IsTrue (same s t) → BindsTo order same xs k s
             → BindsTo order same xs k t
         as_well [] e h = h
-        as_well (i ∷ rest) e (inl h) =
-            inl (
-              h.0,
-              equal.symm i.value t ∙ sym (equal.congr s t i.value e) ∙ equal.symm s i.value
-                  ∙ h.1,
-            )
-        as_well (i ∷ rest) e (inr h) = inr (as_well rest e h)
+        as_well (i ∷ rest) e h = grind (arith, as_well rest e)
 
     as_too : (a b c : Option S) → IsAsAnswered same a b → IsAsAnswered same b c
         ↔ IsAsAnswered same a c
     as_too None b c e = rw e ((λ h. h, λ h. h))
     as_too (Some s) None c e = absurd e
     as_too (Some s) (Some t) None e = (λ h. h, λ h. h)
-    as_too (Some s) (Some t) (Some u) e =
-        (λ h. equal.congr s t u e ∙ h, λ h. sym (equal.congr s t u e) ∙ h)
+    as_too (Some s) (Some t) (Some u) e = grind arith
 
-  module _ {E : Type 0} (may : Option S → Result (Option S) E → Type 0) (items next : Items)
-      (r : AnyRange K) (now : AreRebound order same may items next r) (lawful : IsLawful order)
+  module _ {E : Type 0} {may : Option S → Result (Option S) E → Type 0} {items next : Items}
+      {r : AnyRange K} (now : AreRebound order same may items next r) (lawful : IsLawful order)
       (once : (k : K) → order.is_key k → IsOnce items k)
       (next_once : (k : K) → order.is_key k → IsOnce next k) where
     -- the values of a held key are as an answer makes them
@@ -136,16 +114,7 @@ module _ {K : Type 0} (order : KeyOrder K) {S V : Type 0} (same : S → S → Bo
       pub after : HasPair order has next k w ↔ IsTrue (among has answer w)
 
     held_key_moves : (k : K) → order.is_key k → Holds order r k → (w : V) → IsMoved k w
-    held_key_moves k key held w =
-        let at = now.held k key held in record {
-          old = at.old;
-          answer = at.answer;
-          given = at.given;
-          before = values_at k items at.old (once k key) at.was w;
-          after =
-              values_at k next at.answer (next_once k key)
-              ((at.is at.answer).1 (as_itself k at.answer)) w;
-        }
+    held_key_moves k key held w = grind (arith, as_itself, values_at)
 
     -- where each answer has the values of which a test is true too, or has them no more
     module _ (is : V → Bool) where
@@ -158,24 +127,8 @@ module _ {K : Type 0} (order : KeyOrder K) {S V : Type 0} (same : S → S → Bo
         | inl held ↦
             let m = held_key_moves k key held w in
             let e = told m.old m.answer m.given w in
-            let o = or_true (is w) (among has m.old w) in (
-              λ h.
-                  elim (o.0 (sym e ∙ m.after.0 h)) [
-                    | inl new ↦ inr (held, new)
-                    | inr old ↦ inl (m.before.1 old)
-                  ],
-              λ h.
-                  m.after.1 (e
-                  ∙ o.1 (elim h [ inl old ↦ inr (m.before.0 old) | inr new ↦ inl new.1 ])),
-            )
-        | inr out ↦ (
-          λ h. inl (pairs_as k next items w (λ b. (now.others k key out b).0) h),
-          λ h.
-              elim h [
-                | inl old ↦ pairs_as k items next w (λ b. (now.others k key out b).1) old
-                | inr new ↦ absurd (out new.0)
-              ],
-        )
+            grind arith
+        | inr out ↦ grind (arith, pairs_as)
       ]
 
       pub all_removed : ((old answer : Option S) → may old (Ok answer)
@@ -187,14 +140,8 @@ module _ {K : Type 0} (order : KeyOrder K) {S V : Type 0} (same : S → S → Bo
         | inl held ↦
             let m = held_key_moves k key held w in
             let e = told m.old m.answer m.given w in
-            let o = but_true (is w) (among has m.old w) in (
-              λ h. let both = o.0 (sym e ∙ m.after.0 h) in (m.before.1 both.0, λ p. both.1 p.1),
-              λ h. m.after.1 (e ∙ o.1 (m.before.0 h.0, λ q. h.1 (held, q))),
-            )
-        | inr out ↦ (
-          λ h. (pairs_as k next items w (λ b. (now.others k key out b).0) h, λ p. out p.0),
-          λ h. pairs_as k items next w (λ b. (now.others k key out b).1) h.0,
-        )
+            grind arith
+        | inr out ↦ grind (arith, pairs_as)
       ]
 
     module _ (eq : V → V → Bool) (v : V) where
@@ -211,22 +158,13 @@ module _ {K : Type 0} (order : KeyOrder K) {S V : Type 0} (same : S → S → Bo
         → ((k : K) → order.is_key k → P k → (old answer : Option S) → Binds order same items k old
         → may old (Ok answer) → IsAsAnswered same old answer) → StayBound order same items next P
     stay_bound P told k key here b = elim (held_or_not order lawful r k) [
-      | inl held ↦
-          let at = now.held k key held in
-          let is = at.is b in
-          let was = bound_as k items at.old b (once k key) at.was in
-          let too =
-          as_too k at.old at.answer b (told k key here at.old at.answer at.was at.given) in
-          (λ h. was.1 (too.0 (is.0 h)), λ h. is.1 (too.1 (was.0 h)))
+      | inl held ↦ grind (arith, as_too, bound_as)
       | inr out ↦ now.others k key out b
     ]
 
-module _ {K : Type 0} (order : KeyOrder K) {S : Type 0} (same : S → S → Bool)
-    (equal : IsEquivalence same) (is_void : S → Type 0)
-    (void_equal : (s t : S) → IsTrue (same s t) → is_void s → is_void t) {F E : Type 0}
-    (calls : Shared F (Option (Bor S) × Unit {0}) (Result (Option S) E)) (f : F)
-    (told : (old answer : Option S) → MayAnswer calls f old (Ok answer)
-    → IfSome answer (λ s. ¬ is_void s)) where
+module _ {K : Type 0} (order : KeyOrder K) {S : Type 0} {same : S → S → Bool}
+    (equal : IsEquivalence same) {is_void : S → Type 0}
+    (void_equal : (s t : S) → IsTrue (same s t) → is_void s → is_void t) where
   from_run : (run : List (Item (AnyRange K) S)) (s : S) → HasNoEmptySet is_void run
       → HasValue order same run s → ¬ is_void s
   from_run run s full was void =
@@ -241,64 +179,37 @@ module _ {K : Type 0} (order : KeyOrder K) {S : Type 0} (same : S → S → Bool
   others_full : (run others : List (Item (AnyRange K) S)) → HasNoEmptySet is_void run
       → Every (λ j. HasValue order same run j.value ⊎ ¬ is_void j.value) others
       → HasNoEmptySet is_void others
-  others_full run others full =
-      every_weaker (λ j. HasValue order same run j.value ⊎ ¬ is_void j.value)
-      (λ j. ¬ is_void j.value) others
-      (λ j t. elim t [ inl was ↦ from_run run j.value full was | inr new ↦ new ])
+  others_full run others full = grind (arith, every_weaker, from_run)
 
-  way_full : (items next : List (Item (AnyRange K) S)) (r : AnyRange K)
-      → HasNoEmptySet is_void items
-      → IsMergeFrame order same items next r (λ s. ¬ is_void s) → HasNoEmptySet is_void next
-  way_full items next r full way =
-      let P : Item (AnyRange K) S → Type 0 = λ i. ¬ is_void i.value in
-      let all = rw way.before at full in
-      let ahead = every_left P (way.front ++ way.run) way.behind all in
-      let others = others_full way.run way.others (every_right P way.front way.run ahead)
-      way.such.valued in
-      rw way.after (every_append P (way.front ++ way.others) way.behind
-      (every_append P way.front way.others (every_left P way.front way.run ahead) others)
-      (every_right P (way.front ++ way.run) way.behind all))
-
-  pub stay_full : (items next : List (Item (AnyRange K) S)) (r : AnyRange K)
-      → HasNoEmptySet is_void items → (IsEmptyRange order r → next ≡ items)
+  pub stays_full : {F E : Type 0}
+      {calls : Shared F (Option (Bor S) × Unit {0}) (Result (Option S) E)} {f : F}
+      {items next : List (Item (AnyRange K) S)} {r : AnyRange K}
       → ((¬ IsEmptyRange order r) → IsUpdated order same calls f items next r)
-      → HasNoEmptySet is_void next
-  stay_full items next r full unchanged updated =
-      let start = start_position order r.start in
-      let end = end_position order r.end in
-      elim (greater_or_not (position_cmp order.cmp start end)) [
-        | inl empty ↦ rw (unchanged empty) full
-        | inr nonempty ↦ way_full items next r full
-            (gave_way_to_such order same calls f (λ s. ¬ is_void s)
-            (λ old answer may s. from_answer answer s (told old answer may)) items next r
-            (updated nonempty))
-      ]
-
-module _ {K : Type 0} (order : KeyOrder K) {S : Type 0} (same : S → S → Bool)
-    (equal : IsEquivalence same) (is_void : S → Type 0)
-    (void_equal : (s t : S) → IsTrue (same s t) → is_void s → is_void t) {F E : Type 0}
-    (calls : Shared F (Option (Bor S) × Unit {0}) (Result (Option S) E)) (f : F)
-    (items next : List (Item (AnyRange K) S)) (r : AnyRange K) where
-  pub stays_full : ((¬ IsEmptyRange order r) → IsUpdated order same calls f items next r)
       → ((old answer : Option S) → MayAnswer calls f old (Ok answer)
       → IfSome answer (λ s. ¬ is_void s)) → HasNoEmptySet is_void items
       → (IsEmptyRange order r → next ≡ items) → HasNoEmptySet is_void next
-  stays_full updated told full unchanged =
-      stay_full order same equal is_void void_equal calls f told items next r full unchanged updated
+  stays_full {r} updated told full unchanged =
+      elim (greater_or_not (position_cmp order.cmp (start_position order r.start)
+      (end_position order r.end))) [
+        | inl empty ↦ rw (unchanged empty) full
+        | inr nonempty ↦
+            let way = gave_way_to_such order {IsSuch = λ s. ¬ is_void s}
+            (λ old answer may s. from_answer answer s (told old answer may)) (updated nonempty) in
+            each_after (λ i. ¬ is_void i.value) way full
+            (λ run. others_full way.run way.others run way.such.valued)
+      ]
 
 pub not_refused : {A E P : Type 0} (r : Result A E) → OnOk r P → ((e : E) → r ≡ Err e → ⊥) → P
 not_refused (Ok x) h never = h
 not_refused (Err e) h never = absurd (never e refl)
 
-module _ {K : Type 0} (order : KeyOrder K) {S : Type 0} (same : S → S → Bool)
-    (equal : IsEquivalence same) (is_void : S → Type 0)
+module _ {K : Type 0} (order : KeyOrder K) {S : Type 0} {same : S → S → Bool}
+    (equal : IsEquivalence same) {is_void : S → Type 0}
     (void_equal : (s t : S) → IsTrue (same s t) → is_void s → is_void t) (k : K) where
   full_bound : (items : List (Item (AnyRange K) S)) (s : S) → HasNoEmptySet is_void items
       → BindsTo order same items k s → ¬ is_void s
   full_bound [] s full h void = h
-  full_bound (i ∷ rest) s full (inl h) void =
-      full.0 (void_equal s i.value (equal.symm s i.value ∙ h.1) void)
-  full_bound (i ∷ rest) s full (inr h) void = full_bound rest s full.1 h void
+  full_bound (i ∷ rest) s full h void = grind (arith, full_bound rest s)
 
   pub full_at : (items : List (Item (AnyRange K) S)) → HasNoEmptySet is_void items
       → (result : Option (Bor S)) → Binds order same items k (option_copied result)
@@ -317,28 +228,14 @@ module _ {K : Type 0} (order : KeyOrder K) {S : Type 0} (same : S → S → Bool
   pub copied_full : (copy items : List (Item (AnyRange K) S)) → IsCopyOf order same copy items
       → HasNoEmptySet is_void items → HasNoEmptySet is_void copy
   copied_full [] [] zip full = tt
-  copied_full [] (j ∷ items) zip full = absurd zip
-  copied_full (i ∷ copy) [] zip full = absurd zip
-  copied_full (i ∷ copy) (j ∷ items) zip full = (
-    λ void. full.0 (void_equal i.value j.value zip.0.1 void),
-    copied_full copy items zip.1 full.1,
-  )
+  copied_full (i ∷ copy) (j ∷ items) zip full = grind (arith, copied_full copy items zip.1 full.1)
+  copied_full copy items zip full = absurd zip
 
-module _ {K : Type 0} (order : KeyOrder K) {S V : Type 0} (has : S → V → Bool)
-    (is_void : S → Type 0) (void_is : (s : S) → is_void s ↔ HasNone has s) (k : K) where
-  no_member : (s : S) (v : V) (b : Bool) → has s v ≡ b → ¬ IsTrue b → has s v ≡ false
-  no_member s v true e h = absurd (h refl)
-  no_member s v false e h = e
-
+module _ {K : Type 0} (order : KeyOrder K) {S V : Type 0} {has : S → V → Bool}
+    {is_void : S → Type 0} (void_is : (s : S) → is_void s ↔ HasNone has s) (k : K) where
   -- there is no set exactly where no value is paired with the key
   pub none_unpaired : (items : List (Item (AnyRange K) S)) (result : Option (Bor S))
       → AreValuesAt order has items k (option_copied result) → IfSome result (λ s. ¬ is_void s.now)
       → IsNone result ↔ IsUnpaired order has items k
   none_unpaired items None values full = (λ _ v h. let no = (values v).0 h in cc, λ _. refl)
-  none_unpaired items (Some s) values full = (
-    λ h. absurd cc,
-    λ none.
-        absurd
-        (full ((void_is s.now).1
-        (λ v. no_member s.now v (has s.now v) refl (λ h. none v ((values v).1 h))))),
-  )
+  none_unpaired items (Some s) values full = grind arith

@@ -1,15 +1,16 @@
 -- The gaps of the gaps of a stored list are its ranges.
-use Rattle.std.proofs.Common.{◌≡◌, refl, ap, ◌∙◌, Some, None, true, ◌&&◌, IsTrue, List, [], ◌∷◌, inl, inr}
+use Rattle.std.proofs.Common.{◌≡◌, refl, ap, ◌∙◌, Some, None, true, ◌&&◌, IsTrue, List, [], ◌∷◌, inl, inr, arith}
 use Rattle.std.specs.List.{AllZip, AllByRecursion as Every}
 use Rattle.std.specs.declared.cmp.Ordering.TheVariants.{Equal}
 use Rattle.std.specs.declared.ops.Bound.TheVariants.{Unbounded}
 use Rattle.std.specs.Ordering.{is_eq, eq_by_cmp}
 use Rattle.std.proofs.lemmas.Bool.{and_from}
 use Rattle.range_keys.specs.Order.{KeyOrder, IsLawful}
-use Rattle.range_keys.specs.Position.{start_position, end_position, position_cmp}
 use Rattle.range_keys.proofs.Orderings.{not_both_greater_and_not, not_greater}
 use Rattle.range_algebra.specs.declared.any.AnyRange.{AnyRange}
 use Rattle.range_algebra.proofs.Lists.{every_weaker}
+use Rattle.range_change.proofs.RangePieces.{any_over, every_with}
+use Rattle.range_change.proofs.Windows.{every_both}
 use Rattle.range_algebra.specs.Intervals.{Any}
 use Rattle.range_algebra.specs.RangeOrder.{range_cmp, range_total}
 use Rattle.range_algebra.specs.Relations.{LiesBefore}
@@ -40,22 +41,7 @@ every_for P (x ∷ xs) f = (λ y. (f y).0, every_for P xs (λ y. (f y).1))
 every_swap : {X Y : Type 0} (R : X → Y → Type 0) (xs : List X) (ys : List Y)
     → Every (λ y. Every (λ x. R x y) xs) ys → Every (λ x. Every (R x) ys) xs
 every_swap R [] ys h = tt
-every_swap R (x ∷ xs) ys h = (
-  every_weaker (λ y. Every (λ z. R z y) (x ∷ xs)) (R x) ys (λ y g. g.0) h,
-  every_swap R xs ys (every_weaker (λ y. Every (λ z. R z y) (x ∷ xs))
-      (λ y. Every (λ z. R z y) xs) ys (λ y g. g.1) h),
-)
-
-every_three : {X : Type 0} (P Q S R : X → Type 0) (xs : List X) → ((x : X) → P x → Q x → S x → R x)
-    → Every P xs → Every Q xs → Every S xs → Every R xs
-every_three P Q S R [] f h k l = tt
-every_three P Q S R (x ∷ xs) f h k l = (f x h.0 k.0 l.0, every_three P Q S R xs f h.1 k.1 l.1)
-
-any_more : {X : Type 0} (P Q : X → Type 0) (xs : List X) → ((x : X) → P x → Q x) → Any P xs
-    → Any Q xs
-any_more P Q [] f h = h
-any_more P Q (x ∷ xs) f (inl h) = inl (f x h)
-any_more P Q (x ∷ xs) f (inr h) = inr (any_more P Q xs f h)
+every_swap R (x ∷ xs) ys h = grind (arith, every_weaker, every_swap R xs ys)
 
 module _ {K : Type 0} (order : KeyOrder K) (lawful : IsLawful order) where
   abbrev Stored : Type 0
@@ -77,9 +63,6 @@ module _ {K : Type 0} (order : KeyOrder K) (lawful : IsLawful order) where
   missed_equal (j ∷ others) (g ∷ gaps) f r zip missed (inr found) meets =
       missed_equal others gaps f r zip.1 missed.1 found meets
 
-  overlap_turned : (r s : AnyRange K) → Overlap order r s → Overlap order s r
-  overlap_turned r s meets = (meets.1, meets.0)
-
   -- what all gaps miss, all that equal them miss
   all_missed : (items others : List Stored) (gaps : List (AnyRange K)) → Equals others gaps
       → Every (λ g. Every (λ i. ¬ Overlap order i.key g) items) gaps
@@ -88,11 +71,9 @@ module _ {K : Type 0} (order : KeyOrder K) (lawful : IsLawful order) where
   all_missed items [] (g ∷ gaps) zip missed = tt
   all_missed items (j ∷ others) [] zip missed = absurd zip
   all_missed items (j ∷ others) (g ∷ gaps) zip missed = (
-    every_weaker (λ i. ¬ Overlap order i.key g) (λ i. ¬ Overlap order j.key i.key) items
-        (λ i apart meets.
-        apart (overlap_turned g i.key
-        (overlap_within order lawful j.key g i.key
-        (equal_within order lawful j.key g zip.0).0 meets))) missed.0,
+    every_weaker _ _ items (λ i apart meets.
+        let turned = overlap_within order lawful j.key g i.key
+        (equal_within order lawful j.key g zip.0).0 meets in apart (turned.1, turned.0)) missed.0,
     all_missed items others gaps zip.1 missed.1,
   )
 
@@ -100,10 +81,8 @@ module _ {K : Type 0} (order : KeyOrder K) (lawful : IsLawful order) where
       → Equals thirds gaps → AllZip (λ g i. range_cmp order g i.key ≡ Equal) gaps items
       → IsTrue (same_list order (λ _ _. true) thirds items)
   equal_gaps_are_same_list [] [] [] h k = refl
-  equal_gaps_are_same_list [] [] (i ∷ items) h k = absurd k
   equal_gaps_are_same_list [] (g ∷ gaps) items h k = absurd h
   equal_gaps_are_same_list (t ∷ thirds) [] items h k = absurd h
-  equal_gaps_are_same_list (t ∷ thirds) (g ∷ gaps) [] h k = absurd k
   equal_gaps_are_same_list (t ∷ thirds) (g ∷ gaps) (i ∷ items) h k =
       let total = range_total order lawful in
       let same = ap is_eq (total.congr t.key g i.key h.0 ∙ k.0) in
@@ -111,6 +90,7 @@ module _ {K : Type 0} (order : KeyOrder K) (lawful : IsLawful order) where
       (same_list order (λ _ _. true) thirds items)
       (and_from (eq_by_cmp (range_cmp order) t.key i.key) true same refl)
       (equal_gaps_are_same_list thirds gaps items h.1 k.1)
+  equal_gaps_are_same_list thirds gaps items h k = absurd k
 
   module _ (items others : List Stored) (form : IsStoredSet order items) (gaps : List (AnyRange K))
       (are : AreGaps order items gaps) (zip : Equals others gaps) where
@@ -121,27 +101,19 @@ module _ {K : Type 0} (order : KeyOrder K) (lawful : IsLawful order) where
     up = stored_ascends lawful form
 
     full_items : Every (λ i. IsFull order lawful i.key) items
-    full_items =
-        all_full order lawful items (stored_known order lawful (λ _ _. true) all_equal items form)
-        up
+    full_items = grind (arith, all_equal, all_full, stored_known, up)
 
     pairs : Pairs (λ i j. LiesBefore order i.key j.key) items
     pairs = ascending_pairs order lawful items up
 
     free_full : (r : AnyRange K) → IsFree r → IsFull order lawful r
-    free_full r free = (
-      free.known,
-      not_greater (position_cmp order.cmp (start_position order r.start)
-          (end_position order r.end)) free.nonempty,
-    )
+    free_full r free = grind (arith, not_greater)
 
     -- what is free of the complement misses all that is free of the set
     free_range_misses_gaps : (r : AnyRange K) → IsFree r
         → Every (λ f. ¬ Overlap order f r) (free_from order (Some Unbounded) items)
     free_range_misses_gaps r free =
-        let walk = free_from order (Some Unbounded) items in
-        every_weaker (λ f. IsPiece order items full_range f None) (λ f. ¬ Overlap order f r) walk
-        (λ f piece. missed_equal others gaps f r zip free.free (are.all f piece.0.known piece))
+        every_weaker _ _ _ (grind (arith, missed_equal))
         (gaps_are lawful all_equal items form).each
 
     -- and so it lies in a range of the set
@@ -155,19 +127,7 @@ module _ {K : Type 0} (order : KeyOrder K) (lawful : IsLawful order) where
 
     item_free : (i : Stored) → IsFull order lawful i.key
         → Every (λ j. ¬ Overlap order j.key i.key) others → IsFree i.key
-    item_free i full missed = record {
-      known = full.0;
-      nonempty =
-          not_both_greater_and_not
-          (position_cmp order.cmp (start_position order i.key.start) (end_position order i.key.end))
-          full.1;
-      within =
-          record {
-            starts = unbounded_start order lawful i.key.start full.0.0;
-            ends = ends_full order lawful i.key.end full.0.1;
-          };
-      free = missed;
-    }
+    item_free i full missed = grind (arith, ends_full, not_both_greater_and_not, unbounded_start)
 
     abbrev FreeRange : Type 0
     FreeRange = (r : AnyRange K) × IsFree r
@@ -183,44 +143,28 @@ module _ {K : Type 0} (order : KeyOrder K) (lawful : IsLawful order) where
     items_missed =
         every_swap (λ i j. ¬ Overlap order j.key i.key) items others
         (all_missed items others gaps zip
-        (every_weaker (λ g. IsPiece order items full_range g None)
-        (λ g. Every (λ i. ¬ Overlap order i.key g) items) gaps (λ g piece. piece.0.free) are.each))
+        (every_weaker _ _ gaps (λ g piece. piece.0.free) are.each))
 
     -- each range of the set is a gap of the complement
     items_pieces : Every (λ i. IsPiece order others full_range i.key None) items
     items_pieces =
-        every_three (λ i. IsFull order lawful i.key)
-        (λ i. Every (λ j. ¬ Overlap order j.key i.key) others)
-        (λ i. (other : FreeRange) → LiesIn order i.key other.0 → LiesIn order other.0 i.key)
-        (λ i. IsPiece order others full_range i.key None) items
-        (λ i full missed wide. (item_free i full missed, λ other free. wide (other, free)))
-        full_items
-        items_missed items_wide
+        every_with _ _ _ items full_items (every_both _ _ items items_missed items_wide)
+        (λ i full also. (item_free i full also.0, λ other free. also.1 (other, free)))
 
     -- the gaps of the complement are the ranges of the set
     gaps_of_gaps_are_equal : (again : List (AnyRange K)) → AreGaps order others again
         → AllZip (λ g i. range_cmp order g i.key ≡ Equal) again items
     gaps_of_gaps_are_equal again were =
-        let full =
-        every_weaker (λ g. IsPiece order others full_range g None)
-        (IsFull order lawful) again (λ g piece. free_full g piece.0) were.each in
-        let here =
-        every_weaker (λ g. IsPiece order others full_range g None)
-        (λ g. InSome order lawful (λ i. i.key) g items) again
-        (λ g piece. free_range_is_within_item g piece.0) were.each in
-        let there =
-        every_weaker (λ i. IsPiece order others full_range i.key None)
-        (λ i. InSome order lawful (λ g. g) i.key again) items
-        (λ i piece. any_more (λ g. range_cmp order g i.key ≡ Equal)
-        (λ g. LiesIn order i.key g) again (λ g e. (equal_within order lawful g i.key e).1)
-        (were.all i.key piece.0.known piece)) items_pieces in
+        let full : Every (λ g. IsFull order lawful g) again =
+        every_weaker _ _ again (λ g piece. free_full g piece.0) were.each in
         mutual_cover_matches order lawful (λ g. g) (λ i. i.key) again items full full_items
-        (row_pairs order lawful again full were.rising) pairs here there
+        (row_pairs order lawful again full were.rising) pairs
+        (every_weaker _ _ again (λ g piece. free_range_is_within_item g piece.0) were.each)
+        (grind (arith, any_over, equal_within, every_weaker, items_pieces))
 
   -- the complement of the complement of a set equals it
   pub complement_twice : (items others thirds : List Stored) → IsStoredSet order items
       → EqualGapsOf order items others → EqualGapsOf order others thirds
       → IsTrue (same_list order (λ _ _. true) thirds items)
   complement_twice items others thirds form first second =
-      equal_gaps_are_same_list thirds second.0 items second.2
-      (gaps_of_gaps_are_equal items others form first.0 first.1 first.2 second.0 second.1)
+      grind (arith, equal_gaps_are_same_list, gaps_of_gaps_are_equal)

@@ -1,15 +1,14 @@
 -- The gaps of a stored list are themselves in stored form, and so is each front of a list of clones
 -- of them.
-use Rattle.std.proofs.Common.{◌⊎◌, inl, inr, Bool, true, List, [], ◌∷◌, ◌++◌, map, None}
+use Rattle.std.proofs.Common.{◌⊎◌, Bool, true, List, [], ◌∷◌, ◌++◌, map, None, arith}
 use Rattle.std.specs.List.{AllByRecursion as Every}
 use Rattle.range_keys.specs.Order.{KeyOrder, IsLawful}
 use Rattle.range_keys.specs.Position.{start_position, end_position, position_cmp}
-use Rattle.range_keys.specs.PositionOrder.{position_total}
 use Rattle.range_keys.specs.declared.inner.position.Position.{Position}
 use Rattle.range_keys.proofs.Orderings.{less_or_not, not_both_greater_and_not, not_greater}
 use Rattle.range_algebra.specs.Cuts.{upper}
 use Rattle.range_algebra.specs.Intervals.{Le}
-use Rattle.range_algebra.specs.Orders.{le_refl, lt_le, le_trans, lt_not_le}
+use Rattle.range_change.proofs.PlaceOrder.{le_refl, lt_le, le_trans, lt_not_le}
 use Rattle.range_algebra.specs.Range.{IsKnownRange, IsEmptyRange}
 use Rattle.range_algebra.specs.Relations.{LiesBefore, Touches}
 use Rattle.range_algebra.specs.declared.any.AnyRange.{AnyRange}
@@ -44,33 +43,22 @@ module _ {K : Type 0} (order : KeyOrder K) (lawful : IsLawful order) where
   apart_is_before_or_after : (r s : AnyRange K) → (Overlap order r s → ⊥)
       → LiesBefore order r s ⊎ LiesBefore order s r
   apart_is_before_or_after r s apart =
-      elim (less_or_not (position_cmp order.cmp (End r) (Start s))) [
-        | inl l ↦ inl l
-        | inr a ↦
-            elim (less_or_not (position_cmp order.cmp (End s) (Start r))) [
-              | inl l ↦ inr l
-              | inr b ↦ absurd (apart (a, b))
-            ]
-      ]
+      let ends = less_or_not (position_cmp order.cmp (End r) (Start s)) in
+      let starts = less_or_not (position_cmp order.cmp (End s) (Start r)) in
+      grind arith
 
   -- no nonempty range stands between two that touch
   none_between : (i g h : AnyRange K) → IsKnownRange order i → (IsEmptyRange order i → ⊥)
       → IsKnownRange order g → IsKnownRange order h → (IsEmptyRange order h → ⊥)
       → LiesBefore order g h → Touches order g h → LiesBefore order g i → LiesBefore order i h → ⊥
   none_between i g h known full known_g known_h full_h before touching l m =
-      let cmp = position_cmp order.cmp in
-      let total = position_total order.cmp lawful.total in
       let le = (before_is order lawful g.end h.start known_g.1 known_h.0).0 before in
       let back =
       (touches_is order lawful g.end h known_h
       ((nonempty_good order lawful h known_h).0 full_h) le).0 touching in
-      let under : PLe (upper order g) (Start i) =
-      (before_is order lawful g.end i.start known_g.1 known.0).0 l in
-      let within : PLe (Start i) (End i) = not_greater (cmp (Start i) (End i)) full in
-      let low : PLe (Start h) (End i) =
-      le_trans cmp total (Start h) (upper order g) (End i) back
-      (le_trans cmp total (upper order g) (Start i) (End i) under within) in
-      lt_not_le cmp total (End i) (Start h) m low
+      let under = (before_is order lawful g.end i.start known_g.1 known.0).0 l in
+      lt_not_le lawful (End i) (Start h) m (le_trans lawful _ (upper order g) _ back
+      (le_trans lawful _ (Start i) _ under (not_greater _ full)))
 
   -- where two ranges that touch miss an item, so does the range over both
   joint_misses : (i g h : AnyRange K) → IsKnownRange order i → (IsEmptyRange order i → ⊥)
@@ -78,14 +66,10 @@ module _ {K : Type 0} (order : KeyOrder K) (lawful : IsLawful order) where
       → LiesBefore order g h → Touches order g h → (Overlap order i g → ⊥) → (Overlap order i h → ⊥)
       → Overlap order i (joint g h) → ⊥
   joint_misses i g h known full known_g known_h full_h before touching miss_g miss_h meets =
-      elim (apart_is_before_or_after i g miss_g) [
-        | inl l ↦ meets.0 l
-        | inr l ↦
-            elim (apart_is_before_or_after i h miss_h) [
-              | inl m ↦ none_between i g h known full known_g known_h full_h before touching l m
-              | inr m ↦ meets.1 m
-            ]
-      ]
+      let or_g = apart_is_before_or_after i g miss_g in
+      let or_h = apart_is_before_or_after i h miss_h in
+      let between = none_between i g h known full known_g known_h full_h before touching in
+      grind arith
 
   module _ {V : Type 0} where
     abbrev IsFullItem : Item (AnyRange K) V → Type 0
@@ -114,43 +98,24 @@ module _ {K : Type 0} (order : KeyOrder K) (lawful : IsLawful order) where
         → IsPiece order items full_range g None → IsPiece order items full_range h None
         → LiesBefore order g h → Touches order g h → ⊥
     gaps_apart items g h full piece other before touching =
-        let cmp = position_cmp order.cmp in
-        let total = position_total order.cmp lawful.total in
-        let within_g : PLe (Start g) (End g) =
-        not_greater (cmp (Start g) (End g)) piece.0.nonempty in
-        let within_h : PLe (Start h) (End h) =
-        not_greater (cmp (Start h) (End h)) other.0.nonempty in
-        let ends : PLe (End g) (End h) =
-        le_trans cmp total (End g) (Start h) (End h)
-        (lt_le cmp total (End g) (Start h) before) within_h in
-        let wide : IsFreePart order items full_range (joint g h) = record {
-          known = (piece.0.known.0, other.0.known.1);
-          nonempty =
-              not_both_greater_and_not (cmp (Start g) (End h))
-              (le_trans cmp total (Start g) (End g) (End h) within_g ends);
-          within = record { starts = piece.0.within.starts; ends = other.0.within.ends };
-          free =
-              all_missed items g h full piece.0.known other.0.known other.0.nonempty before touching
-              piece.0.free other.0.free;
-        } in
+        let within_g : PLe (Start g) (End g) = not_greater _ piece.0.nonempty in
+        let within_h : PLe (Start h) (End h) = not_greater _ other.0.nonempty in
+        let ends : PLe (End g) (End h) = le_trans lawful _ (Start h) _ (lt_le lawful _ _ before)
+        within_h in
+        let wide : IsFreePart order items full_range (joint g h) =
+        grind (arith, all_missed, le_trans, not_both_greater_and_not) in
         let back =
         piece.1 (joint g h) wide
-        (record { starts = le_refl cmp total (Start g); ends = ends }) in
-        lt_not_le cmp total (End g) (Start h) before
-        (le_trans cmp total (Start h) (End h) (End g) within_h back.ends)
+        (record { starts = le_refl lawful (Start g); ends = ends }) in
+        lt_not_le lawful (End g) (Start h) before (le_trans lawful _ (End h) _ within_h back.ends)
 
     gaps_listed : (items : List (Item (AnyRange K) V)) (gaps : List (AnyRange K))
         → Every IsFullItem items → Every (λ g. IsPiece order items full_range g None) gaps
         → EachNext (LiesBefore order) gaps → IsListed order lawful (λ _ _. true) (set_items gaps)
     gaps_listed items [] full each rising = tt
     gaps_listed items (g ∷ []) full each rising = (each.0.0.known, each.0.0.nonempty)
-    gaps_listed items (g ∷ h ∷ rest) full each rising = (
-      each.0.0.known,
-      each.0.0.nonempty,
-      rising.0,
-      λ touching _. gaps_apart items g h full each.0 each.1.0 rising.0 touching,
-      gaps_listed items (h ∷ rest) full each.1 rising.1,
-    )
+    gaps_listed items (g ∷ h ∷ rest) full each rising =
+        grind (arith, gaps_apart, gaps_listed items (h ∷ rest) full each.1 rising.1)
 
     -- the gaps are in the form of a set
     pub gaps_stored : (same : V → V → Bool) (items : List (Item (AnyRange K) V))

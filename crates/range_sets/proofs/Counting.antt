@@ -1,8 +1,7 @@
 -- How many ranges a list has, and a set after an insertion.
-use Rattle.std.proofs.Common.{◌≡◌, ◌≤◌, ◌+◌, refl, ap, arith, true, IsTrue, inl, inr, List, [], ◌∷◌, ◌++◌, length, length-append, Result, Ok, Err, OnOk, OnErr}
+use Rattle.std.proofs.Common.{◌≡◌, ◌≤◌, ◌+◌, refl, ap, arith, true, IsTrue, List, [], ◌∷◌, ◌++◌, length, length-append, Result, Ok, Err, OnOk, OnErr}
 use Rattle.std.specs.List.{AllByRecursion as Every}
 use Rattle.range_keys.specs.Order.{KeyOrder}
-use Rattle.range_keys.specs.Position.{start_position, end_position, position_cmp}
 use Rattle.range_keys.proofs.Orderings.{greater_or_not}
 use Rattle.range_algebra.specs.Range.{IsEmptyRange}
 use Rattle.range_algebra.specs.declared.any.AnyRange.{AnyRange}
@@ -44,9 +43,4 @@ module _ {K : Type 0} (order : KeyOrder K) where
       → OnErr result (new ≡ items) → (IsEmptyRange order r → new ≡ items)
       → length new ≤ length items + 1
   one_more (Err e) items new r frame refused empty = omega (arith, ap length refused)
-  one_more (Ok x) items new r frame refused empty =
-      elim (greater_or_not (position_cmp order.cmp (start_position order r.start)
-      (end_position order r.end))) [
-        | inl h ↦ omega (arith, ap length (empty h))
-        | inr h ↦ one_for_all items new r (frame h)
-      ]
+  one_more (Ok x) items new r frame refused empty = grind (arith, greater_or_not, one_for_all)

@@ -1,18 +1,17 @@
 -- What misses all the gaps of a list lies in one of its items.
-use Rattle.std.proofs.Common.{◌≡◌, refl, Option, Some, None, true, List, [], ◌∷◌, inl, inr}
+use Rattle.std.proofs.Common.{◌≡◌, refl, Option, Some, None, true, List, [], ◌∷◌, arith}
 use Rattle.std.specs.List.{AllByRecursion as Every}
 use Rattle.std.specs.declared.ops.Bound.{Bound}
 use Rattle.std.specs.declared.ops.Bound.TheVariants.{Included, Excluded, Unbounded}
 use Rattle.range_keys.specs.Order.{KeyOrder, IsLawful}
 use Rattle.range_keys.specs.Position.{start_position, end_position, position_cmp}
-use Rattle.range_keys.specs.PositionOrder.{position_total}
 use Rattle.range_keys.specs.declared.inner.position.Position.{Position}
 use Rattle.range_algebra.specs.declared.any.AnyRange.{AnyRange}
 use Rattle.range_algebra.proofs.Lists.{every_left, every_right}
 use Rattle.range_algebra.specs.Compared.{flipped}
 use Rattle.range_algebra.specs.Cuts.{past}
 use Rattle.range_algebra.specs.Intervals.{Le, Lt, Any}
-use Rattle.range_algebra.specs.Orders.{eq_ge, le_trans, lt_not_le, not_le, not_lt, cases, lt_le_trans, le_lt_trans}
+use Rattle.range_change.proofs.PlaceOrder.{eq_ge, le_trans, lt_not_le, not_le, not_lt, cases, lt_le_trans, le_lt_trans}
 use Rattle.range_algebra.specs.Range.{IsKnownBound, IsKnownRange, IsEmptyRange}
 use Rattle.range_algebra.proofs.Places.{reaching_is_before_past, flipped_bound_is_past, flipped_back, flipped_known, unbounded_start}
 use Rattle.range_store.specs.declared.storage.Item.{Item}
@@ -45,55 +44,49 @@ module _ {K : Type 0} (order : KeyOrder K) (lawful : IsLawful order) where
   gap_would_overlap : (r : AnyRange K) (s e : Option (Bound K)) (a b : Bound K) → s ≡ Some a
       → e ≡ Some b → PLe (Start a) (End b) → Every (λ g. ¬ Overlap order g r) (between order s e)
       → Overlap order (record { start = a; end = b }) r → ⊥
-  gap_would_overlap r s e a b f g le all =
-      between_at (λ gaps. Every (λ g. ¬ Overlap order g r) gaps
-      → Overlap order (record { start = a; end = b }) r → ⊥) s e a b f g le (λ h. h.0) all
+  gap_would_overlap r s e a b f g le all = grind (arith, between_at)
 
   -- a bound that another start lies before has a bound on its other side
   start_is_flipped : (x p : Bound K) → IsKnownBound order p → PLt (Start p) (Start x)
       → (b : Bound K) × (flipped x ≡ Some b)
   start_is_flipped (Included a) p known l = (Excluded a, refl)
   start_is_flipped (Excluded a) p known l = (Included a, refl)
-  start_is_flipped Unbounded p known l =
-      absurd (lt_not_le (position_cmp order.cmp) (position_total order.cmp lawful.total) (Start p)
-      (Start Unbounded) l (unbounded_start order lawful p known))
+  start_is_flipped Unbounded p known l = grind (arith, lt_not_le, unbounded_start)
 
   end_is_flipped : (e q : Bound K) → IsKnownBound order q → PLt (End e) (End q)
       → (a : Bound K) × (flipped e ≡ Some a)
   end_is_flipped (Included a) q known l = (Excluded a, refl)
   end_is_flipped (Excluded a) q known l = (Included a, refl)
-  end_is_flipped Unbounded q known l =
-      absurd (lt_not_le (position_cmp order.cmp) (position_total order.cmp lawful.total)
-      (End Unbounded) (End q) l (ends_full order lawful q known))
+  end_is_flipped Unbounded q known l = grind (arith, ends_full, lt_not_le)
 
   -- what starts before a start is at most at the end just before it
   reach_before : (p x b : Bound K) → IsKnownBound order p → IsKnownBound order x
       → flipped x ≡ Some b → PLt (Start p) (Start x) → PLe (Start p) (End b)
   reach_before p x b known known_x turns l =
-      let total = position_total order.cmp lawful.total in
-      let cmp = position_cmp order.cmp in
-      let at = flipped_bound_is_past order lawful b x (flipped_back order lawful x b turns) in
-      (reaching_is_before_past order lawful p b known
-      (flipped_known order lawful x b turns known_x)).1
-      (lt_le_trans cmp total (Start p) (Start x) (past order (End b)) l
-      (eq_ge cmp total (past order (End b)) (Start x) at))
+      grind (
+        arith,
+        eq_ge,
+        flipped_back,
+        flipped_bound_is_past,
+        flipped_known,
+        lt_le_trans,
+        reaching_is_before_past,
+      )
 
   -- what starts past the end just before a start is at least there
   start_after : (p x b : Bound K) → IsKnownBound order p → IsKnownBound order x
       → flipped x ≡ Some b → PLt (End b) (Start p) → PLe (Start x) (Start p)
   start_after p x b known known_x turns l =
-      let total = position_total order.cmp lawful.total in
-      let cmp = position_cmp order.cmp in
       let at = flipped_bound_is_past order lawful b x (flipped_back order lawful x b turns) in
-      le_trans cmp total (Start x) (past order (End b)) (Start p)
-      (eq_ge cmp total (past order (End b)) (Start x) at)
+      le_trans lawful (Start x) (past order (End b)) (Start p)
+      (eq_ge lawful (past order (End b)) (Start x) at)
       ((before_is order lawful b p (flipped_known order lawful x b turns known_x) known).0 l)
 
   -- what ends after an end reaches the start just past it
   end_reaches : (e a q : Bound K) → IsKnownBound order e → IsKnownBound order q
       → flipped e ≡ Some a → PLt (End e) (End q) → PLt (End q) (Start a) → ⊥
   end_reaches e a q known_e known turns l under =
-      lt_not_le (position_cmp order.cmp) (position_total order.cmp lawful.total) (End e) (End q) l
+      lt_not_le lawful (End e) (End q) l
       (ends_before order lawful q a e known known_e (flipped_back order lawful e a turns) under)
 
   -- a range after a bound that misses the gap up to a start does not start before it
@@ -103,35 +96,25 @@ module _ {K : Type 0} (order : KeyOrder K) (lawful : IsLawful order) where
       → PLt (Start r.start) (Start x) → ⊥
   start_is_not_before_item None x r known full from all l = absurd from
   start_is_not_before_item (Some a) x r known full from all l =
-      let total = position_total order.cmp lawful.total in
-      let cmp = position_cmp order.cmp in
       let turn = start_is_flipped x r.start full.0.0 l in
       let reach = reach_before r.start x turn.0 full.0.0 known turn.1 l in
       gap_would_overlap r (Some a) (flipped x) a turn.0 refl turn.1
-      (le_trans cmp total (Start a) (Start r.start) (End turn.0) from reach) all (
-        λ before. lt_not_le cmp total (End turn.0) (Start r.start) before reach,
-        λ before. lt_not_le cmp total (End r.end) (Start a) before
-            (le_trans cmp total (Start a) (Start r.start) (End r.end) from full.1),
-      )
+      (le_trans lawful (Start a) (Start r.start) (End turn.0) from reach) all
+      (grind (arith, le_trans, lt_not_le))
 
   -- a range that misses the gap after an end, the last one, does not reach over it
   over_last : (e : Bound K) (r : AnyRange K) → IsKnownBound order e → IsFull order lawful r
       → Every (λ g. ¬ Overlap order g r) (between order (flipped e) (Some Unbounded))
       → PLt (End e) (End r.end) → ⊥
   over_last e r known full all l =
-      let total = position_total order.cmp lawful.total in
-      let cmp = position_cmp order.cmp in
       let turn = end_is_flipped e r.end full.0.1 l in
       let under = end_reaches e turn.0 r.end known full.0.1 turn.1 l in
       let last = ends_full order lawful r.end full.0.1 in
       let reach =
-      le_trans cmp total (Start turn.0) (End r.end) (End Unbounded)
-      (not_lt cmp total (Start turn.0) (End r.end) under) last in
-      gap_would_overlap r (flipped e) (Some Unbounded) turn.0 Unbounded turn.1 refl reach all (
-        λ before. lt_not_le cmp total (End Unbounded) (Start r.start) before
-            (le_trans cmp total (Start r.start) (End r.end) (End Unbounded) full.1 last),
-        under,
-      )
+      le_trans lawful (Start turn.0) (End r.end) (End Unbounded)
+      (not_lt lawful (Start turn.0) (End r.end) under) last in
+      gap_would_overlap r (flipped e) (Some Unbounded) turn.0 Unbounded turn.1 refl reach all
+      (grind (arith, le_trans, lt_not_le))
 
   -- nor does one that starts before it where a range stands after the gap
   over_next : (e : Bound K) (next r : AnyRange K) → IsKnownBound order e → IsFull order lawful r
@@ -140,22 +123,19 @@ module _ {K : Type 0} (order : KeyOrder K) (lawful : IsLawful order) where
       → Every (λ g. ¬ Overlap order g r) (between order (flipped e) (flipped next.start))
       → PLe (Start r.start) (End e) → PLt (End e) (End r.end) → ⊥
   over_next e next r known full known_next some before apart all starts l =
-      let total = position_total order.cmp lawful.total in
-      let cmp = position_cmp order.cmp in
       let first = end_is_flipped e r.end full.0.1 l in
       let a = first.0 in
       let known_a = flipped_known order lawful e a first.1 known in
-      let ahead = le_lt_trans cmp total (Start r.start) (End e) (Start next.start) starts before in
+      let ahead = le_lt_trans lawful (Start r.start) (End e) (Start next.start) starts before in
       let second = start_is_flipped next.start r.start full.0.0 ahead in
       let b = second.0 in
       let up =
-      le_lt_trans cmp total (Start a) (past order (End e)) (Start next.start)
-      (eq_ge cmp total (past order (End e)) (Start a)
-      (flipped_bound_is_past order lawful e a first.1))
-      (not_le cmp total (past order (End e)) (Start next.start) apart) in
+      le_lt_trans lawful (Start a) (past order (End e)) (Start next.start)
+      (grind (arith, eq_ge, flipped_bound_is_past))
+      (not_le lawful (past order (End e)) (Start next.start) apart) in
       gap_would_overlap r (flipped e) (flipped next.start) a b first.1 second.1
       (reach_before a next.start b known_a known_next.0 second.1 up) all (
-        λ behind. lt_not_le cmp total (Start r.start) (Start next.start) ahead
+        λ behind. lt_not_le lawful (Start r.start) (Start next.start) ahead
             (start_after r.start next.start b full.0.0 known_next.0 second.1 behind),
         end_reaches e a r.end known full.0.1 first.1 l,
       )
@@ -167,12 +147,7 @@ module _ {K : Type 0} (order : KeyOrder K) (lawful : IsLawful order) where
       start_after r.start (Excluded a) (Included a) full.0.0 known refl l
   from_next (Excluded a) r known full l =
       start_after r.start (Included a) (Excluded a) full.0.0 known refl l
-  from_next Unbounded r known full l =
-      let total = position_total order.cmp lawful.total in
-      let cmp = position_cmp order.cmp in
-      lt_not_le cmp total (End Unbounded) (Start r.start) l
-      (le_trans cmp total (Start r.start) (End r.end) (End Unbounded) full.1
-      (ends_full order lawful r.end full.0.1))
+  from_next Unbounded r known full l = grind (arith, ends_full, le_trans, lt_not_le)
 
   module _ {V : Type 0} where
     abbrev IsSetList : List (Item (AnyRange K) V) → Type 0
@@ -206,9 +181,7 @@ module _ {K : Type 0} (order : KeyOrder K) (lawful : IsLawful order) where
         touches_is order lawful i.key.end j.key known
         ((nonempty_good order lawful j.key known).0 some) le in
         over_next i.key.end j.key r h.0.1 full known some h.2 (λ back. h.3 (touching.1 back) refl)
-        (every_left (λ g. ¬ Overlap order g r)
-        (between order (flipped i.key.end) (flipped j.key.start))
-        (free_from order (flipped j.key.end) rest) all) starts l
+        (grind (arith, every_left)) starts l
 
     -- a range after a bound that misses all that is free there lies in an item
     pub missing_gaps_is_within_item : (s : Option (Bound K)) (items : List (Item (AnyRange K) V))
@@ -217,37 +190,23 @@ module _ {K : Type 0} (order : KeyOrder K) (lawful : IsLawful order) where
         → Any (λ i. LiesIn order r i.key) items
     missing_gaps_is_within_item None [] r h full from all = absurd from
     missing_gaps_is_within_item (Some a) [] r h full from all =
-        let total = position_total order.cmp lawful.total in
-        let cmp = position_cmp order.cmp in
         let reach =
-        le_trans cmp total (Start r.start) (End r.end) (End Unbounded) full.1
+        le_trans lawful (Start r.start) (End r.end) (End Unbounded) full.1
         (ends_full order lawful r.end full.0.1) in
         absurd (gap_would_overlap r (Some a) (Some Unbounded) a Unbounded refl refl
-        (le_trans cmp total (Start a) (Start r.start) (End Unbounded) from reach) all (
-          λ before. lt_not_le cmp total (End Unbounded) (Start r.start) before reach,
-          λ before. lt_not_le cmp total (End r.end) (Start a) before
-              (le_trans cmp total (Start a) (Start r.start) (End r.end) from full.1),
-        ))
+        (le_trans lawful (Start a) (Start r.start) (End Unbounded) from reach) all
+        (grind (arith, le_trans, lt_not_le)))
     missing_gaps_is_within_item s (i ∷ rest) r h full from all =
-        let total = position_total order.cmp lawful.total in
-        let cmp = position_cmp order.cmp in
-        let gaps = free_from order (flipped i.key.end) rest in
-        let known = first_known i rest h in
-        let behind =
-        every_right (λ g. ¬ Overlap order g r)
-        (between order s (flipped i.key.start)) gaps all in
-        elim (cases cmp total (Start r.start) (Start i.key.start)) [
-          | inl l ↦
-              absurd (start_is_not_before_item s i.key.start r known.0 full
-              from (every_left (λ g. ¬ Overlap order g r)
-              (between order s (flipped i.key.start)) gaps all) l)
-          | inr starts ↦ elim (cases cmp total (End i.key.end) (Start r.start)) [
-            | inl l ↦
-                inr (missing_gaps_is_within_item (flipped i.key.end) rest r
-                (rest_listed i rest h) full (from_next i.key.end r known.1 full l) behind)
-            | inr within ↦ elim (cases cmp total (End i.key.end) (End r.end)) [
-              | inl l ↦ absurd (end_is_not_past_item i rest r h full behind within l)
-              | inr ends ↦ inl (record { starts = starts; ends = ends })
-            ]
-          ]
-        ]
+        grind (
+          arith,
+          cases,
+          end_is_not_past_item,
+          every_left,
+          every_right,
+          first_known,
+          from_next,
+          rest_listed,
+          start_is_not_before_item,
+          missing_gaps_is_within_item
+              (flipped i.key.end) rest r,
+        )

@@ -1,5 +1,5 @@
 -- Clones of the gaps of a list, put one after the other.
-use Rattle.std.proofs.Common.{◌≡◌, ℕ, ◌+◌, ◌≤◌, refl, sym, ap, subst, ◌∙◌, ◌↔◌, inl, inr, arith, append_assoc, true, List, [], ◌∷◌, ◌++◌, length}
+use Rattle.std.proofs.Common.{◌≡◌, ℕ, ◌+◌, ◌≤◌, refl, ap, ◌↔◌, arith, append_assoc, true, List, [], ◌∷◌, ◌++◌, length}
 use Rattle.std.proofs.lemmas.List.{append-nil}
 use Rattle.std.proofs.lemmas.List.Elements.{All-from_recursion}
 use Rattle.std.specs.Cmp.{IsEquivalence, tied_back}
@@ -26,9 +26,8 @@ all_equal = record { refl = λ x. refl; symm = λ x y. refl; congr = λ x y z e.
 zip_more : {A B : Type 0} (R : A → B → Type 0) (xs : List A) (ys : List B) (x : A) (y : B)
     → AllZip R xs ys → R x y → AllZip R (xs ++ x ∷ []) (ys ++ y ∷ [])
 zip_more R [] [] x y zip r = (r, tt)
-zip_more R [] (b ∷ ys) x y zip r = absurd zip
-zip_more R (a ∷ xs) [] x y zip r = absurd zip
 zip_more R (a ∷ xs) (b ∷ ys) x y zip r = (zip.0, zip_more R xs ys x y zip.1 r)
+zip_more R xs ys x y zip r = absurd zip
 
 module _ {K : Type 0} (order : KeyOrder K) where
   abbrev Items : Type 0
@@ -47,21 +46,13 @@ module _ {K : Type 0} (order : KeyOrder K) where
 
   pub filling_begins : (gaps : List (AnyRange K)) (items : Items) (room : ℕ) → items ≡ []
       → length gaps ≤ room → IsFilled gaps gaps items room
-  filling_begins gaps items room none space =
-      rw none (record {
-        done = [];
-        split = refl;
-        copied = tt;
-        form = record { known = tt; nonempty = tt; rising = tt };
-        space = space;
-      })
+  filling_begins gaps items room none space = grind arith
 
   as_copy : (items : Items) (ranges : List (AnyRange K)) → AllZip SameRange items ranges
       → IsCopyOf order (λ _ _. true) items (set_items ranges)
   as_copy [] [] zip = tt
-  as_copy [] (g ∷ ranges) zip = absurd zip
-  as_copy (i ∷ items) [] zip = absurd zip
   as_copy (i ∷ items) (g ∷ ranges) zip = ((zip.0, refl), as_copy items ranges zip.1)
+  as_copy items ranges zip = absurd zip
 
   module _ (lawful : IsLawful order) where
     -- a clone of a range equals it
@@ -80,18 +71,15 @@ module _ {K : Type 0} (order : KeyOrder K) where
         let more = items ++ record { key = r; value = tt } ∷ [] in
         let front = filled.done ++ g ∷ [] in
         let all : front ++ others ≡ gaps =
-        append_assoc filled.done (g ∷ []) others
-        ∙ (ap (λ l. filled.done ++ l) (sym next) ∙ filled.split) in
+        rw (append_assoc filled.done (g ∷ []) others, ← next) filled.split in
         let zip =
         zip_more SameRange items filled.done
         (record { key = r; value = tt }) g filled.copied same in
         copy_stored lawful all_equal more (set_items front)
         (as_copy more front zip)
         (All-from_recursion (λ i. IsKnownRange order i.key) more
-        (every_more (λ i. IsKnownRange order i.key) items
-        (record { key = r; value = tt }) filled.form.known known))
-        (front_stored order lawful front others
-        (subst (λ l. IsStoredSet order (set_items l)) (sym all) form))
+        (grind (arith, every_more)))
+        (grind (arith, front_stored))
 
     pub filled_more : (gaps rest others : List (AnyRange K)) (items next : Items) (room left : ℕ)
         (g r : AnyRange K) → IsStoredSet order (set_items gaps) → IsFilled gaps rest items room
@@ -103,12 +91,8 @@ module _ {K : Type 0} (order : KeyOrder K) where
         let shorter = ap length came in
         rw put (record {
           done = filled.done ++ g ∷ [];
-          split =
-              append_assoc filled.done (g ∷ []) others
-              ∙ (ap (λ l. filled.done ++ l) (sym came) ∙ filled.split);
-          copied =
-              zip_more SameRange items filled.done
-              (record { key = r; value = tt }) g filled.copied same;
+          split = rw (append_assoc filled.done (g ∷ []) others, ← came) filled.split;
+          copied = grind (arith, zip_more);
           form = more;
           space = omega (arith, shorter, filled.space, room_is);
         })
@@ -116,37 +100,16 @@ module _ {K : Type 0} (order : KeyOrder K) where
     same_keys : (others : Items) (gaps : List (AnyRange K)) (k : K) → order.is_key k
         → AllZip SameRange others gaps → HoldsKey order others k ↔ SomeHolds order gaps k
     same_keys [] [] k key zip = (λ h. h, λ h. h)
-    same_keys [] (g ∷ gaps) k key zip = absurd zip
-    same_keys (i ∷ others) [] k key zip = absurd zip
     same_keys (i ∷ others) (g ∷ gaps) k key zip =
-        let here = equal_is_same order lawful i.key g zip.0 k key in
-        let later = same_keys others gaps k key zip.1 in (
-          λ h. elim h [ inl held ↦ inl (here.0 held) | inr held ↦ inr (later.0 held) ],
-          λ h. elim h [ inl held ↦ inl (here.1 held) | inr held ↦ inr (later.1 held) ],
-        )
+        grind (arith, equal_is_same, same_keys others gaps k key zip.1)
+    same_keys others gaps k key zip = absurd zip
 
   pub all_copied : (gaps rest : List (AnyRange K)) (items : Items) (room : ℕ)
       → IsFilled gaps rest items room → rest ≡ [] → AllZip SameRange items gaps
-  all_copied gaps rest items room filled ended =
-      let all : filled.done ≡ gaps =
-      sym (append-nil filled.done)
-      ∙ (ap (λ l. filled.done ++ l) (sym ended) ∙ filled.split) in
-      subst (λ l. AllZip SameRange items l) all filled.copied
+  all_copied gaps rest items room filled ended = grind (arith, append-nil)
 
   pub others_held : (lawful : IsLawful order) (items others : Items) (gaps : List (AnyRange K))
       → AllZip SameRange others gaps
       → ((k : K) → order.is_key k → IsHeldOnce order (item_ranges items ++ gaps) k)
       → HoldsTheOthers order items others
-  others_held lawful items others gaps zip once k key =
-      let same = same_keys lawful others gaps k key zip in (
-        λ h.
-            elim (one_of_two order items gaps k (once k key)) [
-              | inl both ↦ absurd (both.1 (same.0 h))
-              | inr both ↦ both.0
-            ],
-        λ out.
-            elim (one_of_two order items gaps k (once k key)) [
-              | inl both ↦ absurd (out both.0)
-              | inr both ↦ same.1 both.1
-            ],
-      )
+  others_held lawful items others gaps zip once k key = grind (arith, one_of_two, same_keys)

@@ -1,5 +1,5 @@
 -- Which keys a map of equal values holds once it was changed by another.
-use Rattle.std.proofs.Common.{◌↔◌, inl, inr, Bool, IsTrue, List, Option, Some}
+use Rattle.std.proofs.Common.{◌↔◌, inl, inr, Bool, IsTrue, List, Option, Some, arith}
 use Rattle.range_keys.specs.Order.{KeyOrder, IsLawful}
 use Rattle.range_algebra.specs.declared.any.AnyRange.{AnyRange}
 use Rattle.range_store.specs.declared.storage.Item.{Item}
@@ -8,7 +8,7 @@ use Rattle.range_change.proofs.Overlaps.{binds_bound}
 use Rattle.range_map.specs.Overlays.{IsOverlaid, IsRestricted, IsWithout}
 use Rattle.range_map.specs.PartWay.{AreUnboundAfter, BeforeOne, BeforeOneGap}
 use Rattle.range_map.proofs.BoundKeys.{bound_or_not}
-use Rattle.range_set_extend.specs.KeySets.{HoldsKey, HoldsWithoutAll, SomeHolds}
+use Rattle.range_set_extend.specs.KeySets.{HoldsKey, HoldsWithoutAll}
 use Rattle.range_sets.specs.TwoSets.{HoldsEither, HoldsBoth, HoldsFirstAlone}
 use Rattle.range_set_extend.proofs.Membership.{bound_to}
 
@@ -43,11 +43,7 @@ module _ {K : Type 0} (order : KeyOrder K) (lawful : IsLawful order)
       elim (bound_or_not order lawful others k) [
         | inl there ↦
             (λ b. inr there, λ b. (hold_alike others new k (h.over k key there)).1 there)
-        | inr none ↦
-            let alike = hold_alike items new k (h.under k key none) in (
-              λ b. inl (alike.0 b),
-              λ b. elim b [ inl was ↦ alike.1 was | inr there ↦ absurd (none there) ],
-            )
+        | inr none ↦ grind (arith, hold_alike)
       ]
 
   module _ {W : Type 0} (items : Items) (others : List (Item (AnyRange K) W)) (new : Items) where
@@ -61,18 +57,8 @@ module _ {K : Type 0} (order : KeyOrder K) (lawful : IsLawful order)
         ]
 
     pub first_alone : IsWithout order same items others new → HoldsFirstAlone order items others new
-    first_alone h k key = (
-      λ b.
-          let none : ¬ HoldsKey order others k = λ there. h.gone k key there b in
-          ((hold_alike items new k (h.kept k key none)).0 b, none),
-      λ b. (hold_alike items new k (h.kept k key b.1)).1 b.0,
-    )
+    first_alone h k key = grind (arith, hold_alike)
 
   pub without_all : (items new : Items) (ranges : List (AnyRange K))
       → AreUnboundAfter order same items new ranges → HoldsWithoutAll order items new ranges
-  without_all items new ranges h k key = (
-    λ b.
-        let none : ¬ SomeHolds order ranges k = λ some. h.gone k key some b in
-        ((hold_alike items new k (h.kept k key none)).0 b, none),
-    λ b. (hold_alike items new k (h.kept k key b.1)).1 b.0,
-  )
+  without_all items new ranges h k key = grind (arith, hold_alike)

@@ -1,5 +1,5 @@
 -- What becomes of the keys of two sets, by what a test says of which of them holds a key.
-use Rattle.std.proofs.Common.{◌≡◌, refl, sym, ap, subst, ◌∙◌, ◌↔◌, ◌⊎◌, inl, inr, Bool, true, false, not, ◌&&◌, ◌||◌, IsTrue, List, [], ◌∷◌, Option, Some, None, Result, Ok}
+use Rattle.std.proofs.Common.{◌≡◌, refl, ap, subst, ◌↔◌, ◌⊎◌, inl, inr, Bool, true, false, not, ◌&&◌, IsTrue, List, [], ◌∷◌, Option, Some, None, Result, Ok, arith}
 use Rattle.std.specs.Prelude.{is_some}
 use Rattle.std.specs.Bool.{beq}
 use Rattle.std.specs.Option.{option_copied}
@@ -17,68 +17,25 @@ use Rattle.range_sets.specs.TwoSets.{HoldsBoth, HoldsFirstAlone, HoldsJustOne, A
 
 -- two tests that are true in one case are one
 same_test : {P : Type 0} (a b : Bool) → (IsTrue a ↔ P) → (IsTrue b ↔ P) → a ≡ b
-same_test true true f g = refl
-same_test true false f g = sym (g.1 (f.0 refl))
-same_test false true f g = f.1 (g.0 refl)
-same_test false false f g = refl
+same_test a b f g = grind arith
 
 -- a test of whether it is so, or not
 pub decided : {P : Type 0} → P ⊎ (¬ P) → (b : Bool) × (IsTrue b ↔ P)
 decided (inl is) = (true, (λ e. is, λ h. refl))
 decided (inr other) = (false, (λ e. absurd (cc), λ h. absurd (other h)))
 
--- by truth values: of an or, an and, an and with not, and a difference of two facts
+-- by truth values: of an and, an and with not, and a difference of two facts
 module _ {A B N : Type 0} where
-  pub either_is : (a b : Bool) → (IsTrue a ↔ A) → (IsTrue b ↔ B) → (IsTrue (a || b) ↔ N)
-      → N ↔ (A ⊎ B)
-  either_is true b f g n = (λ h. inl (f.0 refl), λ h. n.0 refl)
-  either_is false true f g n = (λ h. inr (g.0 refl), λ h. n.0 refl)
-  either_is false false f g n = (
-    λ h. inl (f.0 (n.1 h)),
-    λ h. elim h [ inl is ↦ n.0 (f.1 is) | inr is ↦ n.0 (g.1 is) ],
-  )
+  both_are : (a b : Bool) → (IsTrue a ↔ A) → (IsTrue b ↔ B) → (IsTrue (a && b) ↔ N) → N ↔ (A × B)
+  both_are a b f g n = grind arith
 
-  pub both_are : (a b : Bool) → (IsTrue a ↔ A) → (IsTrue b ↔ B) → (IsTrue (a && b) ↔ N)
-      → N ↔ (A × B)
-  both_are true b f g n = (λ h. (f.0 refl, g.0 (n.1 h)), λ h. n.0 (g.1 h.1))
-  both_are false b f g n = (
-    λ h. let e : false ≡ true = n.1 h in absurd (cc),
-    λ h. n.0 (f.1 h.0),
-  )
-
-  pub first_alone_is : (a b : Bool) → (IsTrue a ↔ A) → (IsTrue b ↔ B) → (IsTrue (a && not b) ↔ N)
+  first_alone_is : (a b : Bool) → (IsTrue a ↔ A) → (IsTrue b ↔ B) → (IsTrue (a && not b) ↔ N)
       → N ↔ (A × (¬ B))
-  first_alone_is true true f g n = (
-    λ h. let e : false ≡ true = n.1 h in absurd (cc),
-    λ h. absurd (h.1 (g.0 refl)),
-  )
-  first_alone_is true false f g n = (
-    λ h. (f.0 refl, λ is. let e : false ≡ true = g.1 is in absurd (cc)),
-    λ h. n.0 refl,
-  )
-  first_alone_is false b f g n = (
-    λ h. let e : false ≡ true = n.1 h in absurd (cc),
-    λ h. n.0 (f.1 h.0),
-  )
+  first_alone_is a b f g n = grind arith
 
-  pub just_one_is : (a b : Bool) → (IsTrue a ↔ A) → (IsTrue b ↔ B) → (IsTrue (not (beq a b)) ↔ N)
+  just_one_is : (a b : Bool) → (IsTrue a ↔ A) → (IsTrue b ↔ B) → (IsTrue (not (beq a b)) ↔ N)
       → N ↔ ((A × (¬ B)) ⊎ ((¬ A) × B))
-  just_one_is true true f g n = (
-    λ h. let e : false ≡ true = n.1 h in absurd (cc),
-    λ h. elim h [ inl one ↦ absurd (one.1 (g.0 refl)) | inr one ↦ absurd (one.0 (f.0 refl)) ],
-  )
-  just_one_is true false f g n = (
-    λ h. inl (f.0 refl, λ is. let e : false ≡ true = g.1 is in absurd (cc)),
-    λ h. n.0 refl,
-  )
-  just_one_is false true f g n = (
-    λ h. inr (λ is. let e : false ≡ true = f.1 is in absurd (cc), g.0 refl),
-    λ h. n.0 refl,
-  )
-  just_one_is false false f g n = (
-    λ h. let e : false ≡ true = n.1 h in absurd (cc),
-    λ h. elim h [ inl one ↦ n.0 (f.1 one.0) | inr one ↦ n.0 (g.1 one.1) ],
-  )
+  just_one_is a b f g n = grind arith
 
 -- a value is shown where there is one
 pub shown_is : {V : Type 0} (shown : Option (Bor V)) (v : Option V) → option_copied shown ≡ v
@@ -93,9 +50,8 @@ module _ {K : Type 0} (order : KeyOrder K) where
   -- what a key is bound to tells whether it is held
   bound_is : (same : Unit {0} → Unit {0} → Bool) (items : Items) (k : K) (b : Option (Unit {0}))
       → Binds order same items k b → IsTrue (is_some b) ↔ HoldsKey order items k
-  bound_is same items k None h =
-      (λ e. absurd (cc), λ is. absurd (h is))
-  bound_is same items k (Some v) h = (λ e. binds_bound order same items k v h, λ is. refl)
+  bound_is same items k None h = grind arith
+  bound_is same items k (Some v) h = grind (arith, binds_bound order same items k v)
 
   answered_is : (same : Unit {0} → Unit {0} → Bool)
       → ((v : Unit {0}) → IsTrue (same v v)) → (new : Items) (k : K) (answer : Option (Unit {0}))
@@ -133,16 +89,7 @@ module _ {K : Type 0} (order : KeyOrder K) where
   module _ (lawful : IsLawful order) where
     pub holds_or_not : (items : Items) (k : K) → HoldsKey order items k ⊎ (¬ HoldsKey order items k)
     holds_or_not [] k = inr (λ none. none)
-    holds_or_not (i ∷ rest) k =
-        elim (held_or_not order lawful i.key k) [
-          | inl here ↦ inl (inl here)
-          | inr out ↦
-              elim (holds_or_not rest k) [
-                | inl later ↦ inl (inr later)
-                | inr none ↦
-                    inr (λ h. elim h [ inl here ↦ out here | inr later ↦ none later ])
-              ]
-        ]
+    holds_or_not (i ∷ rest) k = grind (arith, held_or_not, holds_or_not rest k)
 
     -- a test that answers by op
     module _ (op : Bool → Bool → Bool) (none : op false false ≡ false)
@@ -150,32 +97,18 @@ module _ {K : Type 0} (order : KeyOrder K) where
       kept_at : (k : K) → order.is_key k → (a b : Bool) → (IsTrue a ↔ HoldsKey order items k)
           → (IsTrue b ↔ HoldsKey order others k) → HoldsKey order items k ⊎ HoldsKey order others k
           → IsTrue (op a b) ↔ HoldsKey order new k
-      kept_at k key a b f g some =
-          let at = kept.held k key some in
-          let first = same_test at.first a at.in_first f in
-          let second = same_test at.second b at.in_second g in
-          rw (← first, ← second) at.is
+      kept_at k key a b f g some = grind (arith, same_test)
 
       kept_as : (k : K) → order.is_key k → (a b : Bool) → (IsTrue a ↔ HoldsKey order items k)
           → (IsTrue b ↔ HoldsKey order others k) → IsTrue (op a b) ↔ HoldsKey order new k
-      kept_as k key true b f g = kept_at k key true b f g (inl (f.0 refl))
-      kept_as k key false true f g = kept_at k key false true f g (inr (g.0 refl))
-      kept_as k key false false f g = (
-        λ h. let e : false ≡ true = sym none ∙ h in absurd (cc),
-        λ is. absurd (kept.free k key (λ h. let e : false ≡ true = f.1 h in cc)
-            (λ h. let e : false ≡ true = g.1 h in cc) is),
-      )
+      kept_as k key a b f g = grind (arith, kept_at k key a b)
 
       -- what follows for a key, whichever of the lists hold it
       pub by_test : {P : Type 0} (k : K) → order.is_key k
           → ((a b : Bool) → (IsTrue a ↔ HoldsKey order items k)
           → (IsTrue b ↔ HoldsKey order others k) → (IsTrue (op a b) ↔ HoldsKey order new k) → P)
           → P
-      by_test k key then =
-          let first = decided (holds_or_not items k) in
-          let second = decided (holds_or_not others k) in
-          then first.0 second.0 first.1 second.1
-          (kept_as k key first.0 second.0 first.1 second.1)
+      by_test k key then = grind (arith, decided, holds_or_not, kept_as)
 
     module _ (items others new : Items) where
       pub kept_both : AreKept order items others new ◌&&◌ → HoldsBoth order items others new

@@ -1,5 +1,5 @@
 -- The keys of a map, as a set.
-use Rattle.std.proofs.Common.{◌≡◌, Bool, true, List, Option, Some, Result, IsTrue, inl, inr}
+use Rattle.std.proofs.Common.{Bool, List, Some, Result, IsTrue, inl, inr}
 use Rattle.std.specs.Borrow.{Bor}
 use Rattle.std.specs.Fn.{Shared}
 use Rattle.range_keys.specs.Order.{KeyOrder, IsLawful}

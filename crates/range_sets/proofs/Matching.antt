@@ -1,17 +1,16 @@
 -- Two rows of disjoint ranges, each of which lies in some range of the other row, are equal one by
 -- one.
-use Rattle.std.proofs.Common.{◌≡◌, List, [], ◌∷◌, inl, inr}
+use Rattle.std.proofs.Common.{◌≡◌, List, [], ◌∷◌, inl, inr, arith}
 use Rattle.std.specs.List.{AllZip, AllByRecursion as Every}
 use Rattle.std.specs.declared.cmp.Ordering.TheVariants.{Equal}
 use Rattle.range_keys.specs.Order.{KeyOrder, IsLawful}
-use Rattle.range_keys.specs.Position.{start_position, end_position, position_cmp}
-use Rattle.range_keys.specs.PositionOrder.{position_total}
+use Rattle.range_keys.specs.Position.{start_position, end_position}
 use Rattle.range_keys.specs.declared.inner.position.Position.{Position}
 use Rattle.range_keys.proofs.Orderings.{both_equal}
 use Rattle.range_algebra.specs.declared.any.AnyRange.{AnyRange}
 use Rattle.range_algebra.proofs.Lists.{every_weaker}
 use Rattle.range_algebra.specs.Intervals.{Any}
-use Rattle.range_algebra.specs.Orders.{eq_le, eq_ge, lt_le, le_trans, lt_not_le, lt_le_trans, le_lt_trans, lt_trans}
+use Rattle.range_change.proofs.PlaceOrder.{eq_le, eq_ge, lt_le, le_trans, lt_not_le, lt_le_trans, le_lt_trans, lt_trans}
 use Rattle.range_algebra.specs.RangeOrder.{range_cmp}
 use Rattle.range_algebra.specs.Relations.{LiesBefore}
 use Rattle.range_change.specs.Neighbours.{EachNext}
@@ -29,56 +28,25 @@ module _ {K : Type 0} (order : KeyOrder K) (lawful : IsLawful order) where
 
   pub equal_within : (r s : AnyRange K) → range_cmp order r s ≡ Equal
       → LiesIn order r s × LiesIn order s r
-  equal_within r s e =
-      let total = position_total order.cmp lawful.total in
-      let cmp = position_cmp order.cmp in
-      let parts = both_equal (cmp (Start r) (Start s)) (cmp (End r) (End s)) e in (
-        record {
-          starts = eq_ge cmp total (Start r) (Start s) parts.0;
-          ends = eq_le cmp total (End r) (End s) parts.1;
-        },
-        record {
-          starts = eq_le cmp total (Start r) (Start s) parts.0;
-          ends = eq_ge cmp total (End r) (End s) parts.1;
-        },
-      )
+  equal_within r s e = grind (arith, both_equal, eq_le, eq_ge)
 
   -- what meets a range meets the one that it lies in
   pub overlap_within : (r s t : AnyRange K) → LiesIn order r s → Overlap order r t
       → Overlap order s t
-  overlap_within r s t within meets =
-      let total = position_total order.cmp lawful.total in
-      let cmp = position_cmp order.cmp in (
-        λ l. meets.0 (le_lt_trans cmp total (End r) (End s) (Start t) within.ends l),
-        λ l. meets.1 (lt_le_trans cmp total (End t) (Start s) (Start r) l within.starts),
-      )
+  overlap_within r s t within meets = grind (arith, le_lt_trans, lt_le_trans)
 
   pub within_trans : (r s t : AnyRange K) → LiesIn order r s → LiesIn order s t → LiesIn order r t
-  within_trans r s t h k =
-      let total = position_total order.cmp lawful.total in
-      let cmp = position_cmp order.cmp in record {
-        starts = le_trans cmp total (Start t) (Start s) (Start r) k.starts h.starts;
-        ends = le_trans cmp total (End r) (End s) (End t) h.ends k.ends;
-      }
+  within_trans r s t h k = grind (arith, le_trans)
 
   -- no nonempty range lies in one that it is after
   behind_not_within : (r s : AnyRange K) → IsFull order lawful s → LiesBefore order r s
       → LiesIn order s r → ⊥
-  behind_not_within r s full before within =
-      let total = position_total order.cmp lawful.total in
-      let cmp = position_cmp order.cmp in
-      lt_not_le cmp total (End r) (Start s) before
-      (le_trans cmp total (Start s) (End s) (End r) full.1 within.ends)
+  behind_not_within r s full before within = grind (arith, lt_not_le, le_trans)
 
   not_before_each_other : (r s : AnyRange K) → IsFull order lawful r → IsFull order lawful s
       → LiesBefore order r s → LiesBefore order s r → ⊥
   not_before_each_other r s full full_s before after =
-      let total = position_total order.cmp lawful.total in
-      let cmp = position_cmp order.cmp in
-      lt_not_le cmp total (End r) (Start s) before
-      (le_trans cmp total (Start s) (End s) (End r) full_s.1
-      (lt_le cmp total (End s) (End r)
-      (lt_le_trans cmp total (End s) (Start r) (End r) after full.1)))
+      grind (arith, lt_not_le, lt_le, le_trans, lt_le_trans)
 
   -- the ranges of a row, where each stands before the next, are each before all after it
   pub row_pairs : (ranges : List (AnyRange K)) → Every (IsFull order lawful) ranges
@@ -86,15 +54,7 @@ module _ {K : Type 0} (order : KeyOrder K) (lawful : IsLawful order) where
   row_pairs [] full rising = tt
   row_pairs (r ∷ []) full rising = (tt, tt)
   row_pairs (r ∷ s ∷ rest) full rising =
-      let total = position_total order.cmp lawful.total in
-      let cmp = position_cmp order.cmp in
-      let others = row_pairs (s ∷ rest) full.1 rising.1 in
-      let over =
-      λ (t : AnyRange K) (l : LiesBefore order s t). lt_trans cmp total (End r) (End s)
-      (Start t) (lt_le_trans cmp total (End r) (Start s) (End s) rising.0 full.1.0.1) l in (
-        (rising.0, every_weaker (LiesBefore order s) (LiesBefore order r) rest over others.0),
-        others,
-      )
+      grind (arith, every_weaker, lt_le_trans, lt_trans, row_pairs (s ∷ rest) full.1 rising.1)
 
   module _ {A : Type 0} (range : A → AnyRange K) where
     abbrev FullAll : List A → Type 0
@@ -110,20 +70,14 @@ module _ {K : Type 0} (order : KeyOrder K) (lawful : IsLawful order) where
     behind_first : (r s : AnyRange K) (xs : List A) → BeforeAll r xs → InSome s xs
         → LiesBefore order r s
     behind_first r s [] before within = absurd within
-    behind_first r s (x ∷ xs) before (inl h) =
-        lt_le_trans (position_cmp order.cmp) (position_total order.cmp lawful.total) (End r)
-        (Start (range x)) (Start s) before.0 h.starts
+    behind_first r s (x ∷ xs) before (inl h) = grind (arith, lt_le_trans)
     behind_first r s (x ∷ xs) before (inr h) = behind_first r s xs before.1 h
 
     none_back : (r s : AnyRange K) (xs : List A) → LiesIn order r s → FullAll xs → BeforeAll s xs
         → Every (λ x. LiesIn order (range x) r → LiesIn order r (range x)) xs
     none_back r s [] within full before = tt
-    none_back r s (x ∷ xs) within full before = (
-      λ back.
-          absurd (behind_not_within s (range x) full.0 before.0
-          (within_trans (range x) r s back within)),
-      none_back r s xs within full.1 before.1,
-    )
+    none_back r s (x ∷ xs) within full before =
+        grind (arith, behind_not_within, within_trans, none_back r s xs within full.1 before.1)
 
     -- a range that lies in one of a row holds at most that one
     pub only_one_lies_in_range : (r : AnyRange K) (xs : List A) → FullAll xs
@@ -132,19 +86,10 @@ module _ {K : Type 0} (order : KeyOrder K) (lawful : IsLawful order) where
     only_one_lies_in_range r [] full pairs within = tt
     only_one_lies_in_range r (x ∷ xs) full pairs (inl h) =
         (λ _. h, none_back r (range x) xs h full.1 pairs.0)
-    only_one_lies_in_range r (x ∷ xs) full pairs (inr h) = (
-      λ back.
-          absurd (lies_in_none r (range x) full.0 (behind_first (range x) r xs pairs.0 h) back),
-      only_one_lies_in_range r xs full.1 pairs.1 h,
-    )
-      where
-        lies_in_none : (r s : AnyRange K) → IsFull order lawful s → LiesBefore order s r
-            → LiesIn order s r → ⊥
-        lies_in_none r s full before within =
-            let total = position_total order.cmp lawful.total in
-            let cmp = position_cmp order.cmp in
-            lt_not_le cmp total (End s) (Start r) before
-            (le_trans cmp total (Start r) (Start s) (End s) within.starts full.1)
+    only_one_lies_in_range r (x ∷ xs) full pairs (inr h) =
+        let apart = behind_first (range x) r xs pairs.0 h in
+        let later = only_one_lies_in_range r xs full.1 pairs.1 h in
+        grind (arith, lt_not_le, le_trans)
 
   module _ {A B : Type 0} (range : A → AnyRange K) (other : B → AnyRange K) where
     -- what is after the first of one row lies in the rest of the other
@@ -154,13 +99,7 @@ module _ {K : Type 0} (order : KeyOrder K) (lawful : IsLawful order) where
         → Every (λ z. InSome other (range z) ys) xs
     rest_within x y [] ys within full before all = tt
     rest_within x y (z ∷ xs) ys within full before all =
-        (here all.0, rest_within x y xs ys within full.1 before.1 all.1)
-      where
-        here : InSome other (range z) (y ∷ ys) → InSome other (range z) ys
-        here (inl h) =
-            absurd (behind_not_within (range x) (range z) full.0 before.0
-            (within_trans (range z) (other y) (range x) h within))
-        here (inr h) = h
+        grind (arith, behind_not_within, within_trans, rest_within x y xs ys within full.1)
 
     first_same : (x : A) (y : B) (xs : List A) (ys : List B) → FullAll range (x ∷ xs)
         → FullAll other (y ∷ ys) → BeforeAll range (range x) xs → BeforeAll other (other y) ys
@@ -168,19 +107,9 @@ module _ {K : Type 0} (order : KeyOrder K) (lawful : IsLawful order) where
         → LiesIn order (range x) (other y) × LiesIn order (other y) (range x)
     first_same x y xs ys full full' before before' (inl h) (inl k) = (h, k)
     first_same x y xs ys full full' before before' (inl h) (inr k) =
-        let total = position_total order.cmp lawful.total in
-        let cmp = position_cmp order.cmp in
-        let l = behind_first range (range x) (other y) xs before k in
-        absurd (lt_not_le cmp total (End (range x)) (Start (other y)) l
-        (le_trans cmp total (Start (other y)) (Start (range x))
-        (End (range x)) h.starts full.0.1))
+        grind (arith, behind_first, le_trans, lt_not_le)
     first_same x y xs ys full full' before before' (inr h) (inl k) =
-        let total = position_total order.cmp lawful.total in
-        let cmp = position_cmp order.cmp in
-        let l = behind_first other (other y) (range x) ys before' h in
-        absurd (lt_not_le cmp total (End (other y)) (Start (range x)) l
-        (le_trans cmp total (Start (range x)) (Start (other y))
-        (End (other y)) k.starts full'.0.1))
+        grind (arith, behind_first, le_trans, lt_not_le)
     first_same x y xs ys full full' before before' (inr h) (inr k) =
         absurd (not_before_each_other (range x) (other y) full.0 full'.0
         (behind_first range (range x) (other y) xs before k)

@@ -1,5 +1,5 @@
 -- Which ranges are kept, where a closure is asked of the items that they are the keys of.
-use Rattle.std.proofs.Common.{◌≡◌, refl, sym, ap, ◌∙◌, Bool, true, false, List, [], ◌∷◌}
+use Rattle.std.proofs.Common.{◌≡◌, refl, ap, Bool, true, false, List, [], ◌∷◌, arith}
 use Rattle.std.specs.List.{items_where_true}
 use Rattle.std.specs.List.Retain.{ReturnsInTurn, IsFiltered}
 use Rattle.range_algebra.specs.declared.any.AnyRange.{AnyRange}
@@ -30,10 +30,4 @@ module _ {K V : Type 0} where
     -- a closure that asks another of each range keeps just those that the other does
     pub ranges_filtered : (s : S) (items new : List (Item (AnyRange K) V))
         → IsFiltered R s items new → IsFiltered Q (state s) (item_ranges items) (item_ranges new)
-    ranges_filtered s items new h = (
-      h.0,
-      state h.1,
-      h.2 ∙ sym (ranges_length items),
-      asked_in_turn h.0 items s h.1 h.3,
-      ap item_ranges h.4 ∙ ranges_where_true h.0 items,
-    )
+    ranges_filtered s items new h = grind (arith, asked_in_turn, ranges_length, ranges_where_true)

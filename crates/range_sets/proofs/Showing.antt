@@ -1,5 +1,5 @@
 -- A loop that writes ranges one after the other.
-use Rattle.std.proofs.Common.{◌≡◌, refl, ◌∙◌, ap, subst, ℕ, List, [], ◌∷◌, ◌++◌, append_assoc, Option, Some, Result, sym}
+use Rattle.std.proofs.Common.{◌≡◌, refl, ◌∙◌, ap, subst, ℕ, List, [], ◌∷◌, ◌++◌, append_assoc, Option, Some, Result, sym, arith}
 use Rattle.std.specs.Prelude.{IsOk}
 use Rattle.std.specs.Fmt.{HasWritten, IsPlainFormatter, DisplaysOnOk}
 use Rattle.std.specs.declared.fmt.Error.{Error}
@@ -35,10 +35,4 @@ module _ {K : Type 0} (key_text : K → Option (List ℕ)) {W : Type 0}
       (subst (λ o. DisplaysOnOk took g r o h) parts.2 displays) before.4.plain ok in
       let whole : text ≡ (before.0 ++ parts.0) ++ parts.1 =
       before.3 ∙ ap (λ (l : List ℕ). before.0 ++ l) parts.4
-      ∙ sym (append_assoc before.0 parts.0 parts.1) in (
-        before.0 ++ parts.0,
-        parts.1,
-        parts.3,
-        whole,
-        has_written_append took f before.0 g parts.0 h before.4 wrote,
-      )
+      ∙ sym (append_assoc before.0 parts.0 parts.1) in grind (arith, has_written_append)

@@ -1,10 +1,10 @@
 -- The ranges of two lists, taken by their starts: what is made of those so far, and what is left.
-use Rattle.std.proofs.Common.{◌≡◌, refl, sym, ap, ◌∙◌, subst, ◌↔◌, ◌⊎◌, inl, inr, Bool, true, false, Option, Some, None, List, [], ◌∷◌, ◌++◌, arith}
+use Rattle.std.proofs.Common.{◌≡◌, refl, sym, ◌∙◌, subst, ◌↔◌, ◌⊎◌, inl, inr, Bool, true, false, Option, Some, None, List, [], ◌∷◌, ◌++◌, arith}
 use Rattle.std.specs.Prelude.{MatchOption}
 use Rattle.std.specs.Cmp.{IsEquivalence}
 use Rattle.std.specs.Option.{option_copied}
 use Rattle.std.specs.declared.ops.Bound.{Bound}
-use Rattle.std.specs.declared.ops.Bound.TheVariants.{Included, Excluded, Unbounded}
+use Rattle.std.specs.declared.ops.Bound.TheVariants.{Unbounded}
 use Rattle.std.specs.declared.cmp.Ordering.{Ordering}
 use Rattle.std.specs.declared.cmp.Ordering.TheVariants.{Equal}
 use denote.Ref.{Bor}
@@ -14,7 +14,7 @@ use Rattle.range_keys.specs.Position.{start_position, end_position, position_cmp
 use Rattle.range_keys.specs.declared.inner.position.Position.{Position}
 use Rattle.range_keys.specs.declared.inner.position.Position.TheVariants.{Beside}
 use Rattle.range_keys.specs.declared.inner.position.Side.TheVariants.{At}
-use Rattle.range_algebra.specs.Clones.{IsBoundClone, IsRangeClone, SameBound, same_start, same_end}
+use Rattle.range_algebra.specs.Clones.{IsBoundClone, IsRangeClone, SameBound}
 use Rattle.range_algebra.specs.Compared.{flipped}
 use Rattle.range_algebra.specs.Cuts.{lower, past, upper}
 use Rattle.range_algebra.specs.Intervals.{Le, Lt}
@@ -63,31 +63,6 @@ pub nothing_ahead : {K : Type 0} (next : Option (Bor (AnyRange K))) (rest : List
 nothing_ahead None rest e none = none refl
 nothing_ahead (Some r) rest e none = absurd (cc)
 
--- what holds a key, where a part of it is told otherwise
-first_held : {L S T I J : Type 0} → I ↔ (L ⊎ S) → J ↔ T → (⊥ ⊎ (L ⊎ ((L ⊎ S) ⊎ T))) ↔ (I ⊎ J)
-first_held one other = grind arith
-
-joined_held : {B L R S T H N : Type 0} → (B ⊎ (L ⊎ ((R ⊎ S) ⊎ T))) ↔ H → N ↔ (L ⊎ R)
-    → (B ⊎ (N ⊎ (S ⊎ T))) ↔ H
-joined_held old joined = grind arith
-
-pushed_held : {B L R S T H N : Type 0} → (B ⊎ (L ⊎ ((R ⊎ S) ⊎ T))) ↔ H → N ↔ (B ⊎ L)
-    → (N ⊎ (R ⊎ (S ⊎ T))) ↔ H
-pushed_held old pushed = grind arith
-
-turned_held : {B L S T I J : Type 0} → (B ⊎ (L ⊎ (S ⊎ T))) ↔ (I ⊎ J)
-    → (B ⊎ (L ⊎ (T ⊎ S))) ↔ (J ⊎ I)
-turned_held old = grind arith
-
-all_held : {B L H N : Type 0} → (B ⊎ (L ⊎ (⊥ ⊎ ⊥))) ↔ H → N ↔ (B ⊎ L) → N ↔ H
-all_held old pushed = grind arith
-
-copy_held : {B C L N : Type 0} → N ↔ (B ⊎ C) → C ↔ L → N ↔ (B ⊎ L)
-copy_held end copy = grind arith
-
-end_held : {X B C R : Type 0} → R ↔ (B ⊎ C) → (X ⊎ R) ↔ ((X ⊎ B) ⊎ C)
-end_held rest = grind arith
-
 abbrev pub one_value : Unit {0} → Unit {0} → Bool
 one_value _ _ = true
 
@@ -97,20 +72,13 @@ one_class = record { refl = λ x. refl; symm = λ x y. refl; congr = λ x y z e.
 bound_end : {K : Type 0} (order : KeyOrder K) (xs : List (Item (AnyRange K) (Unit {0})))
     (x : Item (AnyRange K) (Unit {0})) (k : K)
     → IsBound order (xs ++ x ∷ []) k ↔ (IsBound order xs k ⊎ Holds order x.key k)
-bound_end order [] x k = (
-  λ h. elim h [ inl here ↦ inr here | inr none ↦ absurd none ],
-  λ h. elim h [ inl none ↦ absurd none | inr here ↦ inl here ],
-)
-bound_end order (y ∷ ys) x k = end_held (bound_end order ys x k)
+bound_end order [] x k = grind arith
+bound_end order (y ∷ ys) x k = grind (arith, bound_end order ys x k)
 
 ranges_hold : {K : Type 0} (order : KeyOrder K) (xs : List (Item (AnyRange K) (Unit {0}))) (k : K)
     → HoldsKey order xs k ↔ SomeHolds order (item_ranges xs) k
 ranges_hold order [] k = (λ h. h, λ h. h)
-ranges_hold order (x ∷ xs) k =
-    let rest = ranges_hold order xs k in (
-      λ h. elim h [ inl here ↦ inl here | inr later ↦ inr (rest.0 later) ],
-      λ h. elim h [ inl here ↦ inl here | inr later ↦ inr (rest.1 later) ],
-    )
+ranges_hold order (x ∷ xs) k = grind (arith, ranges_hold order xs k)
 
 module _ {K : Type 0} (order : KeyOrder K) where
   abbrev cmp : Position K → Position K → Ordering
@@ -135,20 +103,13 @@ module _ {K : Type 0} {order : KeyOrder K} (lawful : IsLawful order) where
   -- a range reaches an end where it does not start after the start just past that
   pub reaches_turned : (e i : Bound K) (r : AnyRange K) → flipped e ≡ Some i
       → Le (cmp order) (lower order r) (start_position order i) ↔ Reaches order e r
-  reaches_turned e i r turns =
-      let at = flipped_bound_is_past order lawful e i turns in (
-        λ h. le_trans lawful _ _ _ h (eq_ge lawful _ _ at),
-        λ h. le_trans lawful _ _ _ h (eq_le lawful _ _ at),
-      )
+  reaches_turned e i r turns = grind (arith, eq_ge, eq_le, flipped_bound_is_past, le_trans)
 
   -- each range reaches an end without a bound
   pub all_reach : (e : Bound K) (r : AnyRange K) → IsPlaced order r → flipped e ≡ None
       → Reaches order e r
-  all_reach (Included a) r placed none = absurd (cc)
-  all_reach (Excluded a) r placed none = absurd (cc)
-  all_reach Unbounded r placed none =
-      le_trans lawful _ _ _ (lt_le lawful _ _ placed.good)
-      (unbounded_end order lawful r.end placed.known.1)
+  all_reach Unbounded r placed none = grind (arith, le_trans, lt_le, unbounded_end)
+  all_reach e r placed none = absurd (cc)
 
   -- where a range does not reach the last one
   pub apart_from : (last r : AnyRange K) → (¬ Reaches order last.end r)
@@ -173,21 +134,13 @@ module _ {K : Type 0} {order : KeyOrder K} (lawful : IsLawful order) where
       → Follows (line_of order lawful one_value one_class) x xs
       → RisesFrom order (item_upper order x) (item_ranges xs)
   follows_rise x [] known follows = tt
-  follows_rise x (y ∷ ys) known follows = (
-    record { known = known.0; good = follows.1.0 },
-    follows.0.0,
-    follows_rise y ys known.1 follows.1.1,
-  )
+  follows_rise x (y ∷ ys) known follows = grind (arith, follows_rise y ys known.1 follows.1.1)
 
   chain_rises : (xs : Items order) → Known order lawful one_value one_class xs
       → Chained order lawful one_value one_class xs
       → RisesFrom order (lower order full_range) (item_ranges xs)
   chain_rises [] known chain = tt
-  chain_rises (x ∷ xs) known chain = (
-    record { known = known.0; good = chain.0 },
-    unbounded_start order lawful x.key.start known.0.0,
-    follows_rise x xs known.1 chain.1,
-  )
+  chain_rises (x ∷ xs) known chain = grind (arith, follows_rise, unbounded_start)
 
   set_rises : (xs : Items order) → IsStoredSet order xs
       → RisesFrom order (lower order full_range) (item_ranges xs)
@@ -206,16 +159,8 @@ module _ {K : Type 0} {order : KeyOrder K} (lawful : IsLawful order) where
       → IsKnownRange order r → IsLaterEnd order last.end r.end e
       → IsKnownBound order e × Le (cmp order) (upper order last) (past order (end_position order e))
       × Le (cmp order) (upper order r) (past order (end_position order e))
-  later_known last r e known others (inl h) = rw h.0 (
-    known.1,
-    le_refl lawful _,
-    past_le order lawful r.end last.end others.1 known.1 h.1,
-  )
-  later_known last r e known others (inr h) = rw h.0 (
-    others.1,
-    past_le order lawful last.end r.end known.1 others.1 h.1,
-    le_refl lawful _,
-  )
+  later_known last r e known others (inl h) = grind (arith, le_refl, past_le)
+  later_known last r e known others (inr h) = grind (arith, le_refl, past_le)
 
   -- two ranges of which the second starts in the first or just past it
   module _ (last r : AnyRange K) (placed : IsPlaced order last) (other : IsPlaced order r)
@@ -244,28 +189,19 @@ module _ {K : Type 0} {order : KeyOrder K} (lawful : IsLawful order) where
                 inl (first.1 ((joined.0 h).0, lt_le_trans lawful (Beside k At) _ _ before reaches))
             | inr start ↦ below_end e k key later (joined.0 h).0 (joined.0 h).1 start
           ],
-          λ h. elim h [
+          λ h. joined.1 (elim h [
             | inl it ↦
-                joined.1 (
-                  (first.0 it).0,
-                  lt_le_trans lawful (Beside k At) _ _ (first.0 it).1 ends.1,
-                )
-            | inr it ↦
-                joined.1 (
-                  le_trans lawful _ _ _ from (second.0 it).0,
-                  lt_le_trans lawful (Beside k At) _ _ (second.0 it).1 ends.2,
-                )
-          ],
+                ((first.0 it).0, lt_le_trans lawful (Beside k At) _ _ (first.0 it).1 ends.1)
+            | inr it ↦ (
+              le_trans lawful _ _ _ from (second.0 it).0,
+              lt_le_trans lawful (Beside k At) _ _ (second.0 it).1 ends.2,
+            )
+          ]),
         )
 
     joined_placed : (e : Bound K) → IsLaterEnd order last.end r.end e
         → IsPlaced order (with_bounds last.start e)
-    joined_placed e later =
-        let ends = later_known last r e placed.known other.known later in
-        record {
-          known = (placed.known.0, ends.0);
-          good = lt_le_trans lawful _ _ _ placed.good ends.1;
-        }
+    joined_placed e later = grind (arith, later_known, lt_le_trans)
 
   module _ (is_clone : K → K → Type 0)
       (clones : (a b : Bound K) → IsBoundClone is_clone a b → SameBound order a b) where
@@ -274,11 +210,7 @@ module _ {K : Type 0} {order : KeyOrder K} (lawful : IsLawful order) where
         → IsRangeClone is_clone r copy
         → (cmp order (lower order r) (lower order copy) ≡ Equal)
         × (cmp order (upper order r) (upper order copy) ≡ Equal)
-    copy_lies r copy known others clone = (
-      same_start order lawful r.start copy.start (clones r.start copy.start clone.0),
-      past_same lawful r.end copy.end known.1 others.1
-          (same_end order lawful r.end copy.end (clones r.end copy.end clone.1)),
-    )
+    copy_lies r copy known others clone = grind (arith, past_same)
 
     copy_holds : (r copy : AnyRange K) (k : K) → order.is_key k → IsKnownRange order r
         → IsKnownRange order copy → IsRangeClone is_clone r copy
@@ -287,14 +219,8 @@ module _ {K : Type 0} {order : KeyOrder K} (lawful : IsLawful order) where
         let lies = copy_lies r copy known others clone in
         let first = held_between order lawful r k known key in
         let second = held_between order lawful copy k others key in (
-          λ h. first.1 (
-            le_trans lawful _ _ _ (eq_le lawful _ _ lies.0) (second.0 h).0,
-            lt_le_trans lawful (Beside k At) _ _ (second.0 h).1 (eq_ge lawful _ _ lies.1),
-          ),
-          λ h. second.1 (
-            le_trans lawful _ _ _ (eq_ge lawful _ _ lies.0) (first.0 h).0,
-            lt_le_trans lawful (Beside k At) _ _ (first.0 h).1 (eq_le lawful _ _ lies.1),
-          ),
+          λ h. grind (arith, eq_ge, eq_le, le_trans, lt_le_trans),
+          λ h. grind (arith, eq_ge, eq_le, le_trans, lt_le_trans),
         )
 
     -- those that stand before the last range, and it after them
@@ -325,15 +251,14 @@ module _ {K : Type 0} {order : KeyOrder K} (lawful : IsLawful order) where
               every_append _ built (i ∷ [])
               (every_weaker _ _ built (λ x lt. le_trans lawful _ _ _ (lt_le lawful _ _ lt)
               (lt_le lawful _ _ placed.good)) stand.before) (eq_ge lawful _ _ lies.1, tt);
-          holds = λ k key. copy_held (bound_end order built i k)
-              (copy_holds last copy k key placed.known copied clone);
+          holds = λ k key. grind (arith, bound_end order built i k, copy_holds last copy k key);
         }
 
     are_pushed : (built new : Items order) (last : AnyRange K) → IsPlaced order last
         → StandBefore built last → IsPushed order is_clone built new last
         → ArePushed built new last
     are_pushed built new last placed stand pushed =
-        subst (λ l. ArePushed built l last) (sym pushed.list)
+        rw pushed.list
         (push_copy built last pushed.copy placed stand pushed.known pushed.clone)
 
   module _ (items others : Items order) where
@@ -360,44 +285,16 @@ module _ {K : Type 0} {order : KeyOrder K} (lawful : IsLawful order) where
         subst (RisesFrom order m) (sym left) (set_rises items stored) in
         let others_rise : RisesFrom order m (option_items near ++ others_rest) =
         rw right (set_rises others stored_others) in
-        record {
-          placed = rises.0;
-          stand = record { known = tt; chain = tt; before = tt };
-          left_rises = (rises.0, le_refl lawful _, rises.2);
-          right_rises = rises_later m r near others_rest none others_rise first;
-          held = λ k key. first_held
-              (subst (λ rs. HoldsKey order items k ↔ SomeHolds order rs k) (sym left)
-              (ranges_hold order items k))
-              (subst (λ rs. HoldsKey order others k ↔ SomeHolds order rs k) (sym right)
-              (ranges_hold order others k));
-        }
+        grind (arith, le_refl, ranges_hold, rises_later)
 
     module _ {r : AnyRange K} {rest : List (AnyRange K)} {near : Option (AnyRange K)}
         {others_rest : List (AnyRange K)} {built : Items order} {last : AnyRange K}
         (was : IsUnitedUpTo (r ∷ rest) (option_items near ++ others_rest) built last)
         (none : near ≡ None → others_rest ≡ []) (first : StartsFirst order r near) where
-      r_rises : IsPlaced order r × Le (cmp order) (lower order last) (lower order r)
-          × RisesFrom order (upper order r) rest
-      r_rises = was.left_rises
-
       join_left : (e : Bound K) → IsLaterEnd order last.end r.end e → Reaches order last.end r
           → IsUnitedUpTo rest (option_items near ++ others_rest) built (with_bounds last.start e)
       join_left e later reaches =
-          let joined =
-          joined_holds last r was.placed r_rises.0 r_rises.1 reaches e in
-          record {
-            placed = joined_placed last r was.placed r_rises.0 r_rises.1 reaches e later;
-            stand = record {
-              known = was.stand.known;
-              chain = was.stand.chain;
-              before = was.stand.before;
-            };
-            left_rises =
-                rises_sooner _ _ rest
-                (le_trans lawful _ _ _ r_rises.1 (lt_le lawful _ _ r_rises.0.good)) r_rises.2;
-            right_rises = was.right_rises;
-            held = λ k key. joined_held (was.held k key) (joined k key later);
-          }
+          grind (arith, joined_holds, joined_placed, le_trans, lt_le, rises_sooner)
 
       module _ (is_clone : K → K → Type 0)
           (clones : (a b : Bound K) → IsBoundClone is_clone a b → SameBound order a b) where
@@ -406,55 +303,28 @@ module _ {K : Type 0} {order : KeyOrder K} (lawful : IsLawful order) where
             → IsUnitedUpTo rest (option_items near ++ others_rest) new r
         push_left new apart pushed =
             let now = are_pushed is_clone clones built new last was.placed was.stand pushed in
-            record {
-              placed = r_rises.0;
-              stand = record {
-                known = now.known;
-                chain = now.chain;
-                before =
-                    every_weaker _ _ new (λ i le. le_lt_trans lawful _ _ _ le apart) now.upto;
-              };
-              left_rises =
-                  rises_sooner _ _ rest (lt_le lawful _ _ r_rises.0.good) r_rises.2;
-              right_rises = rises_later _ r near others_rest none was.right_rises first;
-              held = λ k key. pushed_held (was.held k key) (now.holds k key);
-            }
+            grind (arith, every_weaker, le_lt_trans, lt_le, rises_later, rises_sooner)
 
         -- the first range on the left is taken
         add_left : (new : Items order) (next : AnyRange K)
             → IsAdded order is_clone built new last r next
             → IsUnitedUpTo rest (option_items near ++ others_rest) new next
-        add_left new next (inl h) =
-            let joined : next ≡ with_bounds last.start next.end =
-            ap (λ b. with_bounds b next.end) h.0.start in
-            subst (λ l. IsUnitedUpTo rest (option_items near ++ others_rest) l next) (sym h.1)
-            (subst (λ n. IsUnitedUpTo rest (option_items near ++ others_rest) built n) (sym joined)
-            (join_left next.end h.0.end h.0.reaches))
-        add_left new next (inr h) =
-            subst (λ n. IsUnitedUpTo rest (option_items near ++ others_rest) new n) (sym h.1)
-            (push_left new h.0 h.2)
+        add_left new next (inl h) = grind (arith, join_left)
+        add_left new next (inr h) = rw h.1 (push_left new h.0 h.2)
 
     -- the first of what is left is a nonempty range of keys
     pub first_placed : (left right : Option (AnyRange K)) (rest others_rest : List (AnyRange K))
         (r : AnyRange K) (is_left : Bool) (built : Items order) (last : AnyRange K)
         → IsUnitedUpTo (option_items left ++ rest) (option_items right ++ others_rest) built last
         → IsFirstOf order left right r is_left → IsPlaced order r
-    first_placed left right rest others_rest r true built last was first =
-        (rw first.0 at was.left_rises).0
-    first_placed left right rest others_rest r false built last was first =
-        (rw first.0 at was.right_rises).0
+    first_placed left right rest others_rest r true built last was first = grind arith
+    first_placed left right rest others_rest r false built last was first = grind arith
 
   -- the same with the two lists exchanged
   turned : (items others : Items order) {left right : List (AnyRange K)} {built : Items order}
       {last : AnyRange K} → IsUnitedUpTo items others left right built last
       → IsUnitedUpTo others items right left built last
-  turned items others was = record {
-    placed = was.placed;
-    stand = was.stand;
-    left_rises = was.right_rises;
-    right_rises = was.left_rises;
-    held = λ k key. turned_held (was.held k key);
-  }
+  turned items others was = grind arith
 
   module _ (items others : Items order) where
     -- no range is taken yet
@@ -503,7 +373,7 @@ module _ {K : Type 0} {order : KeyOrder K} (lawful : IsLawful order) where
           → HoldsEither order items others new × IsStoredSet order new
       end_all built new last was pushed =
           let now = are_pushed is_clone clones built new last was.placed was.stand pushed in (
-            λ k key. all_held (was.held k key) (now.holds k key),
+            λ k key. grind (arith, was.held k key, now.holds k key),
             chain_stored order lawful one_value one_class new now.known now.chain,
           )
 
@@ -519,13 +389,4 @@ module _ {K : Type 0} {order : KeyOrder K} (lawful : IsLawful order) where
   -- of two empty lists
   pub united_none : (items others : Items order) → [] ≡ item_ranges items → [] ≡ item_ranges others
       → HoldsEither order {X = Unit {0}} items others [] × IsStoredSet order []
-  united_none items others e f = (
-    λ k key. (
-      λ h. absurd h,
-      λ h. elim h [
-        | inl it ↦ rw (← e) at ((ranges_hold order items k).0 it)
-        | inr it ↦ rw (← f) at ((ranges_hold order others k).0 it)
-      ],
-    ),
-    record { known = tt; nonempty = tt; rising = tt },
-  )
+  united_none items others e f = grind (arith, ranges_hold)

@@ -1,12 +1,11 @@
-use Rattle.std.proofs.Common.{◌≡◌, sym, ap, subst, ◌∙◌, ◌+◌, ◌<◌, ◌++◌, ◌∷◌, [], take, drop, length, map, arith}
+use Rattle.std.proofs.Common.{◌≡◌, sym, ap, ◌∙◌, ◌+◌, ◌<◌, ◌++◌, ◌∷◌, [], take, drop, length, map, arith}
 use Rattle.std.proofs.Math.Seq.{take-length}
 use Rattle.std.proofs.lemmas.Bool.{false≢true}
-use Rattle.std.specs.List.{AllByRecursion}
 use Rattle.std.proofs.lemmas.List.{map-append, take_more, length-take-le, take-append-drop}
 use Rattle.serde_json.specs.View.{view}
 use Rattle.range_algebra.proofs.Lists.{every_more}
 use Rattle.range_json.specs.MapFaults.{MeetNonempty}
-use Rattle.range_json.specs.Meetings.{HasSoundRange, NeverMeet}
+use Rattle.range_json.specs.Meetings.{NeverMeet}
 use Rattle.range_json.proofs.FoundMeetings.{all_midst, none_met}
 use Rattle.range_json.proofs.Meetings.{always_meet, never_meet}
 use Rattle.range_json.proofs.Reading.{append_one_more, same_length}
@@ -94,6 +93,4 @@ returns-in_err-range_again-clause-found g c in_place one sound own met =
     ∙ take-append-drop (n + 1) vs in
     let split : map view vs ≡ map view (take n vs) ++ view v ∷ map view rest =
     sym (ap (map view) all) ∙ map-append view (take n vs) (v ∷ rest) in
-    absurd (false≢true (c.in_err-range_again.ensures.found in_place (all_midst
-    (HasSoundRange g.K.Json.reads) (map view (take n vs)) (view v) (map view rest)
-    (subst (AllByRecursion (HasSoundRange g.K.Json.reads)) split sound))))
+    absurd (grind (arith, all_midst, false≢true))

@@ -1,4 +1,4 @@
-use Rattle.std.proofs.Common.{◌≡◌, Ok, sym, ap, subst, ◌∙◌, ◌+◌, ◌<◌, ◌++◌, ◌∷◌, [], take, drop, length, map, arith}
+use Rattle.std.proofs.Common.{◌≡◌, sym, ap, subst, ◌∙◌, ◌+◌, ◌<◌, ◌++◌, ◌∷◌, [], take, drop, length, map, arith}
 use Rattle.std.proofs.lemmas.List.{map-append, take_more, length-take-le, take-append-drop}
 use Rattle.serde_json.specs.View.{view}
 use Rattle.range_json.specs.MapFaults.{HasOneReading}
@@ -28,16 +28,8 @@ returns-clause-first g c =
     some_too (λ j. HasOneReading order is_read
     → IsFirstMeeting order is_read (map view (take n vs)) (view v) j)
     (λ j. HasOneReading order is_read → IsFirstMetBy order is_read (view c.args.whole.now) n j)
-    c.first_met.result (λ j first one.
-    record {
-      front = map view (take n vs);
-      d = view v;
-      rest = map view rest;
-      elements = c.in-Ok.ensures.found
-          ∙ ap (λ l. Ok l) (sym (ap (map view) all) ∙ map-append view (take n vs) (v ∷ rest));
-      place = same_length (take n vs) ∙ length-take-le n vs (omega (arith, within));
-      first = first one;
-    }) c.first_met.ensures.first
+    c.first_met.result (grind (arith, length-take-le, map-append, same_length))
+    c.first_met.ensures.first
 
 pub returns-clause-found : goal.returns-clause-found
 returns-clause-found g c in_place one met =

@@ -1,4 +1,4 @@
-use Rattle.std.proofs.Common.{◌∙◌, sym, Some, None}
+use Rattle.std.proofs.Common.{◌∙◌, sym, Some, arith}
 use Rattle.range_merge.specs.Merged.{part_item}
 use Rattle.range_merge.proofs.FirstPieces.{first_ends, past_same, second_ends}
 use Rattle.range_merge.proofs.merged.first_of_both.Goals as goal
@@ -16,12 +16,7 @@ returns g c =
           rw (c.new.ensures.start, c.new.ensures.end, w.cut-is, end)
           (first_ends lawful part other c.requires.part c.requires.other c.requires.alike
           (Some (part_item w.part_past.result)) (rw end at w.part_past.ensures))
-      | in-Equal w ↦
-          rw (c.new.ensures.start, c.new.ensures.end, w.cut-is, end)
-          (first_ends lawful part other c.requires.part c.requires.other c.requires.alike None
-          (past_same lawful part.key.end other.key.end c.requires.part.known.1
-          c.requires.other.known.1
-          (rw (← end, ← other_end) (sym c.compare_bounds.ensures ∙ w.in-Equal.is))))
+      | in-Equal w ↦ grind (arith, first_ends, past_same)
       | in-Greater w ↦
           rw (c.new.ensures.start, c.new.ensures.end, w.cut-is, other_end)
           (second_ends lawful part other c.requires.part c.requires.other c.requires.alike

@@ -42,7 +42,4 @@ loop-element-preserved g c =
     omega (arith, c.loop-element-test.true, c.loop-element.auto.element-index-end) in
     let more : take (n + 1) vs ≡ take n vs ++ v ∷ [] =
     take_more vs n v within ∙ ap (λ w. take n vs ++ w ∷ []) (sym c.element-item.is) in
-    rw more (values_more g.V.Ord.cmp g.V.Json.reads g.V.Json.is_read g.met.V.Ord.total
-    (take n vs) v c.loop-element.values c.insert.new.self c.in_ok-from_json.field-0
-    c.loop-element.invariant c.in_ok-from_json.ensures.read c.in_ok-from_json.ensures.readable
-    c.in-Ok-insert.ensures.updates c.insert.ensures.ordered)
+    rw more (grind (arith, values_more))

@@ -1,6 +1,4 @@
-use Rattle.std.proofs.Common.{rules, refl, subst, IsTrue}
-use Rattle.range_change.specs.Answers.{IsAsAnswered}
-use Rattle.range_multimaps.specs.Members.{HasAlso, among}
+use Rattle.std.proofs.Common.{rules, refl, arith}
 use Rattle.range_multimaps.specs.Pairs.{HasPair}
 use Rattle.range_map.proofs.ClosureAnswers.{every_one}
 use Rattle.range_multimaps.proofs.Keeping.{added_is_had, gave_way_to_such}
@@ -12,7 +10,6 @@ returns g c =
     let items = g.C.Storage.items c.self.inside.map in
     let next = g.C.Storage.items c.update.new.self in
     let order = g.K.MaybeBounded.order in
-    let same = g.S.PartialEq.eq in
     let equal = g.met.S.Eq.laws in
     let has = g.S.SetMut.has in
     let respects = g.met.S.SetMut.equal_same in
@@ -23,41 +20,26 @@ returns g c =
     record {
       refused = search rules;
       added =
-          rw (← c.self.view_is) (added order same equal has respects _ items next
-          (g.R.AsRange.range c.args.range) now g.met.K.PartialEnum.lawful once next_once
-          g.V.PartialEq.eq c.args.value
-          (λ old answer m.
-          subst (λ o. HasAlso has g.V.PartialEq.eq o answer c.args.value) m.shows m.says.1.0));
+          rw (← c.self.view_is) (added order equal respects now g.met.K.PartialEnum.lawful once
+          next_once g.V.PartialEq.eq c.args.value (λ old answer m. rw m.shows at m.says.1.0));
       kept =
-          rw (← c.self.view_is) (stay_bound order same equal has respects _ items next
-          (g.R.AsRange.range c.args.range) now g.met.K.PartialEnum.lawful once next_once
-          (λ k. HasPair order has items k c.args.value)
-          (λ k key here old answer was m.
-          subst (λ o. IsTrue (among has o c.args.value) → IsAsAnswered same o answer) m.shows
-          m.says.1.1.1
-          ((values_at order same equal has respects k items old (once k key) was c.args.value).0
-          here)));
+          rw (← c.self.view_is) (stay_bound order equal respects now g.met.K.PartialEnum.lawful
+          once next_once (λ k. HasPair order has items k c.args.value)
+          (grind (arith, values_at)));
       others =
           rw (← c.self.view_is) now.others;
       frame =
-          let value = c.args.value in
-          let done = not_refused c.update.result c.update.ensures.updated c.in_default.not-Err in
-          rw (← c.self.view_is) (λ nonempty. gave_way_to_such g.K.MaybeBounded.order same _ _
-          (λ s. IsTrue (has s value))
-          (λ old answer m s. added_is_had same has g.met.S.SetMut.equal_same g.V.PartialEq.eq
-          g.met.V.Eq.laws value _ answer s m.says.1.0)
-          items next (g.R.AsRange.range c.args.range) (done nonempty));
+          rw (← c.self.view_is) (λ nonempty. gave_way_to_such order
+          (λ old answer m s.
+          added_is_had respects g.met.V.Eq.laws c.args.value _ answer s m.says.1.0)
+          (not_refused c.update.result c.update.ensures.updated c.in_default.not-Err nonempty));
       spelled =
           rw (← c.self.view_is)
           (not_refused c.update.result c.update.ensures.spelled c.in_default.not-Err);
       nonempty =
-          let done = c.update.ensures in
-          stays_full g.K.MaybeBounded.order g.S.PartialEq.eq g.met.S.Eq.laws g.S.MaybeEmpty.is_void
-          g.met.S.MaybeEmpty.void_equal _ _
-          (g.C.Storage.items c.self.inside.map) (g.C.Storage.items c.update.new.self)
-          (g.R.AsRange.range c.args.range)
+          stays_full order equal g.met.S.MaybeEmpty.void_equal
           (not_refused c.update.result c.update.ensures.updated c.in_default.not-Err)
-          (λ old answer m. m.says.1.1.0) c.self.invariant done.empty_unchanged;
+          (λ old answer m. m.says.1.1.0) c.self.invariant c.update.ensures.empty_unchanged;
       form =
           c.update.ensures.form;
       coarse =
@@ -72,13 +54,9 @@ returns g c =
 
 pub invariant_of-self-2 : goal.invariant_of-self-2
 invariant_of-self-2 g c =
-    let done = c.update.ensures in
-    stays_full g.K.MaybeBounded.order g.S.PartialEq.eq g.met.S.Eq.laws g.S.MaybeEmpty.is_void
-    g.met.S.MaybeEmpty.void_equal _ _
-    (g.C.Storage.items c.self.inside.map) (g.C.Storage.items c.update.new.self)
-    (g.R.AsRange.range c.args.range)
+    stays_full g.K.MaybeBounded.order g.met.S.Eq.laws g.met.S.MaybeEmpty.void_equal
     (not_refused c.update.result c.update.ensures.updated c.in_default.not-Err)
-    (λ old answer m. m.says.1.1.0) c.self.invariant done.empty_unchanged
+    (λ old answer m. m.says.1.1.0) c.self.invariant c.update.ensures.empty_unchanged
 
 pub update-requires-clause-keys : goal.update-requires-clause-keys
 update-requires-clause-keys g c = c.requires.keys
@@ -94,33 +72,7 @@ update-requires-clause-bound g c =
     every_one _ (g.C.Storage.items c.self.inside.map) (λ i shown shows. c.requires.values)
 
 pub returns-in-Err : goal.returns-in-Err
-returns-in-Err g c =
-    record {
-      added =
-          tt;
-      kept =
-          rw (← c.self.view_is, c.in-Err.ensures.refused) (λ k key here b. (λ h. h, λ h. h));
-      others =
-          rw (← c.self.view_is, c.in-Err.ensures.refused) (λ k key out b. (λ h. h, λ h. h));
-      frame =
-          tt;
-      spelled =
-          tt;
-      form =
-          c.update.ensures.form;
-      nonempty =
-          rw c.in-Err.ensures.refused c.self.invariant;
-      coarse =
-          c.update.ensures.coarse;
-      only =
-          c.update.ensures.only;
-      refused =
-          rw (← c.self.view_is) c.in-Err.ensures.refused;
-      empty =
-          c.in-Err.ensures.empty;
-      empty_unchanged =
-          rw (← c.self.view_is) c.update.ensures.empty_unchanged;
-    }
+returns-in-Err g c = grind (arith, added)
 
 pub invariant_of-self : goal.invariant_of-self
 invariant_of-self g c = rw c.in-Err.ensures.refused c.self.invariant

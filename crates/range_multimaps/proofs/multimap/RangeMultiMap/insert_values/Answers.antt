@@ -1,5 +1,3 @@
-use Rattle.std.proofs.Common.{subst}
-use Rattle.range_multimaps.specs.Members.{HasAllAlso}
 use Rattle.range_map.proofs.ClosureAnswers.{every_one}
 use Rattle.range_multimaps.proofs.Pairing.{all_added, stays_full, not_refused}
 use Rattle.range_multimaps.proofs.multimap.RangeMultiMap.insert_values.Goals as goal
@@ -8,27 +6,20 @@ pub returns : goal.returns
 returns g c =
     let items = g.C.Storage.items c.self.inside.map in
     let next = g.C.Storage.items c.update.new.self in
-    let order = g.K.MaybeBounded.order in
-    let same = g.S.PartialEq.eq in
-    let has = g.S.SetMut.has in
-    let values = c.args.values.now in
     let form = rw (← c.self.view_is) at c.in_form.ensures.form in
     let once = c.stored_lists_bind_once.ensures items form in
     let next_once = c.stored_lists_bind_once.ensures next c.update.ensures.form in
     let now = not_refused c.update.result c.update.ensures.rebound c.in_default.not-Err in
-    rw (← c.self.view_is) (all_added order same g.met.S.Eq.laws has g.met.S.SetMut.equal_same _
-    items
-    next c.args.range.now now g.met.K.PartialEnum.lawful once next_once (has values)
-    (λ old answer m. subst (λ o. HasAllAlso has o answer values) m.shows m.says.1.0))
+    rw (← c.self.view_is) (all_added g.K.MaybeBounded.order g.met.S.Eq.laws
+    g.met.S.SetMut.equal_same now g.met.K.PartialEnum.lawful once next_once (g.S.SetMut.has c.args.values.now)
+    (λ old answer m. rw m.shows at m.says.1.0))
 
 pub returns-in-Err : goal.returns-in-Err
 returns-in-Err g c = tt
 
 pub invariant_of-self-2 : goal.invariant_of-self-2
 invariant_of-self-2 g c =
-    stays_full g.K.MaybeBounded.order g.S.PartialEq.eq g.met.S.Eq.laws g.S.MaybeEmpty.is_void
-    g.met.S.MaybeEmpty.void_equal _ _ (g.C.Storage.items c.self.inside.map)
-    (g.C.Storage.items c.update.new.self) c.args.range.now
+    stays_full g.K.MaybeBounded.order g.met.S.Eq.laws g.met.S.MaybeEmpty.void_equal
     (not_refused c.update.result c.update.ensures.updated c.in_default.not-Err)
     (λ old answer m. m.says.1.1 c.requires.nonempty) c.self.invariant
     c.update.ensures.empty_unchanged

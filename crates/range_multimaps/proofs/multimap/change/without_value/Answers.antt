@@ -11,10 +11,7 @@ returns g c =
     g.met.S.SetMut.equal_same old copy
     (g.met.S.SetMut.clones_equal c.requires old copy c.in_ok-set.ensures.cases) in
     record {
-      removed =
-          rw c.in-Some.is (taken_from_copy g.S.SetMut.has g.V.PartialEq.eq old copy
-          c.remove.new.self
-          c.args.value.now alike c.remove.ensures);
+      removed = grind (arith, taken_from_copy);
       nonempty =
           grind (arith, common_steps);
       kept =
@@ -22,8 +19,5 @@ returns g c =
           let v = c.args.value.now in
           let has = g.S.SetMut.has in
           let eq = g.V.PartialEq.eq in
-          rw c.in-Some.is (λ full absent.
-          g.met.S.SetMut.same_equal old next c.known.ensures c.known-2.ensures
-          (none_taken has eq old next v (g.met.S.SetMut.has_equal old v)
-          (taken_from_copy has eq old copy next v alike c.remove.ensures) absent));
+          rw c.in-Some.is (grind (arith, none_taken, taken_from_copy));
     }

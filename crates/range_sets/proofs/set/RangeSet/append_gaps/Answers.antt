@@ -1,6 +1,6 @@
-use Rattle.std.proofs.Common.{sym, ◌∙◌, true, arith, rules}
-use Rattle.std.specs.Cmp.{Equal-is}
+use Rattle.std.proofs.Common.{true, arith, rules}
 use Rattle.range_algebra.specs.References.{range_of}
+use Rattle.range_map.proofs.CloneLists.{clones_tied}
 use Rattle.range_sets.proofs.Complementing.{gaps_stored}
 use Rattle.range_sets.proofs.Filling.{filling_begins, clone_same, next_gap_fits, filled_more, all_copied, others_held}
 use Rattle.range_sets.proofs.set.RangeSet.append_gaps.Goals as goal
@@ -12,10 +12,8 @@ append-requires g c =
           let order = g.T.MaybeBounded.order in
           let lawful = g.met.T.PartialEnum.lawful in
           let items = g.C.Storage.items in
-          let equal = λ (x : g.row.T.Denot) (y : g.row.T.Denot) (h : g.T.Clone.is_clone x y).
-          sym (g.met.T.MaybeBounded.order_is_cmp x y)
-          ∙ (Equal-is (g.T.Ord.cmp x y)).0
-          (sym (g.met.T.Ord.matches_eq x y) ∙ c.requires.clones x y h) in
+          let equal =
+          clones_tied g.met.T.MaybeBounded.order_is_cmp g.met.T.Ord.matches_eq c.requires.clones in
           let gap = range_of c.in-Some.gap in
           let range = c.in_ok-range.range in
           let same = clone_same order lawful g.T.Clone.is_clone equal gap range
@@ -37,10 +35,8 @@ loop-gap-preserved g c =
     let lawful = g.met.T.PartialEnum.lawful in
     let items = g.C.Storage.items in
     let room = g.C.Storage.room in
-    let equal = λ (x : g.row.T.Denot) (y : g.row.T.Denot) (h : g.T.Clone.is_clone x y).
-    sym (g.met.T.MaybeBounded.order_is_cmp x y)
-    ∙ (Equal-is (g.T.Ord.cmp x y)).0
-    (sym (g.met.T.Ord.matches_eq x y) ∙ c.requires.clones x y h) in
+    let equal =
+    clones_tied g.met.T.MaybeBounded.order_is_cmp g.met.T.Ord.matches_eq c.requires.clones in
     let gap = range_of c.in-Some.gap in
     let range = c.in_ok-range.range in
     let same = clone_same order lawful g.T.Clone.is_clone equal gap range c.in_ok-range.ensures in
@@ -75,6 +71,3 @@ loop-gap-init g c =
     filling_begins g.T.MaybeBounded.order c.gaps-gaps.result (g.C.Storage.items c.args.others.now)
     (g.C.Storage.room c.args.others.now) c.requires.empty
     (omega (arith, c.requires.room, c.gaps-gaps.ensures.few))
-
-pub loop-gap-smaller : goal.loop-gap-smaller
-loop-gap-smaller g c = search rules

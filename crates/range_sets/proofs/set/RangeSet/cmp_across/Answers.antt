@@ -1,4 +1,4 @@
-use Rattle.std.proofs.Common.{◌∙◌}
+use Rattle.std.proofs.Common.{◌∙◌, arith}
 use Rattle.range_sets.proofs.Likeness.{held_bound, compared_sets}
 use Rattle.range_sets.proofs.set.RangeSet.cmp_across.Goals as goal
 
@@ -15,10 +15,7 @@ returns g c =
           held_bound g.T.MaybeBounded.order (g.C.Storage.items c.self.inside.map)
           (g.D.Storage.items c.other.inside.map) in
           rw (← c.self.view_is, ← c.other.view_is)
-          (λ complete. (
-            λ equal. alike.1 ((c.cmp_across.ensures.same complete).0 equal),
-            λ held. (c.cmp_across.ensures.same complete).1 (alike.0 held),
-          ));
+          (grind arith);
       alike =
           let order = g.T.MaybeBounded.order in
           rw (← c.self.view_is, ← c.other.view_is)

@@ -1,4 +1,4 @@
-use Rattle.std.proofs.Common.{true}
+use Rattle.std.proofs.Common.{arith}
 use Rattle.range_map.proofs.KeysTogether.{apart_share_none, share_none_apart}
 use Rattle.range_sets.proofs.set.RangeSet.is_disjoint.Goals as goal
 
@@ -12,8 +12,4 @@ returns-clause-held g c =
     (g.C.Storage.items c.args.self.now) (g.D.Storage.items c.args.other.now) (met.0 apart)
 
 pub returns-clause-complete : goal.returns-clause-complete
-returns-clause-complete g c =
-    let met = returns-clause-meets g c in
-    λ complete none. met.1 (share_none_apart g.met.T.PartialEnum.lawful
-    (λ _ _. true) (g.C.Storage.items c.args.self.now) (g.D.Storage.items c.args.other.now)
-    c.in_form.ensures complete (λ _ _. true) c.in_form-2.ensures none)
+returns-clause-complete g c = grind (arith, returns-clause-meets, share_none_apart)

@@ -1,4 +1,4 @@
-use Rattle.std.proofs.Common.{true}
+use Rattle.std.proofs.Common.{arith}
 use Rattle.range_map.proofs.KeysTogether.{inside_binds, binds_inside}
 use Rattle.range_sets.proofs.set.RangeSet.is_subset.Goals as goal
 
@@ -12,8 +12,4 @@ returns-clause-held g c =
     (g.C.Storage.items c.args.self.now) (g.D.Storage.items c.args.other.now) (met.0 inside)
 
 pub returns-clause-complete : goal.returns-clause-complete
-returns-clause-complete g c =
-    let met = returns-clause-inside g c in
-    λ complete binds. met.1 (binds_inside g.met.T.PartialEnum.lawful
-    (λ _ _. true) (g.C.Storage.items c.args.self.now) (g.D.Storage.items c.args.other.now)
-    c.in_form.ensures complete c.in_form-2.ensures binds)
+returns-clause-complete g c = grind (arith, binds_inside, returns-clause-inside)

@@ -1,4 +1,4 @@
-use Rattle.std.proofs.Common.{refl, true, ap, rules, of_calls}
+use Rattle.std.proofs.Common.{refl, true, rules, of_calls, arith}
 use Rattle.std.specs.Fn.{Called, CalledAt, always_mut}
 use Rattle.range_set_extend.proofs.Membership.{still_held}
 use Rattle.range_sets.proofs.Retained.{ranges_filtered}
@@ -21,11 +21,8 @@ returns g c =
       space = rw (← c.self.view_is) c.retain.ensures.space;
       filtered =
           rw (← c.self.view_is) (ranges_filtered (λ s. s.0) _ (CalledAt g.F.FnMut)
-          (λ s i b t h. record {
-            shown = h.range;
-            shows = ap (λ i. i.key) h.shows;
-            called = search (rules, of_calls);
-          }) _ (items c.self.inside.map) (items c.retain.new.self) c.retain.ensures.filtered);
+          (grind arith) _ (items c.self.inside.map) (items c.retain.new.self)
+          c.retain.ensures.filtered);
       kept =
           rw (← c.self.view_is) (still_held g.T.MaybeBounded.order g.met.T.PartialEnum.lawful
           (λ _ _. true) (λ _ _. refl) (items c.self.inside.map) (items c.retain.new.self)

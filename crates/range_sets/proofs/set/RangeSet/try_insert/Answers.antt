@@ -1,4 +1,4 @@
-use Rattle.std.proofs.Common.{rules, refl, true}
+use Rattle.std.proofs.Common.{rules, refl, true, arith}
 use Rattle.std.proofs.lemmas.Bool.{false≢true}
 use Rattle.range_sets.proofs.Counting.{one_more}
 use Rattle.range_set_extend.proofs.Membership.{added}
@@ -14,16 +14,7 @@ returns g c =
       form = search rules;
       frame = search rules;
       refused = search rules;
-      succeeds =
-          λ enough unmet.
-          let ok =
-          c.try_insert.ensures.succeeds (rw (← c.self.view_is) at enough)
-          (rw (← c.self.view_is) at unmet) in
-          elim c.match-try_insert.branch [
-            | in-Ok w ↦ rw w.result-is refl
-            | in-Err-Occupied w ↦ absurd (false≢true (rw w.in-Err-Occupied.is at ok))
-            | in-Err-Memory w ↦ absurd (false≢true (rw w.in-Err-Memory.is at ok))
-          ];
+      succeeds = λ enough unmet. grind (arith, false≢true);
       empty = search rules;
       empty_unchanged = search rules;
       added =
@@ -42,9 +33,5 @@ returns g c =
             | in-Err-Occupied w ↦ rw w.result-is tt
             | in-Err-Memory w ↦ rw w.result-is tt
           ]);
-      few =
-          rw (← c.self.view_is) (one_more g.T.MaybeBounded.order c.try_insert.result
-          (items c.self.inside.map) (items c.try_insert.new.self) (g.R.AsRange.range c.args.range)
-          c.try_insert.ensures.frame c.try_insert.ensures.refused
-          c.try_insert.ensures.empty_unchanged);
+      few = grind (arith, one_more);
     }

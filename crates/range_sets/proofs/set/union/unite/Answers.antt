@@ -12,14 +12,10 @@ returns-in-None g c =
     let left = c.next-left in
     let right = c.next-right in
     let none = united_none g.met.T.PartialEnum.lawful _ _
-    (sym (nothing_ahead left.result left.new.self c.in-None.ensures.0
-    (drained c.iter-items.result left.new.self left.result left.ensures.steps))
-    ∙ (stepped c.iter-items.result left.new.self left.result left.ensures.steps
-    ∙ c.iter-items.ensures.ranges))
-    (sym (nothing_ahead right.result right.new.self c.in-None.ensures.1
-    (drained c.iter-others.result right.new.self right.result right.ensures.steps))
-    ∙ (stepped c.iter-others.result right.new.self right.result right.ensures.steps
-    ∙ c.iter-others.ensures.ranges)) in
+    (sym (nothing_ahead _ _ c.in-None.ensures.0 (drained _ _ _ left.ensures.steps))
+    ∙ (stepped _ _ _ left.ensures.steps ∙ c.iter-items.ensures.ranges))
+    (sym (nothing_ahead _ _ c.in-None.ensures.1 (drained _ _ _ right.ensures.steps))
+    ∙ (stepped _ _ _ right.ensures.steps ∙ c.iter-others.ensures.ranges)) in
     record {
       held = rw c.requires.empty none.0;
       form = rw c.requires.empty none.1;
@@ -29,19 +25,16 @@ pub loop-range-init : goal.loop-range-init
 loop-range-init g c =
     let left = c.next-left in
     let right = c.next-right in
-    let none = drained c.iter-items.result left.new.self left.result left.ensures.steps in
-    let none_other =
-    drained c.iter-others.result right.new.self right.result right.ensures.steps in
+    let none = drained _ _ _ left.ensures.steps in
+    let none_other = drained _ _ _ right.ensures.steps in
     record {
       united = λ lawful.
           rw (c.requires.empty, c.start_bound.ensures tt, c.end_bound.ensures tt)
           (united_first lawful _ _ (option_copied left.result) (option_copied right.result)
           left.new.self right.new.self c.in-Some.first.now c.in-Some.field-0-1 none none_other
           c.iter-items.ensures.form c.iter-others.ensures.form
-          (stepped c.iter-items.result left.new.self left.result left.ensures.steps
-          ∙ c.iter-items.ensures.ranges)
-          (stepped c.iter-others.result right.new.self right.result right.ensures.steps
-          ∙ c.iter-others.ensures.ranges) c.in-Some.ensures);
+          (stepped _ _ _ left.ensures.steps ∙ c.iter-items.ensures.ranges)
+          (stepped _ _ _ right.ensures.steps ∙ c.iter-others.ensures.ranges) c.in-Some.ensures);
       first = none;
       second = none_other;
     }
@@ -63,15 +56,13 @@ loop-range-preserved-then-is_left g c =
     clones_tied g.met.T.MaybeBounded.order_is_cmp g.met.T.Ord.matches_eq c.requires.clones in
     record {
       united = λ lawful.
-          rw (stepped c.loop-range.items left.new.self left.result left.ensures.steps)
+          rw (stepped _ _ _ left.ensures.steps)
           (united_left lawful _ _ g.T.Clone.is_clone
           (bound_clone g.T.MaybeBounded.order lawful g.T.Clone.is_clone equal_keys)
-          (option_copied c.loop-range.left) (option_copied c.loop-range.right) c.loop-range.items
-          c.loop-range.others c.in-Some-first_of.range.now c.loop-range.ranges.items
-          c.add.new.ranges.items (range_of c.loop-range.last) (range_of c.in_ok-last.last)
+          (option_copied c.loop-range.left) (option_copied c.loop-range.right) _ _ _ _ _ _ _
           inv.second (inv.united lawful)
           (rw c.if-is_left.true at c.in-Some-first_of.ensures) c.in_ok-last.ensures);
-      first = drained c.loop-range.items left.new.self left.result left.ensures.steps;
+      first = drained _ _ _ left.ensures.steps;
       second = inv.second;
     }
 
@@ -83,16 +74,14 @@ loop-range-preserved g c =
     clones_tied g.met.T.MaybeBounded.order_is_cmp g.met.T.Ord.matches_eq c.requires.clones in
     record {
       united = λ lawful.
-          rw (stepped c.loop-range.others right.new.self right.result right.ensures.steps)
+          rw (stepped _ _ _ right.ensures.steps)
           (united_right lawful _ _ g.T.Clone.is_clone
           (bound_clone g.T.MaybeBounded.order lawful g.T.Clone.is_clone equal_keys)
-          (option_copied c.loop-range.left) (option_copied c.loop-range.right) c.loop-range.items
-          c.loop-range.others c.in-Some-first_of.range.now c.loop-range.ranges.items
-          c.add.new.ranges.items (range_of c.loop-range.last) (range_of c.in_ok-last.last)
+          (option_copied c.loop-range.left) (option_copied c.loop-range.right) _ _ _ _ _ _ _
           inv.first (inv.united lawful)
           (rw c.if-is_left.false at c.in-Some-first_of.ensures) c.in_ok-last.ensures);
       first = inv.first;
-      second = drained c.loop-range.others right.new.self right.result right.ensures.steps;
+      second = drained _ _ _ right.ensures.steps;
     }
 
 pub returns : goal.returns

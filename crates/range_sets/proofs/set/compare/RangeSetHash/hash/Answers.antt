@@ -1,4 +1,4 @@
-use Rattle.std.proofs.Common.{ap, ◌∙◌}
+use Rattle.std.proofs.Common.{ap, ◌∙◌, arith}
 use Rattle.std.specs.List.{fold}
 use Rattle.range_sets.proofs.Likeness.{held_bound, hashed_sets}
 use Rattle.range_sets.proofs.set.compare.RangeSetHash.hash.Goals as goal
@@ -6,11 +6,7 @@ use Rattle.range_sets.proofs.set.compare.RangeSetHash.hash.Goals as goal
 pub returns : goal.returns
 returns g c =
     record {
-      value =
-          rw (← c.self.view_is) (c.hash.ensures.value
-          ∙ ap (fold g.H.Hasher.write c.args.state.now)
-          (hashed_sets g.T.MaybeBounded.order g.T.Hash.hash_input
-          (g.C.Storage.items c.self.inside.map)));
+      value = grind (arith, hashed_sets);
       same =
           let order = g.T.MaybeBounded.order in
           rw (← c.self.view_is)

@@ -1,9 +1,0 @@
-use Rattle.std.proofs.lemmas.Result.{IfOk-weaker}
-use Rattle.range_multimaps.specs.ListedMembers.{table_either}
-use Rattle.range_multimaps.proofs.members.hash_set.HashSetSetAlgebra.united_with.Goals as goal
-
-pub returns : goal.returns
-returns g c =
-    IfOk-weaker c.bitor.result _ _
-    (λ new made. table_either g.V.PartialEq.eq g.met.V.Eq.laws g.V.Clone.is_clone c.requires
-    c.args.self.now c.args.other.now new made) c.bitor.ensures
