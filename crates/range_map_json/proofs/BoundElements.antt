@@ -1,8 +1,5 @@
 -- That a list binds what elements that do not meet bind, with one element more.
-use Rattle.std.proofs.Common.{◌≡◌, refl, sym, ap, subst, ◌⊎◌, ◌↔◌, inl, inr, ℕ, ◌+◌, ◌<◌, List, [], ◌∷◌, ◌++◌, map, take, drop, length, get_or, Bool, Option, Some, None, arith}
-use Rattle.serde_json.specs.Data.{Data}
-use Rattle.serde_json.specs.View.{view}
-use Rattle.serde_json.specs.declared.value.Value.{Value}
+use Rattle.std.proofs.Common.{◌≡◌, ◌⊎◌, ◌↔◌, inl, inr, List, [], ◌∷◌, ◌++◌, Bool, Option, Some, None, arith}
 use Rattle.range_keys.specs.Order.{KeyOrder, IsLawful}
 use Rattle.range_algebra.specs.declared.any.AnyRange.{AnyRange}
 use Rattle.range_algebra.specs.Range.{Holds, IsEmptyRange, IsKnownRange}
@@ -10,7 +7,7 @@ use Rattle.range_algebra.proofs.Lists.{any_left, any_right, any_split}
 use Rattle.range_algebra.proofs.Pieces.{empty_or_not}
 use Rattle.range_algebra.proofs.Meeting.{held_or_not}
 use Rattle.range_store.specs.declared.storage.Item.{Item}
-use Rattle.range_change.specs.Bindings.{IsBound, BindsTo, Binds, BindAlike, IsBoundAfter}
+use Rattle.range_change.specs.Bindings.{BindsTo, Binds, BindAlike, IsBoundAfter}
 use Rattle.range_change.specs.Frames.{IsInsertionFrame}
 use Rattle.range_change.specs.Lookups.{MeetsSome, MeetAlso}
 use Rattle.range_change.proofs.Overlaps.{binding_meets, binds_bound}

@@ -1,5 +1,5 @@
 -- What is read of a map's elements while a loop goes over them.
-use Rattle.std.proofs.Common.{◌≡◌, sym, ap, subst, ◌⊎◌, inl, inr, ℕ, ◌+◌, ◌<◌, List, map, take, drop, get_or, length, Bool, Some, None, Result, Ok, Err}
+use Rattle.std.proofs.Common.{◌≡◌, sym, subst, ◌⊎◌, inl, inr, ℕ, ◌+◌, ◌<◌, List, map, take, drop, get_or, length, Bool, Some, None, Result, Ok, Err}
 use Rattle.std.specs.Prelude.{IfErr}
 use Rattle.serde_json.specs.Data.{Data}
 use Rattle.serde_json.specs.View.{view}

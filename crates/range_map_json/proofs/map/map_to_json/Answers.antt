@@ -1,10 +1,9 @@
-use Rattle.std.proofs.Common.{◌≡◌, refl, subst}
+use Rattle.std.proofs.Common.{◌≡◌, subst}
 use Rattle.std.specs.Prelude.{IfOk}
 use Rattle.serde_json.specs.View.{view}
 use Rattle.range_json.specs.Shapes.{range_shape, pair_shape, versioned_shape}
 use Rattle.range_json.specs.Values.{IsRangeValue, AreItemValues}
-use Rattle.range_change.proofs.Results.{error_has_no_value}
-use Rattle.range_json.proofs.Writing.{written_more, values_more, all_written, all_values, shorter, on_ok}
+use Rattle.range_json.proofs.Writing.{written_more, values_more, all_written, all_values, on_ok}
 use Rattle.range_map_json.proofs.map.map_to_json.Goals as goal
 
 pub loop-range-preserved : goal.loop-range-preserved
@@ -27,17 +26,6 @@ loop-range-preserved g c =
           c.in-Some.ensures.steps done.values was.values;
     }
 
-pub loop-range-init : goal.loop-range-init
-loop-range-init g c = record {
-  written = rw (c.in_ok-written.ensures.items, c.iter-items.ensures.items) refl;
-  values = rw c.iter-items.ensures.items (λ later. later);
-}
-
-pub loop-range-smaller : goal.loop-range-smaller
-loop-range-smaller g c =
-    shorter c.loop-range.items c.next.new.self
-    (record { key = c.in-Some.range.now; value = c.in-Some.value.now }) c.in-Some.ensures.steps
-
 pub returns-clause-written : goal.returns-clause-written
 returns-clause-written g c =
     let all =
@@ -53,27 +41,3 @@ returns-clause-values g c =
     on_ok c.versioned.result (AreItemValues g.K.Json.is_value g.V.Json.is_value items)
     (all_values (λ i. IsRangeValue g.K.Json.is_value i.key × g.V.Json.is_value i.value) items
     c.loop-range.items c.in_default.ensures.steps.0 c.loop-range.invariant.values)
-
-pub returns-in_err-written : goal.returns-in_err-written
-returns-in_err-written g c =
-    let left = c.from_residual in
-    record {
-      written = error_has_no_value _ left.result left.ensures.0;
-      values = error_has_no_value _ left.result left.ensures.0;
-    }
-
-pub returns-in_err-pair_to_json : goal.returns-in_err-pair_to_json
-returns-in_err-pair_to_json g c =
-    let left = c.from_residual-in_err-pair_to_json in
-    record {
-      written = error_has_no_value _ left.result left.ensures.0;
-      values = error_has_no_value _ left.result left.ensures.0;
-    }
-
-pub returns-in_err-push : goal.returns-in_err-push
-returns-in_err-push g c =
-    let left = c.from_residual-in_err-push in
-    record {
-      written = error_has_no_value _ left.result left.ensures.0;
-      values = error_has_no_value _ left.result left.ensures.0;
-    }
