@@ -1,6 +1,5 @@
 -- The elements of a multimap: those of a map to sets of values, none of which is empty.
-use Rattle.std.proofs.Common.{◌≡◌, refl, sym, ap, ◌∙◌, ℕ, Bool, true, false, if◌then◌else◌, IsTrue, List, [], ◌∷◌, Option, Some, None, map, Result, Err, subst}
-use Rattle.std.specs.Prelude.{IfErr}
+use Rattle.std.proofs.Common.{◌≡◌, refl, sym, ap, ◌∙◌, ℕ, Bool, true, false, if◌then◌else◌, IsTrue, List, [], ◌∷◌, Option, Some, None, map}
 use Rattle.std.specs.BTreeSet.{BTreeSet, IsEmpty, contains}
 use Rattle.std.specs.Cmp.{IsEquivalence, IsTotalOrder, on_equiv, tied_itself}
 use Rattle.std.specs.Cmp.Lexicographic.{lists_equiv}
@@ -24,10 +23,6 @@ use Rattle.range_json.specs.ValueSets.{reads_all, reads_some, reads_values, read
 use Rattle.range_json.specs.Values.{AreItemValues}
 use Rattle.range_json.proofs.ReadingBack.{map_sound}
 use Rattle.range_json.specs.declared.error.JsonError.TheVariants.{Value}
-
-pub fails_with : {A : Type 0} (P : JsonError → Type 0) (r : Result A JsonError) (e : JsonError)
-    → r ≡ Err e → P e → IfErr r P
-fails_with P r e is h = subst (λ q. IfErr q P) (sym is) h
 
 module _ (reads : Data → Bool) where
   some_are_values : (ds : Option (List Data)) → IsTrue (reads_some reads ds)
