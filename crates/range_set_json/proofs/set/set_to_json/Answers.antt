@@ -23,5 +23,5 @@ loop-range-init g c =
 pub loop-range-preserved : goal.loop-range-preserved
 loop-range-preserved g c =
     let done = c.in_ok-range_to_json.ensures in
-    one_written c.loop-range.invariant c.in-Some.range.now c.in_ok-range_to_json.field-0
+    one_written c.loop-range.invariant c.in-Some.range.now c.in_ok-range_to_json.field-0 c.push.new.self.items
     c.in-Some.ensures.steps done.written done.values c.in_ok-push.ensures.items
