@@ -1,55 +1,27 @@
 -- The elements of a multimap: those of a map to sets of values, none of which is empty.
-use Rattle.std.proofs.Common.{◌≡◌, refl, sym, ap, ◌∙◌, ℕ, Bool, true, false, if◌then◌else◌, IsTrue, List, [], ◌∷◌, Option, Some, None, map, arith}
+use Rattle.std.proofs.Common.{◌≡◌, refl, ap, ℕ, Bool, true, false, IsTrue, List, [], ◌∷◌, Some, None, arith}
 use Rattle.std.specs.BTreeSet.{BTreeSet, IsEmpty, contains}
-use Rattle.std.specs.Cmp.{IsEquivalence, IsTotalOrder, on_equiv, tied_itself}
-use Rattle.std.specs.Cmp.Lexicographic.{lists_equiv}
+use Rattle.std.specs.Cmp.{IsTotalOrder, tied_itself}
 use Rattle.std.specs.List.{AllZip, list_any}
 use Rattle.std.specs.Ordering.{eq_by_cmp, is_eq}
 use Rattle.std.specs.declared.cmp.Ordering.{Ordering}
-use Rattle.std.specs.declared.cmp.Ordering.TheVariants.{Equal}
 use Rattle.serde_json.specs.Data.{Data}
-use Rattle.range_keys.specs.Order.{KeyOrder, IsLawful}
 use Rattle.range_algebra.specs.declared.any.AnyRange.{AnyRange}
 use Rattle.range_store.specs.declared.storage.Item.{Item}
-use Rattle.range_change.specs.Stored.{IsStored}
 use Rattle.range_multimaps.specs.ListedMembers.{tree_void}
 use Rattle.range_multimaps.specs.Pairs.{HasNoEmptySet}
 use Rattle.range_json.specs.declared.error.JsonError.{JsonError}
-use Rattle.range_json.specs.Faults.{before, range_fault}
-use Rattle.range_json.specs.MapFaults.{pair_fault, element_fault, value_fault, IsElementRead, IsFirstFault}
-use Rattle.range_json.specs.SetReadBack.{set_back, full_set_written}
-use Rattle.range_json.specs.Shapes.{elements_of, pair_of, pair_shape, range_shape}
-use Rattle.range_json.specs.ValueSets.{reads_all, reads_some, reads_values, reads_some_values, same_values, values_shape, IsValueSet, AreValuesRead}
+use Rattle.range_json.specs.MapFaults.{element_fault, IsElementRead}
+use Rattle.range_json.specs.ValueSets.{reads_all, reads_some, reads_values, reads_some_values, AreValuesRead}
 use Rattle.range_json.specs.Values.{AreItemValues}
-use Rattle.range_json.proofs.ReadingBack.{map_sound}
 use Rattle.range_json.specs.declared.error.JsonError.TheVariants.{Value}
 
-module _ (reads : Data → Bool) where
-  some_are_values : (ds : Option (List Data)) → IsTrue (reads_some reads ds)
-      → IsTrue (reads_all reads ds)
-  some_are_values None h = h
-  some_are_values (Some []) h = refl
-  some_are_values (Some (d ∷ ds)) h = h
-
-either_fault : (f : Option JsonError) (a b : Bool) (x e : JsonError) → (IsTrue b → IsTrue a)
-    → before f (if a then None else Some x) ≡ Some e
-    → before f (if b then None else Some x) ≡ Some e
-either_fault f a b x e to h = grind (arith, to, h)
-
 module _ (key_reads reads : Data → Bool) (i : ℕ) where
-  pair_too : (p : Option (Data × Data)) (e : JsonError)
-      → pair_fault key_reads (reads_values reads) i p ≡ Some e
-      → pair_fault key_reads (reads_some_values reads) i p ≡ Some e
-  pair_too None e h = h
-  pair_too (Some p) e h =
-      either_fault (range_fault key_reads i p.0) (reads_values reads p.1)
-      (reads_some_values reads p.1) (Value i) e (some_are_values reads (elements_of p.1)) h
-
   -- a fault of an element of a map to sets is one of a multimap's
   pub fault_too : (d : Data) (e : JsonError)
       → element_fault key_reads (reads_values reads) i d ≡ Some e
       → element_fault key_reads (reads_some_values reads) i d ≡ Some e
-  fault_too d e h = pair_too (pair_of d) e h
+  fault_too d e h = grind (arith, h)
 
   module _ {K V : Type 0} (cmp : V → V → Ordering) (total : IsTotalOrder cmp)
       (key_is_read : Data → K → Type 0) (is_read : Data → V → Type 0) where
