@@ -18,10 +18,10 @@ writing_begun all left done whole none = rw (whole, none) (record { written = re
 
 module _ {X : Type 0} {shape : X → Data} {IsValue : X → Type 0} {all left : List X}
     {done : List Value} (h : IsWrittenSoFar shape IsValue all left done) where
-  pub one_written : (x : X) (v : Value) {rest : List X} {new : List Value} → left ≡ x ∷ rest
+  pub one_written : (x : X) (v : Value) (new : List Value) {rest : List X} → left ≡ x ∷ rest
       → view v ≡ shape x → IsValue x → new ≡ done ++ v ∷ []
       → IsWrittenSoFar shape IsValue all rest new
-  one_written x v {rest} step is good more = record {
+  one_written x v new {rest} step is good more = record {
     written = rw more (written_more shape all left rest x done v step is h.written);
     values = values_more IsValue all left rest x step good h.values;
   }

@@ -14,7 +14,7 @@ pub loop-range-preserved : goal.loop-range-preserved
 loop-range-preserved g c =
     let done = c.in_ok-pair_to_json.ensures in
     one_written c.loop-range.invariant
-    (record { key = c.in-Some.range.now; value = c.in-Some.value.now }) c.in_ok-pair_to_json.field-0 c.in-Some.ensures.steps
+    (record { key = c.in-Some.range.now; value = c.in-Some.value.now }) c.in_ok-pair_to_json.field-0 c.push.new.self.items c.in-Some.ensures.steps
     done.written done.values c.in_ok-push.ensures.items
 
 pub returns : goal.returns

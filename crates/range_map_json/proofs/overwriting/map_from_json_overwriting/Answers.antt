@@ -1,8 +1,7 @@
-use Rattle.std.proofs.Common.{◌≡◌, ◌⊎◌, inl, inr, refl, ap, ◌∙◌, rules, map, arith, Some, []}
+use Rattle.std.proofs.Common.{refl, ap, ◌∙◌, map, arith, []}
 use Rattle.serde_json.specs.View.{view}
 use Rattle.range_map.proofs.ExtendedLists.{none_bound_after, one_bound_after}
-use Rattle.range_json.specs.declared.error.JsonError.TheVariants.{Memory}
-use Rattle.range_map_json.specs.Overwriting.{fault_of_elements, overwriting_fault}
+use Rattle.range_map_json.specs.Overwriting.{fault_of_elements}
 use Rattle.range_map_json.proofs.ElementLoop.{one_fails, one_read, reading_begun, reading_ended}
 use Rattle.range_map_json.proofs.overwriting.map_from_json_overwriting.Goals as goal
 
@@ -26,18 +25,16 @@ loop-index-preserved g c =
 
 pub returns-in_err-item-clause-fault : goal.returns-in_err-item-clause-fault
 returns-in_err-item-clause-fault g c =
-    let e = c.in_err-item.field-0.0 in
-    let found = overwriting_fault g.K.Json.reads g.V.Json.reads (view c.args.value.now) in
-    let told : (e ≡ Memory) ⊎ (found ≡ Some e) = elim c.in_err-item.ensures.fault [
-      | inl memory ↦ inl memory
-      | inr own ↦
-          inr (ap (fault_of_elements g.K.Json.reads g.V.Json.reads) c.in_ok-elements.ensures.found
-          ∙ one_fails c.in_ok-elements.elements.now c.loop-index.index
+    grind (
+      arith,
+      c.in_err-item.ensures.fault,
+      c.in_ok-elements.ensures.found,
+      c.from_residual-in_err-item.ensures,
+      one_fails c.in_ok-elements.elements.now c.loop-index.index
           c.index-elements-index.result
-          (omega (arith, c.loop-index-test.true, c.loop-index.auto.index-end))
-          c.index-elements-index.is c.loop-index.invariant own)
-    ] in
-    search (rules, told)
+          (omega (arith, c.loop-index-test.true, c.loop-index.auto.index-end)) c.index-elements-index.is
+          c.loop-index.invariant {e = c.in_err-item.field-0.0},
+    )
 
 pub returns : goal.returns
 returns g c =

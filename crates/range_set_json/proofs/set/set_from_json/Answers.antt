@@ -1,12 +1,10 @@
-use Rattle.std.proofs.Common.{◌≡◌, ◌⊎◌, inl, inr, refl, ap, ◌∙◌, Some, ◌∷◌, [], rules, map, arith}
+use Rattle.std.proofs.Common.{refl, ap, ◌∙◌, ◌∷◌, [], map, arith}
 use Rattle.std.proofs.lemmas.List.{map-append}
 use Rattle.serde_json.specs.View.{view}
 use Rattle.range_sets.proofs.Filling.{all_equal}
 use Rattle.range_sets.proofs.Membership.{all_of, none_added, one_more}
-use Rattle.range_json.specs.declared.error.JsonError.TheVariants.{Memory}
 use Rattle.range_map_json.proofs.ElementLoop.{one_fails, one_read, reading_begun, reading_ended}
-use Rattle.range_set_json.specs.Faults.{array_fault, range_fault, set_fault}
-use Rattle.range_set_json.proofs.SetReading.{item_of}
+use Rattle.range_set_json.specs.Faults.{array_fault, range_fault}
 use Rattle.range_set_json.proofs.set.set_from_json.Goals as goal
 
 pub loop-index-init : goal.loop-index-init
@@ -20,7 +18,7 @@ loop-index-preserved g c =
     let done = c.in_ok-insert.ensures in
     one_read c.in_ok-elements.elements.now c.loop-index.index c.index-elements-index.result
     (omega (arith, c.loop-index-test.true, c.loop-index.auto.index-end)) c.index-elements-index.is h
-    g.met.T.PartialEnum.lawful all_equal r (map-append item_of h.elements (r ∷ []))
+    g.met.T.PartialEnum.lawful all_equal r (map-append _ h.elements (r ∷ []))
     c.in_ok-range.ensures.sound c.in_ok-range.ensures.read c.known.ensures done.frame
     c.insert.ensures.form (one_more g.T.MaybeBounded.order [] (g.C.Storage.items c.loop-index.set)
     (g.C.Storage.items c.insert.new.self) h.elements r h.bound done.added)
@@ -50,15 +48,13 @@ returns g c =
 
 pub returns-in_err-range-clause-fault : goal.returns-in_err-range-clause-fault
 returns-in_err-range-clause-fault g c =
-    let e = c.in_err-range.field-0.0 in
-    let found = set_fault g.T.Json.reads (view c.args.value.now) in
-    let told : (e ≡ Memory) ⊎ (found ≡ Some e) = elim c.in_err-range.ensures.fault [
-      | inl memory ↦ inl memory
-      | inr own ↦
-          inr (ap (array_fault (range_fault g.T.Json.reads)) c.in_ok-elements.ensures.found
-          ∙ one_fails c.in_ok-elements.elements.now c.loop-index.index
+    grind (
+      arith,
+      c.in_err-range.ensures.fault,
+      c.in_ok-elements.ensures.found,
+      c.from_residual-in_err-range.ensures,
+      one_fails c.in_ok-elements.elements.now c.loop-index.index
           c.index-elements-index.result
-          (omega (arith, c.loop-index-test.true, c.loop-index.auto.index-end))
-          c.index-elements-index.is c.loop-index.invariant own)
-    ] in
-    search (rules, told)
+          (omega (arith, c.loop-index-test.true, c.loop-index.auto.index-end)) c.index-elements-index.is
+          c.loop-index.invariant {e = c.in_err-range.field-0.0},
+    )
