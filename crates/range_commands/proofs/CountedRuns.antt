@@ -17,7 +17,7 @@ use Rattle.range_commands.specs.Runs.{IsStep, IsRun, HasNoUpdate}
 use Rattle.range_commands.specs.declared.command.Command.{Command}
 use Rattle.range_commands.specs.declared.command.Command.TheVariants.{Insert, InsertDisconnected, Remove, Update, Get, Contains, Intersects, Count}
 use Rattle.range_commands.specs.declared.command.Reply.{Reply}
-use Rattle.range_commands.specs.declared.command.Reply.TheVariants.{Done, Memory, Connected, Closure, Value, Truth, Count as Counted}
+use Rattle.range_commands.specs.declared.command.Reply.TheVariants.{Done, Memory, Connected, Value, Truth, Count as Counted}
 use Rattle.range_commands.proofs.FewRanges.{two_more, few_more}
 
 pub if_ok_then : {A E : Type 0} {P Q : A → Type 0} (r : Result A E) → IfOk r P
@@ -25,77 +25,58 @@ pub if_ok_then : {A E : Type 0} {P Q : A → Type 0} (r : Result A E) → IfOk r
 if_ok_then (Ok x) h f = f x h
 if_ok_then (Err e) h f = tt
 
--- the steps of two parts of a run
-then_least : (first second third more least : ℕ) → TakesAtLeast first second least
-    → TakesAtLeast second third more → TakesAtLeast first third (more + least)
-then_least first second third more least h k = omega (arith, h, k)
-
-some_or_none : (n : ℕ) → (0 < n) ⊎ (n ≡ 0)
-some_or_none zero = inr refl
-some_or_none (suc n) = inl (omega arith)
+some_or_not : (n : ℕ) → (0 < n) ⊎ (¬ (0 < n))
+some_or_not zero = inr (λ h. absurd (omega (arith, h)))
+some_or_not (suc n) = inl (omega arith)
 
 done_or_not : {K V E : Type 0} (reply : Reply K V E) → IsDone reply ⊎ (¬ IsDone reply)
 done_or_not Done = inl tt
-done_or_not Memory = inr (λ no. no)
-done_or_not (Connected r v) = inr (λ no. no)
-done_or_not (Closure e) = inr (λ no. no)
-done_or_not (Value b) = inr (λ no. no)
-done_or_not (Truth b) = inr (λ no. no)
-done_or_not (Counted n) = inr (λ no. no)
+done_or_not reply = inr (λ no. no)
 
-list_or_not : {X : Type 0} (items : List X) → (0 < length items) ⊎ (¬ (0 < length items))
-list_or_not items =
-    elim (some_or_none (length items)) [
-      | inl some ↦ inl some
-      | inr none ↦ inr (λ h. absurd (omega (arith, none, h)))
+both_or_not : {A B : Type 0} → A ⊎ (¬ A) → B ⊎ (¬ B) → (A × B) ⊎ (¬ (A × B))
+both_or_not (inl a) (inl b) = inl (a, b)
+both_or_not (inl a) (inr other) = inr (λ both. other both.1)
+both_or_not (inr other) b = inr (λ both. other both.0)
+
+-- the range is nonempty and the list is not empty, or not
+range_or_not : {K V : Type 0} (order : KeyOrder K) (items : List (Item (AnyRange K) V))
+    (r : AnyRange K) → ((¬ IsEmptyRange order r) × (0 < length items)) ⊎
+    (¬ ((¬ IsEmptyRange order r) × (0 < length items)))
+range_or_not order items r =
+    both_or_not (elim (empty_or_not order r) [
+      | inl empty ↦ inr (λ full. full empty)
+      | inr full ↦ inl full
+    ]) (some_or_not (length items))
+
+change_or_not : {K V E : Type 0} (order : KeyOrder K) (items : List (Item (AnyRange K) V))
+    (r : AnyRange K) (reply : Reply K V E)
+    → (IsDone reply × (¬ IsEmptyRange order r) × (0 < length items)) ⊎
+    (¬ (IsDone reply × (¬ IsEmptyRange order r) × (0 < length items)))
+change_or_not order items r reply =
+    elim (both_or_not (done_or_not reply) (range_or_not order items r)) [
+      | inl due ↦ inl (due.0, due.1.0, due.1.1)
+      | inr no_change ↦ inr (λ due. no_change (due.0, (due.1, due.2)))
     ]
-
-module _ {K : Type 0} (order : KeyOrder K) where
-  -- the range is nonempty and the list is not empty, or not
-  range_or_not : {V : Type 0} (items : List (Item (AnyRange K) V)) (r : AnyRange K)
-      → ((¬ IsEmptyRange order r) × (0 < length items)) ⊎
-      (¬ ((¬ IsEmptyRange order r) × (0 < length items)))
-  range_or_not items r =
-      elim (empty_or_not order r) [
-        | inl empty ↦ inr (λ h. h.0 empty)
-        | inr full ↦ elim (some_or_none (length items)) [
-          | inl some ↦ inl (full, some)
-          | inr none ↦ inr (λ h. absurd (omega (arith, none, h.1)))
-        ]
-      ]
-
-  change_or_not : {V E : Type 0} (items : List (Item (AnyRange K) V)) (r : AnyRange K)
-      (reply : Reply K V E)
-      → (IsDone reply × (¬ IsEmptyRange order r) × (0 < length items)) ⊎
-      (¬ (IsDone reply × (¬ IsEmptyRange order r) × (0 < length items)))
-  change_or_not items r reply =
-      elim (done_or_not reply) [
-        | inl done ↦ elim (range_or_not items r) [
-          | inl h ↦ inl (done, h.0, h.1)
-          | inr h ↦ inr (λ k. h (k.1, k.2))
-        ]
-        | inr not_done ↦ inr (λ k. not_done k.0)
-      ]
 
 least_if_most : (is_counted : Bool) (least : ℕ) → least_if is_counted least ≤ least
 least_if_most true least = omega arith
 least_if_most false least = omega arith
 
-module _ {K : Type 0} (order : KeyOrder K) {V : Type 0} (is_counted : Bool) (least most : ℕ) where
+module _ {K : Type 0} {order : KeyOrder K} {V : Type 0} (is_counted : Bool) {least most : ℕ}
+    {items : List (Item (AnyRange K) V)} {fact : Type 0} {before after : ℕ} where
   -- what is counted anyway takes as much where it need not be
-  pub change_if : (items next : List (Item (AnyRange K) V)) (r : AnyRange K) (done : Type 0)
-      (before after : ℕ) → ChangeTakes order least most items next r done before after
-      → ChangeTakes order (least_if is_counted least) most items next r done before after
-  change_if items next r done before after takes = record {
+  pub change_if : {next : List (Item (AnyRange K) V)} {r : AnyRange K}
+      → ChangeTakes order least most items next r fact before after
+      → ChangeTakes order (least_if is_counted least) most items next r fact before after
+  change_if takes = record {
     at_most = takes.at_most;
     at_least = λ full. omega (arith, takes.at_least full, least_if_most is_counted least);
     none = takes.none;
   }
 
-  pub lookup_if : (items : List (Item (AnyRange K) V)) (empty : Type 0) (before after : ℕ)
-      → LookupTakes order least most items empty before after
-      → LookupTakes order (least_if is_counted least) most items empty before after
-  lookup_if items empty before after takes = record {
+  pub lookup_if : LookupTakes order least most items fact before after
+      → LookupTakes order (least_if is_counted least) most items fact before after
+  lookup_if takes = record {
     counted = λ full. record {
       at_most = (takes.counted full).at_most;
       at_least = omega (arith, (takes.counted full).at_least, least_if_most is_counted least);
@@ -104,56 +85,20 @@ module _ {K : Type 0} (order : KeyOrder K) {V : Type 0} (is_counted : Bool) (lea
     none = takes.none;
   }
 
--- what takes no step, or asks once at most, takes no more than a change may
-idle_takes : (before after most many left : ℕ) → after ≡ before → left ≤ many + 1
-    → TakesAsChange before after most many left
-idle_takes before after most many left same few = omega (arith, same, few)
-
-asked_takes : {X : Type 0} (before after most : ℕ) (items next : List X)
-    → after ≤ before + (most + 1) → next ≡ items
-    → TakesAsChange before after most (length items) (length next)
-asked_takes before after most items next asked kept = omega (arith, asked, ap length kept)
-
-kept_is_few : {X : Type 0} (items next : List X) → next ≡ items → length next ≤ length items + 1
-kept_is_few items next kept = omega (arith, ap length kept)
+-- what takes its least steps where its range is not empty, and none where it is
+due_least : (many least before after : ℕ) (empty : Type 0) → (0 < many → 1 ≤ least)
+    → empty ⊎ (¬ empty) → ((¬ empty) → TakesAtLeast before after least)
+    → (empty → after ≡ before)
+    → (TakesAtLeast before after 0) × ((¬ empty) × (0 < many) → TakesAtLeast before after 1)
+due_least many least before after empty some either full none = (
+  elim either [
+    | inl is ↦ omega (arith, none is)
+    | inr is_not ↦ omega (arith, full is_not)
+  ],
+  λ due. omega (arith, full due.0, some due.1),
+)
 
 module _ {K : Type 0} (order : KeyOrder K) {V : Type 0} where
-  -- a change, or a look-up, that is due takes at least one step
-  change_least : (least most : ℕ) (items next : List (Item (AnyRange K) V)) (r : AnyRange K)
-      (done : Type 0) (before after : ℕ) → (0 < length items → 1 ≤ least)
-      → ChangeTakes order least most items next r done before after
-      → (TakesAtLeast before after 0)
-      × ((¬ IsEmptyRange order r) × (0 < length items) → TakesAtLeast before after 1)
-  change_least least most items next r done before after some takes = (
-    elim (empty_or_not order r) [
-      | inl empty ↦ omega (arith, takes.none empty)
-      | inr full ↦ omega (arith, takes.at_least full)
-    ],
-    λ due. omega (arith, takes.at_least due.0, some due.1),
-  )
-
-  lookup_least : (least most : ℕ) (items : List (Item (AnyRange K) V)) (empty : Type 0)
-      (before after : ℕ) → (0 < length items → 1 ≤ least) → (empty ⊎ (¬ empty))
-      → LookupTakes order least most items empty before after
-      → (TakesAtLeast before after 0)
-      × ((¬ empty) × (0 < length items) → TakesAtLeast before after 1)
-  lookup_least least most items empty before after some either takes = (
-    elim either [
-      | inl none ↦ omega (arith, takes.none none)
-      | inr full ↦ omega (arith, (takes.counted full).at_least)
-    ],
-    λ due. omega (arith, (takes.counted due.0).at_least, some due.1),
-  )
-
-  lookup_most : (least most : ℕ) (items : List (Item (AnyRange K) V)) (empty : Type 0)
-      (before after : ℕ) → (empty ⊎ (¬ empty))
-      → LookupTakes order least most items empty before after → after ≤ before + (most + 1)
-  lookup_most least most items empty before after either takes =
-      elim either [
-        | inl none ↦ omega (arith, takes.none none)
-        | inr full ↦ omega (arith, (takes.counted full).at_most)
-      ]
-
   module _ {T E : Type 0} where
     -- one command: the count never falls, and grows by one at least where a step is due
     one_least : (least most : ℕ) (items next : List (Item (AnyRange K) V)) (command : Command K V T)
@@ -162,38 +107,32 @@ module _ {K : Type 0} (order : KeyOrder K) {V : Type 0} where
         → (TakesAtLeast before after 0)
         × (IsDue order items command reply → TakesAtLeast before after 1)
     one_least least most items next (Insert r v) reply before after some takes = let h =
-        change_least least most items next r
-        (IsDone reply) before after some takes in (h.0, λ due. h.1 (due.1, due.2))
-    one_least least most items next (InsertDisconnected r v) reply before after some takes =
-        (omega (arith, takes), λ due. absurd due)
+        due_least (length items) least before after (IsEmptyRange order r) some
+        (empty_or_not order r) takes.at_least takes.none in (h.0, λ due. h.1 (due.1, due.2))
     one_least least most items next (Remove r) reply before after some takes = let h =
-        change_least least most items next r
-        (IsDone reply) before after some takes in (h.0, λ due. h.1 (due.1, due.2))
-    one_least least most items next (Update r t) reply before after some takes =
-        (omega (arith, takes), λ due. absurd due)
+        due_least (length items) least before after (IsEmptyRange order r) some
+        (empty_or_not order r) takes.at_least takes.none in (h.0, λ due. h.1 (due.1, due.2))
     one_least least most items next (Get k) reply before after some takes = let h =
-        lookup_least least most items ⊥ before after some
-        (inr (λ no. no)) takes in (h.0, λ due. h.1 (λ no. no, due))
+        due_least (length items) least before after ⊥ some (inr (λ no. no))
+        (λ full. (takes.counted full).at_least) takes.none in (h.0, λ due. h.1 (λ no. no, due))
     one_least least most items next (Contains k) reply before after some takes = let h =
-        lookup_least least most items ⊥ before after some
-        (inr (λ no. no)) takes in (h.0, λ due. h.1 (λ no. no, due))
+        due_least (length items) least before after ⊥ some (inr (λ no. no))
+        (λ full. (takes.counted full).at_least) takes.none in (h.0, λ due. h.1 (λ no. no, due))
     one_least least most items next (Intersects r) reply before after some takes =
-        lookup_least least most items (IsEmptyRange order r) before after some
-        (empty_or_not order r) takes
-    one_least least most items next Count reply before after some takes =
+        due_least (length items) least before after (IsEmptyRange order r) some
+        (empty_or_not order r) (λ full. (takes.counted full).at_least) takes.none
+    one_least least most items next command reply before after some takes =
         (omega (arith, takes), λ due. absurd due)
 
     due_or_not : (items : List (Item (AnyRange K) V)) (command : Command K V T)
         (reply : Reply K V E)
         → IsDue order items command reply ⊎ (¬ IsDue order items command reply)
     due_or_not items (Insert r v) reply = change_or_not order items r reply
-    due_or_not items (InsertDisconnected r v) reply = inr (λ no. no)
     due_or_not items (Remove r) reply = change_or_not order items r reply
-    due_or_not items (Update r t) reply = inr (λ no. no)
-    due_or_not items (Get k) reply = list_or_not items
-    due_or_not items (Contains k) reply = list_or_not items
+    due_or_not items (Get k) reply = some_or_not (length items)
+    due_or_not items (Contains k) reply = some_or_not (length items)
     due_or_not items (Intersects r) reply = range_or_not order items r
-    due_or_not items Count reply = inr (λ no. no)
+    due_or_not items command reply = inr (λ no. no)
 
   module _ (same : V → V → Bool) {T E : Type 0}
       (may : T → Option V → Result (Option V) E → Type 0) where
@@ -204,42 +143,31 @@ module _ {K : Type 0} (order : KeyOrder K) {V : Type 0} where
         → TakesFor order least most items command reply next before after
         → HasNoUpdate (command ∷ commands) → HasNoMemory (reply ∷ replies)
         → TakesAsChange before after most (length items) (length next) × HasNoMemory replies
-    one_most least most items next
-        (Insert r v) commands Done replies before after step takes none memory =
-        (takes.at_most tt, memory)
-    one_most least most items next
-        (InsertDisconnected r v) commands Done replies before after step takes none memory =
-        (idle_takes before after most _ _ takes step.1.few, memory)
-    one_most least most items next (InsertDisconnected r v) commands
-        (Connected s w) replies before after step takes none memory =
-        (idle_takes before after most _ _ takes (kept_is_few items next step.3), memory)
-    one_most least most items next
-        (Remove r) commands Done replies before after step takes none memory =
-        (takes.at_most tt, memory)
-    one_most least most items next
-        (Update r t) commands reply replies before after step takes none memory = absurd none
-    one_most least most items next (Get k) commands
-        (Value b) replies before after step takes none memory = (
-          asked_takes before after most items next
-              (lookup_most least most items ⊥ before after (inr (λ no. no)) takes) step.1,
+    one_most least most items next (Insert r v) commands Done replies before after step takes none
+        memory = (takes.at_most tt, memory)
+    one_most least most items next (Remove r) commands Done replies before after step takes none
+        memory = (takes.at_most tt, memory)
+    one_most least most items next (InsertDisconnected r v) commands Done replies before after step
+        takes none memory = (omega (arith, takes, step.1.few), memory)
+    one_most least most items next (InsertDisconnected r v) commands (Connected s w) replies before
+        after step takes none memory = (omega (arith, takes, ap length step.3), memory)
+    one_most least most items next (Update r t) commands reply replies before after step takes none
+        memory = absurd none
+    one_most least most items next (Get k) commands (Value b) replies before after step takes none
+        memory = (omega (arith, (takes.counted (λ no. no)).at_most, ap length step.1), memory)
+    one_most least most items next (Contains k) commands (Truth b) replies before after step takes
+        none memory =
+        (omega (arith, (takes.counted (λ no. no)).at_most, ap length step.1), memory)
+    one_most least most items next (Intersects r) commands (Truth b) replies before after step takes
+        none memory = (
+          elim (empty_or_not order r) [
+            | inl empty ↦ omega (arith, takes.none empty, ap length step.1)
+            | inr full ↦ omega (arith, (takes.counted full).at_most, ap length step.1)
+          ],
           memory,
         )
-    one_most least most items next (Contains k) commands
-        (Truth b) replies before after step takes none memory = (
-          asked_takes before after most items next
-              (lookup_most least most items ⊥ before after (inr (λ no. no)) takes) step.1,
-          memory,
-        )
-    one_most least most items next (Intersects r) commands
-        (Truth b) replies before after step takes none memory = (
-          asked_takes before after most items next
-              (lookup_most least most items (IsEmptyRange order r) before after
-              (empty_or_not order r) takes) step.1,
-          memory,
-        )
-    one_most least most items next Count commands
-        (Counted n) replies before after step takes none memory =
-        (idle_takes before after most _ _ takes (kept_is_few items next step.1), memory)
+    one_most least most items next Count commands (Counted n) replies before after step takes none
+        memory = (omega (arith, takes, ap length step.1), memory)
     one_most least most items next command commands Memory replies before after step takes none
         memory = absurd memory
     one_most least most items next command commands reply replies before after step takes none
@@ -258,10 +186,6 @@ module _ {K : Type 0} (order : KeyOrder K) {V : Type 0} where
           (replies ++ reply ∷ []) last before after
       one_more_counted s middle last [] [] command reply before between after run step takes =
           (last, after, rw run.0 at step, rw (run.0, run.1) at takes, (refl, refl))
-      one_more_counted s middle last []
-          (r ∷ replies) command reply before between after run step takes = absurd run
-      one_more_counted s middle last
-          (c ∷ commands) [] command reply before between after run step takes = absurd run
       one_more_counted s middle last (c ∷ commands)
           (r ∷ replies) command reply before between after run step takes = (
             run.0,
@@ -271,6 +195,8 @@ module _ {K : Type 0} (order : KeyOrder K) {V : Type 0} where
             one_more_counted run.0 middle last commands replies command reply run.1 between after
                 run.4 step takes,
           )
+      one_more_counted s middle last commands replies command reply before between after run step
+          takes = absurd run
 
       -- the same run without its counts
       pub uncounted : (s last : S) (commands : List (Command K V T)) (replies : List (Reply K V E))
@@ -278,10 +204,9 @@ module _ {K : Type 0} (order : KeyOrder K) {V : Type 0} where
           → IsCountedRun order same may items least most s commands replies last before after
           → IsRun order same may (items s) commands replies (items last)
       uncounted s last [] [] before after run = ap items run.0
-      uncounted s last [] (r ∷ replies) before after run = absurd run
-      uncounted s last (c ∷ commands) [] before after run = absurd run
       uncounted s last (c ∷ commands) (r ∷ replies) before after run =
           (items run.0, run.2, uncounted run.0 last commands replies run.1 after run.4)
+      uncounted s last commands replies before after run = absurd run
 
       -- at most so many steps: what each adds, beside what it leaves fewer, is bounded by the
       -- greatest search
@@ -295,10 +220,6 @@ module _ {K : Type 0} (order : KeyOrder K) {V : Type 0} where
           ≤ before + length commands * (2 * MAX_ASKS * level + 10) + 2 * length (items s)
       run_most level many few s last [] [] before after within none memory run =
           omega (arith, ap (λ t. length (items t)) run.0, run.1)
-      run_most level many few s last [] (r ∷ replies) before after within none memory run =
-          absurd run
-      run_most level many few s last (c ∷ commands) [] before after within none memory run =
-          absurd run
       run_most level many few s last (c ∷ commands)
           (r ∷ replies) before after within none memory run =
           let first =
@@ -310,6 +231,8 @@ module _ {K : Type 0} (order : KeyOrder K) {V : Type 0} where
           (omega (arith, within, grown.0)) grown.1 first.1 run.4 in
           let here = few s (omega (arith, within)) in
           omega (arith, first.0, rest, here)
+      run_most level many few s last commands replies before after within none memory run =
+          absurd run
 
       -- at least one step for each command that is due one
       pub run_least : ((s : S) → 0 < length (items s) → 1 ≤ least s)
@@ -320,8 +243,6 @@ module _ {K : Type 0} (order : KeyOrder K) {V : Type 0} where
           × TakesAtLeast before after due
       run_least some s last [] [] before after run =
           (0, (ap items run.0, refl), omega (arith, run.1))
-      run_least some s last [] (r ∷ replies) before after run = absurd run
-      run_least some s last (c ∷ commands) [] before after run = absurd run
       run_least some s last (c ∷ commands) (r ∷ replies) before after run =
           let rest = run_least some run.0 last commands replies run.1 after run.4 in
           let one =
@@ -331,7 +252,7 @@ module _ {K : Type 0} (order : KeyOrder K) {V : Type 0} where
             | inl due ↦ (
               rest.0 + 1,
               (items run.0, rest.0, run.2, inl (due, refl), rest.1),
-              then_least before run.1 after rest.0 1 (one.1 due) rest.2,
+              omega (arith, one.1 due, rest.2),
             )
             | inr not_due ↦ (
               rest.0,
@@ -339,6 +260,7 @@ module _ {K : Type 0} (order : KeyOrder K) {V : Type 0} where
               omega (arith, one.0, rest.2),
             )
           ]
+      run_least some s last commands replies before after run = absurd run
 
     -- so commands without an update leave few ranges more
     pub few_after : {A F : Type 0} (replies : A → List (Reply K V E))
@@ -361,8 +283,8 @@ module _ {X : Type 0} where
   pub few_asks : (many level : ℕ) → IsGreatestLevel (many + 1) level → (s : BoxStorage X)
       → length (box_items s) ≤ many → MAX_ASKS * s.levels ≤ MAX_ASKS * level
   few_asks many level greatest s within =
-      elim (some_or_none (length (box_items s))) [
-        | inl some ↦ elim (some_or_none s.levels) [
+      elim (some_or_not (length (box_items s))) [
+        | inl some ↦ elim (some_or_not s.levels) [
           | inl high ↦
               omega (
                 arith,
@@ -371,14 +293,15 @@ module _ {X : Type 0} where
               )
           | inr none ↦ omega (arith, none)
         ]
-        | inr none ↦ omega (arith, (depth s).empty none)
+        | inr none ↦ omega (arith, (depth s).empty (omega (arith, none)))
       ]
 
   pub some_asks : (s : BoxStorage X) → 0 < length (box_items s) → 1 ≤ s.levels
   some_asks s some =
-      elim (some_or_none s.levels) [
-        | inl high ↦ omega (arith, high)
-        | inr none ↦ let one : (CAPACITY + 1) ^ s.levels ≡ 1 =
-            ap (λ m. (CAPACITY + 1) ^ m) none in absurd
+      elim (some_or_not s.levels) [
+        | inl high ↦ high
+        | inr none ↦
+            let flat : s.levels ≡ 0 = omega (arith, none) in
+            let one : (CAPACITY + 1) ^ s.levels ≡ 1 = ap (λ m. (CAPACITY + 1) ^ m) flat in absurd
             (omega (arith, (depth s).most some, one, some))
       ]

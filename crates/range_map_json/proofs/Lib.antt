@@ -1,2 +1,4 @@
+pub mod BoundElements
+pub mod ElementLoop
 pub mod MapReading
-pub mod OverwritingLoop
+pub mod WritingLoop

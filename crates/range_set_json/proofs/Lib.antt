@@ -1,3 +1,2 @@
 pub mod Multimaps
-pub mod SetReading
 pub mod SetReadingBack

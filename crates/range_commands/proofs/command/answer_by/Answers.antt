@@ -92,8 +92,7 @@ returns-in-Ok-remove_counted g c =
                 (meets_none g.K.MaybeBounded.order items c.in-Remove.range unmet);
           };
       takes =
-          rw c.in-Remove.is (change_if g.K.MaybeBounded.order c.args.is_counted
-          (g.C.Storage.least_asks c.args.map.now) (g.C.Storage.most_asks c.args.map.now) _ _ _ _ _ _
+          rw c.in-Remove.is (change_if c.args.is_counted
           (record {
             at_most = λ unrefused. done.most;
             at_least = done.least;
@@ -114,8 +113,7 @@ returns-in-Remove g c =
             refused.refused,
           );
       takes =
-          rw c.in-Remove.is (change_if g.K.MaybeBounded.order c.args.is_counted
-          (g.C.Storage.least_asks c.args.map.now) (g.C.Storage.most_asks c.args.map.now) _ _ _ _ _ _
+          rw c.in-Remove.is (change_if c.args.is_counted
           (record {
             at_most = λ done. absurd done;
             at_least = refused.least;
@@ -138,9 +136,7 @@ returns-in-Ok-get_cloned g c =
       step =
           rw c.in-Get.is (c.in-Ok-get_cloned.ensures.value, refl);
       takes =
-          rw c.in-Get.is (lookup_if g.K.MaybeBounded.order c.args.is_counted
-          (g.C.Storage.least_asks c.args.map.now)
-          (g.C.Storage.most_asks c.args.map.now) _ _ _ _ c.get_cloned.ensures.takes);
+          rw c.in-Get.is (lookup_if c.args.is_counted c.get_cloned.ensures.takes);
     }
 
 pub returns-in-Get : goal.returns-in-Get
@@ -149,9 +145,7 @@ returns-in-Get g c =
       step =
           rw c.in-Get.is (search rules);
       takes =
-          rw c.in-Get.is (lookup_if g.K.MaybeBounded.order c.args.is_counted
-          (g.C.Storage.least_asks c.args.map.now)
-          (g.C.Storage.most_asks c.args.map.now) _ _ _ _ c.get_cloned.ensures.takes);
+          rw c.in-Get.is (lookup_if c.args.is_counted c.get_cloned.ensures.takes);
     }
 
 pub returns-in-Contains : goal.returns-in-Contains
@@ -161,8 +155,7 @@ returns-in-Contains g c =
           rw c.in-Contains.is (c.contains_key_counted.ensures.value, refl);
       takes =
           let told = c.contains_key_counted.ensures in
-          rw c.in-Contains.is (lookup_if g.K.MaybeBounded.order c.args.is_counted
-          (g.C.Storage.least_asks c.args.map.now) (g.C.Storage.most_asks c.args.map.now) _ _ _ _
+          rw c.in-Contains.is (lookup_if c.args.is_counted
           (record {
             counted = λ some. told.counted;
             idle = told.none;
@@ -177,8 +170,7 @@ returns-in-Intersects g c =
           rw c.in-Intersects.is (c.intersects_counted.ensures.meets, refl);
       takes =
           let told = c.intersects_counted.ensures in
-          rw c.in-Intersects.is (lookup_if g.K.MaybeBounded.order c.args.is_counted
-          (g.C.Storage.least_asks c.args.map.now) (g.C.Storage.most_asks c.args.map.now) _ _ _ _
+          rw c.in-Intersects.is (lookup_if c.args.is_counted
           (record { counted = told.counted; idle = told.none; none = told.empty_uncounted }));
     }
 

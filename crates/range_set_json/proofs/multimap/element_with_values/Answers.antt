@@ -1,24 +1,18 @@
-use Rattle.std.proofs.Common.{◌≡◌, ◌⊎◌, inl, inr, ap, Some, rules, length}
+use Rattle.std.proofs.Common.{arith, inr, ap, length}
 use Rattle.std.proofs.lemmas.List.{nil_from_length}
 use Rattle.std.specs.BTreeSet.{IsEmpty}
 use Rattle.serde_json.specs.View.{view}
-use Rattle.range_json.specs.MapFaults.{element_fault}
-use Rattle.range_json.specs.ValueSets.{reads_some_values}
-use Rattle.range_json.specs.declared.error.JsonError.TheVariants.{Memory}
 use Rattle.range_set_json.proofs.Multimaps.{fault_too, empty_fault, full_sound}
 use Rattle.range_set_json.proofs.multimap.element_with_values.Goals as goal
 
 pub returns-in_err-element-clause-fault : goal.returns-in_err-element-clause-fault
 returns-in_err-element-clause-fault g c =
-    let e = c.in_err-element.field-0.0 in
-    let d = view c.args.value.now in
-    let told : (e ≡ Memory) ⊎
-    (element_fault g.K.Json.reads (reads_some_values g.V.Json.reads) c.args.index d
-    ≡ Some e) = elim c.in_err-element.ensures.fault [
-      | inl memory ↦ inl memory
-      | inr at ↦ inr (fault_too g.K.Json.reads g.V.Json.reads c.args.index d e at)
-    ] in
-    search (rules, told)
+    grind (
+      arith,
+      c.in_err-element.ensures.fault,
+      c.from_residual.ensures,
+      fault_too g.K.Json.reads g.V.Json.reads c.args.index (view c.args.value.now),
+    )
 
 pub returns-then-is_empty-clause-fault : goal.returns-then-is_empty-clause-fault
 returns-then-is_empty-clause-fault g c =

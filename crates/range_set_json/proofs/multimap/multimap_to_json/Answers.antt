@@ -1,57 +1,28 @@
-use Rattle.std.proofs.Common.{◌≡◌, refl, subst}
+use Rattle.std.proofs.Common.{◌≡◌, subst}
 use Rattle.std.specs.Prelude.{IfOk}
 use Rattle.serde_json.specs.View.{view}
-use Rattle.range_json.specs.Shapes.{range_shape, pair_shape, versioned_shape}
-use Rattle.range_json.specs.Values.{IsRangeValue, AreItemValues}
-use Rattle.range_json.specs.ValueSets.{values_shape, IsValueSet}
-use Rattle.range_json.proofs.Writing.{written_more, values_more, all_written, all_values, shorter, on_ok}
+use Rattle.range_json.specs.Shapes.{versioned_shape}
+use Rattle.range_json.proofs.Writing.{on_ok}
+use Rattle.range_map_json.proofs.WritingLoop.{are_written, one_written, writing_begun}
 use Rattle.range_set_json.proofs.multimap.multimap_to_json.Goals as goal
+
+pub loop-range-init : goal.loop-range-init
+loop-range-init g c =
+    writing_begun _ _ _ c.iter-items.ensures.items c.in_ok-written.ensures.items
 
 pub loop-range-preserved : goal.loop-range-preserved
 loop-range-preserved g c =
-    let was = c.loop-range.invariant in
-    let all = g.C.Storage.items c.args.multimap.now in
     let done = c.in_ok-pair_to_json.ensures in
+    one_written {all = g.C.Storage.items c.args.multimap.now} c.loop-range.invariant
+    (record { key = c.in-Some.range.now; value = c.in-Some.set.now }) c.in_ok-pair_to_json.field-0 c.push.new.self.items
+    c.in-Some.ensures.steps done.written done.values c.in_ok-push.ensures.items
+
+pub returns : goal.returns
+returns g c =
+    let all = are_written c.loop-range.invariant c.in_default.ensures.steps.0 in
+    let result = c.versioned.result in
     record {
       written =
-          rw c.in_ok-push.ensures.items
-          (written_more (λ i. pair_shape (range_shape g.K.Json.shape i.key)
-          (values_shape g.V.Json.shape i.value)) all c.loop-range.items c.next.new.self
-          (record { key = c.in-Some.range.now; value = c.in-Some.set.now })
-          c.loop-range.written.items c.in_ok-pair_to_json.field-0 c.in-Some.ensures.steps
-          done.written was.written);
-      values =
-          values_more (λ i. IsRangeValue g.K.Json.is_value i.key
-          × IsValueSet g.V.Ord.cmp g.V.Json.is_value i.value) all c.loop-range.items c.next.new.self
-          (record { key = c.in-Some.range.now; value = c.in-Some.set.now }) c.in-Some.ensures.steps
-          done.values was.values;
+          subst (λ ds. IfOk result (λ v. view v ≡ versioned_shape ds)) all.0 c.versioned.ensures;
+      values = on_ok result _ all.1;
     }
-
-pub loop-range-init : goal.loop-range-init
-loop-range-init g c = record {
-  written = rw (c.in_ok-written.ensures.items, c.iter-items.ensures.items) refl;
-  values = rw c.iter-items.ensures.items (λ later. later);
-}
-
-pub loop-range-smaller : goal.loop-range-smaller
-loop-range-smaller g c =
-    shorter c.loop-range.items c.next.new.self
-    (record { key = c.in-Some.range.now; value = c.in-Some.set.now }) c.in-Some.ensures.steps
-
-pub returns-clause-written : goal.returns-clause-written
-returns-clause-written g c =
-    let all =
-    all_written (λ i. pair_shape (range_shape g.K.Json.shape i.key)
-    (values_shape g.V.Json.shape i.value))
-    (g.C.Storage.items c.args.multimap.now) c.loop-range.items c.loop-range.written.items
-    c.in_default.ensures.steps.0 c.loop-range.invariant.written in
-    subst (λ ds. IfOk c.versioned.result (λ v. view v ≡ versioned_shape ds)) all c.versioned.ensures
-
-pub returns-clause-values : goal.returns-clause-values
-returns-clause-values g c =
-    let items = g.C.Storage.items c.args.multimap.now in
-    on_ok c.versioned.result
-    (AreItemValues g.K.Json.is_value (IsValueSet g.V.Ord.cmp g.V.Json.is_value) items)
-    (all_values (λ i. IsRangeValue g.K.Json.is_value i.key
-    × IsValueSet g.V.Ord.cmp g.V.Json.is_value i.value) items c.loop-range.items
-    c.in_default.ensures.steps.0 c.loop-range.invariant.values)
