@@ -27,8 +27,8 @@ impl Addresses {
         ensures v6 { box_items result.v6 ≡ [] }
     {
         Addresses {
-            v4: AddressSet::new(alloc),
-            v6: AddressSet::new(alloc),
+            v4: sets::empty(alloc),
+            v6: sets::empty(alloc),
         }
     }
 

@@ -1,8 +1,6 @@
 -- The addresses of a set that follow each other without a gap.
-use Rattle.std.proofs.Common.{◌≡◌, ◌≢◌, ℕ, ◌+◌, ◌-◌, ◌^◌, ◌≤◌, ◌<◌, ◌⊎◌, List, [], ◌∷◌, true, inl, inr, ap, refl, sym, subst, ◌∙◌, arith}
-use Rattle.std.specs.Cmp.{nat_cmp_is}
+use Rattle.std.proofs.Common.{◌≡◌, ◌≢◌, ℕ, ◌+◌, ◌-◌, ◌^◌, ◌≤◌, ◌<◌, ◌⊎◌, List, [], ◌∷◌, map, true, inl, inr, refl, sym, subst, arith}
 use Rattle.std.specs.List.{AllByRecursion}
-use Rattle.std.specs.declared.cmp.Ordering.TheVariants.{Equal}
 use Rattle.std.proofs.lemmas.Bool.{cases_lt}
 use Rattle.btree_range_map.specs.AnyRange.{AnyRange}
 use Rattle.btree_range_map.specs.Counted.{counted_lawful}
@@ -15,8 +13,9 @@ use Rattle.btree_range_map.specs.Neighbours.{BeforeFirst, EachNext}
 use Rattle.btree_range_map.specs.Order.{KeyOrder}
 use Rattle.btree_range_map.specs.Range.{Holds, IsKeyless, IsKnownRange}
 use Rattle.address_keys.specs.Families.{IsFamily}
-use Rattle.address_sets.specs.Runs.{AreRuns, IsIn, IsRun, IsRunAround, range_runs}
-use Rattle.address_sets.specs.Tiles.{past_number, start_number}
+use Rattle.address_prefixes.specs.Runs.{AreRuns, IsIn, IsRun, IsRunAround}
+use Rattle.address_prefixes.specs.Spans.{HasSpan, span}
+use Rattle.address_prefixes.proofs.Runs.{same_address}
 use Rattle.address_sets.proofs.Sets.{Coarse, Known, Stored, below_number, coarse_rest, first_held, from_of, holds_is, last_held, not_above_number, number_not_above, past_of, some_by, top_by}
 
 module _ {A : Type 0} {order : KeyOrder A} {number : A → ℕ} {at : ℕ → A} {width : ℕ}
@@ -34,10 +33,10 @@ module _ {A : Type 0} {order : KeyOrder A} {number : A → ℕ} {at : ℕ → A}
       is_range items r known.1 (coarse_rest family i items coarse) later
 
   -- a stored range has an address, and addresses alone
-  pub range_bounds : (items : List (Stored family)) (r : AnyRange A) → Known family items
+  pub has_span : (items : List (Stored family)) (r : AnyRange A) → Known family items
       → Coarse family items → IsStoredRange items r
-      → (from_of family r < past_of family r) × (past_of family r ≤ 2 ^ width)
-  range_bounds items r known coarse at =
+      → HasSpan number width r
+  has_span items r known coarse at =
       let is = is_range items r known coarse at in
       (some_by family r is.1, top_by family r.end is.0.1)
 
@@ -83,11 +82,6 @@ module _ {A : Type 0} {order : KeyOrder A} {number : A → ℕ} {at : ℕ → A}
   same_range (i ∷ items) r coarse a b key (inr later) has (inr there) =
       same_range items r (coarse_rest family i items coarse) a b key later has there
 
-  same_address : (a b : A) → number a ≡ number b → a ≡ b
-  same_address a b e =
-      family.counted.same a b
-      (family.by_number a b ∙ sym (nat_cmp_is (number a) (number b) Equal e))
-
   -- a set that holds an address beside a stored range holds it in this range
   module _ (items : List (Stored family)) (r : AnyRange A) (coarse : Coarse family items)
       (stored : IsStoredRange items r) where
@@ -97,7 +91,7 @@ module _ {A : Type 0} {order : KeyOrder A} {number : A → ℕ} {at : ℕ → A}
       | inl less ↦ in_set items r k stored (other (λ e. omega (arith, e, less)))
       | inr not ↦ elim (cases_lt (number b) (number k)) [
         | inl more ↦ in_set items r k stored (other (λ e. omega (arith, e, more)))
-        | inr le ↦ subst (HoldsKey order items) (same_address b k (omega (arith, not, le))) held
+        | inr le ↦ subst (HoldsKey order items) (same_address family b k (omega (arith, not, le))) held
       ]
     ]
 
@@ -128,11 +122,14 @@ module _ {A : Type 0} {order : KeyOrder A} {number : A → ℕ} {at : ℕ → A}
         held_or_it k b key held (λ ne. others k key from (omega (arith, to, ne)))))
 
     -- the range that holds an address is a run of those that the set holds
-    pub run_is : (a : A) (first last : ℕ) → Known family items → order.is_key a → Holds order r a
-        → first ≡ from_of family r → last + 1 ≡ past_of family r
-        → IsRunAround (λ n. HoldsKey order items (at n)) (2 ^ width) (number a) (first, last)
-    run_is a first last known p has starts ends =
-        let bounds = range_bounds items r known coarse stored in
+    pub run_is : (a : A) → Known family items → order.is_key a → Holds order r a
+        → IsRunAround (λ n. HoldsKey order items (at n)) (2 ^ width) (number a)
+        (span number width r)
+    run_is a known p has =
+        let bounds = has_span items r known coarse stored in
+        let first : ℕ = from_of family r in
+        let last : ℕ = past_of family r - 1 in
+        let past : last + 1 ≡ past_of family r = omega (arith, bounds.0) in
         let lies = (holds_is family r a p).0 has in
         let at_is : (n : ℕ) → n < 2 ^ width → number (at n) ≡ n =
         λ n h. family.at_number n h in
@@ -140,40 +137,39 @@ module _ {A : Type 0} {order : KeyOrder A} {number : A → ℕ} {at : ℕ → A}
         λ n h. let e = at_is n h in family.is_address (at n) (omega (arith, e, h)) in
         let within : (k : A) → order.is_key k → first ≤ number k → number k ≤ last
         → Holds order r k =
-        λ k key from to. (holds_is family r k key).1
-        (omega (arith, from, starts), omega (arith, to, ends)) in (
-          (omega (arith, lies.0, starts), omega (arith, lies.1, ends)),
+        λ k key from to. (holds_is family r k key).1 (from, omega (arith, to, past)) in (
+          (lies.0, omega (arith, lies.1, past)),
           record {
-            fits = omega (arith, ends, bounds.1);
+            fits = omega (arith, past, bounds.1);
             each =
-                λ n is. let small : n < 2 ^ width = omega (arith, is.1, ends, bounds.1) in
+                λ n is. let small : n < 2 ^ width = omega (arith, is.1, past, bounds.1) in
                 let e = at_is n small in
                 in_set items r (at n) stored
                 (within (at n) (key_at n small) (omega (arith, e, is.0)) (omega (arith, e, is.1)));
             starts =
                 λ n next held.
-                let small : n < 2 ^ width = omega (arith, next, starts, bounds.0, bounds.1) in
+                let small : n < 2 ^ width = omega (arith, next, bounds.0, bounds.1) in
                 let e = at_is n small in
                 let key = key_at n small in
                 let there = (holds_is family r (at n) key).0
-                (held_before a (at n) p key (omega (arith, e, next, starts, lies.0)) has held
+                (held_before a (at n) p key (omega (arith, e, next, lies.0)) has held
                 (λ k k_key from to. within k k_key (omega (arith, from, e, next))
-                (omega (arith, to, lies.1, ends)))) in
-                omega (arith, there.0, e, next, starts);
+                (omega (arith, to, lies.1, past)))) in
+                omega (arith, there.0, e, next);
             ends =
                 λ small held.
                 let e = at_is (last + 1) small in
                 let key = key_at (last + 1) small in
                 let there = (holds_is family r (at (last + 1)) key).0
-                (held_after a (at (last + 1)) p key (omega (arith, e, ends, lies.1)) has held
-                (λ k k_key from to. within k k_key (omega (arith, from, starts, lies.0))
+                (held_after a (at (last + 1)) p key (omega (arith, e, past, lies.1)) has held
+                (λ k k_key from to. within k k_key (omega (arith, from, lies.0))
                 (omega (arith, to, e)))) in
-                omega (arith, there.1, e, ends);
+                omega (arith, there.1, e, past);
           },
         )
 
   abbrev Runs : List (Stored family) → List (ℕ × ℕ)
-  Runs items = range_runs number at width (item_ranges items)
+  Runs items = map (span number width) (item_ranges items)
 
   each_run : (items : List (Stored family)) → Known family items → Coarse family items
       → (left : List (Stored family)) → Known family left → Coarse family left
@@ -184,11 +180,10 @@ module _ {A : Type 0} {order : KeyOrder A} {number : A → ℕ} {at : ℕ → A}
   each_run items known coarse (i ∷ left) left_known left_coarse stored =
       let here = stored i.key (inl refl) in
       let first = first_held family i.key left_known.0 left_coarse.keyed.0 in
-      let some = (range_bounds items i.key known coarse here).0 in (
+      let some = (has_span items i.key known coarse here).0 in (
         (
           omega (arith, some),
-          (run_is items i.key coarse here first.0 (from_of family i.key)
-              (past_of family i.key - 1) known first.1 first.2 refl (omega (arith, some))).1,
+          (run_is items i.key coarse here first.0 known first.1 first.2).1,
         ),
         each_run items known coarse left left_known.1 (coarse_rest family i left left_coarse)
             (λ r at. stored r (inr at)),
@@ -230,15 +225,3 @@ module _ {A : Type 0} {order : KeyOrder A} {number : A → ℕ} {at : ℕ → A}
     all = some_run items;
     ascending = rising_runs items known coarse;
   }
-
--- the first of the runs of some ranges
-pub first_run : {A : Type 0} (number : A → ℕ) (at : ℕ → A) (width : ℕ) (r : AnyRange A)
-    (ranges all : List (AnyRange A)) (first last : ℕ) → all ≡ r ∷ ranges
-    → first ≡ start_number number at width r.start → last + 1 ≡ past_number number at width r.end
-    → range_runs number at width all ≡ (first, last) ∷ range_runs number at width ranges
-first_run number at width r ranges all first last same starts ends =
-    let end : past_number number at width r.end - 1 ≡ last = omega (arith, ends) in
-    ap (range_runs number at width) same
-    ∙ ap (λ n. (n, past_number number at width r.end - 1) ∷ range_runs number at width ranges)
-    (sym starts)
-    ∙ ap (λ n. (first, n) ∷ range_runs number at width ranges) end
