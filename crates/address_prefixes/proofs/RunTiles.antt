@@ -1,5 +1,5 @@
 -- The prefixes of runs: they have just the addresses of these, in ascending order.
-use Rattle.std.proofs.Common.{◌≡◌, ℕ, ◌+◌, ◌≤◌, ◌<◌, ◌++◌, ◌↔◌, ◌⊎◌, List, [], ◌∷◌, inl, inr, arith}
+use Rattle.std.proofs.Common.{ℕ, ◌+◌, ◌≤◌, ◌<◌, ◌++◌, ◌↔◌, ◌⊎◌, List, [], ◌∷◌, inl, inr, arith}
 use Rattle.std.specs.List.{AllByRecursion}
 use Rattle.btree_range_map.specs.Intervals.{Any}
 use Rattle.btree_range_map.specs.Neighbours.{BeforeFirst}

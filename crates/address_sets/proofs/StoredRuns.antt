@@ -1,5 +1,5 @@
 -- The addresses of a set that follow each other without a gap.
-use Rattle.std.proofs.Common.{◌≡◌, ◌≢◌, ℕ, ◌+◌, ◌-◌, ◌^◌, ◌≤◌, ◌<◌, ◌⊎◌, List, [], ◌∷◌, map, true, inl, inr, refl, sym, subst, arith}
+use Rattle.std.proofs.Common.{◌≡◌, ◌≢◌, ℕ, ◌+◌, ◌-◌, ◌^◌, ◌≤◌, ◌<◌, List, [], ◌∷◌, map, true, inl, inr, refl, sym, subst, arith}
 use Rattle.std.specs.List.{AllByRecursion}
 use Rattle.std.proofs.lemmas.Bool.{cases_lt}
 use Rattle.btree_range_map.specs.AnyRange.{AnyRange}
@@ -7,7 +7,6 @@ use Rattle.btree_range_map.specs.Counted.{counted_lawful}
 use Rattle.btree_range_map.specs.FreeRanges.{item_ranges}
 use Rattle.btree_range_map.specs.HeldKeys.{held_interval_is_in_one_range, held_later_is_above}
 use Rattle.btree_range_map.specs.Intervals.{Any}
-use Rattle.btree_range_map.specs.Item.{Item}
 use Rattle.btree_range_map.specs.KeySets.{HoldsKey}
 use Rattle.btree_range_map.specs.Neighbours.{BeforeFirst, EachNext}
 use Rattle.btree_range_map.specs.Order.{KeyOrder}

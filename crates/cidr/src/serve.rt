@@ -14,7 +14,6 @@ use address_lists::{
     Addresses, BadLines, ListError, list_to_text, read_addresses, write_counts, write_prefixes,
     write_ranges, write_singles, write_split_prefixes,
 };
-use address_sets::AddressSet;
 use address_text::Family;
 use btree_range_map::MapError;
 use std::alloc::Global;
@@ -232,16 +231,14 @@ fn kept(alloc: Global, list: Addresses, only: Option<Family>) -> Addresses
     ensures { HasJust result (Kept only (Has list)) }
 {
     let Addresses { v4, v6 } = list;
+    let Addresses {
+        v4: no_v4,
+        v6: no_v6,
+    } = Addresses::new(alloc);
     match only {
         None => Addresses { v4, v6 },
-        Some(Family::V4) => Addresses {
-            v4,
-            v6: AddressSet::new(alloc),
-        },
-        Some(Family::V6) => Addresses {
-            v4: AddressSet::new(alloc),
-            v6,
-        },
+        Some(Family::V4) => Addresses { v4, v6: no_v6 },
+        Some(Family::V6) => Addresses { v4: no_v4, v6 },
     }
 }
 

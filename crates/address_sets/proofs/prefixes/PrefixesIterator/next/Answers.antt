@@ -1,4 +1,4 @@
-use Rattle.std.proofs.Common.{◌≡◌, ◌++◌, length, ap, sym, ◌∙◌, arith}
+use Rattle.std.proofs.Common.{◌++◌, length, ap, sym, ◌∙◌, arith}
 use Rattle.address_prefixes.specs.Tiles.{run_tiles}
 use Rattle.address_sets.proofs.prefixes.PrefixesIterator.next.Goals as goal
 
